@@ -1,0 +1,45 @@
+// Why a run ends without its report.
+
+ghost use Rattle.std.specs.Prelude.{◌≡◌};
+ghost use Rattle.homerange.specs.Status.{status_of};
+
+use range_fixes::ReadFault;
+use thiserror::Error;
+
+/// Why the files have no analysis.
+#[derive(Debug, Drop, Error)]
+pub enum AnalyseFault {
+    /// A growth was refused for want of memory.
+    #[error("out of memory")]
+    OutOfMemory,
+    /// A file cannot be read to its end; files count from 0.
+    #[error("file {file}: {fault}")]
+    File { file: u32, fault: ReadFault },
+}
+
+/// Why a run ends without its report.
+#[derive(Debug, Drop, Error)]
+pub enum RunFault {
+    /// The files have no analysis.
+    #[error(transparent)]
+    Analyse(AnalyseFault),
+    /// A growth was refused to the report for want of memory.
+    #[error("out of memory")]
+    OutOfMemory,
+    /// A write failed or took no byte, or the flush failed.
+    #[error("the report could not be written")]
+    Write,
+}
+
+/// The status with which the program ends: 0 after the report, 1 for a file that cannot be read, 3
+/// for want of memory, 4 for an output that cannot be written.
+pub fn status(outcome: &Result<(), RunFault>) -> u8
+    ensures { result ≡ status_of outcome.now }
+{
+    match outcome {
+        Ok(()) => 0,
+        Err(RunFault::Analyse(AnalyseFault::File { .. })) => 1,
+        Err(RunFault::Analyse(AnalyseFault::OutOfMemory) | RunFault::OutOfMemory) => 3,
+        Err(RunFault::Write) => 4,
+    }
+}

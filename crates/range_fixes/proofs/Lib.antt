@@ -1,0 +1,5 @@
+pub mod CheckFacts
+pub mod LawFacts
+pub mod ProgressFacts
+pub mod ReadingFacts
+pub mod RecordFacts

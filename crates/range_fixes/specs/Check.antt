@@ -1,0 +1,50 @@
+-- What is wrong with a record, or the fix that it gives.
+use Rattle.std.specs.Prelude.{ℕ, Bool, true, false, List, [], ◌∷◌, length, Option, Some, None, Result, Ok, Err, not, nat_lt, nat_le, pos, if◌then◌else◌}
+use Rattle.std.specs.Str.{bytes_eq}
+use Rattle.std.specs.Str.Parse.{digits_value}
+use Rattle.range_plane.specs.Fix.{second_limit}
+use Rattle.range_plane.specs.Plane.{coordinate_limit, position}
+use Rattle.range_plane.specs.declared.fix.Fix.{Fix}
+use Rattle.range_fixes.specs.declared.fault.ReadFault.{ReadFault}
+use Rattle.range_fixes.specs.declared.fault.ReadFault.TheVariants.{WrongFieldCount, BadName, OtherAnimal, NotNumber, TooLarge, SecondFalls}
+use Rattle.range_fixes.specs.Field.{Record, is_name, is_number}
+use Rattle.range_fixes.specs.Previous.{Previous}
+
+-- another animal than that of the records before
+abbrev pub is_other : Option Previous → List ℕ → Bool
+is_other None name = false
+is_other (Some previous) name = not (bytes_eq previous.animal name)
+
+-- a second less than that of the record before
+abbrev pub falls : Option Previous → ℕ → Bool
+falls None second = false
+falls (Some previous) second = nat_lt second previous.second
+
+infixl 10 ◌>>=◌
+abbrev pub ◌>>=◌ : {A B : Type 0} → Result A ReadFault → (A → Result B ReadFault) → Result B ReadFault
+(Ok x) >>= f = f x
+(Err e) >>= f = Err e
+
+-- the name of record number rec
+abbrev pub animal_in : ℕ → Option Previous → List ℕ → Result (Unit {0}) ReadFault
+animal_in rec previous name =
+    if not (is_name name) then Err (BadName rec)
+    else if is_other previous name then Err (OtherAnimal rec)
+    else Ok tt
+
+-- the number in a field of record number rec
+abbrev pub number_in : ℕ → ℕ → ℕ → List ℕ → Result ℕ ReadFault
+number_in rec field limit bytes =
+    if not (is_number bytes) then Err (NotNumber rec field)
+    else if nat_lt limit (digits_value 10 bytes) then Err (TooLarge rec field)
+    else Ok (digits_value 10 bytes)
+
+-- the fix of record number rec, or the first fault of the record
+unfoldable pub fix_in : ℕ → Option Previous → Record → Result Fix ReadFault
+fix_in rec previous (name ∷ second ∷ easting ∷ northing ∷ []) = do
+  _ ← animal_in rec previous name
+  s ← number_in rec 1 second_limit second
+  e ← number_in rec 2 coordinate_limit easting
+  n ← number_in rec 3 coordinate_limit northing
+  if falls previous s then Err (SecondFalls rec) else Ok (record { second = s; at = position (pos e) (pos n) })
+fix_in rec previous fields = Err (WrongFieldCount rec (length fields))

@@ -1,0 +1,40 @@
+-- The fields of a record.
+use Rattle.std.specs.Prelude.{ℕ, Bool, true, false, List, [], ◌∷◌, ◌++◌, ◌&&◌, ◌||◌, not, length, nat_lt, nat_le, ◌==◌, codes}
+use Rattle.std.specs.List.{list_all}
+use Rattle.std.specs.Char.{is_ascii_digit}
+use Rattle.std.specs.Str.{bytes_eq}
+
+-- a record, by the bytes of its fields
+abbrev pub Record : Type 0
+Record = List (List ℕ)
+
+-- one or more digits, and nothing else
+abbrev pub is_number : List ℕ → Bool
+is_number bytes = nat_lt 0 (length bytes) && list_all is_ascii_digit bytes
+
+-- no control byte, comma, double quote or delete
+abbrev pub is_name_byte : ℕ → Bool
+is_name_byte b = nat_le 32 b && not (b == 44) && not (b == 34) && not (b == 127)
+
+-- one to 32 such bytes
+abbrev pub is_name : List ℕ → Bool
+is_name bytes = nat_lt 0 (length bytes) && nat_le (length bytes) 32 && list_all is_name_byte bytes
+
+-- the byte order mark, U+FEFF in UTF-8
+abbrev pub byte_order_mark : List ℕ
+byte_order_mark = 0xEF ∷ 0xBB ∷ 0xBF ∷ []
+
+-- the header's first field, which may stand behind a byte order mark, and then between quotes
+abbrev pub names_animal : List ℕ → Bool
+names_animal field =
+    bytes_eq field (codes "animal") || bytes_eq field (byte_order_mark ++ codes "animal") || bytes_eq field (byte_order_mark ++ codes "\"animal\"")
+
+abbrev pub is_header : Record → Bool
+is_header (animal ∷ second ∷ easting ∷ northing ∷ []) =
+    names_animal animal && bytes_eq second (codes "second") && bytes_eq easting (codes "easting") && bytes_eq northing (codes "northing")
+is_header _ = false
+
+-- the first field of a record
+abbrev pub first_field : Record → List ℕ
+first_field [] = []
+first_field (name ∷ fields) = name

@@ -1,0 +1,10 @@
+pub mod Check
+pub mod Field
+pub mod Law
+pub mod Previous
+pub mod Progress
+pub mod Reader
+pub mod Reading
+pub mod RecordList
+pub mod Records
+pub mod Steps

@@ -1,0 +1,46 @@
+-- How far a reader of fixes is.
+use Rattle.std.specs.Prelude.{◌≡◌, ◌≤◌, ◌<◌, ◌+◌, ⊤, ℕ, Bool, true, false, List, [], ◌∷◌, length, drop, slice_get, Option, Some, None, Result, Ok, Err, IsSome, IfSome, ◌==◌, if◌then◌else◌}
+use Rattle.range_plane.specs.declared.fix.Fix.{Fix}
+use Rattle.range_fixes.specs.declared.fault.ReadFault.{ReadFault}
+use Rattle.range_fixes.specs.declared.fault.ReadFault.TheVariants as faults
+use Rattle.range_fixes.specs.Reading.{Reading}
+
+pub record Progress : Type 0 where
+  -- how many fixes were given, and their animal
+  pub count : ℕ
+  pub animal : Option (List ℕ)
+  -- every call from here on answers this fault, or that there is no fix
+  pub fault : Option ReadFault
+  pub ended : Bool
+  -- what calls give from here on, where the source tells its bytes
+  pub ahead : Option Reading
+
+-- a fault of the text, in which the source, memory and the line have no part
+abbrev pub is_of_text : ReadFault → Bool
+is_of_text faults.OutOfMemory = false
+is_of_text faults.Read = false
+is_of_text faults.Gone = false
+is_of_text _ = true
+
+-- the source and memory have not failed so far
+abbrev pub is_unhurt : Option ReadFault → Bool
+is_unhurt None = true
+is_unhurt (Some fault) = is_of_text fault
+
+-- the reader gave the first fixes of this reading and goes on with the next
+pub record Reads (p : Progress) (r : Reading) : Type 0 where
+  pub count : p.count ≤ length r.fixes
+  pub animal : p.animal ≡ (if p.count == 0 then None else r.animal)
+  pub ahead : is_unhurt p.fault ≡ true → p.ahead ≡ Some (record r { fixes = drop p.count r.fixes })
+
+-- an answer after so many fixes of a reading
+abbrev pub Answers : Reading → ℕ → Result (Option Fix) ReadFault → Type 0
+Answers r count (Ok (Some fix)) = slice_get r.fixes count ≡ Some fix
+Answers r count (Ok None) = (length r.fixes ≡ count) × (r.fault ≡ None)
+Answers r count (Err fault) = is_of_text fault ≡ true → (length r.fixes ≡ count) × (r.fault ≡ Some fault)
+
+-- what an answer leaves
+abbrev pub Moves : Progress → Result (Option Fix) ReadFault → Progress → Type 0
+Moves old (Ok (Some fix)) new = (new.count ≡ old.count + 1) × IsSome new.animal × IfSome old.animal (λ name. new.animal ≡ Some name) × (new.fault ≡ None) × (new.ended ≡ false)
+Moves old (Ok None) new = (new ≡ record old { ended = true; ahead = new.ahead }) × (0 < old.count)
+Moves old (Err fault) new = new ≡ record old { fault = Some fault; ahead = new.ahead }

@@ -1,0 +1,22 @@
+//! The fixes of a file of comma-separated records, read and checked one record at a time.
+//!
+//! The first record is the header `animal,second,easting,northing`. Each record after it is a fix
+//! of the one animal of the file: its name of 1 to 32 bytes, a whole second, and an easting and a
+//! northing in whole metres. Seconds may repeat and must not fall. The first record that is
+//! otherwise ends the reading with a [`ReadFault`].
+#![tactic(auto)]
+
+mod checks;
+mod fault;
+mod law;
+mod number;
+mod previous;
+mod reader;
+mod records;
+
+pub use fault::ReadFault;
+pub use law::reads_exactly;
+pub use reader::FixReader;
+
+#[cfg(test)]
+mod tests;

@@ -1,0 +1,2 @@
+pub mod Fix
+pub mod Plane

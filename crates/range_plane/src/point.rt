@@ -1,0 +1,55 @@
+// Points within the limits of the plane.
+
+ghost use Rattle.std.specs.Prelude.{SomeIff, ◌≤ℤ◌, pos};
+ghost use Rattle.range_plane.specs.Plane.{IsCoordinate, coordinate_limit, position};
+
+use std::marker::Model;
+
+/// The greatest easting and northing of a point, in metres: 2^24. UTM northings fit.
+pub const COORDINATE_LIMIT: i64 = 16_777_216;
+
+/// A point by its easting `e` and its northing `n`, in whole metres, each from 0 to
+/// [`COORDINATE_LIMIT`].
+#[derive(Clone, Copy, PartialEq, Eq, Debug)]
+pub struct Point {
+    pub e: i64,
+    pub n: i64,
+}
+
+impl Model for Point {
+    ghost use Rattle.range_plane.specs.Plane.{IsCoordinate, Position, position};
+
+    ghost Value = { Position };
+
+    ghost view = { λ p. position p.e p.n };
+
+    ghost invariant = { λ p. IsCoordinate p.e × IsCoordinate p.n };
+
+    ghost inverse = { λ p. record { e = p.e; n = p.n } };
+}
+
+impl Point {
+    /// The point at these coordinates; `None` where one of them is outside the limits.
+    pub fn new(e: i64, n: i64) -> Option<Point>
+        ensures { SomeIff result (IsCoordinate e × IsCoordinate n) (position e n) }
+    {
+        let limits = 0..=COORDINATE_LIMIT;
+        if limits.contains(&e) && limits.contains(&n) {
+            Some(Point { e, n })
+        } else {
+            None
+        }
+    }
+}
+
+#[cfg(test)]
+mod tests {
+    use super::*;
+
+    #[test]
+    fn limits(rt: HostRuntime) {
+        assert!(rt; Point::new(-1, 0).is_none());
+        assert!(rt; Point::new(0, 16_777_217).is_none());
+        assert!(rt; Point::new(16_777_216, 0) == Some(Point { e: 16_777_216, n: 0 }));
+    }
+}

@@ -1,0 +1,79 @@
+"""Writes three simulated tracks beside itself: fox.csv, badger.csv and otter.csv.
+
+No animal was tracked. Each fix comes from the random numbers of one fixed seed,
+so each run writes the same bytes. To hold that for every version of Python,
+the script draws by random() alone, and only adds, subtracts and multiplies.
+"""
+
+import random
+from pathlib import Path
+
+SEED = 1
+INTERVAL = 1800  # seconds from one fix to the next
+DAY = 48  # fixes in a day; the first fix is at midnight
+
+# Places, as metres east and north in a UTM grid.
+DEN = (562000.0, 5134000.0)
+SETT = (562700.0, 5133550.0)
+RIVER = [
+    (559900.0, 5132900.0),
+    (560500.0, 5133150.0),
+    (561000.0, 5133100.0),
+    (561550.0, 5133450.0),
+    (562100.0, 5133550.0),
+    (562500.0, 5133950.0),
+    (563100.0, 5134050.0),
+    (563500.0, 5134500.0),
+    (564200.0, 5134700.0),
+]
+
+
+def normal(draw):
+    """Returns a nearly normal number, of mean 0 and deviation 1, between -6 and 6."""
+    total = -6.0
+    for _ in range(12):
+        total += draw()
+    return total
+
+
+def step(draw, at, home, pull, stride):
+    """Returns the place a random step from `at`, drawn the part `pull` of the way home."""
+    return [x + pull * (h - x) + stride * normal(draw) for x, h in zip(at, home)]
+
+
+def fox(draw):
+    """Roams day and night around its den."""
+    at = DEN
+    while True:
+        yield at
+        at = step(draw, at, DEN, 0.06, 110.0)
+
+
+def badger(draw):
+    """Forages from 20:00 to 05:00, and rests in its sett in between."""
+    at, time = SETT, 0
+    while True:
+        yield at
+        time = (time + 1) % DAY
+        at = SETT if 10 <= time < 40 else step(draw, at, SETT, 0.12, 130.0)
+
+
+def otter(draw):
+    """Swims up and down a river, and turns at the ends of its stretch."""
+    along, end = 4.0, len(RIVER) - 1  # in bends of the river
+    while True:
+        bend = min(int(along), end - 1)
+        here = [x + (along - bend) * (y - x) for x, y in zip(RIVER[bend], RIVER[bend + 1])]
+        yield step(draw, here, here, 0.0, 10.0)
+        along = abs(along + 0.4 * normal(draw))
+        along = min(along, 2 * end - along)
+
+
+draw = random.Random(SEED).random
+for name, fixes, track in [("fox", 1200, fox), ("badger", 800, badger), ("otter", 480, otter)]:
+    places = track(draw)
+    with open(Path(__file__).resolve().parent / f"{name}.csv", "w", newline="\n") as out:
+        out.write("animal,second,easting,northing\n")
+        for fix in range(fixes):
+            easting, northing = [int(metres + 0.5) for metres in next(places)]
+            out.write(f"{name},{fix * INTERVAL},{easting},{northing}\n")
