@@ -1,47 +1,60 @@
 -- What reading a whole file says of its bytes.
-use Rattle.std.proofs.Common.{◌≡◌, ◌≢◌, ◌+◌, ◌<◌, ◌≤◌, ℕ, zero, suc, Bool, true, false, List, [], ◌∷◌, ◌++◌, length, take, drop, Option, Some, None, Result, Ok, Err, IfSome, IfErr, refl, sym, ◌∙◌, ap, arith, slice_get, add-one, eqb, rules, tests}
+use Rattle.std.proofs.Common.{◌≡◌, ◌≢◌, ◌+◌, ◌<◌, ◌≤◌, ℕ, true, false, List, [], ◌∷◌, ◌++◌, length, take, Option, Some, None, Ok, Err, IfSome, refl, sym, ◌∙◌, arith, slice_get, add-one, eqb, rules, tests}
+use Rattle.std.proofs.Math.Seq.{take-suc}
+use Rattle.std.proofs.lemmas.List.{take_all}
+use Rattle.std.proofs.lemmas.Option.{get_or_from_slice_get, slice_get_within}
 use Rattle.range_plane.specs.declared.fix.Fix.{Fix}
 use Rattle.range_fixes.specs.declared.fault.ReadFault.{ReadFault}
 use Rattle.range_fixes.specs.declared.fault.ReadFault.TheVariants as reads
 use Rattle.range_fixes.specs.Progress.{Answers, Progress, Reads, is_of_text}
 use Rattle.range_fixes.specs.Reading.{Reading, reading}
 use Rattle.homerange.specs.Fault.{Explains, file_fault}
-use Rattle.std.proofs.lemmas.List.{take_all}
-use Rattle.homerange.proofs.ListFacts.{front-push}
+use Rattle.homerange.specs.Track.{IsWhole}
 
 -- the fixes so far are the first of the reading
-abbrev pub ReadsFront : Progress → List Fix → Reading → Type 0
-ReadsFront p fixes r = Reads p r × (fixes ≡ take p.count r.fixes)
+pub record ReadsPrefix (p : Progress) (fixes : List Fix) (r : Reading) : Type 0 where
+  pub reads : Reads p r
+  pub prefix : fixes ≡ take p.count r.fixes
 
 -- one more fix
-pub front-more-read : (bytes : Option (List ℕ)) (p q : Progress) (fixes : List Fix) (fix : Fix) → IfSome bytes (λ x. ReadsFront p fixes (reading x))
+more-read : (r : Reading) (p q : Progress) (fixes : List Fix) (fix : Fix) → ReadsPrefix p fixes r
+    → ((r : Reading) → Reads p r → Reads q r) → Answers r p.count (Ok (Some fix)) → q.count ≡ p.count + 1 → ReadsPrefix q (fixes ++ fix ∷ []) r
+more-read r p q fixes fix h keeps gives count =
+    let within = slice_get_within r.fixes p.count fix gives in
+    let next = get_or_from_slice_get r.fixes p.count fix fix gives in
+    record { reads = keeps r h.reads; prefix = rw (count, add-one, h.prefix, take-suc r.fixes p.count fix within, next) refl }
+
+pub prefix-more : (source : Option (List ℕ)) (p q : Progress) (fixes : List Fix) (fix : Fix) → IfSome source (λ bytes. ReadsPrefix p fixes (reading bytes))
     → ((r : Reading) → Reads p r → Reads q r) → ((r : Reading) → Reads p r → Answers r p.count (Ok (Some fix))) → q.count ≡ p.count + 1
-    → IfSome bytes (λ x. ReadsFront q (fixes ++ fix ∷ []) (reading x))
-front-more-read None p q fixes fix h keeps gives count = tt
-front-more-read (Some x) p q fixes fix h keeps gives count =
-    (keeps (reading x) h.0, rw (count, add-one, h.1) (front-push (reading x).fixes p.count fix (gives (reading x) h.0)))
+    → IfSome source (λ bytes. ReadsPrefix q (fixes ++ fix ∷ []) (reading bytes))
+prefix-more None p q fixes fix h keeps gives count = tt
+prefix-more (Some bytes) p q fixes fix h keeps gives count = more-read (reading bytes) p q fixes fix h keeps (gives (reading bytes) h.reads) count
 
 -- a fault
-pub fault-explains : (bytes : Option (List ℕ)) (p : Progress) (fixes : List Fix) (fault : ReadFault) → IfSome bytes (λ x. ReadsFront p fixes (reading x))
-    → ((r : Reading) → Reads p r → Answers r p.count (Err fault)) → IfSome bytes (λ x. Explains (reading x) (file_fault fault))
-fault-explains None p fixes fault h gives = tt
-fault-explains (Some x) p fixes fault h gives = by (reading x) fault (gives (reading x) h.0)
+pub fault-explains : (source : Option (List ℕ)) (p : Progress) (fixes : List Fix) (fault : ReadFault) → IfSome source (λ bytes. ReadsPrefix p fixes (reading bytes))
+    → ((r : Reading) → Reads p r → Answers r p.count (Err fault)) → fault ≢ reads.Gone → Explains source (file_fault fault)
+fault-explains source p fixes fault h gives own = by fault (told source h gives) own
   where
-    by : (r : Reading) (f : ReadFault) → Answers r p.count (Err f) → Explains r (file_fault f)
-    by r reads.OutOfMemory a = tt
-    by r f a = λ text. (a text).1
+    told : (known : Option (List ℕ)) → IfSome known (λ bytes. ReadsPrefix p fixes (reading bytes)) → ((r : Reading) → Reads p r → Answers r p.count (Err fault))
+        → IfSome known (λ bytes. is_of_text fault ≡ true → (reading bytes).fault ≡ Some fault)
+    told None h gives = tt
+    told (Some bytes) h gives = λ text. (gives (reading bytes) h.reads text).1
+
+    by : (f : ReadFault) → IfSome source (λ bytes. is_of_text f ≡ true → (reading bytes).fault ≡ Some f) → f ≢ reads.Gone → Explains source (file_fault f)
+    by reads.OutOfMemory told own = tt
+    by f told own = (refl, λ e. cc e, own, told)
 
 -- the end of the file
-pub whole-read : (bytes : Option (List ℕ)) (p q : Progress) (fixes : List Fix) (name : List ℕ) → IfSome bytes (λ x. ReadsFront p fixes (reading x))
+all-read : (r : Reading) (p q : Progress) (fixes : List Fix) (name : List ℕ) → ReadsPrefix p fixes r
+    → ((r : Reading) → Reads p r → Reads q r) → Answers r p.count (Ok None) → 0 < q.count → q.animal ≡ Some name → IsWhole r name fixes
+all-read r p q fixes name h keeps ends some named =
+    let later : eqb q.count 0 ≡ false = search (rules, tests) in
+    let animal = rw later at (keeps r h.reads).animal in
+    let short : length r.fixes ≤ p.count = omega (arith, ends.0) in
+    record { animal = sym animal ∙ named; all = sym (take_all p.count r.fixes short) ∙ sym h.prefix; to_end = ends.1 }
+
+pub whole-read : (source : Option (List ℕ)) (p q : Progress) (fixes : List Fix) (name : List ℕ) → IfSome source (λ bytes. ReadsPrefix p fixes (reading bytes))
     → ((r : Reading) → Reads p r → Reads q r) → ((r : Reading) → Reads p r → Answers r p.count (Ok None)) → 0 < q.count → q.animal ≡ Some name
-    → IfSome bytes (λ x. ((reading x).animal ≡ Some name) × ((reading x).fixes ≡ fixes) × ((reading x).fault ≡ None))
+    → IfSome source (λ bytes. IsWhole (reading bytes) name fixes)
 whole-read None p q fixes name h keeps gives some named = tt
-whole-read (Some x) p q fixes name h keeps gives some named = by (reading x) h.0 h.1
-  where
-    by : (r : Reading) → Reads p r → fixes ≡ take p.count r.fixes → (r.animal ≡ Some name) × (r.fixes ≡ fixes) × (r.fault ≡ None)
-    by r reads front =
-        let all = gives r reads in
-        let later : eqb q.count 0 ≡ false = search (rules, tests) in
-        let animal = rw later at (keeps r reads).animal in
-        let short : length r.fixes ≤ p.count = omega (arith, all.0) in
-        (sym animal ∙ named, sym (take_all p.count r.fixes short) ∙ sym front, all.1)
+whole-read (Some bytes) p q fixes name h keeps gives some named = all-read (reading bytes) p q fixes name h keeps (gives (reading bytes) h.reads) some named

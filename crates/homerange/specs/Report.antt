@@ -1,5 +1,5 @@
 -- The text of a report.
-use Rattle.std.specs.Prelude.{◌≡◌, ◌++◌, ℕ, ℤ, ◌≤ℤ◌, List, [], ◌∷◌, length, codes, decimal, All, Any}
+use Rattle.std.specs.Prelude.{◌≡◌, ◌++◌, ℕ, ℤ, ◌≤ℤ◌, List, length, codes, decimal, All, Any}
 use Rattle.std.specs.Fmt.{signed_decimal}
 use Rattle.range_plane.specs.declared.fix.Fix.{Fix}
 use Rattle.homerange.specs.declared.report.Extent.{Extent}
@@ -20,13 +20,13 @@ pub record IsExtent (fixes : List Fix) (extent : Extent) : Type 0 where
 abbrev pub animal_line : List ℕ → ℕ → List ℕ
 animal_line name count = codes "animal," ++ name ++ codes ",fixes," ++ decimal count ++ codes "\n"
 
--- the coordinates of a corner, each behind a comma
-unfoldable pub corner_text : ℤ → ℤ → List ℕ
-corner_text easting northing = codes "," ++ signed_decimal easting ++ codes "," ++ signed_decimal northing
+-- an easting and a northing, each behind a comma
+unfoldable pub point_text : ℤ → ℤ → List ℕ
+point_text easting northing = codes "," ++ signed_decimal easting ++ codes "," ++ signed_decimal northing
 
 abbrev pub box_line : List ℕ → Extent → List ℕ
 box_line name extent =
-    codes "box," ++ name ++ corner_text extent.min_e extent.min_n ++ corner_text extent.max_e extent.max_n ++ codes "\n"
+    codes "box," ++ name ++ point_text extent.min_e extent.min_n ++ point_text extent.max_e extent.max_n ++ codes "\n"
 
 -- the report of one animal
 abbrev pub IsReport : List ℕ → List Fix → List ℕ → Type 0

@@ -7,7 +7,7 @@ use range_fixes::ReadFault;
 use thiserror::Error;
 
 /// Why the files have no analysis.
-#[derive(Debug, Drop, Error)]
+#[derive(Debug, Drop, Error, PartialEq, Eq)]
 pub enum AnalyseFault {
     /// A growth was refused for want of memory.
     #[error("out of memory")]
@@ -18,7 +18,7 @@ pub enum AnalyseFault {
 }
 
 /// Why a run ends without its report.
-#[derive(Debug, Drop, Error)]
+#[derive(Debug, Drop, Error, PartialEq, Eq)]
 pub enum RunFault {
     /// The files have no analysis.
     #[error(transparent)]

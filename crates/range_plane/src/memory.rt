@@ -1,6 +1,6 @@
 // Want of memory.
 
-use std::alloc::AllocFailed;
+use std::alloc::AllocError;
 use std::error::Error;
 use std::fmt;
 
@@ -16,8 +16,8 @@ impl fmt::Display for OutOfMemory {
 
 impl Error for OutOfMemory {}
 
-impl<T: Drop> From<AllocFailed<T>> for OutOfMemory {
-    fn from(_refused: AllocFailed<T>) -> OutOfMemory {
+impl From<AllocError> for OutOfMemory {
+    fn from(_refused: AllocError) -> OutOfMemory {
         OutOfMemory
     }
 }
