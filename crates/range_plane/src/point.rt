@@ -50,6 +50,12 @@ mod tests {
     fn limits(rt: HostRuntime) {
         assert!(rt; Point::new(-1, 0).is_none());
         assert!(rt; Point::new(0, 16_777_217).is_none());
-        assert!(rt; Point::new(16_777_216, 0) == Some(Point { e: 16_777_216, n: 0 }));
+        assert!(rt;
+            Point::new(16_777_216, 0)
+                == Some(Point {
+                    e: 16_777_216,
+                    n: 0
+                })
+        );
     }
 }

@@ -1,4 +1,4 @@
-use Rattle.std.proofs.Common.{◌≡◌, ◌<◌, ◌+◌, sym, arith}
+use Rattle.std.proofs.Common.{◌<◌, sym, arith}
 use Rattle.std.proofs.lemmas.Result.{err_from_is_err_and}
 use Rattle.range_plane.specs.Fix.{fix_limit}
 use Rattle.range_fixes.proofs.ReadingFacts.{takes-none, takes-last, takes-more, end-first, end-later, too-many, one-passes, one-fails, own-fault}

@@ -1,4 +1,4 @@
-use Rattle.std.proofs.Common.{◌≡◌, Some, None, true, refl, option_map}
+use Rattle.std.proofs.Common.{◌≡◌, Some, None, true, refl}
 use Rattle.range_fixes.specs.Progress.{is_unhurt}
 use Rattle.range_fixes.specs.Reading.{no_more}
 use Rattle.range_fixes.proofs.ProgressFacts.{at-stop, fix-given, stop-given}
