@@ -1,13 +1,14 @@
 -- A reading is exact.
-use Rattle.std.proofs.Common.{◌≡◌, ◌+◌, ◌<◌, ◌≤◌, ◌⊎◌, inl, inr, ℕ, zero, suc, false, eqb, List, [], ◌∷◌, length, slice_get, Option, Some, None, Result, Ok, Err, refl, ◌∙◌, ap, arith, rules, tests}
+use Rattle.std.proofs.Common.{◌≡◌, ◌+◌, ◌<◌, ◌≤◌, ◌⊎◌, inl, inr, ℕ, zero, suc, Bool, true, cond, false, eqb, List, [], ◌∷◌, length, slice_get, Option, Some, None, Result, Ok, Err, refl, ◌∙◌, ap, arith, rules, tests}
 use Rattle.std.specs.Option.{option_map}
+use Rattle.std.specs.Bool.{MatchBool}
 use Rattle.std.proofs.lemmas.Bool.{cases_lt}
 use Rattle.range_plane.specs.Fix.{fix_limit}
 use Rattle.range_plane.specs.declared.fix.Fix.{Fix}
 use Rattle.range_fixes.specs.declared.fault.ReadFault.{ReadFault}
-use Rattle.range_fixes.specs.declared.fault.ReadFault.TheVariants.{TooManyFixes}
+use Rattle.range_fixes.specs.declared.fault.ReadFault.TheVariants.{BadHeader, TooManyFixes}
 use Rattle.range_fixes.specs.Check.{fix_in}
-use Rattle.range_fixes.specs.Field.{Record, first_field}
+use Rattle.range_fixes.specs.Field.{Record, first_field, is_header}
 use Rattle.range_fixes.specs.Law.{IsExact, ReadsExactly, animal_of, check_at}
 use Rattle.range_fixes.specs.Previous.{Previous, then_previous}
 use Rattle.range_fixes.specs.Reading.{Reading, fixes_after, no_more, then_fixes}
@@ -109,5 +110,11 @@ exact count previous (fields ∷ records) limit = by (cases_lt count fix_limit) 
     by (inl below) more = below-limit count previous fields records _ below refl (λ next. more next below)
     by (inr past) more = at-limit count previous fields records (omega arith)
 
+below-header : (header : Record) (records : List Record) (good : Bool)
+    → MatchBool good (IsExact 0 None records (cond good (fixes_after 0 None records) (no_more None (Some BadHeader)))) (cond good (fixes_after 0 None records) (no_more None (Some BadHeader)) ≡ no_more None (Some BadHeader))
+below-header header records true = exact 0 None records (omega arith)
+below-header header records false = refl
+
 pub reads-exactly : ReadsExactly
-reads-exactly records = exact 0 None records (omega arith)
+reads-exactly [] = refl
+reads-exactly (header ∷ records) = below-header header records (is_header header)

@@ -25,7 +25,7 @@ abbrev pub ◌>>=◌ : {A B : Type 0} → Result A ReadFault → (A → Result B
 (Ok x) >>= f = f x
 (Err e) >>= f = Err e
 
--- the name of record number rec
+-- what is wrong with the name of record number rec, if anything
 abbrev pub animal_in : ℕ → Option Previous → List ℕ → Result (Unit {0}) ReadFault
 animal_in rec previous name =
     if not (is_name name) then Err (BadName rec)

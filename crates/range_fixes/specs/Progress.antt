@@ -9,8 +9,9 @@ pub record Progress : Type 0 where
   -- how many fixes were given, and their animal
   pub count : ℕ
   pub animal : Option (List ℕ)
-  -- every call from here on answers this fault, or that there is no fix
+  -- every call from here on answers this fault
   pub fault : Option ReadFault
+  -- every call from here on answers that there is no fix
   pub ended : Bool
   -- what calls give from here on, where the source tells its bytes
   pub ahead : Option Reading
@@ -39,8 +40,16 @@ Answers r count (Ok (Some fix)) = slice_get r.fixes count ≡ Some fix
 Answers r count (Ok None) = (length r.fixes ≡ count) × (r.fault ≡ None)
 Answers r count (Err fault) = is_of_text fault ≡ true → (length r.fixes ≡ count) × (r.fault ≡ Some fault)
 
+-- a fix was given
+pub record GivesFix (old new : Progress) : Type 0 where
+  pub counted : new.count ≡ old.count + 1
+  pub named : IsSome new.animal
+  pub same_animal : IfSome old.animal (λ name. new.animal ≡ Some name)
+  pub no_fault : new.fault ≡ None
+  pub goes_on : new.ended ≡ false
+
 -- what an answer leaves
 abbrev pub Moves : Progress → Result (Option Fix) ReadFault → Progress → Type 0
-Moves old (Ok (Some fix)) new = (new.count ≡ old.count + 1) × IsSome new.animal × IfSome old.animal (λ name. new.animal ≡ Some name) × (new.fault ≡ None) × (new.ended ≡ false)
+Moves old (Ok (Some fix)) new = GivesFix old new
 Moves old (Ok None) new = (new ≡ record old { ended = true; ahead = new.ahead }) × (0 < old.count)
 Moves old (Err fault) new = new ≡ record old { fault = Some fault; ahead = new.ahead }

@@ -6,7 +6,7 @@ ghost use Rattle.range_fixes.specs.Check.{animal_in, falls, fix_in, number_in};
 ghost use Rattle.range_fixes.specs.Field.{first_field, is_header, is_name, is_name_byte, names_animal};
 
 use crate::fault::ReadFault;
-use crate::number::capped_number;
+use crate::number::{capped_value, is_number};
 use crate::previous::Previous;
 use csv::ByteRecord;
 use range_plane::{COORDINATE_LIMIT, Fix, Point, SECOND_LIMIT};
@@ -15,7 +15,7 @@ use range_plane::{COORDINATE_LIMIT, Fix, Point, SECOND_LIMIT};
 pub(crate) const FIELD_COUNT: usize = 4;
 
 // The most bytes of a name.
-pub(crate) const NAME_LIMIT: usize = 32;
+const NAME_LIMIT: usize = 32;
 
 // The fields of a record that has four.
 #[derive(Clone, Copy)]
@@ -110,11 +110,14 @@ fn number_in(bytes: &[u8], rec: u32, field: u32, limit: u64) -> Result<u64, Read
     requires { limit < 2 ^ 60 }
     ensures { result ≡ number_in rec field limit bytes.now }
 {
-    match capped_number(bytes, limit) {
-        None => Err(ReadFault::NotNumber { rec, field }),
-        Some(value) if value > limit => Err(ReadFault::TooLarge { rec, field }),
-        Some(value) => Ok(value),
+    if !is_number(bytes) {
+        return Err(ReadFault::NotNumber { rec, field });
     }
+    let value = capped_value(bytes, limit);
+    if value > limit {
+        return Err(ReadFault::TooLarge { rec, field });
+    }
+    Ok(value)
 }
 
 // Whether a second is less than that of the record before.

@@ -1,6 +1,6 @@
 // Why a file cannot be read to its end.
 
-use crate::checks::{FIELD_COUNT, NAME_LIMIT};
+use crate::checks::FIELD_COUNT;
 use range_plane::{COORDINATE_LIMIT, FIX_LIMIT, SECOND_LIMIT};
 use std::error::Error;
 use std::fmt;
@@ -37,6 +37,12 @@ pub enum ReadFault {
     Gone,
 }
 
+// How the header is written.
+const HEADER: &str = "animal,second,easting,northing";
+
+// What a name is.
+const NAME_RULE: &str = "1 to 32 bytes with no comma, double quote or control character";
+
 // What a field is called.
 fn field_name(field: u32) -> &'static str {
     match field {
@@ -55,53 +61,55 @@ fn field_limit(field: u32) -> u64 {
     }
 }
 
+impl ReadFault {
+    // The number of the record that is at fault, if one is.
+    fn record(self) -> Option<u32> {
+        match self {
+            ReadFault::WrongFieldCount { rec, .. }
+            | ReadFault::BadName { rec }
+            | ReadFault::OtherAnimal { rec }
+            | ReadFault::NotNumber { rec, .. }
+            | ReadFault::TooLarge { rec, .. }
+            | ReadFault::SecondFalls { rec } => Some(rec),
+            _ => None,
+        }
+    }
+}
+
 impl fmt::Display for ReadFault {
     fn fmt<W: fmt::Write>(&self, f: &mut fmt::Formatter<W>) -> fmt::Result {
+        if let Some(rec) = self.record() {
+            write!(f, "record {rec}: ")?;
+        }
         match *self {
             ReadFault::OutOfMemory => write!(f, "out of memory"),
             ReadFault::Read => write!(f, "a read failed"),
-            ReadFault::NoHeader => {
+            ReadFault::NoHeader => write!(f, "empty where {HEADER} is wanted"),
+            ReadFault::BadHeader => write!(f, "another header than {HEADER}"),
+            ReadFault::WrongFieldCount { found: 1, .. } => {
+                write!(f, "1 field where {FIELD_COUNT} are wanted")
+            }
+            ReadFault::WrongFieldCount { found, .. } => {
+                write!(f, "{found} fields where {FIELD_COUNT} are wanted")
+            }
+            ReadFault::BadName { .. } => write!(f, "animal is not a name of {NAME_RULE}"),
+            ReadFault::OtherAnimal { .. } => write!(f, "animal is another than in record 1"),
+            ReadFault::NotNumber { field, .. } => {
                 write!(
                     f,
-                    "no header where animal,second,easting,northing is wanted"
+                    "{} is not a whole number in digits alone",
+                    field_name(field)
                 )
             }
-            ReadFault::BadHeader => {
+            ReadFault::TooLarge { field, .. } => {
                 write!(
                     f,
-                    "another header where animal,second,easting,northing is wanted"
+                    "{} is past its limit {}",
+                    field_name(field),
+                    field_limit(field)
                 )
             }
-            ReadFault::WrongFieldCount { rec, found: 1 } => {
-                write!(f, "record {rec}: 1 field where {FIELD_COUNT} are wanted")
-            }
-            ReadFault::WrongFieldCount { rec, found } => {
-                write!(
-                    f,
-                    "record {rec}: {found} fields where {FIELD_COUNT} are wanted"
-                )
-            }
-            ReadFault::BadName { rec } => write!(
-                f,
-                "record {rec}: animal is not a name of 1 to {NAME_LIMIT} bytes with no comma, double quote or control character"
-            ),
-            ReadFault::OtherAnimal { rec } => {
-                write!(f, "record {rec}: animal is another than in record 1")
-            }
-            ReadFault::NotNumber { rec, field } => {
-                let name = field_name(field);
-                write!(
-                    f,
-                    "record {rec}: {name} is not a whole number in digits alone"
-                )
-            }
-            ReadFault::TooLarge { rec, field } => {
-                let (name, limit) = (field_name(field), field_limit(field));
-                write!(f, "record {rec}: {name} is past its limit {limit}")
-            }
-            ReadFault::SecondFalls { rec } => {
-                write!(f, "record {rec}: second is less than in the record before")
-            }
+            ReadFault::SecondFalls { .. } => write!(f, "second is less than in the record before"),
             ReadFault::TooManyFixes => write!(f, "more than {FIX_LIMIT} records after the header"),
             ReadFault::NoFixes => write!(f, "no record after the header"),
             ReadFault::Gone => write!(f, "the fixes could not be handed on"),

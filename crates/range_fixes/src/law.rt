@@ -2,8 +2,9 @@
 
 ghost use Rattle.range_fixes.specs.Law.{ReadsExactly};
 
-/// The fixes of a file are those of its records that pass, up to the first fault, to the limit or to
-/// the end, and its animal is the name in the first of them.
+/// What a file says is exact: without a header nothing; below it, the fixes are those of the records
+/// that pass, up to the first fault, to the limit or to the end, and the animal is the name in the
+/// first of them.
 pub fn reads_exactly()
     ensures { ReadsExactly }
 {}

@@ -1,6 +1,6 @@
 // The fixes of a source, one at a time.
 
-ghost use Rattle.std.specs.Prelude.{◌≡◌, ◌≢◌, ◌<◌, ◌≤◌, ℕ, Ok, Err, Some, None, true, false, IfSome, IfErr, OnOk, IfOk, IsSome, option_map};
+ghost use Rattle.std.specs.Prelude.{◌≡◌, ◌≢◌, ◌<◌, ◌≤◌, ◌↔◌, Ok, Err, Some, None, true, false, IfSome, IfErr, OnOk, IfOk, IsSome, option_map};
 ghost use Rattle.range_plane.specs.Fix.{fix_limit};
 ghost use Rattle.range_fixes.specs.Progress.{Answers, Moves, Reads, is_of_text};
 ghost use Rattle.range_fixes.specs.Reading.{Reading, fixes_after, no_more, reading, reading_of};
@@ -53,8 +53,10 @@ impl<R: Read + Drop> Model for FixReader<R> {
 fn take_header<R: Read + Drop>(records: &mut Records<R>) -> Result<(), ReadFault>
     requires { records.old.stopped ≡ false }
     ensures going { OnOk result (records.new.stopped ≡ false) }
-    ensures header { OnOk result (Leads (option_map reading_of records.old.left) (option_map (fixes_after 0 None) records.new.left)) }
-    ensures fault { IfErr result (λ fault. is_of_text fault ≡ true → Leads (option_map reading_of records.old.left) (Some (no_more None (Some fault)))) }
+    ensures header { OnOk result (Leads (option_map reading_of records.old.left)
+        (option_map (fixes_after 0 None) records.new.left)) }
+    ensures fault { IfErr result (λ fault. is_of_text fault ≡ true
+        → Leads (option_map reading_of records.old.left) (Some (no_more None (Some fault)))) }
     ensures own { IfErr result (λ fault. fault ≢ ReadFault.Gone) }
 {
     if !records.advance()? {
@@ -79,7 +81,8 @@ fn take_fix<R: Read + Drop>(
     requires counted { CountFits previous.old count }
     ensures going { OnOk result (records.new.stopped ≡ false) }
     ensures limit { IfOk result (λ o. IfSome o (λ fix. count < fix_limit)) }
-    ensures gives { Gives (option_map (fixes_after count previous.old) records.old.left) count previous.old result previous.new records.new.left }
+    ensures gives { Gives (option_map (fixes_after count previous.old) records.old.left)
+        count previous.old result previous.new records.new.left }
     ensures follows { Follows previous.old result previous.new }
     ensures own { IfErr result (λ fault. fault ≢ ReadFault.Gone) }
 {
@@ -110,7 +113,8 @@ fn take_next<R: Read + Drop>(
     requires counted { CountFits previous.old count }
     ensures going { OnOk result (records.new.stopped ≡ false) }
     ensures limit { IfOk result (λ o. IfSome o (λ fix. count < fix_limit)) }
-    ensures gives { Gives (option_map (rest_of count previous.old) records.old.left) count previous.old result previous.new records.new.left }
+    ensures gives { Gives (option_map (rest_of count previous.old) records.old.left)
+        count previous.old result previous.new records.new.left }
     ensures follows { Follows previous.old result previous.new }
     ensures own { IfErr result (λ fault. fault ≢ ReadFault.Gone) }
 {
@@ -139,7 +143,7 @@ impl<R: Read + Drop> FixReader<R> {
         }
     }
 
-    /// The next fix, or `None` at the end, and after it for good. The first call reads the header and
+    /// The next fix, or `None` at the end and from then on. The first call reads the header and
     /// a record, each later one a record. After a fault every call answers that fault, and name and
     /// count stay. `Read` is answered only where the source failed, which is not retried.
     pub fn next(&mut self) -> Result<Option<Fix>, ReadFault>
@@ -181,7 +185,7 @@ impl<R: Read + Drop> FixReader<R> {
     /// The animal's name, as its bytes stand in the file; `None` before the first fix was given.
     pub fn name(&self) -> Option<&[u8]>
         ensures name { option_map (λ name. name.now) result ≡ self.now.animal }
-        ensures given { 0 < self.now.count → IsSome result }
+        ensures given { IsSome result ↔ (0 < self.now.count) }
     {
         self.previous.as_ref().map(|previous| previous.animal())
     }

@@ -1,6 +1,6 @@
-// The records of a source, one at a time. No other file knows the crate that splits them.
+// The records of a source, one at a time. No other file reads by the crate that splits them.
 
-ghost use Rattle.std.specs.Prelude.{◌≡◌, ◌⊎◌, true, false, IfOk, IfErr, option_map, if◌then◌else◌};
+ghost use Rattle.std.specs.Prelude.{◌≡◌, ◌⊎◌, false, IfOk, OnOk, IfErr, option_map, if◌then◌else◌};
 ghost use Rattle.csv.specs.Reading.{default_config, error_kind, is_io, records, strip_bom};
 ghost use Rattle.csv.specs.Records.{fields_of};
 ghost use Rattle.range_fixes.specs.Records.{TakesRecord};
@@ -62,7 +62,7 @@ impl<R: Read + Drop> Records<R> {
     pub(crate) fn advance(&mut self) -> Result<bool, ReadFault>
         requires { self.old.stopped ≡ false }
         ensures takes { IfOk result (λ found. TakesRecord self.old.left found self.new.current self.new.left) }
-        ensures going { IfOk result (λ found. self.new.stopped ≡ false) }
+        ensures going { OnOk result (self.new.stopped ≡ false) }
         ensures fault { IfErr result (λ fault. (fault ≡ ReadFault.Read) ⊎ (fault ≡ ReadFault.OutOfMemory)) }
     {
         match self.reader.read_byte_record(&mut self.current) {

@@ -1,7 +1,7 @@
 // Points within the limits of the plane.
 
-ghost use Rattle.std.specs.Prelude.{SomeIff, ◌≤ℤ◌, pos};
-ghost use Rattle.range_plane.specs.Plane.{IsCoordinate, coordinate_limit, position};
+ghost use Rattle.std.specs.Prelude.{SomeIff};
+ghost use Rattle.range_plane.specs.Plane.{IsCoordinate, position};
 
 use std::marker::Model;
 
