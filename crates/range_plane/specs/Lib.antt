@@ -1,2 +1,9 @@
+pub mod Columns
+pub mod Covering
+pub mod Edges
 pub mod Fix
+pub mod Laws
+pub mod Order
 pub mod Plane
+pub mod Polygon
+pub mod Row

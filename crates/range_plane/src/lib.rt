@@ -1,10 +1,27 @@
-//! The plane: points, fixes and want of memory, the words that every other crate speaks.
+//! The plane: points and lists of them, minimum convex polygons, fixes and want of memory, the words
+//! that every other crate speaks.
 #![tactic(auto)]
 
+mod area;
+mod columns;
+mod edges;
 mod fix;
+mod laws;
 mod memory;
+mod order;
+mod plain;
 mod point;
+mod polygon;
 
+pub use columns::Columns;
 pub use fix::{FIX_LIMIT, Fix, SECOND_LIMIT};
+pub use laws::{
+    areas_are_not_negative, corners_cover_the_set, corners_stand_for_the_set, covered_is_decided,
+    covered_points_change_nothing, covering_is_reaching, covering_is_transitive,
+    covering_members_are_corners, every_set_has_a_polygon, few_cover_little,
+    larger_sets_cover_more, many_cover_the_left_of_their_edges, one_polygon,
+    polygon_of_its_corners,
+};
 pub use memory::OutOfMemory;
-pub use point::{COORDINATE_LIMIT, Point};
+pub use point::{COORDINATE_LIMIT, Point, turn};
+pub use polygon::Polygon;

@@ -1,7 +1,8 @@
 // Points within the limits of the plane.
 
-ghost use Rattle.std.specs.Prelude.{SomeIff};
-ghost use Rattle.range_plane.specs.Plane.{IsCoordinate, position};
+ghost use Rattle.std.specs.Prelude.{◌≡◌, SomeIff};
+ghost use Rattle.range_plane.specs.Covering.{facing};
+ghost use Rattle.range_plane.specs.Plane.{IsCoordinate, position, turn};
 
 use std::marker::Model;
 
@@ -40,6 +41,21 @@ impl Point {
             None
         }
     }
+}
+
+/// Twice the signed area of the triangle `a`, `b`, `c`, in square metres: positive where the three go
+/// counterclockwise, 0 where they are collinear.
+pub fn turn(a: Point, b: Point, c: Point) -> i64
+    ensures { result ≡ turn a b c }
+{
+    (b.e - a.e) * (c.n - a.n) - (b.n - a.n) * (c.e - a.e)
+}
+
+// The scalar product of the vectors from `q` to `a` and from `q` to `b`.
+pub(crate) fn facing(q: Point, a: Point, b: Point) -> i64
+    ensures { result ≡ facing q a b }
+{
+    (a.e - q.e) * (b.e - q.e) + (a.n - q.n) * (b.n - q.n)
 }
 
 #[cfg(test)]

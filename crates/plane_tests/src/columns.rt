@@ -1,0 +1,103 @@
+// Tests of lists of points.
+
+use range_plane::{Columns, OutOfMemory, Point};
+use refusing::Refusing;
+use std::alloc::Allocator;
+
+// More growths than a run here makes.
+const MANY_GROWTHS: u32 = 100;
+
+// Two columns of points take memory at least once each.
+const LEAST_GROWTHS: u32 = 2;
+
+const POINTS: u8 = 100;
+
+fn diagonal(i: u8) -> Point {
+    Point {
+        e: i64::from(i),
+        n: i64::from(i),
+    }
+}
+
+// Whether the list is the first `count` points of the diagonal.
+fn is_diagonal<A: Allocator>(columns: &Columns<A>, count: u8) -> bool {
+    if columns.len() != usize::from(count) {
+        return false;
+    }
+    for i in 0..count {
+        if columns.at(usize::from(i)) != diagonal(i) {
+            return false;
+        }
+    }
+    true
+}
+
+#[test]
+fn each_call(rt: HostRuntime) -> Result<(), OutOfMemory> {
+    let mut columns = Columns::new(rt.alloc());
+    assert!(rt; columns.is_empty(), "at first");
+    columns.push(Point { e: 1, n: 2 })?;
+    assert_eq!(rt; columns.len(), 1, "after a push");
+    assert!(rt; columns.at(0) == Point { e: 1, n: 2 }, "the pushed point");
+    columns.reserve(2)?;
+    assert!(rt; columns.spare() >= 2, "after reserve");
+    columns.push_reserved(Point { e: 3, n: 4 });
+    columns.push_reserved(Point { e: 5, n: 6 });
+    assert_eq!(rt; columns.len(), 3, "after two more");
+    assert!(rt; !columns.is_empty(), "after two more");
+    assert!(rt; columns.eastings() == [1, 3, 5].as_slice(), "eastings");
+    assert!(rt; columns.northings() == [2, 4, 6].as_slice(), "northings");
+    columns.clear();
+    assert_eq!(rt; columns.len(), 0, "after clear");
+    assert!(rt; columns.spare() >= 3, "after clear");
+    Ok(())
+}
+
+#[test]
+fn push_is_refused_each_growth(rt: HostRuntime) {
+    for number in 1..MANY_GROWTHS {
+        let alloc = Refusing::new(rt.alloc(), number);
+        let mut columns = Columns::new(&alloc);
+        let mut refusals = 0u32;
+        for i in 0..POINTS {
+            if columns.push(diagonal(i)).is_err() {
+                refusals = refusals.wrapping_add(1);
+                assert!(rt; is_diagonal(&columns, i), "after growth {number} at {i}");
+                assert!(rt; columns.push(diagonal(i)).is_ok(), "again at {i}");
+            }
+        }
+        assert!(rt; is_diagonal(&columns, POINTS), "in the end");
+        assert_eq!(rt; alloc.has_refused(), refusals == 1, "at growth {number}");
+        if refusals == 0 {
+            assert!(rt; number > LEAST_GROWTHS, "growths");
+            return;
+        }
+    }
+    assert!(rt; false, "no run without a refusal");
+}
+
+#[test]
+fn reserve_is_refused_each_growth(rt: HostRuntime) {
+    for number in 1..MANY_GROWTHS {
+        let alloc = Refusing::new(rt.alloc(), number);
+        let mut columns = Columns::new(&alloc);
+        let mut refusals = 0u32;
+        for i in 0..POINTS {
+            let room = 10 * usize::from(i) + 1;
+            if columns.reserve(room).is_err() {
+                refusals = refusals.wrapping_add(1);
+                assert!(rt; is_diagonal(&columns, i), "after growth {number} at {i}");
+                assert!(rt; columns.reserve(room).is_ok(), "again at {i}");
+            }
+            assert!(rt; columns.spare() >= room, "room at {i}");
+            columns.push_reserved(diagonal(i));
+        }
+        assert!(rt; is_diagonal(&columns, POINTS), "in the end");
+        assert_eq!(rt; alloc.has_refused(), refusals == 1, "at growth {number}");
+        if refusals == 0 {
+            assert!(rt; number > LEAST_GROWTHS, "growths");
+            return;
+        }
+    }
+    assert!(rt; false, "no run without a refusal");
+}

@@ -1,0 +1,232 @@
+// Tests of polygons by definition.
+
+use range_plane::{OutOfMemory, Point, Polygon};
+use refusing::Refusing;
+use std::alloc::Global;
+use std::process::Abort;
+
+// More growths than a run here makes.
+const MANY_GROWTHS: u32 = 100;
+
+// Two dozen points of a lattice, with repeats and many in line, and a few far ones.
+const POINTS: [(i64, i64); 24] = [
+    (5, 5),
+    (5, 5),
+    (6, 4),
+    (4, 6),
+    (7, 7),
+    (3, 3),
+    (5, 9),
+    (9, 5),
+    (2, 8),
+    (8, 2),
+    (5, 1),
+    (1, 5),
+    (9, 9),
+    (1, 1),
+    (1, 9),
+    (9, 1),
+    (5, 5),
+    (12, 5),
+    (5, 12),
+    (0, 0),
+    (16, 0),
+    (8, 16_777_216),
+    (16_777_216, 3),
+    (4, 4),
+];
+
+fn points_of(rt: &impl Abort, alloc: Global, places: &[(i64, i64)]) -> Vec<Point> {
+    let mut points = Vec::new(alloc);
+    for (e, n) in places {
+        let point = Point::new(*e, *n).expect(rt, "a point");
+        points.push(point).expect(rt, "memory");
+    }
+    points
+}
+
+// Checks how many corners the first points have, and their doubled area.
+fn expect_row(rt: &impl Abort, alloc: Global, places: &[(i64, i64)], corners: usize, area2: u128) {
+    let points = points_of(rt, alloc, places);
+    assert!(rt; points.len() < 100);
+    let polygon = Polygon::plain(alloc, &points).expect(rt, "memory");
+    assert!(rt;
+        polygon.corners().len() == corners,
+        "corners of the first {}",
+        points.len()
+    );
+    assert!(rt;
+        polygon.area2() == area2,
+        "area of the first {}",
+        points.len()
+    );
+}
+
+// Checks the polygon of the points by its corners.
+fn expect_corners(rt: &impl Abort, alloc: Global, places: &[(i64, i64)], corners: &[(i64, i64)]) {
+    let points = points_of(rt, alloc, places);
+    let corners = points_of(rt, alloc, corners);
+    assert!(rt; points.len() < 100);
+    let polygon = Polygon::plain(alloc, &points).expect(rt, "memory");
+    assert!(rt; polygon.corners() == corners.as_slice());
+}
+
+const SQUARE: [(i64, i64); 5] = [(0, 0), (10, 0), (10, 10), (0, 10), (5, 5)];
+
+const HEXAGON: [(i64, i64); 6] = [(0, 0), (4, 0), (5, 2), (4, 4), (0, 4), (10, 2)];
+
+const LIMITS: [(i64, i64); 4] = [
+    (0, 0),
+    (16_777_216, 0),
+    (16_777_216, 16_777_216),
+    (0, 16_777_216),
+];
+
+#[test]
+fn rows(rt: HostRuntime) {
+    let cases = [
+        (
+            SQUARE.as_slice(),
+            [1, 2, 3, 4, 4].as_slice(),
+            [0, 0, 100, 200, 200].as_slice(),
+        ),
+        (&[(5, 5), (10, 5), (20, 5)], &[1, 2, 2], &[0, 0, 0]),
+        (
+            &LIMITS,
+            &[1, 2, 3, 4],
+            &[0, 0, 281_474_976_710_656, 562_949_953_421_312],
+        ),
+        (&[(7, 7), (7, 7), (7, 7)], &[1, 1, 1], &[0, 0, 0]),
+        (
+            &[(0, 0), (2, 2), (1, 1), (4, 4)],
+            &[1, 2, 2, 2],
+            &[0, 0, 0, 0],
+        ),
+        (
+            &[(5, 5), (6, 5), (6, 6), (0, 5)],
+            &[1, 2, 3, 3],
+            &[0, 0, 1, 6],
+        ),
+        (&HEXAGON, &[1, 2, 3, 4, 5, 5], &[0, 0, 8, 20, 36, 56]),
+    ];
+    for (places, corners, areas) in cases {
+        for (i, (corners, area)) in corners.iter().zip(areas).enumerate() {
+            let first = &places[..places.len().min(i.saturating_add(1))];
+            expect_row(&rt, rt.alloc(), first, *corners, *area);
+        }
+    }
+}
+
+#[test]
+fn corners(rt: HostRuntime) {
+    let alloc = rt.alloc();
+    let cases = [
+        (
+            SQUARE.as_slice(),
+            [(0, 0), (10, 0), (10, 10), (0, 10)].as_slice(),
+        ),
+        (&[(5, 5), (10, 5), (20, 5)], &[(5, 5), (20, 5)]),
+        (&[(7, 7), (7, 7), (7, 7)], &[(7, 7)]),
+        (&[(0, 0), (2, 2), (1, 1), (4, 4)], &[(0, 0), (4, 4)]),
+        (&[(5, 5), (6, 5), (6, 6), (0, 5)], &[(0, 5), (6, 5), (6, 6)]),
+        (&HEXAGON, &[(0, 0), (4, 0), (10, 2), (4, 4), (0, 4)]),
+    ];
+    for (places, corners) in cases {
+        expect_corners(&rt, alloc, places, corners);
+    }
+}
+
+#[test]
+fn no_points(rt: HostRuntime) -> Result<(), OutOfMemory> {
+    let polygon = Polygon::plain(rt.alloc(), &[])?;
+    assert!(rt; polygon.corners().is_empty() && polygon.area2() == 0);
+    assert!(rt; !polygon.covers(Point { e: 0, n: 0 }));
+    Ok(())
+}
+
+// Twice the signed area of a triangle, by other products than the crate's.
+fn doubled(a: Point, b: Point, c: Point) -> i64 {
+    let product = |p: Point, q: Point| {
+        p.e.wrapping_mul(q.n).wrapping_sub(q.e.wrapping_mul(p.n))
+    };
+    product(a, b)
+        .wrapping_add(product(b, c))
+        .wrapping_add(product(c, a))
+}
+
+// How far apart two points are, by the longer coordinate.
+fn apart(a: Point, b: Point) -> u64 {
+    a.e.abs_diff(b.e).max(a.n.abs_diff(b.n))
+}
+
+// Whether `b` wraps tighter round the points than `best`, as seen from `a`.
+fn wraps(a: Point, best: Point, b: Point) -> bool {
+    let turn = doubled(a, best, b);
+    best == a || turn < 0 || (turn == 0 && apart(a, b) > apart(a, best))
+}
+
+// The corners by gift wrapping (Jarvis 1973), from the first point by easting, then northing.
+fn wrapped(rt: &impl Abort, alloc: Global, points: &[Point]) -> Vec<Point> {
+    let mut corners = Vec::new(alloc);
+    let Some(first) = points
+        .iter()
+        .copied()
+        .reduce(|a, b| { if (b.e, b.n) < (a.e, a.n) { b } else { a } })
+    else {
+        return corners;
+    };
+    let mut at = first;
+    for _ in 0..points.len() {
+        corners.push(at).expect(rt, "memory");
+        let mut best = at;
+        for b in points {
+            if *b != at && wraps(at, best, *b) {
+                best = *b;
+            }
+        }
+        if best == first {
+            return corners;
+        }
+        at = best;
+    }
+    corners
+}
+
+#[test]
+fn agrees_with_gift_wrapping(rt: HostRuntime) {
+    let alloc = rt.alloc();
+    let points = points_of(&rt, alloc, &POINTS);
+    for count in 0..25 {
+        let first = &points[..points.len().min(count)];
+        assert!(rt; first.len() < 100);
+        let polygon = Polygon::plain(alloc, first).expect(&rt, "memory");
+        let corners = wrapped(&rt, alloc, first);
+        assert!(rt;
+            polygon.corners() == corners.as_slice(),
+            "the first {count}"
+        );
+    }
+}
+
+#[test]
+fn plain_is_refused_each_growth(rt: HostRuntime) {
+    let points = points_of(&rt, rt.alloc(), &POINTS);
+    assert!(rt; points.len() < 100);
+    for number in 1..MANY_GROWTHS {
+        let alloc = Refusing::new(rt.alloc(), number);
+        let polygon = Polygon::plain(&alloc, &points);
+        assert!(rt;
+            polygon.is_err() == alloc.has_refused(),
+            "at growth {number}"
+        );
+        let polygon = polygon
+            .or_else(|_| Polygon::plain(&alloc, &points))
+            .expect(&rt, "again");
+        assert!(rt; polygon.corners().len() == 4, "after growth {number}");
+        if !alloc.has_refused() {
+            assert!(rt; number > 1, "growths");
+            return;
+        }
+    }
+    assert!(rt; false, "no run without a refusal");
+}

@@ -1,0 +1,144 @@
+-- The corners of a set in their order round the least of them, one point after the other.
+use Rattle.std.proofs.Common.{◌≡◌, ◌≢◌, ◌+◌, ◌<◌, ◌≤◌, ◌⊎◌, inl, inr, ℕ, zero, suc, pos, ◌<ℤ◌, ◌≤ℤ◌, List, [], ◌∷◌, ◌++◌, AllPairs, Contains, length, take, drop, get_or, refl, sym, ◌∙◌, subst, ap, arith, eq-or-lt_of_le}
+use Rattle.std.proofs.lemmas.List.{get_or_read}
+use Rattle.range_plane.specs.Plane.{Position, origin, turn}
+use Rattle.range_plane.specs.Covering.{Covers}
+use Rattle.range_plane.specs.Polygon.{IsExtreme, IsLeast, IsPolygon, without}
+use Rattle.range_plane.proofs.HalfPlanes.{get_or_same}
+use Rattle.range_plane.proofs.Integers.{linear}
+use Rattle.range_plane.proofs.Members.{here, there, nowhere, contained, each}
+use Rattle.range_plane.proofs.Rising.{rising}
+use Rattle.range_plane.proofs.RoundLeast.{ahead, one_before, pairs_with, polygon_round, transitive_round}
+use Rattle.range_plane.proofs.Unique.{from_head, in_rest}
+
+-- a list with x put in at a place
+abbrev pub put : List Position → ℕ → Position → List Position
+put R k x = take k R ++ x ∷ drop k R
+
+-- what it has
+put-has : (R : List Position) (k : ℕ) (x y : Position) → Contains (put R k x) y → (y ≡ x) ⊎ Contains R y
+put-has R zero x y m = contained x R y m
+put-has [] (suc k) x y m = contained x [] y m
+put-has (r ∷ R) (suc k) x y m = elim (contained r (put R k x) y m) [
+  | inl e ↦ inr (subst (Contains (r ∷ R)) (sym e) (here r R))
+  | inr n ↦ elim (put-has R k x y n) [ inl e ↦ inl e | inr o ↦ inr (there r R y o) ]
+]
+
+put-new : (R : List Position) (k : ℕ) (x : Position) → Contains (put R k x) x
+put-new R zero x = here x R
+put-new [] (suc k) x = here x []
+put-new (r ∷ R) (suc k) x = there r (put R k x) x (put-new R k x)
+
+put-old : (R : List Position) (k : ℕ) (x y : Position) → Contains R y → Contains (put R k x) y
+put-old R zero x y m = there x R y m
+put-old [] (suc k) x y m = absurd (nowhere y m)
+put-old (r ∷ R) (suc k) x y m = each (Contains (r ∷ put R k x)) r R (here r (put R k x)) (λ z n. there r (put R k x) z (put-old R k x z n)) y m
+
+-- a corner other than c
+abbrev pub IsOther : List Position → Position → Position → Type 0
+IsOther S c x = IsExtreme S x × (x ≢ c)
+
+-- the list begins with c, and goes round it through the corners among the first n points
+pub record IsRound (S : List Position) (c : Position) (n : ℕ) (L : List Position) : Type 0 where
+  pub first : L ≡ c ∷ drop 1 L
+  pub others : (x : Position) → Contains (drop 1 L) x → IsOther S c x
+  pub all : (k : ℕ) → k < n → IsOther S c (get_or S k origin) → Contains (drop 1 L) (get_or S k origin)
+  pub pairs : AllPairs (λ x y. pos 0 <ℤ turn c x y) (drop 1 L)
+
+module _ (S : List Position) (c : Position) (l : IsLeast S c) where
+  abbrev InOrder : Position → Position → Type 0
+  InOrder x y = pos 0 <ℤ turn c x y
+
+  put-pairs : (R : List Position) (k : ℕ) (x : Position) → IsOther S c x → ((y : Position) → Contains R y → IsOther S c y) → ((y : Position) → Contains R y → x ≢ y) → AllPairs InOrder R
+      → ((j : ℕ) → j < k → j < length R → pos 0 <ℤ turn c (get_or R j origin) x) → (k < length R → turn c (get_or R k origin) x ≤ℤ pos 0) → AllPairs InOrder (put R k x)
+  put-pairs [] zero x ox oR new pairs before after = pairs_with InOrder x [] (λ y m. absurd (nowhere y m)) pairs
+  put-pairs [] (suc k) x ox oR new pairs before after = pairs_with InOrder x [] (λ y m. absurd (nowhere y m)) pairs
+  put-pairs (r ∷ R) zero x ox oR new pairs before after =
+      let direction = (rising S).direction in
+      let not_after = after (omega arith) in
+      let first : InOrder x r = elim (one_before S c l x r ox.0 (oR r (here r R)).0 ox.1 (oR r (here r R)).1 (new r (here r R))) [ inl h ↦ h | inr h ↦ absurd (omega (arith, linear)) ] in
+      let rest : (z : Position) → Contains R z → InOrder x z = λ z m.
+      transitive_round direction c x r z (ahead S c l x ox.0.member ox.1) (ahead S c l r (oR r (here r R)).0.member (oR r (here r R)).1) (ahead S c l z (oR z (there r R z m)).0.member (oR z (there r R z m)).1)
+      first (from_head InOrder r R pairs z m) in
+      pairs_with InOrder x (r ∷ R) (each (InOrder x) r R first rest) pairs
+  put-pairs (r ∷ R) (suc k) x ox oR new pairs before after =
+      let more = put-pairs R k x ox (λ y m. oR y (there r R y m)) (λ y m. new y (there r R y m)) (in_rest InOrder r R pairs)
+      (λ j h w. before (suc j) (omega arith) (omega arith)) (λ w. after (omega arith)) in
+      pairs_with InOrder r (put R k x) (λ z m. elim (put-has R k x z m) [ inl e ↦ subst (InOrder r) (sym e) (before 0 (omega arith) (omega arith)) | inr n ↦ from_head InOrder r R pairs z n ]) more
+
+  pub round-start : IsRound S c 0 (c ∷ [])
+  round-start = record { first = refl; others = λ x m. absurd (nowhere x m); all = λ k h. absurd (omega arith); pairs = λ i j d h k. absurd (omega arith) }
+
+  below : (n k : ℕ) → k < n + 1 → (k < n) ⊎ (k ≡ n)
+  below n k h = elim (eq-or-lt_of_le (let g : k ≤ n = omega arith in g)) [ inl e ↦ inr e | inr lt ↦ inl lt ]
+
+  -- the next point is no new corner
+  pub round-same : (n : ℕ) (L : List Position) (p : Position) → IsRound S c n L → n < length S → p ≡ get_or S n p → (IsOther S c p → Contains (drop 1 L) p) → IsRound S c (n + 1) L
+  round-same n L p r within is old = record {
+    first = r.first;
+    others = r.others;
+    all = λ k h. elim (below n k h) [
+      | inl lt ↦ r.all k lt
+      | inr e ↦ let same : p ≡ get_or S k origin = get_or_read S n p within is origin ∙ ap (λ j. get_or S j origin) (sym e) in subst (λ x. IsOther S c x → Contains (drop 1 L) x) same old
+    ];
+    pairs = r.pairs;
+  }
+
+  -- the next point is a new corner, put at its place
+  pub round-next : (n : ℕ) (R : List Position) (k : ℕ) (p : Position) → IsRound S c n (c ∷ R) → n < length S → p ≡ get_or S n p → IsOther S c p → ((y : Position) → Contains R y → p ≢ y)
+      → ((j : ℕ) → j < k → j < length R → pos 0 <ℤ turn c (get_or R j origin) p) → (k < length R → turn c (get_or R k origin) p ≤ℤ pos 0) → IsRound S c (n + 1) (c ∷ put R k p)
+  round-next n R k p r within is other new before after = record {
+    first = refl;
+    others = λ x m. elim (put-has R k p x m) [ inl e ↦ subst (IsOther S c) (sym e) other | inr o ↦ r.others x o ];
+    all = λ j h o. elim (below n j h) [
+      | inl lt ↦ put-old R k p (get_or S j origin) (r.all j lt o)
+      | inr e ↦ let same : p ≡ get_or S j origin = get_or_read S n p within is origin ∙ ap (λ i. get_or S i origin) (sym e) in subst (Contains (put R k p)) same (put-new R k p)
+    ];
+    pairs = put-pairs R k p other r.others new r.pairs before after;
+  }
+
+  -- after all points it is the polygon
+  pub round-all : (n : ℕ) (L : List Position) → IsRound S c n L → length S ≤ n → IsPolygon S L
+  round-all n L r all = subst (IsPolygon S) (sym r.first) (polygon_round S c l (drop 1 L) (λ x. (r.others x, corner x)) r.pairs)
+    where
+      corner : (x : Position) → IsOther S c x → Contains (drop 1 L) x
+      corner x o =
+          let m = o.0.member in
+          let same : get_or S m.0 origin ≡ x = get_or_same S m.0 origin x m.1 ∙ m.2 in
+          subst (Contains (drop 1 L)) same (r.all m.0 (omega (arith, m.1)) (subst (IsOther S c) (sym same) o))
+
+-- the list goes round its first member, which is the least of the set, through the corners among the first n points
+pub record GoesRound (S : List Position) (n : ℕ) (L : List Position) : Type 0 where
+  pub least : IsLeast S (get_or L 0 origin)
+  pub round : IsRound S (get_or L 0 origin) n L
+
+pub goes-start : (S : List Position) (c : Position) → IsLeast S c → GoesRound S 0 (c ∷ [])
+goes-start S c l = record { least = l; round = round-start S c l }
+
+pub goes-same : (S : List Position) (n : ℕ) (L : List Position) (p : Position) → GoesRound S n L → n < length S → p ≡ get_or S n p → Contains L p ⊎ Covers (without p S) p → GoesRound S (n + 1) L
+goes-same S n [] p r within is old = cc r.round.first
+goes-same S n (c ∷ R) p r within is old = record { least = r.least; round = round-same S c r.least n (c ∷ R) p r.round within is (λ o. by o old) }
+  where
+    by : IsOther S c p → Contains (c ∷ R) p ⊎ Covers (without p S) p → Contains R p
+    by o (inl m) = elim (contained c R p m) [ inl e ↦ absurd (o.1 e) | inr n ↦ n ]
+    by o (inr covered) = absurd (o.0.needed covered)
+
+pub goes-next : (S : List Position) (n : ℕ) (L : List Position) (place : ℕ) (p : Position) → GoesRound S n L → n < length S → p ≡ get_or S n p → ¬ (Contains L p) → ¬ (Covers (without p S) p)
+    → 0 < place → ((k : ℕ) → 0 < k → k < place → pos 0 <ℤ turn (get_or L 0 origin) (get_or L k origin) p) → (place < length L → turn (get_or L 0 origin) (get_or L place origin) p ≤ℤ pos 0)
+    → GoesRound S (n + 1) (put L place p)
+goes-next S n [] place p r within is new needed some before after = cc r.round.first
+goes-next S n (c ∷ R) zero p r within is new needed some before after = absurd (omega arith)
+goes-next S n (c ∷ R) (suc k) p r within is new needed some before after = record {
+  least = r.least;
+  round = round-next S c r.least n R k p r.round within is
+      (record { member = (n, within, sym is); needed = needed }, λ e. new (subst (Contains (c ∷ R)) (sym e) (here c R)))
+      (λ y m e. new (subst (Contains (c ∷ R)) (sym e) (there c R y m)))
+      (λ j h w. before (suc j) (omega arith) (omega arith)) (λ w. after (omega arith));
+}
+
+pub goes-all : (S : List Position) (n : ℕ) (L : List Position) → GoesRound S n L → length S ≤ n → IsPolygon S L
+goes-all S n L r all = round-all S (get_or L 0 origin) r.least n L r.round all
+
+pub goes-some : (S : List Position) (n : ℕ) (L : List Position) → GoesRound S n L → 0 < length L
+goes-some S n [] r = cc r.round.first
+goes-some S n (c ∷ R) r = omega arith

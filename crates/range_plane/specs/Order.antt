@@ -1,0 +1,11 @@
+-- The order of points by easting, then by northing, as the order of one number.
+use Rattle.std.specs.Prelude.{ℕ, ℤ, pos, ◌+ℤ◌, ◌*ℤ◌}
+use Rattle.range_plane.specs.Plane.{Position}
+
+-- what one metre of easting counts for in a rank: 2^28, more than any northing
+abbrev pub rank_base : ℕ
+rank_base = 268435456
+
+-- points in rising order of this number stand in rising order of easting, then northing
+unfoldable pub rank : Position → ℤ
+rank p = p.e *ℤ pos rank_base +ℤ p.n

@@ -1,0 +1,27 @@
+// The order of points by easting, then by northing.
+
+ghost use Rattle.std.specs.Bool.{OnFalse, OnTrue};
+ghost use Rattle.std.specs.Prelude.{◌≡◌};
+ghost use Rattle.range_plane.specs.Order.{rank};
+ghost use Rattle.range_plane.specs.Plane.{IsAtMost, IsBefore, IsWithinLimits};
+
+use crate::point::Point;
+
+// What one metre of easting counts for in a rank: 2^28, more than any northing.
+const RANK_BASE: i64 = 268_435_456;
+
+// Points in rising order of this number stand in rising order of easting, then northing.
+fn rank(p: Point) -> i64
+    ensures value { result ≡ rank p }
+    ensures within { IsWithinLimits p }
+{
+    p.e * RANK_BASE + p.n
+}
+
+// Whether `a` comes before `b`, by easting and then by northing.
+pub(crate) fn comes_before(a: Point, b: Point) -> bool
+    ensures yes { OnTrue result (IsBefore a b) }
+    ensures no { OnFalse result (IsAtMost b a) }
+{
+    rank(a) < rank(b)
+}
