@@ -1,5 +1,6 @@
 -- The minimum convex polygon of a set of positions (Mohr 1947), and its doubled area.
-use Rattle.std.specs.Prelude.{ℕ, ◌<◌, ℤ, pos, ◌+ℤ◌, ◌-ℤ◌, ◌*ℤ◌, ◌<ℤ◌, ◌≢◌, ◌↔◌, ⊤, List, [], ◌∷◌, length, slice_index_or, Contains, AllPairs, Bool, cond, ◌&&◌}
+use Rattle.std.specs.Prelude.{ℕ, ◌<◌, ℤ, pos, ◌+ℤ◌, ◌-ℤ◌, ◌*ℤ◌, ◌<ℤ◌, ◌≢◌, ◌↔◌, ⊤, List, [], ◌∷◌, length, slice_index_or, Contains, AllPairs, Bool, cond, ◌&&◌, not}
+use Rattle.std.specs.List.{list_any}
 use Rattle.std.specs.Ordering.{int_eq}
 use Rattle.range_plane.specs.Covering.{Covers}
 use Rattle.range_plane.specs.Plane.{Position, turn, IsAtMost}
@@ -11,6 +12,10 @@ same_position a b = int_eq a.e b.e && int_eq a.n b.n
 abbrev pub without : Position → List Position → List Position
 without p [] = []
 without p (s ∷ S) = cond (same_position s p) (without p S) (s ∷ without p S)
+
+-- whether a member other than p passes a test
+abbrev pub any_other : Position → (Position → Bool) → List Position → Bool
+any_other p test S = list_any (λ s. not (same_position s p) && test s) S
 
 -- a member that the set without it does not cover
 pub record IsExtreme (S : List Position) (p : Position) : Type 0 where

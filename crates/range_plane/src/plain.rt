@@ -1,10 +1,10 @@
 // The corners of a set, straight from the definitions.
 
-ghost use Rattle.std.specs.Prelude.{ℕ, ◌≡◌, ◌<◌, ◌≤◌, ◌≤ℤ◌, ◌<ℤ◌, ◌&&◌, int_le, not, pos, IfOk, IfSome, IsNone, [], length, slice_index_or};
-ghost use Rattle.std.specs.List.{list_any};
+ghost use Rattle.std.specs.Prelude.{ℕ, ◌≡◌, ◌<◌, ◌≤◌, ◌≤ℤ◌, ◌<ℤ◌, int_le, pos, IfOk, IfSome, IsNone, [], length};
 ghost use Rattle.range_plane.specs.Covering.{is_covered, is_in_triangle, is_on_segment};
-ghost use Rattle.range_plane.specs.Plane.{origin, turn};
-ghost use Rattle.range_plane.specs.Polygon.{IsLeast, IsPolygon, same_position, without};
+ghost use Rattle.range_plane.specs.Edges.{at};
+ghost use Rattle.range_plane.specs.Plane.{turn};
+ghost use Rattle.range_plane.specs.Polygon.{IsLeast, IsPolygon, any_other, without};
 
 use crate::memory::OutOfMemory;
 use crate::order::comes_before;
@@ -34,14 +34,14 @@ fn is_in_triangle(q: Point, a: Point, b: Point, c: Point) -> bool
 
 // Whether `q` lies on a segment from `a` to another point than `q`.
 fn is_on_segment_from(points: &[Point], q: Point, a: Point) -> bool
-    ensures { result ≡ list_any (λ b. not (same_position b q) && is_on_segment q a b) points.now }
+    ensures { result ≡ any_other q (λ b. is_on_segment q a b) points.now }
 {
     points.iter().any(|b| *b != q && is_on_segment(q, a, *b))
 }
 
 // Whether `q` lies on a segment between two other points.
 fn is_on_some_segment(points: &[Point], q: Point) -> bool
-    ensures { result ≡ list_any (λ a. not (same_position a q) && list_any (λ b. not (same_position b q) && is_on_segment q a b) points.now) points.now }
+    ensures { result ≡ any_other q (λ a. any_other q (λ b. is_on_segment q a b) points.now) points.now }
 {
     points
         .iter()
@@ -50,7 +50,7 @@ fn is_on_some_segment(points: &[Point], q: Point) -> bool
 
 // Whether `q` lies in a triangle of `a`, `b` and another point than `q`.
 fn is_in_triangle_on(points: &[Point], q: Point, a: Point, b: Point) -> bool
-    ensures { result ≡ list_any (λ c. not (same_position c q) && is_in_triangle q a b c) points.now }
+    ensures { result ≡ any_other q (λ c. is_in_triangle q a b c) points.now }
 {
     points
         .iter()
@@ -59,7 +59,7 @@ fn is_in_triangle_on(points: &[Point], q: Point, a: Point, b: Point) -> bool
 
 // Whether `q` lies in a triangle of `a` and two other points than `q`.
 fn is_in_triangle_from(points: &[Point], q: Point, a: Point) -> bool
-    ensures { result ≡ list_any (λ b. not (same_position b q) && list_any (λ c. not (same_position c q) && is_in_triangle q a b c) points.now) points.now }
+    ensures { result ≡ any_other q (λ b. any_other q (λ c. is_in_triangle q a b c) points.now) points.now }
 {
     points
         .iter()
@@ -68,7 +68,8 @@ fn is_in_triangle_from(points: &[Point], q: Point, a: Point) -> bool
 
 // Whether `q` lies in a triangle of three other points.
 fn is_in_some_triangle(points: &[Point], q: Point) -> bool
-    ensures { result ≡ list_any (λ a. not (same_position a q) && list_any (λ b. not (same_position b q) && list_any (λ c. not (same_position c q) && is_in_triangle q a b c) points.now) points.now) points.now }
+    ensures { result ≡ any_other q (λ a. any_other q (λ b. any_other q (λ c. is_in_triangle q a b c)
+        points.now) points.now) points.now }
 {
     points
         .iter()
@@ -100,8 +101,8 @@ fn least_of(points: &[Point]) -> Option<Point>
 fn place_round(corners: &[Point], p: Point) -> usize
     requires { 0 < length corners.now }
     ensures within { (0 < result) × (result ≤ length corners.now) }
-    ensures before { (k : ℕ) → 0 < k → k < result → pos 0 <ℤ turn (slice_index_or corners.now 0 origin) (slice_index_or corners.now k origin) p }
-    ensures here { result < length corners.now → turn (slice_index_or corners.now 0 origin) (slice_index_or corners.now result origin) p ≤ℤ pos 0 }
+    ensures before { (k : ℕ) → 0 < k → k < result → pos 0 <ℤ turn (at corners.now 0) (at corners.now k) p }
+    ensures here { result < length corners.now → turn (at corners.now 0) (at corners.now result) p ≤ℤ pos 0 }
 {
     let mut place = 1;
     while place < corners.len() && turn(corners[0], corners[place], p) > 0 {
