@@ -8,6 +8,21 @@ use std::process::Abort;
 // More growths than a run here makes.
 const MANY_GROWTHS: u32 = 100;
 
+// The corners of the first 14 of these points, for which a list grows more than once.
+const OCTAGON: [(i64, i64); 8] = [
+    (1, 1),
+    (5, 1),
+    (8, 2),
+    (9, 5),
+    (9, 9),
+    (5, 9),
+    (2, 8),
+    (1, 5),
+];
+
+// The first corner takes memory, and so does one past those that the first growth has room for.
+const LEAST_GROWTHS: u32 = 2;
+
 // Two dozen points of a lattice, with repeats and many in line, and a few far ones.
 const POINTS: [(i64, i64); 24] = [
     (5, 5),
@@ -68,7 +83,11 @@ fn expect_corners(rt: &impl Abort, alloc: Global, places: &[(i64, i64)], corners
     let corners = points_of(rt, alloc, corners);
     assert!(rt; points.len() < 100);
     let polygon = Polygon::plain(alloc, &points).expect(rt, "memory");
-    assert!(rt; polygon.corners() == corners.as_slice());
+    assert!(rt;
+        polygon.corners() == corners.as_slice(),
+        "of {} points",
+        points.len()
+    );
 }
 
 const SQUARE: [(i64, i64); 5] = [(0, 0), (10, 0), (10, 10), (0, 10), (5, 5)];
@@ -210,7 +229,8 @@ fn agrees_with_gift_wrapping(rt: HostRuntime) {
 
 #[test]
 fn plain_is_refused_each_growth(rt: HostRuntime) {
-    let points = points_of(&rt, rt.alloc(), &POINTS);
+    let points = points_of(&rt, rt.alloc(), &POINTS[..14]);
+    let corners = points_of(&rt, rt.alloc(), &OCTAGON);
     assert!(rt; points.len() < 100);
     for number in 1..MANY_GROWTHS {
         let alloc = Refusing::new(rt.alloc(), number);
@@ -222,9 +242,12 @@ fn plain_is_refused_each_growth(rt: HostRuntime) {
         let polygon = polygon
             .or_else(|_| Polygon::plain(&alloc, &points))
             .expect(&rt, "again");
-        assert!(rt; polygon.corners().len() == 4, "after growth {number}");
+        assert!(rt;
+            polygon.corners() == corners.as_slice(),
+            "after growth {number}"
+        );
         if !alloc.has_refused() {
-            assert!(rt; number > 1, "growths");
+            assert!(rt; number > LEAST_GROWTHS, "growths");
             return;
         }
     }

@@ -53,9 +53,6 @@ abs_turn a b c fa fb fc =
     (abs_product b.e a.e c.n a.n fb.0 fa.0 fc.1 fa.1)
     (abs_product b.n a.n c.e a.e fb.1 fa.1 fc.0 fa.0)
 
-pub turn_at_most : (a b c : Position) → IsWithinLimits a → IsWithinLimits b → IsWithinLimits c → turn a b c ≤ℤ pos turn_limit
-turn_at_most a b c fa fb fc = abs_above (turn a b c) turn_limit (abs_turn a b c fa fb fc)
-
 pub abs_facing : (q a b : Position) → IsWithinLimits q → IsWithinLimits a → IsWithinLimits b → unsigned_abs (facing q a b) ≤ turn_limit
 unfolding facing
 abs_facing q a b fq fa fb =
@@ -98,6 +95,3 @@ facing_fits q a b fq fa fb = fits_from_turn_limit (facing q a b) (abs_facing q a
 
 pub coordinate_is : (x : ℤ) → IsCoordinate x → to_z w64 (of_z w64 x) ≡ x
 coordinate_is x f = to_z-of_z w64 x (fits_from_coordinate_limit x (abs_le x coordinate_limit (omega (arith, ints)) (omega (arith, ints))))
-
-pub coordinate_within : (x : ℤ) → IsCoordinate x → unsigned_abs x ≤ coordinate_limit
-coordinate_within x f = abs_le x coordinate_limit (omega (arith, ints)) (omega (arith, ints))

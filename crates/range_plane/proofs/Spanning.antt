@@ -2,7 +2,7 @@
 use Rattle.std.proofs.Common.{◌≡◌, ◌≢◌, refl, sym, subst, ℕ, zero, suc, ◌+◌, ◌<◌, ◌≤◌, pos, neg_ℤ, ◌*ℤ◌, ◌≤ℤ◌, ◌<ℤ◌, ◌↔◌, ◌⊎◌, inl, inr, List, [], ◌∷◌, length, get_or, Contains, arith, eq-or-lt_of_le}
 use Rattle.std.proofs.lemmas.Int.{by_lt_z}
 use Rattle.range_plane.specs.Covering.{Covers}
-use Rattle.range_plane.specs.Edges.{at, next, Spans}
+use Rattle.range_plane.specs.Edges.{at, next}
 use Rattle.range_plane.specs.Plane.{Position, turn, origin, IsAtMost, IsBefore}
 use Rattle.range_plane.specs.Polygon.{TurnsLeft}
 use Rattle.range_plane.proofs.HalfPlanes.{in_half_plane, left_of_edge, left_of_closing, turn_back, get_or_same}
@@ -14,6 +14,12 @@ use Rattle.range_plane.proofs.Separation.{covers_every_way}
 use Rattle.range_plane.proofs.Unique.{least_alone}
 use Rattle.range_plane.proofs.Vectors.{cross, dot, from, turn_at, dot_from, dot_origin, swing}
 use Rattle.range_plane.proofs.Without.{equal_or_apart}
+
+-- a comes before b by easting and then by northing, and q is neither before a nor after b
+pub record Spans (a b q : Position) : Type 0 where
+  pub rising : IsBefore a b
+  pub from : IsAtMost a q
+  pub to : IsAtMost q b
 
 -- u lies behind along d, v ahead: where the turns agree, one of them is not behind along f
 one_reaches : (f d u v : Position) → dot d u ≤ℤ pos 0 → pos 0 ≤ℤ dot d v → dot d u <ℤ dot d v → pos 0 ≤ℤ (cross f d *ℤ cross u v) → (pos 0 ≤ℤ dot f u) ⊎ (pos 0 ≤ℤ dot f v)

@@ -195,16 +195,6 @@ unfolding facing dot dot_of from
 facing_round c x y =
     ring (c.e ∷ c.n ∷ x.e ∷ x.n ∷ y.e ∷ y.n ∷ []) (dot_of (var 0 ⊖ var 2) (var 1 ⊖ var 3) (var 4 ⊖ var 2) (var 5 ⊖ var 3)) (dot_of (var 2 ⊖ var 0) (var 3 ⊖ var 1) (var 2 ⊖ var 0) (var 3 ⊖ var 1) ⊖ dot_of (var 2 ⊖ var 0) (var 3 ⊖ var 1) (var 4 ⊖ var 0) (var 5 ⊖ var 1)) tt
 
--- twice the area under the chord from g to h, seen from the line through m and t
-pub above_chord : (d m t q g h : Position) → dot d (from m t) *ℤ turn g h q ≡ turn g h m *ℤ dot d (from q t) +ℤ turn g h t *ℤ dot d (from m q) +ℤ turn m t q *ℤ dot d (from g h)
-unfolding turn turn_of dot dot_of from
-above_chord d m t q g h =
-    let f = turn_of (var 8) (var 9) (var 10) (var 11) in
-    let along = λ (x x' y y' : Expr). dot_of (var 0) (var 1) (y ⊖ x) (y' ⊖ x') in
-    ring (d.e ∷ d.n ∷ m.e ∷ m.n ∷ t.e ∷ t.n ∷ q.e ∷ q.n ∷ g.e ∷ g.n ∷ h.e ∷ h.n ∷ [])
-    (along (var 2) (var 3) (var 4) (var 5) ⊗ f (var 6) (var 7))
-    (f (var 2) (var 3) ⊗ along (var 6) (var 7) (var 4) (var 5) ⊕ f (var 4) (var 5) ⊗ along (var 2) (var 3) (var 6) (var 7) ⊕ turn_of (var 2) (var 3) (var 4) (var 5) (var 6) (var 7) ⊗ along (var 8) (var 9) (var 10) (var 11)) tt
-
 -- ---- the direction backwards
 unfoldable pub reverse_of : Position → Position
 reverse_of d = record { e = neg_ℤ d.e; n = neg_ℤ d.n }

@@ -4,7 +4,7 @@ use Rattle.std.specs.List.{list_any}
 use Rattle.std.specs.Ordering.{int_eq}
 use Rattle.range_plane.specs.Plane.{Position, turn}
 
--- the scalar product of the vectors from q to a and from q to b: at most 0 where q lies in the disc over a b as its diameter
+-- the scalar product of the vectors from q to a and from q to b: at most 0 where q lies in the disc whose diameter is a b
 unfoldable pub facing : Position → Position → Position → ℤ
 facing q a b = (a.e -ℤ q.e) *ℤ (b.e -ℤ q.e) +ℤ (a.n -ℤ q.n) *ℤ (b.n -ℤ q.n)
 

@@ -1,5 +1,5 @@
 -- The minimum convex polygon of a set of positions (Mohr 1947), and its doubled area.
-use Rattle.std.specs.Prelude.{ℕ, ◌<◌, ℤ, pos, ◌+ℤ◌, ◌-ℤ◌, ◌*ℤ◌, ◌<ℤ◌, ◌≢◌, ◌↔◌, ⊤, List, [], ◌∷◌, length, slice_index_or, Contains, AllPairs, Bool, cond, ◌&&◌, not}
+use Rattle.std.specs.Prelude.{ℕ, ◌<◌, ℤ, pos, ◌+ℤ◌, ◌-ℤ◌, ◌*ℤ◌, ◌<ℤ◌, ◌≢◌, ◌↔◌, ⊤, List, [], ◌∷◌, length, slice_index_or, Contains, AllPairs, Bool, if◌then◌else◌, ◌&&◌, not}
 use Rattle.std.specs.List.{list_any}
 use Rattle.std.specs.Ordering.{int_eq}
 use Rattle.range_plane.specs.Covering.{Covers}
@@ -11,7 +11,7 @@ same_position a b = int_eq a.e b.e && int_eq a.n b.n
 -- the members other than p
 abbrev pub without : Position → List Position → List Position
 without p [] = []
-without p (s ∷ S) = cond (same_position s p) (without p S) (s ∷ without p S)
+without p (s ∷ S) = if same_position s p then without p S else s ∷ without p S
 
 -- whether a member other than p passes a test
 abbrev pub any_other : Position → (Position → Bool) → List Position → Bool

@@ -12,9 +12,9 @@ use std::marker::Model;
 /// points reads each column straight through. `reserve` and `push` alone take memory.
 #[derive(Drop)]
 pub struct Columns<A: Allocator = Global> {
-    /// Of each point, in whole metres.
+    // The easting of each point, in whole metres.
     eastings: Vec<i64, A>,
-    /// Of the same points in the same order, in whole metres.
+    // The northing of each point, in whole metres.
     northings: Vec<i64, A>,
 }
 
@@ -102,7 +102,7 @@ impl<A: Allocator> Columns<A> {
         self.northings.as_slice()
     }
 
-    /// Takes memory for `k` more points, where it is wanting.
+    /// Takes memory for `k` more points, if there is no room for them yet.
     pub fn reserve(&mut self, k: usize) -> Result<(), OutOfMemory>
         ensures points { self.new.points ≡ self.old.points }
         ensures ok { OnOk result (k ≤ self.new.spare) }
@@ -128,7 +128,7 @@ impl<A: Allocator> Columns<A> {
     /// Pushes a point, and takes memory where there is no room for it.
     pub fn push(&mut self, p: Point) -> Result<(), OutOfMemory>
         ensures ok { OnOk result (self.new.points ≡ self.old.points ++ p ∷ []) }
-        ensures err { OnErr result (self.new.points ≡ self.old.points) }
+        ensures err { OnErr result ((self.new.points ≡ self.old.points) × (self.old.spare ≤ self.new.spare)) }
         ensures spare { self.old.spare ≤ self.new.spare + 1 }
         ensures succeeds { 1 ≤ self.old.spare → IsOk result }
     {

@@ -45,7 +45,8 @@ pub fn one_polygon()
     ensures { OnePolygon }
 {}
 
-/// Members that cover a set, from the least and each three of them turning left, are its polygon.
+/// Members without repeats that cover a set, begin with its least and turn left at every three are its
+/// polygon.
 pub fn covering_members_are_corners()
     ensures { CoveringMembersAreCorners }
 {}

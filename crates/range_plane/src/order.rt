@@ -5,10 +5,10 @@ ghost use Rattle.std.specs.Prelude.{◌≡◌};
 ghost use Rattle.range_plane.specs.Order.{rank};
 ghost use Rattle.range_plane.specs.Plane.{IsAtMost, IsBefore, IsWithinLimits};
 
-use crate::point::Point;
+use crate::point::{COORDINATE_LIMIT, Point};
 
-// What one metre of easting counts for in a rank: 2^28, more than any northing.
-const RANK_BASE: i64 = 268_435_456;
+// What one metre of easting counts for in a rank: more than any northing.
+const RANK_BASE: i64 = 2 * COORDINATE_LIMIT;
 
 // Points in rising order of this number stand in rising order of easting, then northing.
 fn rank(p: Point) -> i64

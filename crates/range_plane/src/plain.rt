@@ -32,7 +32,7 @@ fn is_in_triangle(q: Point, a: Point, b: Point, c: Point) -> bool
     turn(a, b, c) > 0 && is_left(a, b, q) && is_left(b, c, q) && is_left(c, a, q)
 }
 
-// Whether `q` lies on a segment from `a` to another point than `q`.
+// Whether `q` lies on a segment from `a` to a point other than `q`.
 fn is_on_segment_from(points: &[Point], q: Point, a: Point) -> bool
     ensures { result ≡ any_other q (λ b. is_on_segment q a b) points.now }
 {
@@ -48,7 +48,7 @@ fn is_on_some_segment(points: &[Point], q: Point) -> bool
         .any(|a| *a != q && is_on_segment_from(points, q, *a))
 }
 
-// Whether `q` lies in a triangle of `a`, `b` and another point than `q`.
+// Whether `q` lies in a triangle of `a`, `b` and a point other than `q`.
 fn is_in_triangle_on(points: &[Point], q: Point, a: Point, b: Point) -> bool
     ensures { result ≡ any_other q (λ c. is_in_triangle q a b c) points.now }
 {

@@ -137,6 +137,7 @@ mod tests {
             Point { e: 4, n: 0 },
             Point { e: 0, n: 4 },
         ]?);
+        assert!(rt; polygon.corners().len() == 3 && polygon.area2() == 16);
         for row in [
             (0, 0, 4),
             (1, 0, 3),
