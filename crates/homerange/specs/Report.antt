@@ -1,21 +1,10 @@
 -- The text of a report.
-use Rattle.std.specs.Prelude.{◌≡◌, ◌++◌, ℕ, ℤ, ◌≤ℤ◌, List, length, codes, decimal, All, Any}
+use Rattle.std.specs.Prelude.{◌≡◌, ◌++◌, ℕ, ℤ, List, length, codes, decimal}
 use Rattle.std.specs.Fmt.{signed_decimal}
 use Rattle.range_plane.specs.declared.fix.Fix.{Fix}
-use Rattle.homerange.specs.declared.report.Extent.{Extent}
-
--- the least of the fixes' coordinates, and the greatest
-abbrev pub IsLeast : (Fix → ℤ) → List Fix → ℤ → Type 0
-IsLeast coordinate fixes m = All (λ fix. m ≤ℤ coordinate fix) fixes × Any (λ fix. coordinate fix ≡ m) fixes
-
-abbrev pub IsGreatest : (Fix → ℤ) → List Fix → ℤ → Type 0
-IsGreatest coordinate fixes m = All (λ fix. coordinate fix ≤ℤ m) fixes × Any (λ fix. coordinate fix ≡ m) fixes
-
-pub record IsExtent (fixes : List Fix) (extent : Extent) : Type 0 where
-  pub min_e : IsLeast (λ fix. fix.at.e) fixes extent.min_e
-  pub min_n : IsLeast (λ fix. fix.at.n) fixes extent.min_n
-  pub max_e : IsGreatest (λ fix. fix.at.e) fixes extent.max_e
-  pub max_n : IsGreatest (λ fix. fix.at.n) fixes extent.max_n
+use Rattle.range_plane.specs.Row.{points_of}
+use Rattle.range_lanes.specs.Extent.{IsExtent}
+use Rattle.range_lanes.specs.declared.extent.Extent.{Extent}
 
 abbrev pub animal_line : List ℕ → ℕ → List ℕ
 animal_line name count = codes "animal," ++ name ++ codes ",fixes," ++ decimal count ++ codes "\n"
@@ -31,4 +20,4 @@ box_line name extent =
 -- the report of one animal
 abbrev pub IsReport : List ℕ → List Fix → List ℕ → Type 0
 IsReport name fixes text =
-    (extent : Extent) × IsExtent fixes extent × (text ≡ animal_line name (length fixes) ++ box_line name extent ++ codes "end,1\n")
+    (extent : Extent) × IsExtent (points_of fixes) extent × (text ≡ animal_line name (length fixes) ++ box_line name extent ++ codes "end,1\n")

@@ -4,6 +4,7 @@ pub mod Corners
 pub mod Decided
 pub mod Ends
 pub mod Extremes
+pub mod Fan
 pub mod HalfPlanes
 pub mod Integers
 pub mod Least
@@ -11,6 +12,7 @@ pub mod Members
 pub mod Others
 pub mod OwnPolygons
 pub mod Polygons
+pub mod Ranges
 pub mod Ranks
 pub mod Ring
 pub mod Rising

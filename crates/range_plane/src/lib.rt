@@ -4,6 +4,7 @@
 
 mod area;
 mod columns;
+mod convex;
 mod edges;
 mod fix;
 mod laws;
@@ -14,6 +15,7 @@ mod point;
 mod polygon;
 
 pub use columns::Columns;
+pub use convex::are_corners;
 pub use fix::{FIX_LIMIT, Fix, SECOND_LIMIT};
 pub use laws::{
     areas_are_not_negative, corners_cover_the_set, corners_stand_for_the_set, covered_is_decided,

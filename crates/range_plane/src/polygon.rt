@@ -46,7 +46,8 @@ impl<A: Allocator> Polygon<A> {
         Ok(Polygon::of_corners(corners_of(alloc, points)?))
     }
 
-    /// The polygon with these corners, in the list that is handed in.
+    /// The polygon with these corners, in the list that is handed in. [`are_corners`](crate::are_corners)
+    /// is the test of what it requires.
     pub fn of_corners(corners: Vec<Point, A>) -> Polygon<A>
         requires { IsPolygon corners.items corners.items }
         ensures { result ≡ corners.items }

@@ -1,0 +1,42 @@
+"""Convex polygons with a given number of corners.
+
+The edges are vectors with no common divisor, the shortest first, each with its opposite, in the order
+of their angles: so every corner is one, exactly. The polygon is at most three quarters as wide and as
+high as the square of the coordinates.
+"""
+
+from functools import cmp_to_key
+from math import gcd
+
+LIMIT = 1 << 24
+
+
+def half_plane(count):
+    """The shortest `count` vectors without a common divisor that point east, or straight north."""
+    reach = 1
+    while True:
+        vectors = [
+            (e, n)
+            for e in range(0, reach + 1)
+            for n in range(-reach, reach + 1)
+            if gcd(e, abs(n)) == 1 and (e > 0 or n > 0) and e * e + n * n <= reach * reach
+        ]
+        if len(vectors) >= count:
+            return sorted(vectors, key=lambda v: (v[0] ** 2 + v[1] ** 2, v))[:count]
+        reach *= 2
+
+
+def corners(count):
+    """The corners counterclockwise from the least by easting, then northing."""
+    east = sorted(half_plane(count // 2), key=cmp_to_key(lambda u, v: u[1] * v[0] - u[0] * v[1]))
+    edges = east + [(-e, -n) for e, n in east]
+    at, places = (0, 0), []
+    for e, n in edges:
+        places.append(at)
+        at = (at[0] + e, at[1] + n)
+    least = min(n for _, n in places)
+    wide = max(max(e for e, _ in places), max(n for _, n in places) - least)
+    scale = LIMIT * 3 // 4 // wide
+    places = [(LIMIT // 8 + e * scale, LIMIT // 8 + (n - least) * scale) for e, n in places]
+    first = places.index(min(places))
+    return places[first:] + places[:first]

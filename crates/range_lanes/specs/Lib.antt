@@ -1,0 +1,3 @@
+pub mod Extent
+pub mod Lanes
+pub mod Totals

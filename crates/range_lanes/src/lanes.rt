@@ -1,0 +1,167 @@
+// Eight signed numbers, and operations on them that give exact results.
+
+ghost use Rattle.std.specs.Prelude.{◌≡◌, ◌+◌, ◌++◌, ◌≤◌, ◌+ℤ◌, ◌-ℤ◌, ◌*ℤ◌, All, pos, count_by, length, map, replicate, take};
+ghost use Rattle.std.specs.Int.{int_min, int_max};
+ghost use Rattle.std.specs.Simd.Lanes.{zip2, chunk, Each1};
+ghost use Rattle.range_plane.specs.Plane.{IsCoordinate, coordinate_limit, turn_limit};
+ghost use Rattle.range_lanes.specs.Lanes.{IsWithin, is_not_negative};
+
+use std::marker::Model;
+use std::simd::prelude::*;
+
+// Eight numbers of 64 bits. Contracts see a list of integers.
+#[derive(Clone, Copy)]
+pub(crate) struct Lanes {
+    lanes: i64x8,
+}
+
+impl Model for Lanes {
+    ghost use Rattle.std.specs.Prelude.{List, ℤ};
+    ghost use Rattle.range_lanes.specs.Lanes.{AreLanes};
+
+    ghost Value = { List ℤ };
+
+    ghost view = { λ s. s.lanes };
+
+    ghost invariant = { λ s. AreLanes s.lanes };
+
+    ghost inverse = { λ xs. record { lanes = xs } };
+}
+
+impl Lanes {
+    // The same number eight times.
+    #[inline(always)]
+    pub(crate) fn splat(value: i64) -> Lanes
+        ensures { result ≡ replicate 8 value }
+    {
+        Lanes {
+            lanes: i64x8::splat(value),
+        }
+    }
+
+    // The eight numbers from `at` on.
+    #[inline(always)]
+    pub(crate) fn load(numbers: &[i64], at: usize) -> Lanes
+        requires room { at + 8 ≤ length numbers.now }
+        requires limits { All IsCoordinate numbers.now }
+        ensures { result ≡ chunk at 8 numbers.now }
+    {
+        Lanes {
+            lanes: i64x8::from_slice(&numbers[at..]),
+        }
+    }
+
+    #[inline(always)]
+    pub(crate) fn plus(self, other: Lanes) -> Lanes
+        requires left { Each1 (IsWithin turn_limit) self }
+        requires right { Each1 (IsWithin turn_limit) other }
+        ensures { result ≡ zip2 ◌+ℤ◌ self other }
+    {
+        Lanes {
+            lanes: self.lanes.strict_add(other.lanes),
+        }
+    }
+
+    #[inline(always)]
+    pub(crate) fn minus(self, other: Lanes) -> Lanes
+        requires left { Each1 (IsWithin turn_limit) self }
+        requires right { Each1 (IsWithin turn_limit) other }
+        ensures { result ≡ zip2 ◌-ℤ◌ self other }
+    {
+        Lanes {
+            lanes: self.lanes.strict_sub(other.lanes),
+        }
+    }
+
+    #[inline(always)]
+    pub(crate) fn times(self, other: Lanes) -> Lanes
+        requires left { Each1 (IsWithin coordinate_limit) self }
+        requires right { Each1 (IsWithin coordinate_limit) other }
+        ensures { result ≡ zip2 ◌*ℤ◌ self other }
+    {
+        let (a, b) = (self.narrow(), other.narrow());
+        Lanes {
+            lanes: a.lanes.strict_mul(b.lanes),
+        }
+    }
+
+    // The same numbers, taken through 32 bits, so that the processor multiplies halves of its lanes, which is faster.
+    #[inline(always)]
+    fn narrow(self) -> Lanes
+        requires { Each1 (IsWithin coordinate_limit) self }
+        ensures { result ≡ self }
+    {
+        Lanes {
+            lanes: self.lanes.cast::<i32>().cast::<i64>(),
+        }
+    }
+
+    // The smaller of each two.
+    #[inline(always)]
+    pub(crate) fn least(self, other: Lanes) -> Lanes
+        ensures { result ≡ zip2 int_min self other }
+    {
+        Lanes {
+            lanes: self.lanes.simd_min(other.lanes),
+        }
+    }
+
+    // The greater of each two.
+    #[inline(always)]
+    pub(crate) fn greatest(self, other: Lanes) -> Lanes
+        ensures { result ≡ zip2 int_max self other }
+    {
+        Lanes {
+            lanes: self.lanes.simd_max(other.lanes),
+        }
+    }
+
+    #[inline(always)]
+    pub(crate) fn to_array(self) -> [i64; 8]
+        ensures { result ≡ self }
+    {
+        self.lanes.to_array()
+    }
+
+    // Each number times `factor`.
+    #[inline(always)]
+    pub(crate) fn scaled(self, factor: i64) -> Lanes
+        requires small { Each1 (IsWithin coordinate_limit) self }
+        requires factor { IsWithin coordinate_limit factor }
+        ensures { result ≡ map (λ x. factor *ℤ x) self }
+    {
+        Lanes::splat(factor).times(self)
+    }
+
+    // 0 less each number.
+    #[inline(always)]
+    pub(crate) fn negated(self) -> Lanes
+        requires { Each1 (IsWithin turn_limit) self }
+        ensures { result ≡ map (λ x. pos 0 -ℤ x) self }
+    {
+        Lanes::splat(0).minus(self)
+    }
+
+    // How many of the numbers are at least 0.
+    #[inline(always)]
+    pub(crate) fn count_not_negative(self) -> u32
+        ensures { result ≡ count_by is_not_negative self }
+    {
+        self.lanes
+            .simd_ge(i64x8::splat(0))
+            .to_bitmask()
+            .count_ones()
+    }
+
+    // Says at the eight places from `at` on which of the numbers are at least 0.
+    #[inline(always)]
+    pub(crate) fn mark(self, out: &mut [bool], at: usize)
+        requires { at + 8 ≤ length out.old }
+        ensures { take (at + 8) out.new ≡ take at out.old ++ map is_not_negative self }
+    {
+        let numbers = self.to_array();
+        for i in 0..8 {
+            out[at + i] = numbers[i] >= 0;
+        }
+    }
+}

@@ -1,0 +1,15 @@
+//! What a polygon covers of many points, and their box and sums, eight points at once.
+#![tactic(auto)]
+
+mod block;
+mod extent;
+mod inside;
+mod lanes;
+mod marking;
+#[cfg(test)]
+mod tests;
+mod totals;
+
+pub use extent::{Extent, extremes};
+pub use inside::{count_inside, mark_inside};
+pub use totals::sums;

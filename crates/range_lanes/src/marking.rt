@@ -1,0 +1,73 @@
+// On which side of a polygon's edges eight points lie.
+
+ghost use Rattle.std.specs.Prelude.{◌≡◌, ◌<◌, length, map};
+ghost use Rattle.std.specs.Simd.Lanes.{Each1};
+ghost use Rattle.range_plane.specs.Covering.{facing, is_covered, is_on_segment};
+ghost use Rattle.range_plane.specs.Plane.{turn, turn_limit};
+ghost use Rattle.range_plane.specs.Polygon.{IsPolygon};
+ghost use Rattle.range_lanes.specs.Lanes.{IsWithin, is_not_negative};
+
+use crate::block::Block;
+use crate::lanes::Lanes;
+use range_plane::Point;
+
+// A number for each point, which is at least 0 exactly where the corners cover the point.
+#[inline(always)]
+pub(crate) fn margins(corners: &[Point], block: &Block) -> Lanes
+    requires polygon { IsPolygon corners.now corners.now }
+    requires some { 0 < length corners.now }
+    ensures { map is_not_negative result ≡ map (is_covered corners.now) block.now }
+{
+    if corners.len() <= 2 {
+        margins_of_segment(corners[0], corners[corners.len() - 1], block)
+    } else {
+        margins_of_edges(corners, block)
+    }
+}
+
+// A number for each point, which is at least 0 exactly where the point lies on the segment.
+#[inline(always)]
+fn margins_of_segment(a: Point, b: Point, block: &Block) -> Lanes
+    ensures { map is_not_negative result ≡ map (λ q. is_on_segment q a b) block.now }
+{
+    let turned = turns(a, b, block);
+    let facings = facings(a, b, block);
+    turned.negated().least(turned).least(facings.negated())
+}
+
+// The same for three or more corners: the least of the point's turns from all edges.
+#[inline(always)]
+fn margins_of_edges(corners: &[Point], block: &Block) -> Lanes
+    requires polygon { IsPolygon corners.now corners.now }
+    requires many { 2 < length corners.now }
+    ensures { map is_not_negative result ≡ map (is_covered corners.now) block.now }
+{
+    let last = corners.len() - 1;
+    let mut margins = turns(corners[last], corners[0], block);
+    for i in 0..last {
+        margins = margins.least(turns(corners[i], corners[i + 1], block));
+    }
+    margins
+}
+
+// `turn` of `a`, `b` and each point.
+#[inline(always)]
+fn turns(a: Point, b: Point, block: &Block) -> Lanes
+    ensures value { result ≡ map (turn a b) block.now }
+    ensures small { Each1 (IsWithin turn_limit) result }
+{
+    let by_north = block.north_of(a.n).scaled(b.e - a.e);
+    let by_east = block.east_of(a.e).scaled(b.n - a.n);
+    by_north.minus(by_east)
+}
+
+// `facing` of each point, `a` and `b`.
+#[inline(always)]
+fn facings(a: Point, b: Point, block: &Block) -> Lanes
+    ensures value { result ≡ map (λ q. facing q a b) block.now }
+    ensures small { Each1 (IsWithin turn_limit) result }
+{
+    let along_e = block.east_of(a.e).times(block.east_of(b.e));
+    let along_n = block.north_of(a.n).times(block.north_of(b.n));
+    along_e.plus(along_n)
+}

@@ -1,0 +1,184 @@
+// Tests of marks, counts, boxes and sums.
+
+use crate::{Extent, count_inside, extremes, mark_inside, sums};
+use range_plane::{COORDINATE_LIMIT, Columns, Point, Polygon};
+use std::alloc::Global;
+use std::process::Abort;
+
+fn point(rt: &impl Abort, e: i64, n: i64) -> Point {
+    Point::new(e, n).expect(rt, "a point")
+}
+
+fn polygon(rt: &impl Abort, alloc: Global, corners: &[(i64, i64)]) -> Polygon {
+    let mut points = Vec::new(alloc);
+    for (e, n) in corners {
+        points.push(point(rt, *e, *n)).expect(rt, "memory");
+    }
+    assert!(rt; points.len() < 100);
+    Polygon::plain(alloc, &points).expect(rt, "memory")
+}
+
+// The points on the line from `(0, start)` on that rises by `rise` for each easting.
+fn line(rt: &impl Abort, alloc: Global, points: u8, start: i64, rise: u8) -> Columns {
+    assert!(rt; 0 <= start && start < 100);
+    let mut cols = Columns::new(alloc);
+    for i in 0..points {
+        let n = start + i64::from(rise) * i64::from(i);
+        cols.push(point(rt, i64::from(i), n)).expect(rt, "memory");
+    }
+    cols
+}
+
+// The marks of the points. Their count is that of `count_inside`.
+fn marks(rt: &impl Abort, alloc: Global, corners: &Polygon, cols: &Columns) -> Vec<bool> {
+    let mut marks = vec![in alloc; false; cols.len()].expect(rt, "memory");
+    mark_inside(corners, cols, &mut marks);
+    let count = marks.iter().filter(|mark| **mark).count();
+    assert!(rt; u64::try_from(count) == Ok(count_inside(corners, cols)));
+    marks
+}
+
+const TRIANGLE: [(i64, i64); 3] = [(0, 0), (4, 0), (0, 4)];
+
+const WIDE_TRIANGLE: [(i64, i64); 3] = [(0, 0), (16, 0), (0, 16)];
+
+#[test]
+fn counts_along_a_line(rt: HostRuntime) {
+    let cases = [
+        ([].as_slice(), [0, 0, 0, 0, 0, 0]),
+        (&[(3, 0)], [0, 0, 1, 1, 1, 1]),
+        (&[(2, 0), (9, 0)], [0, 0, 5, 6, 7, 8]),
+        (&TRIANGLE, [0, 1, 5, 5, 5, 5]),
+        (&WIDE_TRIANGLE, [0, 1, 7, 8, 9, 17]),
+    ];
+    for (corners, counts) in cases {
+        let polygon = polygon(&rt, rt.alloc(), corners);
+        for (points, count) in [0, 1, 7, 8, 9, 17].iter().zip(counts) {
+            let cols = line(&rt, rt.alloc(), *points, 0, 0);
+            assert_eq!(&rt;
+                count_inside(&polygon, &cols),
+                count,
+                "{corners:?} {points}"
+            );
+        }
+    }
+}
+
+#[test]
+fn extremes_and_sums(rt: HostRuntime) {
+    let none = Columns::new(rt.alloc());
+    assert!(rt; extremes(&none).is_none());
+    assert!(rt; sums(&none) == (0, 0));
+    let cols = line(&rt, rt.alloc(), 17, 0, 0);
+    let extent = Extent {
+        min_e: 0,
+        min_n: 0,
+        max_e: 16,
+        max_n: 0,
+    };
+    assert_eq!(rt; extremes(&cols), Some(extent));
+    assert!(rt; cols.len() < 100);
+    assert_eq!(rt; sums(&cols), (136, 0));
+}
+
+#[test]
+fn marks_of_a_square(rt: HostRuntime) {
+    let square = polygon(&rt, rt.alloc(), &[(0, 0), (10, 0), (10, 10), (0, 10)]);
+    let cols = line(&rt, rt.alloc(), 17, 0, 1);
+    let marks = marks(&rt, rt.alloc(), &square, &cols);
+    for (i, mark) in marks.iter().enumerate() {
+        assert_eq!(rt; *mark, i <= 10, "{i}");
+    }
+    assert_eq!(rt; count_inside(&square, &cols), 11);
+}
+
+#[test]
+fn triangle_at_the_limits(rt: HostRuntime) {
+    let far = COORDINATE_LIMIT;
+    let triangle = polygon(&rt, rt.alloc(), &[(0, 0), (far, 0), (far, far)]);
+    let diagonal = line(&rt, rt.alloc(), 9, 0, 1);
+    assert_eq!(rt; count_inside(&triangle, &diagonal), 9);
+    let above = line(&rt, rt.alloc(), 9, 1, 1);
+    assert_eq!(rt; count_inside(&triangle, &above), 0);
+    let places = [
+        (far, far, true),
+        (far - 1, far, false),
+        (far, far - 1, true),
+        (far - 1, far - 1, true),
+        (far - 2, far - 1, false),
+        (far, 0, true),
+        (0, far, false),
+        (far - 1, 0, true),
+        (0, 1, false),
+    ];
+    let mut cols = Columns::new(rt.alloc());
+    for (e, n, _) in places {
+        cols.push(point(&rt, e, n)).expect(&rt, "memory");
+    }
+    let marks = marks(&rt, rt.alloc(), &triangle, &cols);
+    for (mark, (e, n, inside)) in marks.iter().zip(places) {
+        assert_eq!(rt; *mark, inside, "{e} {n}");
+    }
+    let extent = Extent {
+        min_e: 0,
+        min_n: 0,
+        max_e: far,
+        max_n: far,
+    };
+    assert_eq!(rt; extremes(&cols), Some(extent));
+}
+
+// The corners `(i, i * i)`, for i from 0 on.
+fn parabola(rt: &impl Abort, alloc: Global, corners: u8) -> Polygon {
+    let mut places = Vec::new(alloc);
+    for i in 0..corners {
+        let e = i64::from(i);
+        places.push((e, e * e)).expect(rt, "memory");
+    }
+    polygon(rt, alloc, &places)
+}
+
+// Whether these cover a point: not below the parabola, nor above the line from first to last.
+fn is_in_parabola(corners: u8, e: u8, n: u16) -> bool {
+    let last = u16::from(corners.saturating_sub(1));
+    e < corners && u16::from(e) * u16::from(e) <= n && n <= last * u16::from(e)
+}
+
+// For each easting the northings at both ends of what they cover, and some past these.
+fn places_near_parabola(rt: &impl Abort, alloc: Global, corners: u8) -> Vec<(u8, u16)> {
+    let last = u16::from(corners.saturating_sub(1));
+    let mut places = Vec::new(alloc);
+    for e in 0..corners.saturating_add(1) {
+        let low = u16::from(e) * u16::from(e);
+        let high = last * u16::from(e);
+        for n in [
+            low.saturating_sub(1),
+            low,
+            low.saturating_add(1),
+            high,
+            high.saturating_add(1),
+        ] {
+            places.push((e, n)).expect(rt, "memory");
+        }
+    }
+    places
+}
+
+#[test]
+fn marks_near_parabolas(rt: HostRuntime) {
+    for corners in [0, 1, 2, 3, 16, 35, 36, 37] {
+        let polygon = parabola(&rt, rt.alloc(), corners);
+        assert_eq!(rt; polygon.corners().len(), usize::from(corners));
+        let mut cols = Columns::new(rt.alloc());
+        let mut expected = Vec::new(rt.alloc());
+        for (e, n) in &places_near_parabola(&rt, rt.alloc(), corners) {
+            let q = point(&rt, i64::from(*e), i64::from(*n));
+            let inside = is_in_parabola(corners, *e, *n);
+            assert_eq!(&rt; polygon.covers(q), inside, "{corners} corners, {e} {n}");
+            cols.push(q).expect(&rt, "memory");
+            expected.push(inside).expect(&rt, "memory");
+            let marks = marks(&rt, rt.alloc(), &polygon, &cols);
+            assert!(rt; marks == expected, "{corners} corners, up to {e} {n}");
+        }
+    }
+}
