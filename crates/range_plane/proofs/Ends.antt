@@ -60,3 +60,8 @@ nothing_covered (x ∷ L) q e = absurd (omega arith)
 pub top_covered : (L : List Position) (top : ℕ) (q : Position) (b : Bool) → IsTop L top → 0 < length L → IsAtMost (at L top) q → OnTrue b (IsBefore (at L top) q) → OnFalse b (IsAtMost q (at L top)) → not b ≡ is_covered L q
 top_covered L top q true t h a yes' no' = not_covered L q (not_after_last L q (at L top) t.greatest yes')
 top_covered L top q false t h a yes' no' = sym ((covered-decided L q).1 (subst (Covers L) (least_alone (at L top) q a no') (covers_member L (at L top) (at_member L top (t.within h)))))
+
+-- a point that is not after the first corner is covered where the first is not after it
+pub first_covered : (L : List Position) (q : Position) (b : Bool) → BeginsWithLeast L → 0 < length L → IsAtMost q (at L 0) → OnTrue b (IsBefore q (at L 0)) → OnFalse b (IsAtMost (at L 0) q) → not b ≡ is_covered L q
+first_covered L q true l h a yes' no' = not_covered L q (not_before_first L q (at L 0) (first_least L l) yes')
+first_covered L q false l h a yes' no' = sym ((covered-decided L q).1 (subst (Covers L) (least_alone (at L 0) q no' a) (covers_member L (at L 0) (at_member L 0 h))))

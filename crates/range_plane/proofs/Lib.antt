@@ -18,6 +18,7 @@ pub mod Ring
 pub mod Rising
 pub mod Round
 pub mod RoundLeast
+pub mod Searching
 pub mod Separation
 pub mod SmallSets
 pub mod Spanning

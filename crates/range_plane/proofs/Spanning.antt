@@ -2,7 +2,7 @@
 use Rattle.std.proofs.Common.{◌≡◌, ◌≢◌, refl, sym, subst, ℕ, zero, suc, ◌+◌, ◌<◌, ◌≤◌, pos, neg_ℤ, ◌*ℤ◌, ◌≤ℤ◌, ◌<ℤ◌, ◌↔◌, ◌⊎◌, inl, inr, List, [], ◌∷◌, length, get_or, Contains, arith, eq-or-lt_of_le}
 use Rattle.std.proofs.lemmas.Int.{by_lt_z}
 use Rattle.range_plane.specs.Covering.{Covers}
-use Rattle.range_plane.specs.Edges.{at, next}
+use Rattle.range_plane.specs.Edges.{at, next, Spans}
 use Rattle.range_plane.specs.Plane.{Position, turn, origin, IsAtMost, IsBefore}
 use Rattle.range_plane.specs.Polygon.{TurnsLeft}
 use Rattle.range_plane.proofs.HalfPlanes.{in_half_plane, left_of_edge, left_of_closing, turn_back, get_or_same}
@@ -14,12 +14,6 @@ use Rattle.range_plane.proofs.Separation.{covers_every_way}
 use Rattle.range_plane.proofs.Unique.{least_alone}
 use Rattle.range_plane.proofs.Vectors.{cross, dot, from, turn_at, dot_from, dot_origin, swing}
 use Rattle.range_plane.proofs.Without.{equal_or_apart}
-
--- a comes before b by easting and then by northing, and q is neither before a nor after b
-pub record Spans (a b q : Position) : Type 0 where
-  pub rising : IsBefore a b
-  pub from : IsAtMost a q
-  pub to : IsAtMost q b
 
 -- u lies behind along d, v ahead: where the turns agree, one of them is not behind along f
 one_reaches : (f d u v : Position) → dot d u ≤ℤ pos 0 → pos 0 ≤ℤ dot d v → dot d u <ℤ dot d v → pos 0 ≤ℤ (cross f d *ℤ cross u v) → (pos 0 ≤ℤ dot f u) ⊎ (pos 0 ≤ℤ dot f v)
@@ -107,12 +101,8 @@ two_edges L t q i k hi hk low high = (
   λ h. covered_between L q (at L i) (next L i) (at L k) (next L k) (at_member L i hi) (next_member L i hi) (at_member L k hk) (next_member L k hk) low high h.0 h.1,
 )
 
--- the edges that a search between corners finds
 pub before_through : (a b c : Position) → IsAtMost a b → IsBefore b c → IsBefore a c
 before_through a b c h k = (through_most a b c h k.0, λ e. k.1 (least_alone b c k.0 (subst (λ z. IsAtMost z b) e h)))
 
-pub spans_low : (L : List Position) (q : Position) (i : ℕ) → i + 1 < length L → IsAtMost (at L i) q → IsBefore q (at L (i + 1)) → Spans (at L i) (next L i) q
-spans_low L q i h from to = subst (λ z. Spans (at L i) z q) (sym (next-inner L i h)) (record { rising = before_through (at L i) q (at L (i + 1)) from to; from = from; to = to.0 })
-
-pub spans_high : (L : List Position) (q : Position) (k : ℕ) → IsBefore q (at L k) → IsAtMost (next L k) q → Spans (next L k) (at L k) q
-spans_high L q k from to = record { rising = before_through (next L k) q (at L k) to from; from = to; to = from.0 }
+pub through_before : (a b c : Position) → IsBefore a b → IsAtMost b c → IsBefore a c
+through_before a b c h k = (through_most a b c h.0 k, λ e. h.1 (least_alone a b h.0 (subst (IsAtMost b) (sym e) k)))

@@ -73,11 +73,29 @@ module _ (L : List Position) (t : TurnsLeft L) (r : IsRising L) (least : (x : Po
         ]
       ]
 
+  -- below the top each corner is at most the next, from the top down
+  rise_to : (top : ℕ) → top < length L → ((x : Position) → Contains L x → IsAtMost x (at L top)) → (d m : ℕ) → m + d + 1 ≡ top → IsAtMost (at L m) (at L (m + 1))
+  rise_to top h g zero m e = subst (λ k. IsAtMost (at L m) (at L k)) (let f : top ≡ m + 1 = omega arith in f) (g (at L m) (at_member L m (omega arith)))
+  rise_to top h g (suc d) zero e = least (at L 1) (at_member L 1 (omega arith))
+  rise_to top h g (suc d) (suc m) e = inner_before (suc m + 1) (suc m) (omega arith) (omega arith) (omega arith) (rise_to top h g d (suc m + 1) (omega arith))
+
+  -- above it each is at least the next, from the top up
+  fall_from : (top : ℕ) → 0 < top → ((x : Position) → Contains L x → IsAtMost x (at L top)) → (d m : ℕ) → m ≡ top + d → m + 1 < length L → IsAtMost (at L (m + 1)) (at L m)
+  fall_from top h g zero m e k = subst (λ i. IsAtMost (at L (m + 1)) (at L i)) (let f : top ≡ m = omega arith in f) (g (at L (m + 1)) (at_member L (m + 1) k))
+  fall_from top h g (suc d) zero e k = absurd (omega arith)
+  fall_from top h g (suc d) (suc m) e k = subst (λ i. IsAtMost (at L (suc m + 1)) (at L i)) (let f : m + 1 ≡ suc m = omega arith in f) (inner_after m (suc m + 1) (omega arith) (omega arith) k (fall_from top h g d m (omega arith) (omega arith)))
+
 pub rise : (L : List Position) → TurnsLeft L → BeginsWithLeast L → (m : ℕ) → m + 1 < length L → IsAtMost (at L m) (at L (m + 1)) → (i : ℕ) → i ≤ m + 1 → IsAtMost (at L i) (at L (m + 1))
 rise L t b = up_to L t (rising L) (first_least L b)
 
 pub fall : (L : List Position) → TurnsLeft L → BeginsWithLeast L → (m : ℕ) → 0 < m → m + 1 < length L → IsAtMost (at L (m + 1)) (at L m) → (i : ℕ) → m ≤ i → i < length L → IsAtMost (at L i) (at L m)
 fall L t b = down_from L t (rising L) (first_least L b)
+
+pub rises_to_top : (L : List Position) (top : ℕ) → TurnsLeft L → BeginsWithLeast L → IsTop L top → top < length L → (m : ℕ) → m < top → IsAtMost (at L m) (at L (m + 1))
+rises_to_top L top t b i within m h = rise_to L t (rising L) (first_least L b) top within i.greatest (top - (m + 1)) m (omega arith)
+
+pub falls_from_top : (L : List Position) (top : ℕ) → TurnsLeft L → BeginsWithLeast L → IsTop L top → 0 < top → (m : ℕ) → top ≤ m → m + 1 < length L → IsAtMost (at L (m + 1)) (at L m)
+falls_from_top L top t b i some m h = fall_from L t (rising L) (first_least L b) top some i.greatest (m - top) m (omega arith)
 
 -- what a search for the top knows
 pub top_between : (L : List Position) (top : ℕ) → top < length L → ((i : ℕ) → i ≤ top → IsAtMost (at L i) (at L top)) → ((i : ℕ) → top ≤ i → i < length L → IsAtMost (at L i) (at L top)) → IsTop L top

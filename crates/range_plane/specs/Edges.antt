@@ -1,6 +1,6 @@
 -- The edges of a polygon by their first places, those that a point falls between, and the corner that comes last in order.
 use Rattle.std.specs.Prelude.{ℕ, ◌+◌, ◌<◌, List, length, slice_index_or, Contains}
-use Rattle.range_plane.specs.Plane.{Position, origin, IsAtMost}
+use Rattle.range_plane.specs.Plane.{Position, origin, IsAtMost, IsBefore}
 
 -- the corner at place i
 abbrev pub at : List Position → ℕ → Position
@@ -14,3 +14,9 @@ next L i = slice_index_or L (i + 1) (at L 0)
 pub record IsTop (L : List Position) (top : ℕ) : Type 0 where
   pub within : 0 < length L → top < length L
   pub greatest : (x : Position) → Contains L x → IsAtMost x (at L top)
+
+-- a comes before b by easting and then by northing, and q is neither before a nor after b
+pub record Spans (a b q : Position) : Type 0 where
+  pub rising : IsBefore a b
+  pub from : IsAtMost a q
+  pub to : IsAtMost q b

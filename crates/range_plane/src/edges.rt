@@ -1,57 +1,48 @@
 // The two edges of a polygon that a point falls between, by binary search.
 
-ghost use Rattle.std.specs.Prelude.{◌≡◌, ◌<◌, ◌+◌, pos, ◌≤ℤ◌, ◌↔◌, IsTrue, length};
+ghost use Rattle.std.specs.Prelude.{◌≡◌, ◌<◌, if◌then◌else◌, pos, ◌≤ℤ◌, ◌↔◌, IsTrue, length};
 ghost use Rattle.range_plane.specs.Covering.{is_covered};
-ghost use Rattle.range_plane.specs.Edges.{at, next, IsTop};
-ghost use Rattle.range_plane.specs.Plane.{turn, IsAtMost, IsBefore};
+ghost use Rattle.range_plane.specs.Edges.{at, next, IsTop, Spans};
+ghost use Rattle.range_plane.specs.Plane.{turn, IsBefore};
 ghost use Rattle.range_plane.specs.Polygon.{IsPolygon};
 
 use crate::order::comes_before;
 use crate::point::{Point, turn};
 
-// The place of the edge before `top` that spans `q`.
-fn rising_edge(corners: &[Point], top: usize, q: Point) -> usize
-    requires within { top < length corners.now }
-    requires long { 0 < top }
-    requires first { IsAtMost (at corners.now 0) q }
-    requires last { IsBefore q (at corners.now top) }
-    ensures bound { result < top }
-    ensures from { IsAtMost (at corners.now result) q }
-    ensures to { IsBefore q (at corners.now (result + 1)) }
+// `count` where it is wanted, else 0, made without a branch: every second branch of a search would be
+// predicted wrong.
+#[inline(always)]
+fn count_if(wanted: bool, count: usize) -> usize
+    ensures { result ≡ (if wanted then count else 0) }
 {
-    let mut low = 0;
-    let mut high = top;
-    while low + 1 < high {
-        let middle = low + (high - low) / 2;
-        if comes_before(q, corners[middle]) {
-            high = middle;
-        } else {
-            low = middle;
-        }
-    }
-    low
+    count * usize::from(wanted)
 }
 
-// The place of the edge from `top` on, the closing one included, that spans `q`.
-fn falling_edge(corners: &[Point], top: usize, q: Point) -> usize
-    requires within { top < length corners.now }
-    requires first { IsAtMost (at corners.now 0) q }
+// The places of the two edges that span `q`: one before `top`, and one from `top` on, which may be the
+// closing edge. The searches for them take turns, so that neither waits for the other.
+fn spanning_edges(corners: &[Point], top: usize, q: Point) -> (usize, usize)
+    requires polygon { IsPolygon corners.now corners.now }
+    requires top { IsTop corners.now top }
+    requires some { 0 < length corners.now }
+    requires first { IsBefore (at corners.now 0) q }
     requires last { IsBefore q (at corners.now top) }
-    ensures bound { result < length corners.now }
-    ensures from { IsBefore q (at corners.now result) }
-    ensures to { IsAtMost (next corners.now result) q }
+    ensures within { (result.0 < length corners.now) × (result.1 < length corners.now) }
+    ensures lower { Spans (at corners.now result.0) (next corners.now result.0) q }
+    ensures upper { Spans (next corners.now result.1) (at corners.now result.1) q }
 {
-    let mut low = top;
-    let mut high = corners.len();
-    while low + 1 < high {
-        let middle = low + (high - low) / 2;
-        if comes_before(q, corners[middle]) {
-            low = middle;
-        } else {
-            high = middle;
-        }
+    let mut lower = 0;
+    let mut lower_size = top;
+    let mut upper = top;
+    let mut upper_size = corners.len() - top;
+    while lower_size > 1 || upper_size > 1 {
+        let half = lower_size / 2;
+        lower += count_if(comes_before(corners[lower + half], q), half);
+        lower_size -= half;
+        let half = upper_size / 2;
+        upper += count_if(comes_before(q, corners[upper + half]), half);
+        upper_size -= half;
     }
-    low
+    (lower, upper)
 }
 
 // The place of the corner that comes last in order.
@@ -95,20 +86,17 @@ fn is_left_of_edge(corners: &[Point], place: usize, q: Point) -> bool
     turn(corners[place], next(corners, place), q) >= 0
 }
 
-// Whether the polygon covers `q`, which comes before its corner at `top`, but not before its first.
+// Whether the polygon covers `q`, which comes after its first corner and before the one at `top`.
 fn is_left_of_both(corners: &[Point], top: usize, q: Point) -> bool
     requires polygon { IsPolygon corners.now corners.now }
-    requires within { top < length corners.now }
-    requires first { IsAtMost (at corners.now 0) q }
+    requires top { IsTop corners.now top }
+    requires some { 0 < length corners.now }
+    requires first { IsBefore (at corners.now 0) q }
     requires last { IsBefore q (at corners.now top) }
     ensures { result ≡ is_covered corners.now q }
 {
-    let lower = rising_edge(corners, top, q);
-    if !is_left_of_edge(corners, lower, q) {
-        return false;
-    }
-    let upper = falling_edge(corners, top, q);
-    is_left_of_edge(corners, upper, q)
+    let (lower, upper) = spanning_edges(corners, top, q);
+    is_left_of_edge(corners, lower, q) && is_left_of_edge(corners, upper, q)
 }
 
 // Whether the polygon, whose last corner in order is at `top`, covers `q`.
@@ -120,12 +108,13 @@ pub(crate) fn covers(corners: &[Point], top: usize, q: Point) -> bool
     if corners.is_empty() {
         return false;
     }
+    let least = corners[0];
+    if !comes_before(least, q) {
+        return !comes_before(q, least);
+    }
     let greatest = corners[top];
     if !comes_before(q, greatest) {
         return !comes_before(greatest, q);
-    }
-    if comes_before(q, corners[0]) {
-        return false;
     }
     is_left_of_both(corners, top, q)
 }

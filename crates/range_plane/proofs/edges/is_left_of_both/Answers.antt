@@ -1,23 +1,18 @@
-use Rattle.std.proofs.Common.{refl, ◌≡◌, ◌<◌, ◌+◌, true, false, length, arith}
+use Rattle.std.proofs.Common.{◌≡◌, ◌∙◌, refl, false, true}
 use Rattle.range_plane.proofs.Ends.{is_decided, not_covered}
-use Rattle.range_plane.proofs.Spanning.{two_edges, spans_low, spans_high, left_of_each}
+use Rattle.range_plane.proofs.Spanning.{two_edges, left_of_each}
 use Rattle.range_plane.proofs.edges.is_left_of_both.Goals as goal
 
-pub returns-then-not-is_left_of_edge : goal.returns-then-not-is_left_of_edge
-returns-then-not-is_left_of_edge c =
-    let L = c.args.corners.now in
-    let low = c.rising_edge-lower in
-    let within : low.result < length L = omega (arith, low.ensures.bound, c.requires.within) in
-    not_covered L c.args.q (λ covered. let e : false ≡ true = c.if-not-is_left_of_edge.ensures.1 (left_of_each L c.args.q low.result c.requires.polygon.convex within covered) in cc)
+pub returns-then-is_left_of_edge : goal.returns-then-is_left_of_edge
+returns-then-is_left_of_edge c =
+    let edges = c.spanning_edges-lower in
+    let both = two_edges c.args.corners.now c.requires.polygon.convex c.args.q edges.result.0 edges.result.1 edges.ensures.within.0 edges.ensures.within.1 edges.ensures.lower edges.ensures.upper in
+    is_decided c.args.corners.now c.args.q c.is_left_of_edge-then-is_left_of_edge.result
+    (λ h. both.1 (c.if-is_left_of_edge.ensures.0 refl, c.is_left_of_edge-then-is_left_of_edge.ensures.0 h))
+    (λ covered. c.is_left_of_edge-then-is_left_of_edge.ensures.1 (both.0 covered).1)
 
-pub returns : goal.returns
-returns c =
-    let L = c.args.corners.now in
-    let low = c.rising_edge-lower in
-    let high = c.falling_edge-upper in
-    let inner : low.result + 1 < length L = omega (arith, low.ensures.bound, c.requires.within) in
-    let within : low.result < length L = omega arith in
-    let both = two_edges L c.requires.polygon.convex c.args.q low.result high.result within high.ensures.bound (spans_low L c.args.q low.result inner low.ensures.from low.ensures.to) (spans_high L c.args.q high.result high.ensures.from high.ensures.to) in
-    is_decided L c.args.q c.is_left_of_edge-2.result
-    (λ h. both.1 (c.if-not-is_left_of_edge.ensures.0 refl, c.is_left_of_edge-2.ensures.0 h))
-    (λ covered. c.is_left_of_edge-2.ensures.1 (both.0 covered).1)
+pub returns-else-is_left_of_edge : goal.returns-else-is_left_of_edge
+returns-else-is_left_of_edge c =
+    let lower = c.spanning_edges-lower in
+    c.if-is_left_of_edge.false ∙ not_covered c.args.corners.now c.args.q (λ covered.
+    let e : false ≡ true = c.if-is_left_of_edge.ensures.1 (left_of_each c.args.corners.now c.args.q lower.result.0 c.requires.polygon.convex lower.ensures.within.0 covered) in cc)
