@@ -9,7 +9,10 @@ ghost use Rattle.range_lanes.specs.Lanes.{IsWithin, is_not_negative};
 
 use crate::block::Block;
 use crate::lanes::Lanes;
-use range_plane::Point;
+use range_plane::{
+    Point, covered_is_decided, few_cover_little, larger_sets_cover_more,
+    many_cover_the_left_of_their_edges,
+};
 
 // A number for each point, which is at least 0 exactly where the corners cover the point.
 #[inline(always)]
@@ -19,6 +22,9 @@ pub(crate) fn margins(corners: &[Point], block: &Block) -> Lanes
     ensures { map is_not_negative result ≡ map (is_covered corners.now) block.now }
 {
     if corners.len() <= 2 {
+        covered_is_decided();
+        larger_sets_cover_more();
+        few_cover_little();
         margins_of_segment(corners[0], corners[corners.len() - 1], block)
     } else {
         margins_of_edges(corners, block)
@@ -42,6 +48,8 @@ fn margins_of_edges(corners: &[Point], block: &Block) -> Lanes
     requires many { 2 < length corners.now }
     ensures { map is_not_negative result ≡ map (is_covered corners.now) block.now }
 {
+    covered_is_decided();
+    many_cover_the_left_of_their_edges();
     let last = corners.len() - 1;
     let mut margins = turns(corners[last], corners[0], block);
     for i in 0..last {

@@ -1,5 +1,6 @@
 -- Where every three members of a list turn left, each of them is extreme; so such a list is the polygon of each set that it is a part of and covers.
 use Rattle.std.proofs.Common.{◌≡◌, ◌≢◌, sym, ap, ◌∙◌, subst, ℕ, zero, suc, ◌+◌, ◌<◌, ◌≤◌, length, get_or, pos, ◌≤ℤ◌, ◌<ℤ◌, List, [], ◌∷◌, Contains, AllPairs, ◌⊎◌, inl, inr, arith}
+use Rattle.std.proofs.lemmas.List.{get_or_default}
 use Rattle.range_plane.specs.Covering.{Covers}
 use Rattle.range_plane.specs.Plane.{Position, turn}
 use Rattle.range_plane.specs.Polygon.{without, BeginsWithLeast, TurnsLeft, IsPolygon}
@@ -7,7 +8,7 @@ use Rattle.range_plane.proofs.Integers.{linear}
 use Rattle.range_plane.proofs.Members.{nowhere, contained}
 use Rattle.range_plane.proofs.Separation.{not_both}
 use Rattle.range_plane.proofs.Extremes.{CoversEach, covers_member, extreme_in}
-use Rattle.range_plane.proofs.HalfPlanes.{in_half_plane, get_or_same, in_order, turn_back}
+use Rattle.range_plane.proofs.HalfPlanes.{in_half_plane, in_order, turn_back}
 use Rattle.range_plane.proofs.Vectors.{dot, from, turn_swap, turn_cycle, turn_self, turn_end, positive_apart}
 use Rattle.range_plane.proofs.Without.{without_has}
 
@@ -44,7 +45,7 @@ inside L d t i j m n a b (inr (inr h)) (inr (inr w)) = absurd (omega arith)
 -- the other members are at other places
 elsewhere : (L : List Position) (d : Position) (k : ℕ) (P : Position → Type 0) → ((m : ℕ) → m < length L → (m ≡ k → ⊥) → P (at L d m)) → (y : Position) → Contains L y → y ≢ at L d k → P y
 elsewhere L d k P f y m a =
-    let same : at L d m.0 ≡ y = get_or_same L m.0 d y m.1 ∙ m.2 in
+    let same : at L d m.0 ≡ y = get_or_default L m.0 d y m.1 ∙ m.2 in
     subst P same (f m.0 m.1 (λ e. a (sym same ∙ ap (at L d) e)))
 
 middle_needed : (L : List Position) (d : Position) → TurnsLeft L → (k : ℕ) → k + 2 < length L → ¬ (Covers (without (at L d (k + 1)) L) (at L d (k + 1)))

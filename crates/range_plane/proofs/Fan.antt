@@ -1,12 +1,12 @@
 -- A list whose first point comes before every other and sees them one after the other counterclockwise, and whose neighbours turn left, lists the corners of a polygon; and corners are such a list.
 use Rattle.std.proofs.Common.{◌≡◌, ◌≢◌, sym, ◌∙◌, subst, ℕ, zero, suc, ◌-◌, ◌<◌, ◌≤◌, pos, ◌<ℤ◌, inl, inr, List, [], ◌∷◌, length, AllPairs, arith, eq-or-lt_of_le}
+use Rattle.std.proofs.lemmas.List.{get_or_default}
 use Rattle.range_plane.specs.Edges.{at}
 use Rattle.range_plane.specs.Plane.{Position, turn, origin, IsAtMost, IsBefore}
 use Rattle.range_plane.specs.Polygon.{BeginsWithLeast, TurnsLeft, IsPolygon}
 use Rattle.range_plane.proofs.Corners.{polygon_by_covering}
 use Rattle.range_plane.proofs.Ends.{first_least}
 use Rattle.range_plane.proofs.Extremes.{covers_member}
-use Rattle.range_plane.proofs.HalfPlanes.{get_or_same}
 use Rattle.range_plane.proofs.Integers.{linear}
 use Rattle.range_plane.proofs.Members.{each}
 use Rattle.range_plane.proofs.Rising.{rising}
@@ -89,14 +89,14 @@ module _ (L : List Position) (f : IsFan L) where
   apart (suc i) j h l = λ e. let t : pos 0 <ℤ turn (at L 0) (at L j) (at L j) = subst (λ (x : Position). pos 0 <ℤ turn (at L 0) x (at L j)) e (round_first (suc i) j (omega arith) h l) in omega (arith, linear, turn_end (at L 0) (at L j))
 
   fan_convex : TurnsLeft L
-  fan_convex i j k d g h n = rw (get_or_same L i d origin (omega arith), get_or_same L j d origin (omega arith), get_or_same L k d origin n) (turns i j k g h n)
+  fan_convex i j k d g h n = rw (get_or_default L i d origin (omega arith), get_or_default L j d origin (omega arith), get_or_default L k d origin n) (turns i j k g h n)
 
   fan_distinct : AllPairs (λ a b. a ≢ b) L
-  fan_distinct i j d h k = rw (get_or_same L i d origin (omega arith), get_or_same L j d origin k) (apart i j h k)
+  fan_distinct i j d h k = rw (get_or_default L i d origin (omega arith), get_or_default L j d origin k) (apart i j h k)
 
 fan_least : (L : List Position) → IsFan L → BeginsWithLeast L
 fan_least [] f = tt
-fan_least (c ∷ L) f = each (IsAtMost c) c L (at_most_itself c) (λ x m. subst (IsAtMost c) (get_or_same L m.0 origin x m.1 ∙ m.2) (f.least (suc m.0) (omega arith) (omega (arith, m.1))).0)
+fan_least (c ∷ L) f = each (IsAtMost c) c L (at_most_itself c) (λ x m. subst (IsAtMost c) (get_or_default L m.0 origin x m.1 ∙ m.2) (f.least (suc m.0) (omega arith) (omega (arith, m.1))).0)
 
 pub polygon_of_fan : (L : List Position) → IsFan L → IsPolygon L L
 polygon_of_fan L f = polygon_by_covering L L (λ x m. m) (λ x m. covers_member L x m) (fan_distinct L f) (fan_least L f) (fan_convex L f)

@@ -1,5 +1,6 @@
 -- The points that a polygon of three or more corners covers are those to the left of each edge, or on it.
-use Rattle.std.proofs.Common.{◌≡◌, refl, sym, ◌∙◌, subst, ℕ, zero, suc, ◌<◌, ◌+◌, length, get_or, pos, ◌+ℤ◌, ◌≤ℤ◌, ◌<ℤ◌, ◌↔◌, List, [], ◌∷◌, Contains, AllPairs, ◌⊎◌, inl, inr, arith}
+use Rattle.std.proofs.Common.{◌≡◌, refl, sym, ◌∙◌, subst, ℕ, suc, ◌<◌, ◌+◌, length, get_or, pos, ◌+ℤ◌, ◌≤ℤ◌, ◌<ℤ◌, ◌↔◌, List, [], ◌∷◌, Contains, AllPairs, ◌⊎◌, inl, inr, arith}
+use Rattle.std.proofs.lemmas.List.{get_or_default}
 use Rattle.std.proofs.lemmas.Int.{by_lt_z}
 use Rattle.range_plane.specs.Covering.{Covers, IsLeftOfEdges}
 use Rattle.range_plane.specs.Plane.{Position, turn}
@@ -15,11 +16,6 @@ use Rattle.range_plane.proofs.Vectors.{leftward, dot_leftward, turn_swap, turn_c
 pub in_half_plane : (S : List Position) (a b q : Position) → ((x : Position) → Contains S x → pos 0 ≤ℤ turn a b x) → Covers S q → pos 0 ≤ℤ turn a b q
 in_half_plane S a b q h c =
     by_lt_z (turn a b q) (pos 0) (λ k. absurd (not_both S q (leftward a b) c (λ x m. omega (arith, linear, dot_leftward a b q x, h x m)))) (λ k. k)
-
-pub get_or_same : {X : Type 0} (xs : List X) (k : ℕ) (c d : X) → k < length xs → get_or xs k c ≡ get_or xs k d
-get_or_same [] k c d h = absurd (omega arith)
-get_or_same (x ∷ xs) zero c d h = refl
-get_or_same (x ∷ xs) (suc k) c d h = get_or_same xs k c d (omega arith)
 
 pub in_order : (m k : ℕ) → (m < k) ⊎ ((m ≡ k) ⊎ (k < m))
 in_order m k = grind arith
@@ -69,7 +65,7 @@ covered_from_edges (c ∷ a ∷ b ∷ L) q t n h =
 module _ (L : List Position) (t : TurnsLeft L) where
   pub left_of_edge : (k : ℕ) (d : Position) → k + 1 < length L → (x : Position) → Contains L x → pos 0 ≤ℤ turn (get_or L k d) (get_or L (k + 1) d) x
   left_of_edge k d l x m =
-      let at : get_or L m.0 d ≡ x = get_or_same L m.0 d x m.1 ∙ m.2 in
+      let at : get_or L m.0 d ≡ x = get_or_default L m.0 d x m.1 ∙ m.2 in
       subst (λ z. pos 0 ≤ℤ turn (get_or L k d) (get_or L (k + 1) d) z) at (go (in_order m.0 k) (in_order (k + 1) m.0))
     where
       go : (m.0 < k) ⊎ ((m.0 ≡ k) ⊎ (k < m.0)) → (k + 1 < m.0) ⊎ ((k + 1 ≡ m.0) ⊎ (m.0 < k + 1)) → pos 0 ≤ℤ turn (get_or L k d) (get_or L (k + 1) d) (get_or L m.0 d)
@@ -81,7 +77,7 @@ module _ (L : List Position) (t : TurnsLeft L) where
 
   pub left_of_closing : (k : ℕ) (d : Position) → k + 1 ≡ length L → (x : Position) → Contains L x → pos 0 ≤ℤ turn (get_or L k d) (get_or L 0 d) x
   left_of_closing k d l x m =
-      let at : get_or L m.0 d ≡ x = get_or_same L m.0 d x m.1 ∙ m.2 in
+      let at : get_or L m.0 d ≡ x = get_or_default L m.0 d x m.1 ∙ m.2 in
       subst (λ z. pos 0 ≤ℤ turn (get_or L k d) (get_or L 0 d) z) at (go (in_order m.0 0) (in_order m.0 k))
     where
       go : (m.0 < 0) ⊎ ((m.0 ≡ 0) ⊎ (0 < m.0)) → (m.0 < k) ⊎ ((m.0 ≡ k) ⊎ (k < m.0)) → pos 0 ≤ℤ turn (get_or L k d) (get_or L 0 d) (get_or L m.0 d)

@@ -1,9 +1,8 @@
 -- The least of the first members of a list, one after the other.
 use Rattle.std.proofs.Common.{◌≡◌, refl, ◌+◌, ◌<◌, ◌≤◌, ◌⊎◌, inl, inr, ℕ, List, Contains, length, get_or, sym, ◌∙◌, subst, arith, eq-or-lt_of_le}
-use Rattle.std.proofs.lemmas.List.{get_or_read}
+use Rattle.std.proofs.lemmas.List.{get_or_default, get_or_read}
 use Rattle.range_plane.specs.Plane.{IsAtMost, IsBefore, Position, origin}
 use Rattle.range_plane.specs.Polygon.{IsLeast}
-use Rattle.range_plane.proofs.HalfPlanes.{get_or_same}
 use Rattle.range_plane.proofs.RoundLeast.{at_most_itself, through_most}
 
 -- a member that is at most each of the first n
@@ -38,4 +37,4 @@ least-stays S n c p l within is after = record {
 }
 
 pub least-all : (S : List Position) (n : ℕ) (c : Position) → IsLeastOfFirst S n c → length S ≤ n → IsLeast S c
-least-all S n c l all = record { member = l.member; least = λ x m. subst (IsAtMost c) (get_or_same S m.0 origin x m.1 ∙ m.2) (l.least m.0 (omega (arith, m.1))) }
+least-all S n c l all = record { member = l.member; least = λ x m. subst (IsAtMost c) (get_or_default S m.0 origin x m.1 ∙ m.2) (l.least m.0 (omega (arith, m.1))) }

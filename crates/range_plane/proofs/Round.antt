@@ -1,10 +1,9 @@
 -- The corners of a set in their order round the least of them, one point after the other.
 use Rattle.std.proofs.Common.{◌≡◌, ◌≢◌, ◌+◌, ◌<◌, ◌≤◌, ◌⊎◌, inl, inr, ℕ, zero, suc, pos, ◌<ℤ◌, ◌≤ℤ◌, List, [], ◌∷◌, ◌++◌, AllPairs, Contains, length, take, drop, get_or, refl, sym, ◌∙◌, subst, ap, arith, eq-or-lt_of_le}
-use Rattle.std.proofs.lemmas.List.{get_or_read}
+use Rattle.std.proofs.lemmas.List.{get_or_default, get_or_read}
 use Rattle.range_plane.specs.Plane.{Position, origin, turn}
 use Rattle.range_plane.specs.Covering.{Covers}
 use Rattle.range_plane.specs.Polygon.{IsExtreme, IsLeast, IsPolygon, without}
-use Rattle.range_plane.proofs.HalfPlanes.{get_or_same}
 use Rattle.range_plane.proofs.Integers.{linear}
 use Rattle.range_plane.proofs.Members.{here, there, nowhere, contained, each}
 use Rattle.range_plane.proofs.Rising.{rising}
@@ -104,7 +103,7 @@ module _ (S : List Position) (c : Position) (l : IsLeast S c) where
       corner : (x : Position) → IsOther S c x → Contains (drop 1 L) x
       corner x o =
           let m = o.0.member in
-          let same : get_or S m.0 origin ≡ x = get_or_same S m.0 origin x m.1 ∙ m.2 in
+          let same : get_or S m.0 origin ≡ x = get_or_default S m.0 origin x m.1 ∙ m.2 in
           subst (Contains (drop 1 L)) same (r.all m.0 (omega (arith, m.1)) (subst (IsOther S c) (sym same) o))
 
 -- the list goes round its first member, which is the least of the set, through the corners among the first n points

@@ -1,9 +1,9 @@
 -- A search among corners, which halves the part that a point lies in.
 use Rattle.std.proofs.Common.{◌≡◌, sym, subst, ℕ, ◌+◌, ◌-◌, ◌/◌, ◌<◌, ◌≤◌, ◌⊎◌, inl, inr, Bool, true, false, if◌then◌else◌, List, length, slice_index_or, arith}
+use Rattle.std.proofs.lemmas.List.{get_or_default}
 use Rattle.std.specs.Bool.{OnFalse, OnTrue}
 use Rattle.range_plane.specs.Edges.{at}
 use Rattle.range_plane.specs.Plane.{Position}
-use Rattle.range_plane.proofs.HalfPlanes.{get_or_same}
 
 -- the corner at place i, the first after the last
 abbrev pub around : List Position → ℕ → Position
@@ -23,7 +23,7 @@ Stays L start end Reached = (i : ℕ) → start ≤ i → i + 1 < end → Reache
 
 module _ (L : List Position) (start end : ℕ) (Passed Reached : Position → Type 0) (within : end ≤ length L) (stays : Stays L start end Reached) where
   around_inner : (i : ℕ) → i < end → Reached (at L i) → Reached (around L i)
-  around_inner i h r = subst Reached (get_or_same L i _ (at L 0) (omega arith)) r
+  around_inner i h r = subst Reached (get_or_default L i _ (at L 0) (omega arith)) r
 
   -- the corner in the middle says which part to go on with; either has as many places, and one place is not halved
   pub halved : (low size step : ℕ) (b : Bool) → IsBetween L start end Passed Reached low size → step ≡ (if b then size / 2 else 0) → OnTrue b (Passed (at L (low + size / 2))) → OnFalse b (Reached (at L (low + size / 2))) → IsBetween L start end Passed Reached (low + step) (size - size / 2)

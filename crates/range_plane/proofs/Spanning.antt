@@ -1,11 +1,12 @@
 -- A point is covered where it lies on the left of the two edges that span it.
 use Rattle.std.proofs.Common.{◌≡◌, ◌≢◌, refl, sym, subst, ℕ, zero, suc, ◌+◌, ◌<◌, ◌≤◌, pos, neg_ℤ, ◌*ℤ◌, ◌≤ℤ◌, ◌<ℤ◌, ◌↔◌, ◌⊎◌, inl, inr, List, [], ◌∷◌, length, get_or, Contains, arith, eq-or-lt_of_le}
+use Rattle.std.proofs.lemmas.List.{get_or_default}
 use Rattle.std.proofs.lemmas.Int.{by_lt_z}
 use Rattle.range_plane.specs.Covering.{Covers}
 use Rattle.range_plane.specs.Edges.{at, next, Spans}
 use Rattle.range_plane.specs.Plane.{Position, turn, origin, IsAtMost, IsBefore}
 use Rattle.range_plane.specs.Polygon.{TurnsLeft}
-use Rattle.range_plane.proofs.HalfPlanes.{in_half_plane, left_of_edge, left_of_closing, turn_back, get_or_same}
+use Rattle.range_plane.proofs.HalfPlanes.{in_half_plane, left_of_edge, left_of_closing, turn_back}
 use Rattle.range_plane.proofs.Integers.{linear, at_least_product, nonneg_product, nonpos_nonpos, product_comm, neg_product}
 use Rattle.range_plane.proofs.Members.{here, there}
 use Rattle.range_plane.proofs.Rising.{rising, IsRising}
@@ -65,10 +66,10 @@ covered_between L q a b c e ma mb mc me low high h k = (covers_every_way L q).1 
         (λ le. spanning_reaches L q f a b r ma mb low (nonneg_product (cross f r.direction) (turn a b q) le h))
 
 pub at_member : (L : List Position) (i : ℕ) → i < length L → Contains L (at L i)
-at_member L i h = (i, h, get_or_same L i (at L i) origin h)
+at_member L i h = (i, h, get_or_default L i (at L i) origin h)
 
 pub next-inner : (L : List Position) (i : ℕ) → i + 1 < length L → next L i ≡ at L (i + 1)
-next-inner L i h = get_or_same L (i + 1) (at L 0) origin h
+next-inner L i h = get_or_default L (i + 1) (at L 0) origin h
 
 beyond : (L : List Position) (k : ℕ) (d : Position) → length L ≤ k → get_or L k d ≡ d
 beyond [] k d h = refl

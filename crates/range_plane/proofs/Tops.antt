@@ -1,11 +1,11 @@
 -- The corners of a polygon rise in order up to the last of them in order, and then fall.
 use Rattle.std.proofs.Common.{◌≡◌, sym, ◌∙◌, subst, ℕ, zero, suc, ◌+◌, ◌-◌, ◌<◌, ◌≤◌, ℤ, pos, ◌*ℤ◌, ◌≤ℤ◌, ◌<ℤ◌, ◌⊎◌, inl, inr, List, [], ◌∷◌, length, Contains, arith, eq-or-lt_of_le}
+use Rattle.std.proofs.lemmas.List.{get_or_default}
 use Rattle.std.proofs.lemmas.Int.{by_lt_z}
 use Rattle.range_plane.specs.Edges.{at, IsTop}
 use Rattle.range_plane.specs.Plane.{Position, turn, origin, IsAtMost}
 use Rattle.range_plane.specs.Polygon.{TurnsLeft, BeginsWithLeast}
 use Rattle.range_plane.proofs.Ends.{at_most_or_before, first_least}
-use Rattle.range_plane.proofs.HalfPlanes.{get_or_same}
 use Rattle.range_plane.proofs.Integers.{linear, nonneg_product, nonpos_product, positive_product}
 use Rattle.range_plane.proofs.Members.{nowhere}
 use Rattle.range_plane.proofs.Rising.{rising, IsRising}
@@ -99,7 +99,7 @@ falls_from_top L top t b i some m h = fall_from L t (rising L) (first_least L b)
 
 -- what a search for the top knows
 pub top_between : (L : List Position) (top : ℕ) → top < length L → ((i : ℕ) → i ≤ top → IsAtMost (at L i) (at L top)) → ((i : ℕ) → top ≤ i → i < length L → IsAtMost (at L i) (at L top)) → IsTop L top
-top_between L top h below above = record { within = λ _. h; greatest = λ x m. subst (λ z. IsAtMost z (at L top)) (get_or_same L m.0 origin x m.1 ∙ m.2) (go m.0 m.1 (split m.0 top)) }
+top_between L top h below above = record { within = λ _. h; greatest = λ x m. subst (λ z. IsAtMost z (at L top)) (get_or_default L m.0 origin x m.1 ∙ m.2) (go m.0 m.1 (split m.0 top)) }
   where
     go : (i : ℕ) → i < length L → (i ≤ top) ⊎ (top ≤ i) → IsAtMost (at L i) (at L top)
     go i k (inl le) = below i le

@@ -1,6 +1,6 @@
 -- Laws of what sets cover and of polygons, each the contract of a function of `src/laws.rt`.
 use Rattle.std.specs.Prelude.{◌<◌, pos, ◌≤ℤ◌, ◌≡◌, ◌≢◌, ◌↔◌, AllPairs, IsTrue, List, [], ◌∷◌, length, Contains}
-use Rattle.range_plane.specs.Covering.{Covers, advance, IsLeftOfEdges, IsOnSegment, is_covered}
+use Rattle.range_plane.specs.Covering.{Covers, advance, IsLeftOfEdges, IsOnSegment, is_covered, is_on_segment}
 use Rattle.range_plane.specs.Plane.{Position}
 use Rattle.range_plane.specs.Polygon.{BeginsWithLeast, IsPolygon, TurnsLeft, area2}
 
@@ -19,6 +19,9 @@ CoveringIsTransitive = (S T : List Position) (q : Position) → ((t : Position) 
 
 abbrev pub CoveredIsDecided : Type 0
 CoveredIsDecided = (S : List Position) (q : Position) → IsTrue (is_covered S q) ↔ Covers S q
+
+abbrev pub OnSegmentIsDecided : Type 0
+OnSegmentIsDecided = (q a b : Position) → IsTrue (is_on_segment q a b) ↔ IsOnSegment q a b
 
 abbrev pub NoneCoversNothing : Type 0
 NoneCoversNothing = (q : Position) → ¬ (Covers [] q)

@@ -1,7 +1,7 @@
 // Laws of what sets cover and of polygons. Each is a function that does nothing and promises
 // the law, for the proofs of the crates above.
 
-ghost use Rattle.range_plane.specs.Laws.{AreasAreNotNegative, CornersCoverTheSet, CornersStandForTheSet, CoveredIsDecided, CoveredPointsChangeNothing, CoveringIsReaching, CoveringIsTransitive, CoveringMembersAreCorners, EverySetHasAPolygon, LargerSetsCoverMore, ManyCoverTheLeftOfTheirEdges, NoneCoversNothing, OneCoversItself, OnePolygon, PolygonOfItsCorners, TwoCoverTheirSegment};
+ghost use Rattle.range_plane.specs.Laws.{AreasAreNotNegative, CornersCoverTheSet, CornersStandForTheSet, CoveredIsDecided, CoveredPointsChangeNothing, CoveringIsReaching, CoveringIsTransitive, CoveringMembersAreCorners, EverySetHasAPolygon, LargerSetsCoverMore, ManyCoverTheLeftOfTheirEdges, NoneCoversNothing, OnSegmentIsDecided, OneCoversItself, OnePolygon, PolygonOfItsCorners, TwoCoverTheirSegment};
 
 /// A larger set covers all that a smaller one covers.
 pub fn larger_sets_cover_more()
@@ -18,9 +18,11 @@ pub fn covering_is_transitive()
     ensures { CoveringIsTransitive }
 {}
 
-/// The test whether a set covers a point is true exactly where it does.
+/// The test whether a set covers a point is true exactly where it does, and that whether a point is on a
+/// segment exactly where it is.
 pub fn covered_is_decided()
-    ensures { CoveredIsDecided }
+    ensures set { CoveredIsDecided }
+    ensures segment { OnSegmentIsDecided }
 {}
 
 /// No corner covers nothing, one covers itself, two cover the segment between them.
