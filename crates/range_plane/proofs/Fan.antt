@@ -1,7 +1,7 @@
 -- A list whose first point comes before every other and sees them one after the other counterclockwise, and whose neighbours turn left, lists the corners of a polygon; and corners are such a list.
 use Rattle.std.proofs.Common.{◌≡◌, ◌≢◌, sym, ◌∙◌, subst, ℕ, zero, suc, ◌-◌, ◌<◌, ◌≤◌, pos, ◌<ℤ◌, inl, inr, List, [], ◌∷◌, length, AllPairs, arith, eq-or-lt_of_le}
 use Rattle.std.proofs.lemmas.List.{get_or_default}
-use Rattle.range_plane.specs.Edges.{at}
+use Rattle.range_plane.specs.Edges.{at, TurnsLeftAt}
 use Rattle.range_plane.specs.Plane.{Position, turn, origin, IsAtMost, IsBefore}
 use Rattle.range_plane.specs.Polygon.{BeginsWithLeast, TurnsLeft, IsPolygon}
 use Rattle.range_plane.proofs.Corners.{polygon_by_covering}
@@ -14,16 +14,9 @@ use Rattle.range_plane.proofs.RoundLeast.{at_most_itself, transitive_round}
 use Rattle.range_plane.proofs.Spanning.{at_member}
 use Rattle.range_plane.proofs.Vectors.{dot, from, leftward, dot_leftward, turn_cycle, turn_end}
 
--- what the test of corners asks of a place
-abbrev pub ComesAfterFirst : List Position → ℕ → Type 0
-ComesAfterFirst L i = IsBefore (at L 0) (at L i)
-
-abbrev pub TurnsLeftAt : List Position → ℕ → Type 0
-TurnsLeftAt L i = (pos 0 <ℤ turn (at L 0) (at L (i - 1)) (at L i)) × (pos 0 <ℤ turn (at L (i - 2)) (at L (i - 1)) (at L i))
-
 -- the whole test
 pub record IsFan (L : List Position) : Type 0 where
-  pub least : (i : ℕ) → 1 ≤ i → i < length L → ComesAfterFirst L i
+  pub least : (i : ℕ) → 1 ≤ i → i < length L → IsBefore (at L 0) (at L i)
   pub left : (i : ℕ) → 2 ≤ i → i < length L → TurnsLeftAt L i
 
 -- the order round c, among points on the left of the edge from b to c

@@ -1,6 +1,6 @@
 -- The edges of a polygon by their first places, those that a point falls between, and the corner that comes last in order.
-use Rattle.std.specs.Prelude.{ℕ, ◌+◌, ◌<◌, List, length, slice_index_or, Contains}
-use Rattle.range_plane.specs.Plane.{Position, origin, IsAtMost, IsBefore}
+use Rattle.std.specs.Prelude.{ℕ, ◌+◌, ◌-◌, ◌<◌, pos, ◌<ℤ◌, List, length, slice_index_or, Contains}
+use Rattle.range_plane.specs.Plane.{Position, origin, turn, IsAtMost, IsBefore}
 
 -- the corner at place i
 abbrev pub at : List Position → ℕ → Position
@@ -20,3 +20,7 @@ pub record Spans (a b q : Position) : Type 0 where
   pub rising : IsBefore a b
   pub from : IsAtMost a q
   pub to : IsAtMost q b
+
+-- the point at place i, from 2 on, is on the left of the way to its predecessor from the first point, and from the one before that predecessor
+abbrev pub TurnsLeftAt : List Position → ℕ → Type 0
+TurnsLeftAt L i = (pos 0 <ℤ turn (at L 0) (at L (i - 1)) (at L i)) × (pos 0 <ℤ turn (at L (i - 2)) (at L (i - 1)) (at L i))

@@ -1,8 +1,8 @@
 // Whether points are, in their order, the corners of a polygon.
 
-ghost use Rattle.std.specs.Prelude.{◌-◌, ◌<◌, ◌<ℤ◌, ◌↔◌, pos, length, IsTrue};
-ghost use Rattle.range_plane.specs.Edges.{at};
-ghost use Rattle.range_plane.specs.Plane.{turn, IsBefore};
+ghost use Rattle.std.specs.Prelude.{ℕ, ◌<◌, ◌≤◌, ◌↔◌, length, IsTrue};
+ghost use Rattle.range_plane.specs.Edges.{at, TurnsLeftAt};
+ghost use Rattle.range_plane.specs.Plane.{IsBefore};
 ghost use Rattle.range_plane.specs.Polygon.{IsPolygon};
 
 use crate::order::comes_before;
@@ -21,11 +21,24 @@ fn follows_first(points: &[Point], place: usize) -> bool
 fn turns_left(points: &[Point], place: usize) -> bool
     requires third { 1 < place }
     requires within { place < length points.now }
-    ensures { IsTrue result ↔ (pos 0 <ℤ turn (at points.now 0) (at points.now (place - 1)) (at points.now place))
-        × (pos 0 <ℤ turn (at points.now (place - 2)) (at points.now (place - 1)) (at points.now place)) }
+    ensures { IsTrue result ↔ TurnsLeftAt points.now place }
 {
     let (last, next) = (points[place - 1], points[place]);
     turn(points[0], last, next) > 0 && turn(points[place - 2], last, next) > 0
+}
+
+// Whether the first point comes before every other.
+fn begin_with_least(points: &[Point]) -> bool
+    ensures { IsTrue result ↔ ((i : ℕ) → 1 ≤ i → i < length points.now → IsBefore (at points.now 0) (at points.now i)) }
+{
+    (1..points.len()).all(|i| follows_first(points, i))
+}
+
+// Whether the points turn left from the third on.
+fn turn_left_throughout(points: &[Point]) -> bool
+    ensures { IsTrue result ↔ ((i : ℕ) → 2 ≤ i → i < length points.now → TurnsLeftAt points.now i) }
+{
+    (2..points.len()).all(|i| turns_left(points, i))
 }
 
 /// Whether these points are, in this order, the corners of a polygon: the test of what
@@ -34,8 +47,7 @@ pub fn are_corners(points: &[Point]) -> bool
     ensures { IsTrue result ↔ IsPolygon points.now points.now }
 {
     // The others lie in half a turn round the first, so left turns round it pass none of them twice.
-    (1..points.len()).all(|i| follows_first(points, i))
-        && (2..points.len()).all(|i| turns_left(points, i))
+    begin_with_least(points) && turn_left_throughout(points)
 }
 
 #[cfg(test)]
