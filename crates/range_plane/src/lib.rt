@@ -25,5 +25,6 @@ pub use laws::{
     polygon_of_its_corners,
 };
 pub use memory::OutOfMemory;
+pub use order::rank;
 pub use point::{COORDINATE_LIMIT, Point, turn};
 pub use polygon::Polygon;

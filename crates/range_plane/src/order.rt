@@ -10,8 +10,9 @@ use crate::point::{COORDINATE_LIMIT, Point};
 // What one metre of easting counts for in a rank: more than any northing.
 const RANK_BASE: i64 = 2 * COORDINATE_LIMIT;
 
-// Points in rising order of this number stand in rising order of easting, then northing.
-fn rank(p: Point) -> i64
+/// The place of `p` in the order by easting, then by northing, as a number: points in rising order of it
+/// stand in that order, and no two points have one rank.
+pub fn rank(p: Point) -> i64
     ensures value { result ≡ rank p }
     ensures not_negative { pos 0 ≤ℤ result }
     ensures within { IsWithinLimits p }
@@ -26,4 +27,19 @@ pub(crate) fn comes_before(a: Point, b: Point) -> bool
     ensures no { OnFalse result (IsAtMost b a) }
 {
     rank(a) - rank(b) < 0
+}
+
+#[cfg(test)]
+mod tests {
+    use super::*;
+
+    #[test]
+    fn easting_comes_first(rt: HostRuntime) {
+        let south = Point { e: 1, n: 0 };
+        let north = Point {
+            e: 0,
+            n: COORDINATE_LIMIT,
+        };
+        assert!(rt; rank(north) < rank(south));
+    }
 }

@@ -1,6 +1,6 @@
 // The corners of a set, straight from the definitions.
 
-ghost use Rattle.std.specs.Prelude.{ℕ, ◌≡◌, ◌<◌, ◌≤◌, ◌≤ℤ◌, ◌<ℤ◌, int_le, pos, IfOk, IfSome, IsNone, [], length};
+ghost use Rattle.std.specs.Prelude.{ℕ, ◌≡◌, ◌<◌, ◌≤◌, ◌≤ℤ◌, ◌<ℤ◌, int_le, int_lt, pos, IfOk, IfSome, IsNone, [], length};
 ghost use Rattle.range_plane.specs.Covering.{is_covered, is_in_triangle, is_on_segment};
 ghost use Rattle.range_plane.specs.Edges.{at};
 ghost use Rattle.range_plane.specs.Plane.{turn};
@@ -25,11 +25,18 @@ fn is_left(a: Point, b: Point, q: Point) -> bool
     turn(a, b, q) >= 0
 }
 
+// Whether `a`, `b`, `c` go counterclockwise.
+fn turns_left(a: Point, b: Point, c: Point) -> bool
+    ensures { result ≡ int_lt (pos 0) (turn a b c) }
+{
+    turn(a, b, c) > 0
+}
+
 // Whether `q` lies in the triangle `a`, `b`, `c`, which goes counterclockwise.
 fn is_in_triangle(q: Point, a: Point, b: Point, c: Point) -> bool
     ensures { result ≡ is_in_triangle q a b c }
 {
-    turn(a, b, c) > 0 && is_left(a, b, q) && is_left(b, c, q) && is_left(c, a, q)
+    turns_left(a, b, c) && is_left(a, b, q) && is_left(b, c, q) && is_left(c, a, q)
 }
 
 // Whether `q` lies on a segment from `a` to a point other than `q`.

@@ -1,8 +1,9 @@
 // Points within the limits of the plane.
 
-ghost use Rattle.std.specs.Prelude.{◌≡◌, SomeIff};
+ghost use Rattle.std.specs.Int.RustNames.{unsigned_abs};
+ghost use Rattle.std.specs.Prelude.{◌≡◌, ◌≤◌, SomeIff};
 ghost use Rattle.range_plane.specs.Covering.{facing};
-ghost use Rattle.range_plane.specs.Plane.{IsCoordinate, position, turn};
+ghost use Rattle.range_plane.specs.Plane.{IsCoordinate, position, turn, turn_limit};
 
 use std::marker::Model;
 
@@ -46,7 +47,8 @@ impl Point {
 /// Twice the signed area of the triangle `a`, `b`, `c`, in square metres: positive where the three go
 /// counterclockwise, 0 where they are collinear.
 pub fn turn(a: Point, b: Point, c: Point) -> i64
-    ensures { result ≡ turn a b c }
+    ensures value { result ≡ turn a b c }
+    ensures bound { unsigned_abs result ≤ turn_limit }
 {
     (b.e - a.e) * (c.n - a.n) - (b.n - a.n) * (c.e - a.e)
 }
