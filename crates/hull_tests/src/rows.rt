@@ -1,0 +1,146 @@
+// Tests of worked lists of points, whose polygons were made by hand.
+
+use crate::points::{HEXAGON, has_corners, hull_of, insert, point, points_of};
+use range_hull::OnlineHull;
+use range_plane::{FIX_LIMIT, Point};
+use std::alloc::Global;
+use std::process::Abort;
+
+const SQUARE_OF_LIMITS: [(i64, i64); 4] = [
+    (0, 0),
+    (16_777_216, 0),
+    (16_777_216, 16_777_216),
+    (0, 16_777_216),
+];
+
+// Checks the corners and the doubled area after each of the points, and the corners in the end.
+fn expect_rows(
+    rt: &impl Abort,
+    alloc: Global,
+    places: &[(i64, i64)],
+    rows: &[(u32, u128)],
+    corners: &[(i64, i64)],
+) {
+    let points = points_of(rt, alloc, places);
+    let mut hull = OnlineHull::new(alloc);
+    hull.reserve(points.len()).expect(rt, "memory");
+    assert_eq!(rt; points.len(), rows.len(), "rows");
+    for (p, &(count, area2)) in points.iter().zip(rows) {
+        insert(rt, &mut hull, *p);
+        let n = hull.points();
+        assert_eq!(rt; hull.corner_count(), count, "corners of the first {n}");
+        assert_eq!(rt; hull.area2(), area2, "area of the first {n}");
+    }
+    let corners = points_of(rt, alloc, corners);
+    assert!(rt;
+        has_corners(rt, alloc, &hull, &corners),
+        "corners of {}",
+        hull.points()
+    );
+}
+
+#[test]
+fn rows(rt: HostRuntime) {
+    let alloc = rt.alloc();
+    expect_rows(
+        &rt,
+        alloc,
+        &SQUARE_OF_LIMITS,
+        &[
+            (1, 0),
+            (2, 0),
+            (3, 281_474_976_710_656),
+            (4, 562_949_953_421_312),
+        ],
+        &SQUARE_OF_LIMITS,
+    );
+    expect_rows(
+        &rt,
+        alloc,
+        &[(7, 7), (7, 7), (7, 7)],
+        &[(1, 0), (1, 0), (1, 0)],
+        &[(7, 7)],
+    );
+    expect_rows(
+        &rt,
+        alloc,
+        &[(0, 0), (2, 2), (1, 1), (4, 4)],
+        &[(1, 0), (2, 0), (2, 0), (2, 0)],
+        &[(0, 0), (4, 4)],
+    );
+    expect_rows(
+        &rt,
+        alloc,
+        &[(5, 5), (6, 5), (6, 6), (0, 5)],
+        &[(1, 0), (2, 0), (3, 1), (3, 6)],
+        &[(0, 5), (6, 5), (6, 6)],
+    );
+    expect_rows(
+        &rt,
+        alloc,
+        &HEXAGON,
+        &[(1, 0), (2, 0), (3, 8), (4, 20), (5, 36), (5, 56)],
+        &[(0, 0), (4, 0), (10, 2), (4, 4), (0, 4)],
+    );
+}
+
+#[test]
+fn no_points(rt: HostRuntime) {
+    let hull = OnlineHull::new(rt.alloc());
+    assert!(rt; has_corners(&rt, rt.alloc(), &hull, &[]));
+    assert!(rt; hull.points() == 0 && hull.turns() == 0 && hull.area2() == 0);
+}
+
+#[test]
+fn few_turns(rt: HostRuntime) {
+    let points = points_of(&rt, rt.alloc(), &HEXAGON);
+    let hull = hull_of(&rt, rt.alloc(), &points);
+    assert!(rt; hull.turns() <= 48, "{} turns", hull.turns());
+}
+
+// The places on a parabola, from the first to the last or back.
+fn parabola(rt: &impl Abort, alloc: Global, is_rising: bool) -> Vec<Point> {
+    let mut points = Vec::new(alloc);
+    for i in 0..4096_u32 {
+        let e = i64::from(if is_rising { i } else { 4095 - i });
+        points.push(point(rt, (e, e * e))).expect(rt, "memory");
+    }
+    points
+}
+
+#[test]
+fn parabola_either_way(rt: HostRuntime) {
+    let rising = parabola(&rt, rt.alloc(), true);
+    let falling = parabola(&rt, rt.alloc(), false);
+    for points in [&rising, &falling] {
+        let hull = hull_of(&rt, rt.alloc(), points);
+        assert_eq!(rt; hull.area2(), 22_889_717_760, "area");
+        assert!(rt;
+            (4094..=32_768).contains(&hull.turns()),
+            "{} turns",
+            hull.turns()
+        );
+        assert!(rt; has_corners(&rt, rt.alloc(), &hull, &rising), "corners");
+    }
+}
+
+#[test]
+fn skip_counts_alone(rt: HostRuntime) {
+    let points = points_of(&rt, rt.alloc(), &HEXAGON);
+    let mut hull = hull_of(&rt, rt.alloc(), &points);
+    let (turns, spare) = (hull.turns(), hull.spare());
+    let polygon = hull.polygon(rt.alloc()).expect(&rt, "memory");
+    let p = point(&rt, (3, 2));
+    assert!(rt; polygon.covers(p) && hull.points() < FIX_LIMIT, "may skip");
+    hull.skip(p);
+    assert!(rt; hull.points() == 7 && hull.inserted() == 6, "counts");
+    assert!(rt;
+        hull.turns() == turns && hull.spare() == spare,
+        "turns and room"
+    );
+    assert!(rt; hull.area2() == 56, "area");
+    assert!(rt;
+        has_corners(&rt, rt.alloc(), &hull, polygon.corners()),
+        "corners"
+    );
+}

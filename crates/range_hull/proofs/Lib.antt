@@ -1,0 +1,5 @@
+pub mod Area
+pub mod Bends
+pub mod Chains
+pub mod Hulls
+pub mod Searching

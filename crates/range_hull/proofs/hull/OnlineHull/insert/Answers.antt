@@ -1,0 +1,28 @@
+use Rattle.std.proofs.Common.{arith, ◌∷◌, ◌+◌, subst, ap, pos}
+use Rattle.range_plane.specs.Polygon.{IsPolygon}
+use Rattle.range_hull.specs.Hull.{Hull, corners_of}
+use Rattle.range_hull.proofs.Area.{area_extended}
+use Rattle.range_hull.proofs.Hulls.{chains_extended, polygon_extended}
+use Rattle.range_hull.proofs.hull.OnlineHull.insert.Given as given
+use Rattle.range_hull.proofs.hull.OnlineHull.insert.Goals as goal
+
+pub invariant_of-self : goal.invariant_of-self
+invariant_of-self g c =
+    let lower = c.extend.ensures in
+    let upper = c.extend-2.ensures in record {
+      chains = chains_extended _ _ _ _ c.args.p lower.limits c.self.invariant.chains lower.chain upper.chain;
+      few = omega (arith, c.requires.few, ap (λ (h : Hull). h.inserted + h.skipped) c.self.view_is);
+      paid = omega (arith, c.self.invariant.paid, lower.turns, upper.turns);
+      area = area_extended _ _ _ _ (pos c.self.inside.tally.area) (pos c.extend.new.tally.area) (pos c.extend-2.new.tally.area) c.self.invariant.chains c.args.p c.self.invariant.area lower.swept upper.swept;
+    }
+
+polygon : (g : given.Over) (c : goal.After-self-1 g) → IsPolygon (c.args.p ∷ c.args.self.now.corners) (corners_of c.extend.new.chain.items c.extend-2.new.chain.items)
+polygon g c =
+    subst (λ (h : Hull). IsPolygon (c.args.p ∷ h.corners) (corners_of c.extend.new.chain.items c.extend-2.new.chain.items)) c.self.view_is
+    (polygon_extended c.covering_is_reaching.ensures c.covering_members_are_corners.ensures _ _ _ _ c.args.p c.extend.ensures.limits c.self.invariant.chains c.extend.ensures.chain c.extend-2.ensures.chain)
+
+pub returns-clause-corners : goal.returns-clause-corners
+returns-clause-corners g c = polygon g c
+
+pub returns-clause-set : goal.returns-clause-set
+returns-clause-set g c = λ S old. (c.corners_stand_for_the_set.ensures S _ _ c.args.p old).0 (polygon g c)

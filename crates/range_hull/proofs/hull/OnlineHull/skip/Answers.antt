@@ -1,0 +1,10 @@
+use Rattle.std.proofs.Common.{◌∷◌, subst, sym}
+use Rattle.range_plane.specs.Polygon.{IsPolygon}
+use Rattle.range_hull.specs.Hull.{Hull}
+use Rattle.range_hull.proofs.hull.OnlineHull.skip.Goals as goal
+
+pub returns-clause-set : goal.returns-clause-set
+returns-clause-set g c = λ S polygon.
+    let L = c.args.self.now.corners in
+    let covered = (c.corners_cover_the_set.ensures S L polygon c.args.p).0 ((c.covered_is_decided.ensures.set L c.args.p).0 c.requires.covered) in
+    subst (λ (h : Hull). IsPolygon (c.args.p ∷ S) h.corners) (sym c.self.view_is) ((c.covered_points_change_nothing.ensures S L c.args.p covered).0 polygon)

@@ -1,0 +1,4 @@
+pub mod Area
+pub mod Chain
+pub mod Hull
+pub mod Tally

@@ -1,0 +1,11 @@
+//! The minimum convex polygon of points that come one at a time, kept as two chains.
+#![tactic(auto)]
+
+mod chain;
+mod hull;
+mod search;
+mod side;
+mod splice;
+mod tally;
+
+pub use hull::OnlineHull;
