@@ -1,0 +1,31 @@
+-- The files of a line.
+use Rattle.std.proofs.Common.{◌≡◌, ℕ, suc, ◌+◌, ◌*◌, ◌<◌, ◌≤◌, [], ◌∷◌, ◌++◌, sym, ◌∙◌, suc-mul, mul-le-mul_right, arith, ap, length}
+use Rattle.std.specs.Prelude.{Contains}
+use Rattle.std.proofs.lemmas.List.FromFn.{length-map-range_with_len, get_or-map-range_with_len, map-range_with_len_more}
+use Rattle.range_line.specs.Laws.{FilesHavePlaces}
+use Rattle.range_line.specs.Lines.{files_from}
+
+pub files_have_places : FilesHavePlaces
+files_have_places first step n file =
+    let f : ℕ → ℕ = λ j. first + j * step in
+    let len = length-map-range_with_len f 0 n in (
+      λ c. let below : c.0 < n = (let less = c.1 in omega arith) in (c.0, below, sym c.2 ∙ get_or-map-range_with_len f 0 n c.0 c.0 file below (omega arith)),
+      λ p. (p.0, (let less = p.1 in omega arith), get_or-map-range_with_len f 0 n p.0 p.0 file p.1 (omega arith) ∙ sym p.2),
+    )
+
+pub files_more : (first step n : ℕ) → files_from first step (n + 1) ≡ files_from first step n ++ (first + n * step) ∷ []
+files_more first step n = map-range_with_len_more (λ j. first + j * step) 0 n n (omega arith)
+
+pub file_is_new : (first step n : ℕ) → 1 ≤ step → Contains (files_from first step n) (first + n * step) → ⊥
+file_is_new first step n some_step c =
+    let place = (files_have_places first step n (first + n * step)).0 c in
+    let below = place.1 in
+    let same = place.2 in
+    let apart : suc place.0 * step ≤ n * step = mul-le-mul_right step (omega arith) in
+    omega (arith, suc-mul place.0 step, same)
+
+pub has_a_file : (first step n : ℕ) → 1 ≤ n → files_from first step n ≡ [] → ⊥
+has_a_file first step n some e =
+    let len = length-map-range_with_len (λ j. first + j * step) 0 n in
+    let none = ap length e in
+    omega arith

@@ -1,0 +1,7 @@
+pub mod Orderly
+pub mod Steps
+pub mod Passes
+pub mod Files
+pub mod EndFacts
+pub mod MessageFacts
+pub mod Streams

@@ -1,0 +1,6 @@
+pub mod Limits
+pub mod Messages
+pub mod Rule
+pub mod Lines
+pub mod Passes
+pub mod Laws

@@ -1,0 +1,80 @@
+-- Messages, and what the messages of one file may be.
+use Rattle.std.specs.Prelude.{◌≡◌, ℕ, ◌+◌, ◌-◌, ◌*◌, ◌/◌, ◌≤◌, Bool, true, false, ◌||◌, ◌==◌, List, [], ◌∷◌, ◌++◌, length, map, take, drop, filter, flat_map}
+use Rattle.std.specs.List.{range_with_len}
+use Rattle.range_plane.specs.Fix.{fix_limit}
+use Rattle.range_plane.specs.declared.Fix.{Fix}
+use Rattle.range_line.specs.Limits.{block_limit}
+use Rattle.range_line.specs.declared.message.Message.{Message}
+use Rattle.range_line.specs.declared.message.Body.{Body}
+use Rattle.range_line.specs.declared.message.Body.TheVariants.{Block, Mark}
+
+abbrev pub message : ℕ → ℕ → Body → Message
+message file place body = record { file = file; place = place; body = body }
+
+-- the two bodies, by names that no type in Rust has
+abbrev pub block_of : List Fix → Body
+block_of fixes = Block fixes
+
+abbrev pub the_mark : Body
+the_mark = Mark
+
+-- the messages of a file, in order
+abbrev pub of_file : List Message → ℕ → List Message
+of_file messages file = filter (λ m. m.file == file) messages
+
+-- the fixes of a body, of which the mark has none
+abbrev pub fixes_in : Body → List Fix
+fixes_in (Block fixes) = fixes
+fixes_in Mark = []
+
+-- the blocks of some messages joined
+abbrev pub joined : List Message → List Fix
+joined messages = flat_map (λ m. fixes_in m.body) messages
+
+-- the blocks of a file joined
+abbrev pub fixes : List Message → ℕ → List Fix
+fixes messages file = joined (of_file messages file)
+
+abbrev pub is_mark : Body → Bool
+is_mark (Block _) = false
+is_mark Mark = true
+
+-- whether a mark is among the messages
+abbrev pub has_mark : List Message → Bool
+has_mark [] = false
+has_mark (m ∷ ms) = is_mark m.body || has_mark ms
+
+-- what a body may be where these messages of its file come after it: a block that is neither empty nor too large, or a mark with nothing after it
+abbrev pub IsFit : Body → List Message → Type 0
+IsFit (Block fixes) after = (1 ≤ length fixes) × (length fixes ≤ block_limit)
+IsFit Mark after = after ≡ []
+
+-- a message of a file between those before it and those after it: its place is the number of fixes before it
+pub record IsPlaced (before : List Message) (m : Message) (after : List Message) : Type 0 where
+  pub place : m.place ≡ length (joined before)
+  pub body : IsFit m.body after
+
+-- what the messages of one file may be
+pub record IsOrderly (messages : List Message) : Type 0 where
+  pub room : length (joined messages) ≤ fix_limit
+  pub each : (before : List Message) (m : Message) (after : List Message) → messages ≡ before ++ m ∷ after → IsPlaced before m after
+
+-- the messages of the file are what they may be
+abbrev pub IsLawful : List Message → ℕ → Type 0
+IsLawful messages file = IsOrderly (of_file messages file)
+
+-- block j, counted from 0, of a file's fixes cut into blocks of this size
+abbrev pub block : ℕ → List Fix → ℕ → ℕ → Message
+block file all size j = message file (j * size) (block_of (take size (drop (j * size) all)))
+
+-- how many blocks of this size hold the fixes, of which the last may be shorter
+abbrev pub block_count : List Fix → ℕ → ℕ
+block_count all size = (length all + size - 1) / size
+
+-- the first `count` blocks of a file's fixes
+abbrev pub blocks : ℕ → List Fix → ℕ → ℕ → List Message
+blocks file all size count = map (block file all size) (range_with_len 0 count)
+
+-- the messages of a file with these fixes, cut into blocks of this size: all blocks, and then the mark
+abbrev pub stream : ℕ → List Fix → ℕ → List Message
+stream file all size = blocks file all size (block_count all size) ++ message file (length all) the_mark ∷ []
