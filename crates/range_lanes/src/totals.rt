@@ -1,8 +1,8 @@
 // The sums of many coordinates.
 
-ghost use Rattle.std.specs.Prelude.{◌≡◌, ◌≤◌, All, pos, length, map};
+ghost use Rattle.std.specs.Prelude.{◌≡◌, ◌*◌, ◌≤◌, All, pos, length, map};
 ghost use Rattle.range_plane.specs.Fix.{fix_limit};
-ghost use Rattle.range_plane.specs.Plane.{IsCoordinate};
+ghost use Rattle.range_plane.specs.Plane.{IsCoordinate, coordinate_limit};
 ghost use Rattle.range_lanes.specs.Totals.{IsSumOf, total};
 
 use crate::lanes::Lanes;
@@ -14,6 +14,7 @@ pub fn sums<A: Allocator>(cols: &Columns<A>) -> (u64, u64)
     requires { length cols.now.points ≤ fix_limit }
     ensures eastings { pos result.0 ≡ total (map (λ p. p.e) cols.now.points) }
     ensures northings { pos result.1 ≡ total (map (λ p. p.n) cols.now.points) }
+    ensures bounds { (result.0 ≤ length cols.now.points * coordinate_limit) × (result.1 ≤ length cols.now.points * coordinate_limit) }
 {
     (sum_of(cols.eastings()), sum_of(cols.northings()))
 }
@@ -22,7 +23,8 @@ pub fn sums<A: Allocator>(cols: &Columns<A>) -> (u64, u64)
 fn sum_of(coordinates: &[i64]) -> u64
     requires limits { All IsCoordinate coordinates.now }
     requires few { length coordinates.now ≤ fix_limit }
-    ensures { pos result ≡ total coordinates.now }
+    ensures value { pos result ≡ total coordinates.now }
+    ensures bound { result ≤ length coordinates.now * coordinate_limit }
 {
     let mut partial = Lanes::splat(0);
     let whole = coordinates.len() / 8;

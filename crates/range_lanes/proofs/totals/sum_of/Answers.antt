@@ -1,10 +1,11 @@
 use Rattle.std.proofs.Common.{◌≡◌, ◌+◌, ◌-◌, ◌*◌, ◌/◌, ◌≤◌, ◌+ℤ◌, length, subst, sym, ◌∙◌, ap, take, drop, arith, length-drop}
 use lib.Lanes.{zip2, chunk, Each1}
+use Rattle.std.proofs.lemmas.Int.{ints}
 use Rattle.std.proofs.lemmas.List.{take_all}
 use Rattle.std.proofs.lemmas.Simd.{length-zip2, length-chunk}
 use Rattle.range_lanes.specs.Totals.{IsSumOf, total}
 use Rattle.range_lanes.proofs.Signed.{each_zip}
-use Rattle.range_lanes.proofs.Summing.{block_within, block_sums, sum_more, sum_step, total_is, total_fits, total_asks, total_back}
+use Rattle.range_lanes.proofs.Summing.{block_within, block_sums, sum_bounds, sum_more, sum_step, total_is, total_fits, total_asks, total_back}
 use Rattle.range_lanes.proofs.totals.sum_of.Goals as goal
 
 pub plus-partial-requires-clause-right : goal.plus-partial-requires-clause-right
@@ -44,8 +45,8 @@ overflow_cast-result c =
     let e = total_is (8 * whole) xs c.plain_sum.result c.plain_sum-2.result c.requires.few c.requires.limits ea eb in
     rw e (total_asks xs c.requires.few c.requires.limits)
 
-pub returns : goal.returns
-returns c =
+pub returns-clause-value : goal.returns-clause-value
+returns-clause-value c =
     let xs = c.args.coordinates.now in
     let whole = length xs / 8 in
     let ended : c.loop-block.block ≡ whole = omega arith in
@@ -53,3 +54,9 @@ returns c =
     let eb = c.plain_sum-2.ensures ∙ ap total (take_all (length xs - 8 * whole) (drop (8 * whole) xs) (omega (arith, length-drop (8 * whole) xs))) in
     let e = total_is (8 * whole) xs c.plain_sum.result c.plain_sum-2.result c.requires.few c.requires.limits ea eb in
     rw e (total_back xs c.requires.few c.requires.limits)
+
+pub returns-clause-bound : goal.returns-clause-bound
+returns-clause-bound c =
+    let value = returns-clause-value c in
+    let bounds = sum_bounds c.args.coordinates.now c.requires.limits in
+    omega (arith, ints)

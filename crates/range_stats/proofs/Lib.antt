@@ -1,0 +1,4 @@
+pub mod Members
+pub mod Parts
+pub mod Places
+pub mod Ranks

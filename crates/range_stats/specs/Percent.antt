@@ -1,0 +1,59 @@
+-- Percent polygons: the polygon of the points that lie nearest to the mean of all.
+use Rattle.std.specs.Prelude.{ℕ, ◌+◌, ◌*◌, ◌/◌, ◌≤◌, ℤ, pos, ◌-ℤ◌, ◌*ℤ◌, unsigned_abs, ◌≡◌, ◌==◌, nat_lt, Bool, ◌&&◌, ◌||◌, List, length, map, take, count_by}
+use Rattle.std.specs.List.{filter, range_with_len}
+use Rattle.std.specs.List.Sorted.{IsPermutation}
+use Rattle.range_lanes.specs.Totals.{total}
+use Rattle.range_plane.specs.Edges.{at}
+use Rattle.range_plane.specs.Plane.{Position}
+use Rattle.range_plane.specs.Polygon.{IsPolygon, area2}
+use Rattle.range_stats.specs.declared.percents.PercentRow.{PercentRow}
+
+abbrev pub square : ℤ → ℕ
+square z = unsigned_abs z * unsigned_abs z
+
+-- the squared distance of p from the mean of n points, whose coordinates have these sums, times n * n
+abbrev pub scaled_distance : ℕ → ℤ → ℤ → Position → ℕ
+scaled_distance n eastings northings p = square (pos n *ℤ p.e -ℤ eastings) + square (pos n *ℤ p.n -ℤ northings)
+
+-- the squared distance of p from the mean of the points, times the square of their number, which makes it a whole number
+unfoldable pub distance : List Position → Position → ℕ
+distance points p = scaled_distance (length points) (total (map (λ q. q.e) points)) (total (map (λ q. q.n) points)) p
+
+-- the places of the points, counted from 0
+abbrev pub places : List Position → List ℕ
+places points = range_with_len 0 (length points)
+
+-- the distance of the point at a place, and the place
+abbrev pub entry : List Position → ℕ → ℕ × ℕ
+entry points i = (distance points (at points i), i)
+
+-- by distance, and then by place
+abbrev pub comes_before : ℕ × ℕ → ℕ × ℕ → Bool
+comes_before a b = nat_lt a.0 b.0 || (a.0 == b.0 && nat_lt a.1 b.1)
+
+-- how many places come before place j
+abbrev pub count_before : List Position → ℕ → ℕ
+count_before points j = count_by (λ i. comes_before (entry points i) (entry points j)) (places points)
+
+-- the places before which fewer than k come
+unfoldable pub nearest : List Position → ℕ → List ℕ
+nearest points k = filter (λ j. nat_lt (count_before points j) k) (places points)
+
+-- the points at those places
+abbrev pub nearest_points : List Position → ℕ → List Position
+nearest_points points k = map (at points) (nearest points k)
+
+-- how many of n points a level keeps: so many per cent, rounded up
+abbrev pub kept_count : ℕ → ℕ → ℕ
+kept_count level n = (level * n + 99) / 100
+
+-- the row of the percent polygon of these points at a level
+pub record IsPercentRow (points : List Position) (level : ℕ) (row : PercentRow) : Type 0 where
+  pub same_level : row.level ≡ level
+  pub kept : row.kept ≡ length (nearest points (kept_count level (length points)))
+  pub polygon : (L : List Position) × IsPolygon (nearest_points points (kept_count level (length points))) L × (row.corners ≡ length L) × (pos row.area2 ≡ area2 L)
+
+-- ranked lists the points so that, for each k, the first k of them are the k nearest
+pub record IsRanking (points ranked : List Position) : Type 0 where
+  pub same_length : length ranked ≡ length points
+  pub nearest_first : (k : ℕ) → k ≤ length points → IsPermutation (nearest_points points k) (take k ranked)

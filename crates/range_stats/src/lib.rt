@@ -1,0 +1,14 @@
+//! Percent polygons, the overlap of one animal's fixes with the range of another, and lists of percent
+//! levels.
+#![tactic(auto)]
+
+mod distances;
+mod level;
+mod overlaps;
+mod percents;
+mod ranking;
+
+pub use level::{LevelFault, levels};
+pub use overlaps::overlap;
+pub use percents::{PercentRow, percent};
+pub use ranking::Ranking;

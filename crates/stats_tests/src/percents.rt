@@ -1,0 +1,163 @@
+// Tests of percent polygons. The values of scattered points are those of a program that takes the mean as a
+// fraction and wraps the kept points (Jarvis 1973).
+
+use crate::fixes::{RING, SEGMENT, SQUARE, columns_of, scattered};
+use range_plane::{COORDINATE_LIMIT, Columns, FIX_LIMIT, Point};
+use range_stats::{PercentRow, Ranking, percent};
+use std::alloc::Global;
+use std::process::Abort;
+
+// How many points a level keeps, and how many corners and which doubled area they have.
+type Row = (u8, u32, u32, u128);
+
+fn has_row(found: PercentRow, (level, kept, corners, area2): Row) -> bool {
+    found
+        == PercentRow {
+            level,
+            kept,
+            corners,
+            area2,
+        }
+}
+
+// Checks rows, each by itself and read off one ranking.
+fn expect_rows(rt: &impl Abort, alloc: Global, fixes: &Columns, rows: &[Row]) {
+    assert!(rt; fixes.len() <= 250);
+    let ranking = Ranking::new(alloc, fixes).expect(rt, "memory");
+    for row in rows {
+        let level = row.0;
+        assert!(rt; level <= 100);
+        let found = percent(alloc, fixes, level).expect(rt, "memory");
+        assert!(rt; has_row(found, *row), "{found:?}");
+        let found = ranking.row(alloc, level).expect(rt, "memory");
+        assert!(rt; has_row(found, *row), "{found:?}");
+    }
+}
+
+#[test]
+fn square(rt: HostRuntime) {
+    let fixes = columns_of(&rt, rt.alloc(), &SQUARE);
+    expect_rows(
+        &rt,
+        rt.alloc(),
+        &fixes,
+        &[
+            (1, 1, 1, 0),
+            (34, 2, 2, 0),
+            (50, 3, 3, 50),
+            (66, 4, 3, 100),
+            (95, 5, 4, 200),
+            (100, 5, 4, 200),
+        ],
+    );
+}
+
+#[test]
+fn segment(rt: HostRuntime) {
+    let fixes = columns_of(&rt, rt.alloc(), &SEGMENT);
+    let rows = [(50, 2, 2, 0), (95, 3, 2, 0), (100, 3, 2, 0)];
+    expect_rows(&rt, rt.alloc(), &fixes, &rows);
+}
+
+#[test]
+fn one_place(rt: HostRuntime) {
+    let fixes = columns_of(&rt, rt.alloc(), &[(7, 7), (7, 7), (7, 7)]);
+    let rows = [(1, 1, 1, 0), (50, 2, 1, 0), (100, 3, 1, 0)];
+    expect_rows(&rt, rt.alloc(), &fixes, &rows);
+}
+
+#[test]
+fn one_fix(rt: HostRuntime) {
+    let fixes = columns_of(&rt, rt.alloc(), &[(3, 4)]);
+    let rows = [(1, 1, 1, 0), (50, 1, 1, 0), (100, 1, 1, 0)];
+    expect_rows(&rt, rt.alloc(), &fixes, &rows);
+}
+
+#[test]
+fn no_fix(rt: HostRuntime) {
+    let fixes = columns_of(&rt, rt.alloc(), &[]);
+    expect_rows(&rt, rt.alloc(), &fixes, &[(50, 0, 0, 0)]);
+}
+
+#[test]
+fn ties(rt: HostRuntime) {
+    let fixes = columns_of(&rt, rt.alloc(), &RING);
+    let rows = [
+        (1, 1, 1, 0),
+        (50, 3, 3, 40),
+        (66, 4, 4, 80),
+        (67, 5, 5, 100),
+        (100, 6, 6, 120),
+    ];
+    expect_rows(&rt, rt.alloc(), &fixes, &rows);
+}
+
+#[test]
+fn line(rt: HostRuntime) {
+    let mut fixes = Columns::new(rt.alloc());
+    for i in 0..250 {
+        let point = Point::new(i, 0).expect(&rt, "a point");
+        fixes.push(point).expect(&rt, "memory");
+    }
+    let rows = [(1, 3, 2, 0), (100, 250, 2, 0)];
+    expect_rows(&rt, rt.alloc(), &fixes, &rows);
+}
+
+#[test]
+fn scattered_far(rt: HostRuntime) {
+    let fixes = scattered(&rt, rt.alloc(), 0xFF_FFFF);
+    expect_rows(
+        &rt,
+        rt.alloc(),
+        &fixes,
+        &[
+            (1, 3, 3, 13_606_412_965),
+            (2, 5, 4, 901_215_403_882),
+            (10, 25, 7, 27_797_882_111_033),
+            (50, 125, 17, 225_655_721_396_135),
+            (95, 238, 18, 501_845_282_572_989),
+            (99, 248, 16, 528_520_494_414_530),
+            (100, 250, 13, 535_309_414_729_752),
+        ],
+    );
+}
+
+// With many ties.
+#[test]
+fn scattered_near(rt: HostRuntime) {
+    let fixes = scattered(&rt, rt.alloc(), 0xF);
+    expect_rows(
+        &rt,
+        rt.alloc(),
+        &fixes,
+        &[
+            (1, 3, 2, 0),
+            (2, 5, 3, 1),
+            (10, 25, 5, 29),
+            (50, 125, 11, 199),
+            (95, 238, 10, 406),
+            (99, 248, 9, 428),
+            (100, 250, 6, 443),
+        ],
+    );
+}
+
+// All at one corner of the plane but the first, which is as far from their mean as any can be.
+#[test]
+fn at_the_limits(rt: HostRuntime) {
+    let mut fixes = Columns::new(rt.alloc());
+    let far = Point {
+        e: COORDINATE_LIMIT,
+        n: COORDINATE_LIMIT,
+    };
+    fixes.push(far).expect(&rt, "memory");
+    for _ in 1..FIX_LIMIT {
+        fixes.push(Point { e: 0, n: 0 }).expect(&rt, "memory");
+    }
+    assert!(rt; fixes.len() <= 1_048_576);
+    let ranking = Ranking::new(rt.alloc(), &fixes).expect(&rt, "memory");
+    for row in [(99, 1_038_091, 1, 0), (100, 1_048_576, 2, 0)] {
+        let found = ranking.row(rt.alloc(), row.0).expect(&rt, "memory");
+        assert!(rt; has_row(found, row), "{found:?}");
+    }
+}
