@@ -6,27 +6,19 @@ the plain ones. Both programs are built first, with `rt` and `rustc -O`. It stop
 differently.
 """
 
-import pathlib
-import subprocess
 import tempfile
 
 import polygon
+import programs
 
-TOP = pathlib.Path(__file__).resolve().parent.parent
-CRATE = TOP / "crates" / "lanes_bench"
 SIZES = (4, 12, 34, 200, 20000)
 TRACKS = ("scattered", "walk")
 RUNS = 5
 
 
-def output(command, text):
-    done = subprocess.run(command, input=text, capture_output=True, text=True, check=True)
-    return done.stdout, done.stderr
-
-
-def proved_run(text):
+def proved_run(program, text):
     """Per track, milliseconds of marks and of counts, and the count."""
-    counts, times = output([CRATE / "out" / "lanes_bench"], text)
+    counts, times = programs.output([program], text)
     found = {}
     for count, time in zip(counts.splitlines(), times.splitlines(), strict=True):
         name, _, covered = count.split(",")
@@ -37,15 +29,15 @@ def proved_run(text):
 
 def plain_run(program, text, track):
     """Milliseconds of marks by scan and by search, of counts by both, and the count."""
-    *times, covered = output([program, track], text)[0].split()
+    *times, covered = programs.output([program, track], text)[0].split()
     return tuple(map(float, times)), int(covered)
 
 
-def one_run(program, text):
+def one_run(proved, plain, text):
     """Per track, the times of both programs in a row."""
     found = {}
-    for track, (times, covered) in proved_run(text).items():
-        plain_times, plain_covered = plain_run(program, text, track)
+    for track, (times, covered) in proved_run(proved, text).items():
+        plain_times, plain_covered = plain_run(plain, text, track)
         if covered != plain_covered:
             raise SystemExit(f"{track}: {covered} covered, but plain Rust says {plain_covered}")
         found[track] = times + plain_times
@@ -57,9 +49,9 @@ def cells(ours, scan, search):
     return f"{ours:.1f} | {by_scan} | {search:.1f} | {ours / min(scan, search):.2f}"
 
 
-def compare(program, size):
+def compare(proved, plain, size):
     text = "".join(f"{e},{n}\n" for e, n in polygon.corners(size))
-    runs = [one_run(program, text) for _ in range(RUNS)]
+    runs = [one_run(proved, plain, text) for _ in range(RUNS)]
     for track in TRACKS:
         best = [min(times) for times in zip(*(run[track] for run in runs))]
         marks, counts, mark_scan, mark_search, count_scan, count_search = best
@@ -71,14 +63,13 @@ def compare(program, size):
 
 
 def main():
-    subprocess.run(["rt", "run"], cwd=CRATE, stdin=subprocess.DEVNULL, capture_output=True, check=True)
+    proved = programs.proved("lanes_bench")
     with tempfile.TemporaryDirectory() as folder:
-        program = pathlib.Path(folder) / "plain"
-        subprocess.run(["rustc", "-O", TOP / "bench" / "plain.rs", "-o", program], check=True)
+        plain = programs.plain("lanes_plain.rs", folder)
         print("| Track | Corners | `mark_inside` | scan | search | ratio | `count_inside` | scan | search | ratio |")
         print("|---|---|---|---|---|---|---|---|---|---|")
         for size in SIZES:
-            compare(program, size)
+            compare(proved, plain, size)
 
 
 main()

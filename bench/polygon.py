@@ -1,8 +1,8 @@
 """Convex polygons with a given number of corners.
 
 The edges are vectors with no common divisor, the shortest first, each with its opposite, in the order
-of their angles: so every corner is one, exactly. The polygon is at most three quarters as wide and as
-high as the square of the coordinates.
+of their angles: so every corner is one, exactly. The polygon stays off the edges of the square of the
+coordinates by a margin.
 """
 
 from functools import cmp_to_key
@@ -26,7 +26,7 @@ def half_plane(count):
         reach *= 2
 
 
-def corners(count):
+def corners(count, margin=LIMIT // 8):
     """The corners counterclockwise from the least by easting, then northing."""
     east = sorted(half_plane(count // 2), key=cmp_to_key(lambda u, v: u[1] * v[0] - u[0] * v[1]))
     edges = east + [(-e, -n) for e, n in east]
@@ -36,7 +36,7 @@ def corners(count):
         at = (at[0] + e, at[1] + n)
     least = min(n for _, n in places)
     wide = max(max(e for e, _ in places), max(n for _, n in places) - least)
-    scale = LIMIT * 3 // 4 // wide
-    places = [(LIMIT // 8 + e * scale, LIMIT // 8 + (n - least) * scale) for e, n in places]
+    scale = (LIMIT - 2 * margin) // wide
+    places = [(margin + e * scale, margin + (n - least) * scale) for e, n in places]
     first = places.index(min(places))
     return places[first:] + places[:first]

@@ -1,0 +1,26 @@
+"""The two programs of a comparison: the proved one of a crate, and the plain one of a file in Rust."""
+
+import pathlib
+import subprocess
+
+TOP = pathlib.Path(__file__).resolve().parent.parent
+
+
+def output(command, text):
+    """What a command prints, on both of its outputs, once it was given the text."""
+    done = subprocess.run(command, input=text, capture_output=True, text=True, check=True)
+    return done.stdout, done.stderr
+
+
+def proved(crate):
+    """The program of a crate, built by `rt`."""
+    folder = TOP / "crates" / crate
+    subprocess.run(["rt", "run"], cwd=folder, stdin=subprocess.DEVNULL, capture_output=True, check=True)
+    return folder / "out" / crate
+
+
+def plain(source, folder):
+    """The program of a file beside this one, built by `rustc -O` into the folder."""
+    program = pathlib.Path(folder) / "plain"
+    subprocess.run(["rustc", "-O", TOP / "bench" / source, "-o", program], check=True)
+    return program
