@@ -7,7 +7,7 @@ use range_plane::{Fix, Point};
 use std::alloc::{AllocError, Global};
 
 // `count` fixes of this second.
-pub fn fixes(alloc: Global, second: u64, count: usize) -> Result<Vec<Fix>, AllocError>
+pub(crate) fn fixes(alloc: Global, second: u64, count: usize) -> Result<Vec<Fix>, AllocError>
     ensures { IfOk result (λ v. length v.items ≡ count) }
 {
     let at = Point { e: 0, n: 0 };
@@ -15,12 +15,18 @@ pub fn fixes(alloc: Global, second: u64, count: usize) -> Result<Vec<Fix>, Alloc
 }
 
 // Whether these are `count` fixes of this second.
-pub fn are_fixes(fixes: &[Fix], second: u64, count: usize) -> bool {
+pub(crate) fn are_fixes(fixes: &[Fix], second: u64, count: usize) -> bool {
     fixes.len() == count && fixes.iter().all(|fix| fix.second == second)
 }
 
 // Whether this is a block at the place, of `count` fixes of this second.
-pub fn is_block(taken: &Option<Message>, file: u32, place: u64, second: u64, count: usize) -> bool {
+pub(crate) fn is_block(
+    taken: &Option<Message>,
+    file: u32,
+    place: u64,
+    second: u64,
+    count: usize,
+) -> bool {
     match taken {
         Some(message) => {
             let fits = match &message.body {
@@ -34,7 +40,7 @@ pub fn is_block(taken: &Option<Message>, file: u32, place: u64, second: u64, cou
 }
 
 // Whether this is the mark of the file, after so many fixes.
-pub fn is_mark(taken: &Option<Message>, file: u32, place: u64) -> bool {
+pub(crate) fn is_mark(taken: &Option<Message>, file: u32, place: u64) -> bool {
     match taken {
         Some(message) => {
             message.file == file && message.place == place && matches!(message.body, Body::Mark)

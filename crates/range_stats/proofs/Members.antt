@@ -1,4 +1,4 @@
--- Polygons of lists with the same members, and of none.
+-- The polygon of lists with the same members, under laws of the plane.
 use Rattle.std.proofs.Common.{◌≡◌, zero, suc, List, [], ◌∷◌, refl, subst, arith}
 use Rattle.std.specs.Prelude.{Contains}
 use Rattle.std.specs.List.Sorted.{IsPermutation}
@@ -7,7 +7,6 @@ use Rattle.range_plane.specs.Laws.{CornersCoverTheSet, CoveringMembersAreCorners
 use Rattle.range_plane.specs.Plane.{Position}
 use Rattle.range_plane.specs.Polygon.{IsPolygon}
 
--- ---- under laws of the plane
 module _ (larger : LargerSetsCoverMore) (one : OneCoversItself) (corners : CornersCoverTheSet) (covering : CoveringMembersAreCorners) where
   pub polygon_of_permutation : (S T L : List Position) → IsPermutation S T → IsPolygon S L → IsPolygon T L
   polygon_of_permutation S T L moved polygon =
@@ -19,11 +18,3 @@ module _ (larger : LargerSetsCoverMore) (one : OneCoversItself) (corners : Corne
       only : (x s : Position) → Contains (x ∷ []) s → x ≡ s
       only x s (zero, within, is) = is
       only x s (suc k, within, is) = absurd (omega arith)
-
-pub polygon_of_none : IsPolygon [] []
-polygon_of_none = record {
-  corners = λ p. (λ h. absurd (omega (arith, h.1)), λ h. absurd (omega (arith, h.member.1)));
-  distinct = λ i j d lt within. absurd (omega arith);
-  least_first = tt;
-  convex = λ i j k d low high within. absurd (omega arith);
-}
