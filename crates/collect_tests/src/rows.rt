@@ -1,7 +1,8 @@
 // Tests of worked lists of fixes, whose rows and polygons were made by hand.
 
-use crate::fixes::{SQUARE, estimator_of, fixes_of, has_corners, holds};
+use crate::fixes::{SQUARE, estimator_of, fixes_of, has_corners, holds, takes};
 use range_collect::{Estimator, Name, Row, Rows};
+use range_plane::FIX_LIMIT;
 use std::alloc::{AllocError, Global};
 use std::process::Abort;
 
@@ -125,6 +126,18 @@ fn tested_by_block(rt: HostRuntime) {
         let estimator = estimator_of(&rt, rt.alloc(), &fixes, size);
         assert_eq!(rt; estimator.tested(), tested, "in blocks of {size}");
     }
+}
+
+// As many fixes as a file may have, all at one place: the first block alone is tested.
+#[test]
+fn most_fixes(rt: HostRuntime) {
+    let block = fixes_of(&rt, rt.alloc(), &[(0, 7, 7); 1024]);
+    let mut estimator = Estimator::new(rt.alloc());
+    for i in 0..1024 {
+        assert!(rt; takes(&rt, &mut estimator, &block), "block {i}");
+    }
+    assert_eq!(rt; estimator.rows().len(), FIX_LIMIT as usize, "rows");
+    assert_eq!(rt; estimator.tested(), 1024, "tested");
 }
 
 #[test]

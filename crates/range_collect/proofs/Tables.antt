@@ -1,7 +1,7 @@
 -- The table of fixes with one fix more.
-use Rattle.std.proofs.Common.{◌≡◌, refl, sym, ap, subst, ◌∙◌, ℕ, zero, suc, ◌+◌, ◌-◌, ◌<◌, pos, List, [], ◌∷◌, ◌++◌, length, slice_get, Some, option_map, ◌⊎◌, inl, inr, arith, length-append}
+use Rattle.std.proofs.Common.{◌≡◌, refl, sym, ap, subst, ◌∙◌, ℕ, ◌+◌, ◌-◌, ◌<◌, pos, List, [], ◌∷◌, ◌++◌, length, slice_get, option_map, inl, inr, arith, length-append}
 use Rattle.std.proofs.lemmas.List.{map-append, take-append-le, take_all}
-use Rattle.std.proofs.lemmas.Option.{same_Some, none-some, slice_get_within}
+use Rattle.std.proofs.lemmas.Option.{slice_get_within}
 use Rattle.std.proofs.Math.Nat.{suc_inj}
 use Rattle.range_plane.specs.Laws.{CornersCoverTheSet, CoveringIsReaching, CoveringMembersAreCorners}
 use Rattle.range_plane.specs.Plane.{Position}
@@ -11,6 +11,7 @@ use Rattle.range_plane.specs.declared.fix.Fix.{Fix}
 use Rattle.range_collect.specs.declared.row.Row.{Row}
 use Rattle.range_collect.specs.Estimation.{IsEstimate, IsTable}
 use Rattle.range_collect.specs.Table.{fix_at, fixes_of}
+use Rattle.range_collect.proofs.Places.{before_or_last, slice_get_before, slice_get_last}
 use Rattle.range_collect.proofs.Sets.{polygon_pushed}
 
 -- ---- fixes by their rows and points
@@ -25,22 +26,6 @@ fixes_pushed [] [] r p h = refl
 fixes_pushed [] (q ∷ points) r p h = cc
 fixes_pushed (s ∷ rows) [] r p h = cc
 fixes_pushed (s ∷ rows) (q ∷ points) r p h = ap (λ l. fix_at s q ∷ l) (fixes_pushed rows points r p (suc_inj h))
-
--- ---- a list with one member more
-slice_get_before : {X : Type 0} (xs : List X) (y : X) (i : ℕ) → i < length xs → slice_get (xs ++ y ∷ []) i ≡ slice_get xs i
-slice_get_before [] y i h = absurd (omega arith)
-slice_get_before (x ∷ xs) y zero h = refl
-slice_get_before (x ∷ xs) y (suc i) h = slice_get_before xs y i (omega arith)
-
-slice_get_last : {X : Type 0} (xs : List X) (y : X) → slice_get (xs ++ y ∷ []) (length xs) ≡ Some y
-slice_get_last [] y = refl
-slice_get_last (x ∷ xs) y = slice_get_last xs y
-
-before_or_last : {X : Type 0} (xs : List X) (x y : X) (i : ℕ) → slice_get (xs ++ y ∷ []) i ≡ Some x → (slice_get xs i ≡ Some x) ⊎ ((i ≡ length xs) × (y ≡ x))
-before_or_last [] x y zero e = inr (refl, same_Some y x e)
-before_or_last [] x y (suc i) e = absurd (none-some x e)
-before_or_last (z ∷ xs) x y zero e = inl e
-before_or_last (z ∷ xs) x y (suc i) e = elim (before_or_last xs x y i e) [ inl k ↦ inl k | inr l ↦ inr (ap suc l.0, l.1) ]
 
 -- ---- rows
 -- what the polygon of some fixes gives a row

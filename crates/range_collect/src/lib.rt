@@ -2,12 +2,31 @@
 //! the table of incremental area analysis.
 #![tactic(auto)]
 
+mod batch;
+mod dealing;
 mod estimator;
+mod followed;
+mod following;
+mod gate;
+mod lane;
+mod lines;
 mod lists;
 mod marker;
+mod merging;
+mod numbers;
+mod pairing;
+mod plan;
+mod pumping;
+mod pumps;
 mod row;
 mod table;
+mod worker;
 
 pub use estimator::Estimator;
+pub use followed::Followed;
+pub use following::follow;
+pub use gate::{FreeGate, Gate};
 pub use lists::{Name, Rows};
+pub use plan::{Plan, WORKER_LIMIT};
+pub use pumping::{Pumped, pump};
 pub use row::Row;

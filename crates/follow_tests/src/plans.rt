@@ -1,0 +1,176 @@
+// Tests of plans, each of which gives the same rows, and of files that are not followed to their end.
+
+use crate::files::{
+    Case, EAST, LIMITS, LINE, OUTWARD, PLACE, SLOPE, SQUARE, WEST, expect_whole, plan,
+};
+use crate::sources::Repeated;
+use range_collect::{Followed, FreeGate, Plan, follow};
+use range_fixes::ReadFault;
+use range_plane::FIX_LIMIT;
+use std::alloc::Global;
+use std::io::Read;
+use std::process::Abort;
+use std::sync::Wait;
+use std::thread::Threads;
+
+// Follows one source.
+fn follow_one<R: Wait + Threads + Sync + Abort, S: Read + Send + Drop>(
+    rt: &R,
+    alloc: Global,
+    source: S,
+    plan: Plan,
+) -> Followed {
+    let mut sources = Vec::new(alloc);
+    assert!(rt; sources.push(source).is_ok(), "memory");
+    assert!(rt; sources.len() == 1);
+    let mut all = follow(rt, alloc, alloc, sources, &FreeGate, plan).expect(rt, "memory");
+    assert_eq!(rt; all.len(), 1, "results");
+    all.pop().expect(rt, "a result")
+}
+
+// Follows the files side by side, and checks each.
+fn expect_all<R: Wait + Threads + Sync + Abort>(
+    rt: &R,
+    alloc: Global,
+    cases: &[Case],
+    plan: Plan,
+) {
+    let mut sources = Vec::new(alloc);
+    for case in cases {
+        assert!(rt; sources.push(case.text).is_ok(), "memory");
+    }
+    assert!(rt; !sources.is_empty() && sources.len() <= 64);
+    let all = follow(rt, alloc, alloc, sources, &FreeGate, plan).expect(rt, "memory");
+    assert_eq!(rt; all.len(), cases.len(), "results");
+    for (followed, &case) in all.iter().zip(cases) {
+        expect_whole(rt, alloc, followed, case);
+    }
+}
+
+#[test]
+fn one_file(rt: HostRuntime) {
+    for case in [SQUARE, LINE, PLACE, SLOPE, WEST, EAST, LIMITS, OUTWARD] {
+        for (block, depth) in [(1, 1), (1, 64), (2, 1), (2, 64), (1024, 1), (1024, 64)] {
+            let plan = plan(&rt, block, depth, 1);
+            expect_all(&rt, rt.alloc(), &[case], plan);
+        }
+    }
+}
+
+#[test]
+fn two_files(rt: HostRuntime) {
+    for workers in [1, 2, 8] {
+        for (block, depth) in [(1, 1), (1, 64), (2, 1), (2, 64), (1024, 1), (1024, 64)] {
+            let plan = plan(&rt, block, depth, workers);
+            expect_all(&rt, rt.alloc(), &[SQUARE, LINE], plan);
+        }
+    }
+}
+
+#[test]
+fn five_files(rt: HostRuntime) {
+    for workers in 1..=8 {
+        for (block, depth) in [(1, 1), (256, 4)] {
+            let plan = plan(&rt, block, depth, workers);
+            expect_all(
+                &rt,
+                rt.alloc(),
+                &[SQUARE, LINE, PLACE, SLOPE, WEST],
+                plan,
+            );
+        }
+    }
+}
+
+#[test]
+fn many_files(rt: HostRuntime) {
+    for workers in [1, 8] {
+        expect_all(&rt, rt.alloc(), &[OUTWARD; 64], plan(&rt, 1, 1, workers));
+    }
+}
+
+#[test]
+fn tested_by_block(rt: HostRuntime) {
+    for (block, tested) in [(1, 6), (4, 6), (7, 7)] {
+        let followed = follow_one(&rt, rt.alloc(), OUTWARD.text, plan(&rt, block, 4, 1));
+        assert_eq!(rt; followed.estimator.tested(), tested, "in blocks of {block}");
+    }
+}
+
+// The fixes before a fault are sent and taken, and the mark.
+#[test]
+fn file_with_a_fault(rt: HostRuntime) {
+    let text = SQUARE.text.strip_suffix(b",5\n").expect(&rt, "a suffix");
+    for (block, depth) in [(1, 1), (2, 4), (1024, 64)] {
+        let followed = follow_one(&rt, rt.alloc(), text, plan(&rt, block, depth, 2));
+        let fault = ReadFault::WrongFieldCount { rec: 5, found: 3 };
+        assert!(rt; followed.read.is_err_and(|found| found == fault), "the fault");
+        assert!(rt; followed.marked && !followed.estimator.stopped(), "the mark");
+        assert_eq!(rt; followed.feeder.sent_fixes(), 4, "sent");
+        assert_eq!(rt; followed.estimator.rows().len(), 4, "taken");
+    }
+}
+
+// A fault of one file is not the others'.
+#[test]
+fn faults_side_by_side(rt: HostRuntime) {
+    let alloc = rt.alloc();
+    let mut sources = Vec::new(alloc);
+    for text in [b"".as_slice(), SQUARE.text, b"animal,second,easting,northing\n"] {
+        assert!(rt; sources.push(text).is_ok(), "memory");
+    }
+    assert!(rt; sources.len() == 3);
+    let all = follow(&rt, alloc, alloc, sources, &FreeGate, plan(&rt, 2, 1, 2)).expect(&rt, "memory");
+    assert_eq!(rt; all.len(), 3, "results");
+    for (i, followed) in all.iter().enumerate() {
+        assert!(rt; followed.marked, "the mark of file {i}");
+        match (i, &followed.read) {
+            (0, Err(fault)) => assert!(rt; *fault == ReadFault::NoHeader, "{fault}"),
+            (1, Ok(_)) => expect_whole(&rt, alloc, followed, SQUARE),
+            (2, Err(fault)) => assert!(rt; *fault == ReadFault::NoFixes, "{fault}"),
+            _ => assert!(rt; false, "file {i}"),
+        }
+    }
+}
+
+#[test]
+fn most_fixes(rt: HostRuntime) {
+    let source = Repeated::new(FIX_LIMIT, b"");
+    let followed = follow_one(&rt, rt.alloc(), source, plan(&rt, 256, 4, 1));
+    assert!(rt; followed.read.is_ok() && followed.marked, "the end");
+    assert_eq!(rt; followed.estimator.rows().len(), FIX_LIMIT as usize, "taken");
+    assert_eq!(rt; followed.estimator.tested(), 256, "tested");
+}
+
+#[test]
+fn too_many_fixes(rt: HostRuntime) {
+    for (records, rest) in [
+        (FIX_LIMIT, b"A,0,0,0\n".as_slice()),
+        (FIX_LIMIT, b"A,0,x"),
+        (u32::MAX, b""),
+    ] {
+        let followed = follow_one(&rt, rt.alloc(), Repeated::new(records, rest), plan(&rt, 1024, 4, 1));
+        let fault = ReadFault::TooManyFixes;
+        assert!(rt; followed.read.is_err_and(|found| found == fault), "the fault");
+        assert!(rt; followed.marked, "the mark");
+        assert_eq!(rt; followed.estimator.rows().len(), FIX_LIMIT as usize, "taken");
+    }
+}
+
+#[test]
+fn plans(rt: HostRuntime) {
+    for (block, depth, workers) in [(1, 1, 1), (1024, 64, 8), (256, 4, 2)] {
+        let plan = plan(&rt, block, depth, workers);
+        assert!(rt; plan.block == block && plan.depth == depth && plan.workers == workers);
+    }
+    for (block, depth, workers) in [
+        (0, 1, 1),
+        (1, 0, 1),
+        (1, 1, 0),
+        (1025, 1, 1),
+        (1, 65, 1),
+        (256, 4, 9),
+    ] {
+        assert!(rt; Plan::new(block, depth, workers).is_none());
+    }
+}

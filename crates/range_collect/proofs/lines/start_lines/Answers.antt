@@ -1,0 +1,35 @@
+use Rattle.std.proofs.Common.{◌≡◌, ◌≤◌, All, length, arith, ap, ◌∙◌, subst, vec_len, inl, inr, Vec}
+use Rattle.std.proofs.lemmas.List.Elements.{All-head, All-rest}
+use Rattle.range_line.specs.Limits.{file_limit}
+use Rattle.range_collect.specs.declared.numbers.Numbers.{Numbers}
+use Rattle.range_collect.proofs.Places.{before_or_last, moved}
+use Rattle.range_collect.proofs.lines.start_lines.Goals as goal
+
+pub start_line-requires-clause-some : goal.start_line-requires-clause-some
+start_line-requires-clause-some g c = λ κs live.
+    let source = c.in-Some.ensures.steps.0 in
+    All-head (λ (lane : Vec _ _). (1 ≤ vec_len lane) × (vec_len lane ≤ file_limit)) _ _ (subst (λ l. All (λ (lane : Vec _ _). (1 ≤ vec_len lane) × (vec_len lane ≤ file_limit)) l) source c.loop-sources.invariant.sizes)
+
+pub loop-sources-preserved : goal.loop-sources-preserved
+loop-sources-preserved g c =
+    let inv = c.loop-sources.invariant in
+    let hs = c.loop-sources.handles.items in
+    let h = c.in_ok-handle.handle in
+    let made = c.in_ok-handle.ensures in
+    let items = c.push_reserved.ensures.items in
+    let source = c.in-Some.ensures.steps.0 in
+    let sources = ap length source in
+    record {
+      sources = rw items (moved _ hs h c.in-Some.sources _ _ _ inv.sources source made.0);
+      numbers = rw items (λ place v is. elim (before_or_last hs v h place is) [
+        | inl before ↦ inv.numbers place v before
+        | inr last ↦ (let place_is : c.loop-sources.first ≡ place = (let at = last.0 in omega (arith, at, inv.first, c.loop-sources.handles.ok.0)) in
+            subst (λ x. (x.promise.numbers.first ≡ place) × (x.promise.numbers.step ≡ vec_len c.args.lanes) × (x.promise.block ≡ c.args.plan.block)) last.1
+            (ap (λ (n : Numbers). n.first) made.1 ∙ place_is, ap (λ (n : Numbers). n.step) made.1 ∙ inv.step, made.2))
+      ]);
+      sizes = All-rest (λ (lane : Vec _ _). (1 ≤ vec_len lane) × (vec_len lane ≤ file_limit)) _ _ _ source inv.sizes;
+      first = omega (arith, inv.first, c.push_reserved.ensures.len);
+      step = inv.step;
+      room = omega (arith, inv.room, c.push_reserved.ensures.capacity);
+      count = omega (arith, sources, inv.count, c.push_reserved.ensures.len);
+    }

@@ -1,0 +1,51 @@
+-- What is known of the files of one line, and of all lines.
+use Rattle.std.specs.Prelude.{◌≡◌, ℕ, ◌+◌, ◌*◌, ◌<◌, ◌≤◌, List, [], ◌∷◌, ◌++◌, length, slice_get, Some, Option, Bool, false, All}
+use Rattle.std.specs.declared.clone.Clone.{Ghosts}
+use Rattle.range_line.specs.Limits.{file_limit}
+use Rattle.range_line.specs.Lines.{files_from, new_feeder, FeederView, Line, TakerView}
+use Rattle.range_line.specs.Messages.{of_file, IsLawful}
+use Rattle.range_collect.specs.Estimation.{Estimation, IsEstimate}
+use Rattle.range_collect.specs.Follow.{IsFollowed}
+use Rattle.range_collect.specs.Pump.{IsPumped, Read}
+use Rattle.range_collect.specs.declared.followed.Followed.{Followed}
+
+-- the first file of a line, and the step to the next
+abbrev pub AreNumbers : ℕ → ℕ → Type 0
+AreNumbers first step = (first < file_limit) × (1 ≤ step) × (step ≤ file_limit)
+
+-- the feeder has sent nothing and its line has not ended
+abbrev pub IsNew : FeederView → Type 0
+IsNew f = (f.closed ≡ false) × (f.ended ≡ false) × (f.sent ≡ [])
+
+-- what is known of the ends of a file that were looked at
+pub record IsSeen (feeder : FeederView) (e : Estimation) (mark : Bool) : Type 0 where
+  pub marked : mark ≡ feeder.closed
+  pub own : of_file feeder.sent feeder.file ≡ feeder.sent
+  pub lawful : IsLawful feeder.sent feeder.file
+  pub estimate : IsEstimate e.fixes e.rows e.corners
+
+-- the pumps of a line have returned, and its worker has nothing more to take
+pub record IsLane (first step size : ℕ) (sources : List (Option (List ℕ))) (feeders : List FeederView) (reads : List Read) (worker : TakerView) : Type 0 where
+  pub counts : (length feeders ≡ length sources) × (length reads ≡ length sources)
+  pub files : worker.files ≡ files_from first step (length sources)
+  pub pumped : (place : ℕ) (source : Option (List ℕ)) (f : FeederView) (r : Read) → slice_get sources place ≡ Some source → slice_get feeders place ≡ Some f
+      → slice_get reads place ≡ Some r → IsPumped source size (new_feeder worker.line (first + place * step)) f r
+
+-- the files of a line were followed
+pub record IsLaneFollowed {A : Type 0} {clone : Ghosts A} (first step size : ℕ) (sources : List (Option (List ℕ))) (results : List (Followed A clone)) : Type 0 where
+  pub line : Line
+  pub of_line : All (λ f. f.feeder.line ≡ line) results
+  pub count : length results ≡ length sources
+  pub followed : (place : ℕ) (source : Option (List ℕ)) (f : Followed A clone) → slice_get sources place ≡ Some source → slice_get results place ≡ Some f
+      → IsFollowed source (first + place * step) size f.feeder f.read f.estimator f.marked
+
+-- the files of all lines were followed, the line at a place having the file of this number first
+pub record AreLanesFollowed {A : Type 0} {clone : Ghosts A} (size : ℕ) (lanes : List (List (Option (List ℕ)))) (results : List (List (Followed A clone))) : Type 0 where
+  pub count : length results ≡ length lanes
+  pub each : (place : ℕ) (sources : List (Option (List ℕ))) (followed : List (Followed A clone)) → slice_get lanes place ≡ Some sources → slice_get results place ≡ Some followed
+      → IsLaneFollowed place (length lanes) size sources followed
+
+-- the first member heads the first lane, and the others are dealt from the second lane on, the first one coming last
+abbrev pub Dealt : {X : Type 0} → List X → List (List X) → Type 0
+Dealt [] lanes = All (λ lane. lane ≡ []) lanes
+Dealt {X} (x ∷ xs) lanes = (lane : List X) × (rest : List (List X)) × (lanes ≡ (x ∷ lane) ∷ rest) × Dealt xs (rest ++ lane ∷ [])

@@ -1,0 +1,11 @@
+-- How files are followed.
+use Rattle.std.specs.Prelude.{ℕ, ◌≤◌}
+use Rattle.range_line.specs.Limits.{block_limit, depth_limit}
+
+-- the most workers
+abbrev pub worker_limit : ℕ
+worker_limit = 8
+
+-- the fixes of a block, the messages that a line holds, and the workers
+abbrev pub IsPlan : ℕ → ℕ → ℕ → Type 0
+IsPlan block depth workers = ((1 ≤ block) × (block ≤ block_limit)) × ((1 ≤ depth) × (depth ≤ depth_limit)) × ((1 ≤ workers) × (workers ≤ worker_limit))

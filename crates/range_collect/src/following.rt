@@ -1,0 +1,55 @@
+// All files, followed side by side.
+
+ghost use Rattle.std.specs.Prelude.{◌≡◌, ◌≤◌, ℕ, ◌%◌, Some, map, slice_get, length, IfOk, vec_len};
+ghost use Rattle.range_line.specs.Limits.{file_limit};
+ghost use Rattle.range_collect.specs.Follow.{IsFollowed};
+ghost use Rattle.range_collect.specs.Pairs.{Paired};
+
+use crate::dealing::deal;
+use crate::followed::Followed;
+use crate::gate::Gate;
+use crate::lines::follow_lanes;
+use crate::merging::merge;
+use crate::plan::Plan;
+use range_plane::OutOfMemory;
+use std::alloc::{Allocator, Global};
+use std::io::Read;
+use std::sync::Wait;
+use std::thread::Threads;
+
+/// Follows 1 to [`FILE_LIMIT`](range_line::FILE_LIMIT) files at once, which are numbered from 0 in the
+/// order of their sources. Each file is read by a pump, a thread of its own, which sends its fixes in blocks
+/// on a line, a channel that the files with numbers of one remainder by `plan.workers` share. Each line has
+/// a worker, a thread too, which gives each block to the estimator of its file. Gives the result of each
+/// file, in their order, and waits for all threads.
+///
+/// Lines, estimators and results are on `alloc`, readers and blocks on `global`.
+///
+/// # Errors
+///
+/// Where a growth or the start of a thread was refused; every thread that was started has ended. A reader
+/// or an estimator that was refused memory ends nothing but its own work, and its file's result says so.
+pub fn follow<
+    R: Wait + Threads + Sync,
+    S: Read + Send + Drop,
+    A: Allocator + Clone + Copy + Send + Sync,
+    G: Gate,
+>(
+    rt: &R,
+    alloc: A,
+    global: Global,
+    sources: Vec<S>,
+    gate: &G,
+    plan: Plan,
+) -> Result<Vec<Followed<A>, A>, OutOfMemory>
+    requires sources { (1 ≤ vec_len sources) × (vec_len sources ≤ file_limit) }
+    ensures followed { IfOk result (λ all. Paired (λ file source f. IsFollowed source file plan.block f.feeder f.read f.estimator f.marked) (map S.remaining sources.items) all.items) }
+    ensures lines { IfOk result (λ all. (i j : ℕ) (f g : _) → slice_get all.items i ≡ Some f → slice_get all.items j ≡ Some g
+        → i % plan.workers ≡ j % plan.workers → f.feeder.line ≡ g.feeder.line) }
+{
+    let count = sources.len();
+    let lanes = deal(alloc, sources, count.min(plan.workers as usize))?;
+    let results = follow_lanes(rt, alloc, global, lanes, gate, plan)?;
+    let all = merge(alloc, results, count)?;
+    Ok(all)
+}

@@ -1,0 +1,42 @@
+// How files are followed.
+
+ghost use Rattle.std.specs.Prelude.{◌≡◌, IfSome, IsSome, ◌↔◌};
+ghost use Rattle.range_collect.specs.Plan.{IsPlan};
+
+use range_line::{BLOCK_LIMIT, DEPTH_LIMIT};
+
+/// The most workers of a run.
+pub const WORKER_LIMIT: u32 = 8;
+
+/// How files are followed: how many fixes a block has at most, how many messages a line holds at most,
+/// and how many workers there are, each with a line of its own.
+#[derive(Clone, Copy)]
+pub struct Plan {
+    pub block: u32,
+    pub depth: u32,
+    pub workers: u32,
+    pub ghost within: { IsPlan block depth workers },
+}
+
+impl Plan {
+    /// The plan with 1 to [`BLOCK_LIMIT`](range_line::BLOCK_LIMIT) fixes in a block, lines of 1 to
+    /// [`DEPTH_LIMIT`](range_line::DEPTH_LIMIT) messages and 1 to [`WORKER_LIMIT`] workers; `None` where
+    /// one of these is outside its limits.
+    pub fn new(block: u32, depth: u32, workers: u32) -> Option<Plan>
+        ensures limits { IsSome result ↔ IsPlan block depth workers }
+        ensures value { IfSome result (λ plan. (plan.block ≡ block) × (plan.depth ≡ depth) × (plan.workers ≡ workers)) }
+    {
+        if (1..=BLOCK_LIMIT).contains(&block)
+            && (1..=DEPTH_LIMIT as u32).contains(&depth)
+            && (1..=WORKER_LIMIT).contains(&workers)
+        {
+            Some(Plan {
+                block,
+                depth,
+                workers,
+            })
+        } else {
+            None
+        }
+    }
+}

@@ -1,0 +1,133 @@
+// The pumps of a line, each in a thread of its own.
+
+ghost use Rattle.std.specs.Prelude.{◌≡◌, ℕ, ◌≤◌, [], All, IfOk, OnOk, Some, map, slice_get, vec_len, vec_capacity};
+ghost use Rattle.range_line.specs.Limits.{block_limit};
+ghost use Rattle.range_line.specs.Lines.{FeederView};
+ghost use Rattle.range_collect.specs.Lanes.{IsNew};
+ghost use Rattle.range_collect.specs.Pump.{IsPumped, Read as ReadView};
+
+use crate::gate::Gate;
+use crate::lists::Name;
+use crate::plan::Plan;
+use crate::pumping::{Pumped, pump};
+use range_fixes::ReadFault;
+use range_line::Feeder;
+use range_plane::OutOfMemory;
+use std::alloc::{Allocator, Global};
+use std::io::Read;
+use std::snapshot::Snapshot;
+use std::sync::Wait;
+use std::thread::{Promise, PromisedHandle, Scope, Threads};
+
+// What the thread of a pump promises of what it gives back.
+#[derive(Drop)]
+pub(crate) struct PumpOf<S: Drop, A: Allocator + Clone> {
+    source: Snapshot<S>,
+    feeder: Snapshot<Feeder<A>>,
+    block: u32,
+}
+
+impl<S: Read + Drop, A: Allocator + Clone> Promise<Pumped<A>> for PumpOf<S, A> {
+    ghost use Rattle.range_collect.specs.Pump.{IsPumped};
+
+    ghost kept_by = { λ p r. IsPumped (S.remaining p.source.value) p.block p.feeder.value r.feeder r.read };
+}
+
+pub(crate) type PumpHandle<S, A> = PromisedHandle<Pumped<A>, PumpOf<S, A>>;
+
+// Starts a pump in a thread of the scope.
+fn start_pump<
+    's,
+    E,
+    R: Wait + Threads + Sync,
+    S: Read + Send + Drop + 's,
+    A: Allocator + Clone + Send + Sync + 's,
+    G: Gate,
+>(
+    rt: &'s R,
+    scope: &'s Scope<'s, E>,
+    global: Global,
+    source: S,
+    feeder: Feeder<A>,
+    gate: &'s G,
+    plan: Plan,
+) -> Result<PumpHandle<S, A>, OutOfMemory>
+    requires fresh { IsNew feeder }
+    ensures { IfOk result (λ h. (h.promise.source.value ≡ source) × (h.promise.feeder.value ≡ feeder) × (h.promise.block ≡ plan.block)) }
+{
+    let block = plan.block;
+    let promise = PumpOf {
+        source: Snapshot::of(&source),
+        feeder: Snapshot::of(&feeder),
+        block,
+    };
+    match scope.spawn_with(
+        promise,
+        move || -> Pumped<A>
+            requires { (1 ≤ block) × (block ≤ block_limit) × IsNew feeder }
+            ensures { IsPumped (S.remaining source) block feeder result.feeder result.read }
+        { pump(rt, global, source, feeder, gate, block) },
+    ) {
+        Ok(handle) => Ok(handle),
+        Err(_) => Err(OutOfMemory),
+    }
+}
+
+// Starts a pump for each source and its feeder. Whatever it answers, the threads that it started are those
+// of the handles.
+pub(crate) fn start_pumps<
+    's,
+    E,
+    R: Wait + Threads + Sync,
+    S: Read + Send + Drop + 's,
+    A: Allocator + Clone + Send + Sync + 's,
+    G: Gate,
+>(
+    rt: &'s R,
+    scope: &'s Scope<'s, E>,
+    global: Global,
+    sources: Vec<S, A>,
+    feeders: Vec<Feeder<A>, A>,
+    gate: &'s G,
+    plan: Plan,
+    handles: &mut Vec<PumpHandle<S, A>, A>,
+) -> Result<(), OutOfMemory>
+    requires feeders { All IsNew feeders.items }
+    requires count { vec_len sources ≡ vec_len feeders }
+    requires room { (handles.old.items ≡ []) × (vec_len sources ≤ vec_capacity handles.old) }
+    ensures sources { OnOk result (map (λ h. h.promise.source.value) handles.new.items ≡ sources.items) }
+    ensures feeders { OnOk result (map (λ h. h.promise.feeder.value) handles.new.items ≡ feeders.items) }
+    ensures blocks { All (λ h. h.promise.block ≡ plan.block) handles.new.items }
+    ensures few { vec_len handles.new ≤ vec_len sources }
+{
+    let mut feeders = feeders.into_iter();
+    for source in sources {
+        let Some(feeder) = feeders.next() else {
+            unreachable!()
+        };
+        let handle = start_pump(rt, scope, global, source, feeder, gate, plan)?;
+        handles.push_reserved(handle);
+    }
+    Ok(())
+}
+
+// Waits for pumps, and gives their feeders and what they say of their files, in their order.
+pub(crate) fn join_pumps<R: Threads, S: Read + Drop, A: Allocator + Clone>(
+    rt: &R,
+    handles: Vec<PumpHandle<S, A>, A>,
+    feeders: &mut Vec<Feeder<A>, A>,
+    reads: &mut Vec<Result<Name, ReadFault>, A>,
+)
+    requires feeders { (feeders.old.items ≡ []) × (vec_len handles ≤ vec_capacity feeders.old) }
+    requires reads { (reads.old.items ≡ []) × (vec_len handles ≤ vec_capacity reads.old) }
+    ensures counts { (vec_len feeders.new ≡ vec_len handles) × (vec_len reads.new ≡ vec_len handles) }
+    ensures pumped { (place : ℕ) (h : _) (f : FeederView) (r : ReadView) → slice_get handles.items place ≡ Some h
+        → slice_get feeders.new.items place ≡ Some f → slice_get reads.new.items place ≡ Some r
+        → IsPumped (S.remaining h.promise.source.value) h.promise.block h.promise.feeder.value f r }
+{
+    for handle in handles {
+        let Pumped { feeder, read } = handle.join(rt);
+        feeders.push_reserved(feeder);
+        reads.push_reserved(read);
+    }
+}
