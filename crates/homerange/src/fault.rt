@@ -12,7 +12,10 @@ pub enum AnalyseFault {
     /// A growth was refused for want of memory.
     #[error("out of memory")]
     OutOfMemory,
-    /// A file cannot be read to its end; files count from 0.
+    /// Not all fixes of a file, and the mark after them, were handed on; files count from 0.
+    #[error("the fixes of file {file} were not all handed on")]
+    LineCut { file: u32 },
+    /// A file cannot be read to its end.
     #[error("file {file}: {fault}")]
     File { file: u32, fault: ReadFault },
 }
@@ -32,7 +35,7 @@ pub enum RunFault {
 }
 
 /// The status with which the program ends: 0 after the report, 1 for a file that cannot be read, 3
-/// for want of memory, 4 for an output that cannot be written.
+/// for want of memory, 4 for an output that cannot be written, 5 for fixes that were not all handed on.
 pub fn status(outcome: &Result<(), RunFault>) -> u8
     ensures { result ≡ status_of outcome.now }
 {
@@ -41,5 +44,6 @@ pub fn status(outcome: &Result<(), RunFault>) -> u8
         Err(RunFault::Analyse(AnalyseFault::File { .. })) => 1,
         Err(RunFault::Analyse(AnalyseFault::OutOfMemory) | RunFault::OutOfMemory) => 3,
         Err(RunFault::Write) => 4,
+        Err(RunFault::Analyse(AnalyseFault::LineCut { .. })) => 5,
     }
 }

@@ -1,27 +1,35 @@
 //! The home ranges of tagged animals, from files of location fixes.
 #![tactic(auto)]
 
+mod analysing;
 mod fault;
+mod judging;
 mod output;
 mod report;
 mod run;
 #[cfg(test)]
 mod tests;
-mod track;
 
 use fault::{AnalyseFault, RunFault, status};
 use run::run;
 use std::alloc::Global;
-use std::io::Eprint;
+use std::io::{Eprint, Read, Write};
 use std::process::ExitCode;
+use std::sync::Wait;
+use std::thread::Threads;
 
-// Runs over standard input.
-fn run_on_input(rt: &HostRuntime, alloc: Global) -> Result<(), RunFault> {
+// Runs over one source.
+fn run_over<R: Wait + Threads + Sync, S: Read + Send + Drop, W: Write>(
+    rt: &R,
+    alloc: Global,
+    source: S,
+    out: &mut W,
+) -> Result<(), RunFault> {
     let mut sources = Vec::new(alloc);
-    if sources.push(rt.stdin()).is_err() {
+    if sources.push(source).is_err() {
         return Err(RunFault::Analyse(AnalyseFault::OutOfMemory));
     }
-    run(alloc, sources, &mut rt.stdout())
+    run(rt, alloc, sources, out)
 }
 
 // Says in one line why there is no report. A file's fault names its file.
@@ -30,12 +38,15 @@ fn explain(rt: &impl Eprint, fault: &RunFault) {
         RunFault::Analyse(AnalyseFault::File { fault, .. }) => {
             eprintln!(rt; "homerange: standard input: {fault}")
         }
+        RunFault::Analyse(AnalyseFault::LineCut { .. }) => {
+            eprintln!(rt; "homerange: standard input: its fixes were not all handed on")
+        }
         _ => eprintln!(rt; "homerange: {fault}"),
     };
 }
 
 fn main(rt: HostRuntime) -> ExitCode {
-    let outcome = run_on_input(&rt, rt.alloc());
+    let outcome = run_over(&rt, rt.alloc(), rt.stdin(), &mut rt.stdout());
     if let Err(fault) = &outcome {
         explain(&rt, fault);
     }
