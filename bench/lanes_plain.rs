@@ -1,43 +1,10 @@
 // The marks and counts of crates/lanes_bench in plain Rust, by a scan of the edges that ends early and by
 // binary search. Reads the corners from standard input, and times the track that is named.
+mod tracks;
+
 use std::hint::black_box;
-use std::io::Read;
 use std::time::Instant;
-
-#[derive(Clone, Copy)]
-struct Point {
-    e: i64,
-    n: i64,
-}
-
-const POINTS: usize = 1 << 20;
-
-fn next(seed: u64) -> u64 {
-    seed.wrapping_mul(6364136223846793005)
-        .wrapping_add(1442695040888963407)
-}
-
-// The next point of a track: anywhere, or at most 1,024 from the last along each axis.
-fn point_after(seed: &mut u64, last: Point, is_walk: bool) -> Point {
-    *seed = next(*seed);
-    let e = (*seed >> 40) as i64;
-    *seed = next(*seed);
-    let n = (*seed >> 40) as i64;
-    if is_walk {
-        let step = |x: i64, s: i64| (x + (s & 2047) - 1024).clamp(0, (1 << 24) - 1);
-        Point { e: step(last.e, e >> 13), n: step(last.n, n >> 13) }
-    } else {
-        Point { e, n }
-    }
-}
-
-fn turn(a: Point, b: Point, c: Point) -> i64 {
-    (b.e - a.e) * (c.n - a.n) - (b.n - a.n) * (c.e - a.e)
-}
-
-fn rank(p: Point) -> i64 {
-    (p.e << 28) + p.n
-}
+use tracks::{Point, cloud, rank, read_points, turn, walk};
 
 fn by_scan(corners: &[Point], q: Point) -> bool {
     let mut from = corners[corners.len() - 1];
@@ -89,24 +56,12 @@ fn best<T>(mut work: impl FnMut() -> T) -> (f64, T) {
 }
 
 fn main() {
-    let mut text = String::new();
-    std::io::stdin().read_to_string(&mut text).unwrap();
-    let corners: Vec<Point> = text
-        .lines()
-        .map(|line| line.split_once(',').unwrap())
-        .map(|(e, n)| Point { e: e.parse().unwrap(), n: n.parse().unwrap() })
-        .collect();
+    let corners = read_points();
     let top = (0..corners.len()).max_by_key(|&i| rank(corners[i])).unwrap();
     let is_walk = std::env::args().any(|word| word == "walk");
-    let (mut es, mut ns) = (vec![], vec![]);
-    let mut seed = 1;
-    let mut at = Point { e: 1 << 23, n: 1 << 23 };
-    for _ in 0..POINTS {
-        at = point_after(&mut seed, at, is_walk);
-        es.push(at.e);
-        ns.push(at.n);
-    }
-    let mut out = vec![false; POINTS];
+    let points = if is_walk { walk() } else { cloud() };
+    let (es, ns): (Vec<i64>, Vec<i64>) = points.iter().map(|p| (p.e, p.n)).unzip();
+    let mut out = vec![false; points.len()];
     let scan = |q| by_scan(&corners, q);
     let search = |q| by_search(&corners, top, q);
     let (marks_by_search, _) = best(|| mark(&es, &ns, &mut out, search));

@@ -1,81 +1,23 @@
 // The percent polygons of crates/stats_bench in plain Rust: the points ranked by a full sort, or the kept
-// ones of each level selected, and their hull as two chains, changed in place (Andrew 1979).
+// ones of each level selected, and their hull as two chains.
+mod chains;
+mod tracks;
+
+use chains::Hull;
 use std::hint::black_box;
 use std::time::Instant;
-
-#[derive(Clone, Copy)]
-struct Point {
-    e: i64,
-    n: i64,
-}
-
-const POINTS: usize = 1 << 20;
+use tracks::{Point, walk};
 
 const LEVELS: [usize; 3] = [50, 95, 100];
 
-fn next(seed: u64) -> u64 {
-    seed.wrapping_mul(6364136223846793005)
-        .wrapping_add(1442695040888963407)
-}
-
-fn walk() -> Vec<Point> {
-    let step = |x: i64, seed: u64| (x + (seed >> 53) as i64 - 1024).clamp(0, 1 << 24);
-    let mut seed = 1;
-    let mut at = Point { e: 1 << 23, n: 1 << 23 };
-    (0..POINTS)
-        .map(|_| {
-            seed = next(seed);
-            at.e = step(at.e, seed);
-            seed = next(seed);
-            at.n = step(at.n, seed);
-            at
-        })
-        .collect()
-}
-
-fn turn(a: Point, b: Point, c: Point) -> i64 {
-    (b.e - a.e) * (c.n - a.n) - (b.n - a.n) * (c.e - a.e)
-}
-
-fn rank(p: Point) -> i64 {
-    (p.e << 28) + p.n
-}
-
-// Makes a chain that turns left, or right where `side` is -1, one of its points and `p`.
-fn extend(chain: &mut Vec<Point>, side: i64, p: Point) {
-    let place = chain.partition_point(|c| rank(*c) < rank(p));
-    if place < chain.len() {
-        if rank(chain[place]) == rank(p) {
-            return;
-        }
-        if place > 0 && side * turn(chain[place - 1], p, chain[place]) <= 0 {
-            return;
-        }
-    }
-    let (mut from, mut to) = (place, place);
-    while from >= 2 && side * turn(chain[from - 2], chain[from - 1], p) <= 0 {
-        from -= 1;
-    }
-    while to + 1 < chain.len() && side * turn(p, chain[to], chain[to + 1]) <= 0 {
-        to += 1;
-    }
-    chain.splice(from..to, [p]);
-}
-
 // How many points there are, how many corners they have, and the doubled area within these.
-fn row(points: impl ExactSizeIterator<Item = Point>) -> (usize, usize, i64) {
+fn row(points: impl ExactSizeIterator<Item = Point>) -> (usize, usize, u128) {
     let kept = points.len();
-    let (mut lower, mut upper) = (vec![], vec![]);
+    let mut hull = Hull::default();
     for p in points {
-        extend(&mut lower, 1, p);
-        extend(&mut upper, -1, p);
+        hull.insert(p);
     }
-    if lower.len() == 1 {
-        return (kept, 1, 0);
-    }
-    lower.extend(upper[1..upper.len() - 1].iter().rev());
-    let area = (2..lower.len()).map(|i| turn(lower[0], lower[i - 1], lower[i])).sum();
-    (kept, lower.len(), area)
+    (kept, hull.corner_count(), hull.tally.area)
 }
 
 // Each point's scaled squared distance from the mean, and its place.
@@ -87,7 +29,7 @@ fn distances(points: &[Point]) -> Vec<(u128, u32)> {
     points.iter().zip(0..).map(|(p, place)| (distance(p), place)).collect()
 }
 
-fn by_sort(points: &[Point]) -> Vec<(usize, usize, i64)> {
+fn by_sort(points: &[Point]) -> Vec<(usize, usize, u128)> {
     let mut ranked = distances(points);
     ranked.sort_unstable();
     let ranked: Vec<Point> = ranked.iter().map(|(_, place)| points[*place as usize]).collect();
@@ -95,7 +37,7 @@ fn by_sort(points: &[Point]) -> Vec<(usize, usize, i64)> {
     LEVELS.map(|level| row(ranked[..kept(level)].iter().rev().copied())).to_vec()
 }
 
-fn by_selection(points: &[Point]) -> Vec<(usize, usize, i64)> {
+fn by_selection(points: &[Point]) -> Vec<(usize, usize, u128)> {
     let mut ranked = distances(points);
     LEVELS
         .map(|level| {

@@ -1,0 +1,106 @@
+//! Points for the benches: the tracks of made-up animals, the same in each run.
+#![tactic(auto)]
+
+use range_plane::{COORDINATE_LIMIT, Columns, OutOfMemory, Point};
+use std::alloc::{AllocError, Global};
+
+/// How many points a track has: 2^20.
+pub const TRACK_POINTS: usize = 1 << 20;
+
+const MIDDLE: i64 = COORDINATE_LIMIT / 2;
+
+// How far the spiral begins from the middle, in metres: its end then is some 7,500 km from there.
+const SPIRAL_START: i64 = 2500;
+
+// A spiral's place is kept in parts of a metre, 2^20 of them.
+const SPIRAL_BITS: u32 = 20;
+
+// The next number of Knuth's generator for MMIX.
+fn next(seed: u64) -> u64 {
+    seed.wrapping_mul(6364136223846793005)
+        .wrapping_add(1442695040888963407)
+}
+
+/// Points anywhere.
+pub fn cloud(alloc: Global) -> Result<Vec<Point>, AllocError> {
+    let mut points = Vec::new(alloc);
+    let mut seed = 1;
+    for _ in 0..TRACK_POINTS {
+        seed = next(seed);
+        let e = (seed >> 40) as i64;
+        seed = next(seed);
+        let n = (seed >> 40) as i64;
+        if let Some(p) = Point::new(e, n) {
+            points.push(p)?;
+        }
+    }
+    Ok(points)
+}
+
+// The coordinate after `last` of a walk.
+fn step(last: i64, seed: u64) -> i64 {
+    let step = ((seed >> 53) as i64) - 1024;
+    last.wrapping_add(step).clamp(0, COORDINATE_LIMIT)
+}
+
+/// Points each at most 1,024 metres from the one before, along each axis.
+pub fn walk(alloc: Global) -> Result<Vec<Point>, AllocError> {
+    let mut points = Vec::new(alloc);
+    let mut seed = 1;
+    let (mut e, mut n) = (MIDDLE, MIDDLE);
+    for _ in 0..TRACK_POINTS {
+        seed = next(seed);
+        e = step(e, seed);
+        seed = next(seed);
+        n = step(n, seed);
+        if let Some(p) = Point::new(e, n) {
+            points.push(p)?;
+        }
+    }
+    Ok(points)
+}
+
+/// Points each an angle of 1/256 on from the one before as seen from the middle, and a little farther out.
+pub fn spiral(alloc: Global) -> Result<Vec<Point>, AllocError> {
+    let mut points = Vec::new(alloc);
+    let (mut x, mut y) = (SPIRAL_START << SPIRAL_BITS, 0_i64);
+    for _ in 0..TRACK_POINTS {
+        (x, y) = (x.wrapping_sub(y >> 8), y.wrapping_add(x >> 8));
+        let e = MIDDLE.wrapping_add(x >> SPIRAL_BITS);
+        let n = MIDDLE.wrapping_add(y >> SPIRAL_BITS);
+        if let Some(p) = Point::new(e, n) {
+            points.push(p)?;
+        }
+    }
+    Ok(points)
+}
+
+// The point of a line `easting,northing`.
+fn point_of(line: &str) -> Option<Point> {
+    let (e, n) = line.split_once(',')?;
+    Point::new(e.parse().ok()?, n.parse().ok()?)
+}
+
+/// The points of a text with an easting and a northing in each line. Lines of other kinds are left out.
+pub fn read_points(alloc: Global, text: &str) -> Result<Vec<Point>, AllocError> {
+    text.lines().filter_map(point_of).collect(alloc)
+}
+
+/// The points in columns.
+pub fn columns_of(alloc: Global, points: &[Point]) -> Result<Columns, OutOfMemory> {
+    let mut columns = Columns::new(alloc);
+    for p in points {
+        columns.push(*p)?;
+    }
+    Ok(columns)
+}
+
+/// Puts the points into another order (Fisher and Yates 1938).
+pub fn shuffle(points: &mut [Point]) {
+    let mut seed = 1;
+    for i in (1..points.len()).rev() {
+        seed = next(seed);
+        let j = ((seed >> 33) as usize) % (i + 1);
+        points.swap(i, j);
+    }
+}
