@@ -6,13 +6,12 @@ use crate::sources::Repeated;
 use range_collect::{FreeGate, Gate, Plan, follow};
 use range_plane::FIX_LIMIT;
 use std::alloc::Global;
-use std::io;
 use std::io::Read;
 use std::process::Abort;
 use std::sync::Wait;
 use std::sync::atomic::{AtomicBool, AtomicU64, Ordering};
-use std::thread;
 use std::thread::Threads;
+use std::{io, thread};
 
 const MOST_TURNS: u64 = 10_000_000;
 
@@ -174,7 +173,11 @@ fn a_worker_while_its_source_is_read(rt: HostRuntime) {
     let all = follow(&rt, alloc, alloc, sources, &gate, plan(&rt, 256, 4, 1)).expect(&rt, "memory");
     for followed in &all {
         assert!(rt; followed.read.is_ok() && followed.marked, "the end");
-        assert_eq!(rt; followed.estimator.rows().len(), FIX_LIMIT as usize, "taken");
+        assert_eq!(rt;
+            followed.estimator.rows().len(),
+            FIX_LIMIT as usize,
+            "taken"
+        );
     }
     assert!(rt; gate.turns.load(Ordering::SeqCst) < MOST_TURNS, "at once");
     assert_eq!(rt; all.len(), 1, "results");

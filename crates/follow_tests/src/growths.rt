@@ -19,7 +19,10 @@ fn expect_one_stopped(rt: &impl Abort, all: &[Followed<&Refusing<Global>>], refu
         let count = followed.estimator.rows().len();
         if followed.estimator.stopped() {
             stopped = stopped.wrapping_add(1);
-            assert!(rt; count < rows.len() && count.is_multiple_of(2), "{count} rows");
+            assert!(rt;
+                count < rows.len() && count.is_multiple_of(2),
+                "{count} rows"
+            );
         } else {
             assert_eq!(rt; count, rows.len(), "rows");
         }

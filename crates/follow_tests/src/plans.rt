@@ -29,12 +29,7 @@ fn follow_one<R: Wait + Threads + Sync + Abort, S: Read + Send + Drop>(
 }
 
 // Follows the files side by side, and checks each.
-fn expect_all<R: Wait + Threads + Sync + Abort>(
-    rt: &R,
-    alloc: Global,
-    cases: &[Case],
-    plan: Plan,
-) {
+fn expect_all<R: Wait + Threads + Sync + Abort>(rt: &R, alloc: Global, cases: &[Case], plan: Plan) {
     let mut sources = Vec::new(alloc);
     for case in cases {
         assert!(rt; sources.push(case.text).is_ok(), "memory");
@@ -72,12 +67,7 @@ fn five_files(rt: HostRuntime) {
     for workers in 1..=8 {
         for (block, depth) in [(1, 1), (256, 4)] {
             let plan = plan(&rt, block, depth, workers);
-            expect_all(
-                &rt,
-                rt.alloc(),
-                &[SQUARE, LINE, PLACE, SLOPE, WEST],
-                plan,
-            );
+            expect_all(&rt, rt.alloc(), &[SQUARE, LINE, PLACE, SLOPE, WEST], plan);
         }
     }
 }
@@ -104,8 +94,14 @@ fn file_with_a_fault(rt: HostRuntime) {
     for (block, depth) in [(1, 1), (2, 4), (1024, 64)] {
         let followed = follow_one(&rt, rt.alloc(), text, plan(&rt, block, depth, 2));
         let fault = ReadFault::WrongFieldCount { rec: 5, found: 3 };
-        assert!(rt; followed.read.is_err_and(|found| found == fault), "the fault");
-        assert!(rt; followed.marked && !followed.estimator.stopped(), "the mark");
+        assert!(rt;
+            followed.read.is_err_and(|found| found == fault),
+            "the fault"
+        );
+        assert!(rt;
+            followed.marked && !followed.estimator.stopped(),
+            "the mark"
+        );
         assert_eq!(rt; followed.feeder.sent_fixes(), 4, "sent");
         assert_eq!(rt; followed.estimator.rows().len(), 4, "taken");
     }
@@ -116,11 +112,17 @@ fn file_with_a_fault(rt: HostRuntime) {
 fn faults_side_by_side(rt: HostRuntime) {
     let alloc = rt.alloc();
     let mut sources = Vec::new(alloc);
-    for text in [b"".as_slice(), SQUARE.text, b"animal,second,easting,northing\n"] {
+    for text in [
+        b"".as_slice(),
+        SQUARE.text,
+        b"animal,second,easting,northing\n",
+    ] {
         assert!(rt; sources.push(text).is_ok(), "memory");
     }
     assert!(rt; sources.len() == 3);
-    let all = follow(&rt, alloc, alloc, sources, &FreeGate, plan(&rt, 2, 1, 2)).expect(&rt, "memory");
+    let all = follow(&rt, alloc, alloc, sources, &FreeGate, plan(&rt, 2, 1, 2)).expect(
+        &rt, "memory",
+    );
     assert_eq!(rt; all.len(), 3, "results");
     for (i, followed) in all.iter().enumerate() {
         assert!(rt; followed.marked, "the mark of file {i}");
@@ -138,7 +140,11 @@ fn most_fixes(rt: HostRuntime) {
     let source = Repeated::new(FIX_LIMIT, b"");
     let followed = follow_one(&rt, rt.alloc(), source, plan(&rt, 256, 4, 1));
     assert!(rt; followed.read.is_ok() && followed.marked, "the end");
-    assert_eq!(rt; followed.estimator.rows().len(), FIX_LIMIT as usize, "taken");
+    assert_eq!(rt;
+        followed.estimator.rows().len(),
+        FIX_LIMIT as usize,
+        "taken"
+    );
     assert_eq!(rt; followed.estimator.tested(), 256, "tested");
 }
 
@@ -149,11 +155,23 @@ fn too_many_fixes(rt: HostRuntime) {
         (FIX_LIMIT, b"A,0,x"),
         (u32::MAX, b""),
     ] {
-        let followed = follow_one(&rt, rt.alloc(), Repeated::new(records, rest), plan(&rt, 1024, 4, 1));
+        let followed = follow_one(
+            &rt,
+            rt.alloc(),
+            Repeated::new(records, rest),
+            plan(&rt, 1024, 4, 1),
+        );
         let fault = ReadFault::TooManyFixes;
-        assert!(rt; followed.read.is_err_and(|found| found == fault), "the fault");
+        assert!(rt;
+            followed.read.is_err_and(|found| found == fault),
+            "the fault"
+        );
         assert!(rt; followed.marked, "the mark");
-        assert_eq!(rt; followed.estimator.rows().len(), FIX_LIMIT as usize, "taken");
+        assert_eq!(rt;
+            followed.estimator.rows().len(),
+            FIX_LIMIT as usize,
+            "taken"
+        );
     }
 }
 
