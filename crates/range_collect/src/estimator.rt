@@ -26,7 +26,8 @@ pub struct Estimator<A: Allocator + Copy = Global> {
 }
 
 impl<A: Allocator + Copy> Model for Estimator<A> {
-    ghost use Rattle.std.specs.Prelude.{◌≡◌, IfSome};
+    ghost use Rattle.std.specs.Prelude.{◌≡◌, ◌≤◌, IfSome, length};
+    ghost use Rattle.range_plane.specs.Fix.{fix_limit};
     ghost use Rattle.range_collect.specs.Estimation.{Estimation, IsEstimate};
 
     ghost Value = { Estimation };
@@ -41,7 +42,8 @@ impl<A: Allocator + Copy> Model for Estimator<A> {
 
     ghost invariant = { λ e.
         IsEstimate e.table.fixes e.table.rows e.table.corners
-        × IfSome e.marker.copy (λ corners. corners ≡ e.table.corners) };
+        × IfSome e.marker.copy (λ corners. corners ≡ e.table.corners)
+        × (length e.table.fixes ≤ fix_limit) };
 }
 
 impl<A: Allocator + Copy> Estimator<A> {
@@ -104,6 +106,16 @@ impl<A: Allocator + Copy> Estimator<A> {
         ensures { result.now.points ≡ points_of self.now.fixes }
     {
         self.table.columns()
+    }
+
+    /// The row of each fix and the point of each, without a copy.
+    pub fn into_parts(self) -> (Vec<Row, A>, Columns<A>)
+        ensures rows { result.0.items ≡ self.rows }
+        ensures points { result.1.points ≡ points_of self.fixes }
+        ensures estimate { IsEstimate self.fixes self.rows self.corners }
+        ensures few { length self.fixes ≤ fix_limit }
+    {
+        self.table.into_parts()
     }
 
     /// Whether memory was wanting for a block. A stopped estimator takes no more.

@@ -148,6 +148,14 @@ impl<A: Allocator> Table<A> {
         self.rows.as_slice()
     }
 
+    // The rows and the points, which are let go of.
+    pub(crate) fn into_parts(self) -> (Vec<Row, A>, Columns<A>)
+        ensures rows { result.0.items ≡ self.rows }
+        ensures points { result.1.points ≡ points_of self.fixes }
+    {
+        (self.rows, self.columns)
+    }
+
     // How many fixes were tested for a new corner.
     pub(crate) fn tested(&self) -> u32
         ensures { result ≡ self.now.tested }

@@ -1,0 +1,12 @@
+// What is asked of an analysis.
+
+use range_collect::Plan;
+
+/// What is asked of an analysis.
+#[derive(Drop)]
+pub struct Options {
+    /// The levels of the percent polygons.
+    pub levels: Vec<u8>,
+    /// How the files are followed.
+    pub plan: Plan,
+}

@@ -1,0 +1,74 @@
+-- What is known of each animal by itself makes the analysis of all.
+use Rattle.std.proofs.Common.{◌≡◌, refl, sym, subst, ℕ, ◌<◌, List, [], ◌∷◌, map, All, arith}
+use Rattle.std.proofs.lemmas.List.Elements.{All-append, All-cons, All-filter, All-head, All-map, All-nil, All-tail, All-weaker}
+use Rattle.std.proofs.lemmas.List.FromFn.{get_or-range_with_len, length-range_with_len}
+use Rattle.std.specs.Prelude.{◌==◌, not}
+use Rattle.std.specs.List.{AllZip, flat_map, range_with_len}
+use Rattle.range_plane.specs.Plane.{Position}
+use Rattle.range_plane.specs.Polygon.{IsPolygon}
+use Rattle.range_lanes.specs.Extent.{IsExtent}
+use Rattle.range_analysis.specs.Entries.{Entry, points_in}
+use Rattle.range_analysis.specs.Overlaps.{IsKnown, fixes_in, row_of}
+use Rattle.range_analysis.specs.Tables.{IsAnimalOf, IsOverlap, others, pairs}
+use Rattle.range_analysis.specs.Tracks.{IsMeasuredOf, entries_in}
+use Rattle.range_analysis.specs.declared.animal.OverlapRow.{OverlapRow}
+use Rattle.range_analysis.specs.declared.measured.Measured.{Measured}
+use Rattle.range_analysis.specs.declared.track.Track.{Track}
+
+-- ---- the animals
+known : (levels : List ℕ) (track : Track) (measured : Measured) → IsMeasuredOf levels track measured → IsKnown measured
+known levels track measured is = record {
+  extent = subst (λ (S : List Position). IsExtent S measured.animal.extent) (sym is.points) is.animal.box;
+  polygon = subst (λ (S : List Position). IsPolygon S measured.animal.polygon) (sym is.points) is.animal.polygon;
+}
+
+pub all_known : (levels : List ℕ) (tracks : List Track) (measured : List Measured) → AllZip (IsMeasuredOf levels) tracks measured → All IsKnown measured
+all_known levels [] [] each = All-nil IsKnown
+all_known levels [] (m ∷ ms) each = absurd each
+all_known levels (t ∷ ts) [] each = absurd each
+all_known levels (t ∷ ts) (m ∷ ms) each = All-cons IsKnown m ms (known levels t m each.0) (all_known levels ts ms each.1)
+
+pub animals_of : (levels : List ℕ) (tracks : List Track) (measured : List Measured) → AllZip (IsMeasuredOf levels) tracks measured → AllZip (IsAnimalOf levels) (entries_in tracks) (map (λ m. m.animal) measured)
+animals_of levels [] [] each = tt
+animals_of levels [] (m ∷ ms) each = absurd each
+animals_of levels (t ∷ ts) [] each = absurd each
+animals_of levels (t ∷ ts) (m ∷ ms) each = (each.0.animal, animals_of levels ts ms each.1)
+
+fixes_of : (levels : List ℕ) (tracks : List Track) (measured : List Measured) → AllZip (IsMeasuredOf levels) tracks measured → fixes_in measured ≡ map points_in (entries_in tracks)
+fixes_of levels [] [] each = refl
+fixes_of levels [] (m ∷ ms) each = absurd each
+fixes_of levels (t ∷ ts) [] each = absurd each
+fixes_of levels (t ∷ ts) (m ∷ ms) each =
+    let first = each.0.points in
+    let rest = fixes_of levels ts ms each.1 in
+    cc
+
+-- ---- the rows of overlap
+zip_of_map : {X Y : Type 0} (R : X → Y → Type 0) (f : X → Y) (xs : List X) → ((x : X) → R x (f x)) → AllZip R xs (map f xs)
+zip_of_map R f [] each = tt
+zip_of_map R f (x ∷ xs) each = (each x, zip_of_map R f xs each)
+
+overlap_of : (entries : List Entry) (pair : ℕ × ℕ) → IsOverlap entries pair (row_of (map points_in entries) pair)
+overlap_of entries pair = record { animal = refl; range = refl; count = refl; fixes = refl }
+
+pub overlaps_of : (levels : List ℕ) (tracks : List Track) (measured : List Measured) (n : ℕ) → AllZip (IsMeasuredOf levels) tracks measured
+    → AllZip (IsOverlap (entries_in tracks)) (pairs n) (map (row_of (fixes_in measured)) (pairs n))
+overlaps_of levels tracks measured n each =
+    rw (fixes_of levels tracks measured each) (zip_of_map (IsOverlap (entries_in tracks)) (row_of (map points_in (entries_in tracks))) (pairs n) (overlap_of (entries_in tracks)))
+
+-- ---- the rows are of animals that there are
+all_flat_map : {X Y : Type 0} (P : Y → Type 0) (f : X → List Y) (xs : List X) → All (λ x. All P (f x)) xs → All P (flat_map f xs)
+all_flat_map P f [] each = All-nil P
+all_flat_map P f (x ∷ xs) each = All-append P (f x) (flat_map f xs) (All-head (λ x. All P (f x)) x xs each) (all_flat_map P f xs (All-tail (λ x. All P (f x)) x xs each))
+
+places_below : (n : ℕ) → All (λ i. i < n) (range_with_len 0 n)
+places_below n = λ k d within. omega (arith, within, length-range_with_len 0 n, get_or-range_with_len 0 n k d (omega (arith, within, length-range_with_len 0 n)))
+
+pairs_below : (n : ℕ) → All (λ pair. (pair.0 < n) × (pair.1 < n)) (pairs n)
+pairs_below n =
+    let Below = λ (pair : ℕ × ℕ). (pair.0 < n) × (pair.1 < n) in
+    let row = λ (i : ℕ) (below : i < n). All-map Below (λ (j : ℕ). (i, j)) (others n i) (All-weaker (λ j. j < n) (λ j. (i < n) × (j < n)) (λ j h. (below, h)) (others n i) (All-filter (λ j. not (i == j)) (λ j. j < n) (range_with_len 0 n) (places_below n))) in
+    all_flat_map Below (λ i. map (λ j. (i, j)) (others n i)) (range_with_len 0 n) (All-weaker (λ i. i < n) (λ i. All Below (map (λ j. (i, j)) (others n i))) row (range_with_len 0 n) (places_below n))
+
+pub rows_numbered : (fixes : List (List Position)) (n : ℕ) → All (λ (row : OverlapRow). (row.animal < n) × (row.range < n)) (map (row_of fixes) (pairs n))
+rows_numbered fixes n = All-map (λ (row : OverlapRow). (row.animal < n) × (row.range < n)) (row_of fixes) (pairs n) (pairs_below n)

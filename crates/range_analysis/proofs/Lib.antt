@@ -1,0 +1,9 @@
+pub mod Analyses
+pub mod Boxes
+pub mod HandedOn
+pub mod Kept
+pub mod Outcomes
+pub mod Positions
+pub mod Repeats
+pub mod Rows
+pub mod Tracking

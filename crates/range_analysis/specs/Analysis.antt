@@ -1,0 +1,23 @@
+-- The analysis of what files gave, or why they have none.
+use Rattle.std.specs.Prelude.{◌≡◌, ℕ, ⊤, List, length, Some, None}
+use Rattle.std.specs.List.{AllZip}
+use Rattle.range_analysis.specs.Entries.{Entry, first_bad, names_of}
+use Rattle.range_analysis.specs.Names.{IsFirstRepeat}
+use Rattle.range_analysis.specs.Tables.{IsAnimalOf, IsOverlap, pairs}
+use Rattle.range_analysis.specs.declared.analysis.Analysis.{Analysis}
+use Rattle.range_analysis.specs.declared.fault.AnalyseFault.{AnalyseFault}
+use Rattle.range_analysis.specs.declared.fault.AnalyseFault.TheVariants.{OutOfMemory, LineCut, File, SameAnimal}
+
+-- all files could be read to their ends, their animals differ, and the tables are those of the files
+pub record IsAnalysis (entries : List Entry) (levels : List ℕ) (analysis : Analysis) : Type 0 where
+  pub whole : first_bad entries ≡ None
+  pub differ : IsFirstRepeat (names_of entries) None
+  pub animals : AllZip (IsAnimalOf levels) entries analysis.animals
+  pub overlaps : AllZip (IsOverlap entries) (pairs (length entries)) analysis.overlaps
+
+-- the fault of the first file that has one, else the first animal that stands in an earlier file; want of memory may come in between
+abbrev pub HasNoAnalysis : List Entry → AnalyseFault → Type 0
+HasNoAnalysis entries OutOfMemory = ⊤
+HasNoAnalysis entries (LineCut file) = ⊥
+HasNoAnalysis entries (File file fault) = first_bad entries ≡ Some (File file fault)
+HasNoAnalysis entries (SameAnimal first second) = (first_bad entries ≡ None) × IsFirstRepeat (names_of entries) (Some (first, second))

@@ -1,0 +1,67 @@
+-- What each file gave: its animal and fixes, or why it cannot be read to its end.
+use Rattle.std.specs.Prelude.{ℕ, ◌+◌, List, [], ◌∷◌, map, Bool, ◌||◌, not, if◌then◌else◌, Option, Some, None, option_map, Ok, Err, true, false, slice_index_or}
+use Rattle.std.specs.List.{list_any, position}
+use Rattle.std.specs.declared.clone.Clone.{Ghosts}
+use Rattle.range_plane.specs.Plane.{Position}
+use Rattle.range_plane.specs.Row.{points_of}
+use Rattle.range_plane.specs.declared.fix.Fix.{Fix}
+use Rattle.range_fixes.specs.declared.fault.ReadFault.{ReadFault}
+use Rattle.range_fixes.specs.declared.fault.ReadFault.TheVariants as reads
+use Rattle.range_collect.specs.Pump.{Read}
+use Rattle.range_collect.specs.declared.followed.Followed.{Followed}
+use Rattle.range_analysis.specs.declared.fault.AnalyseFault.{AnalyseFault}
+use Rattle.range_analysis.specs.declared.fault.AnalyseFault.TheVariants.{OutOfMemory, LineCut, File}
+
+pub data Entry : Type 0 where
+  good : List ℕ → List Fix → Entry
+  bad : ReadFault → Entry
+
+-- the entry of a file of which the reader says this, and whose estimator took these fixes
+abbrev pub entry_of : Read → List Fix → Entry
+entry_of (Ok name) fixes = good name fixes
+entry_of (Err fault) fixes = bad fault
+
+abbrev pub entries_of : {A : Type 0} {clone : Ghosts A} → List (Followed A clone) → List Entry
+entries_of followed = map (λ f. entry_of f.read f.estimator.fixes) followed
+
+-- the fault of the first file that has one, the first of them having this number
+abbrev pub first_bad_from : ℕ → List Entry → Option AnalyseFault
+first_bad_from number [] = None
+first_bad_from number (good name fixes ∷ entries) = first_bad_from (number + 1) entries
+first_bad_from number (bad fault ∷ entries) = Some (File number fault)
+
+abbrev pub first_bad : List Entry → Option AnalyseFault
+first_bad entries = first_bad_from 0 entries
+
+-- the animals' names
+abbrev pub names_of : List Entry → List (List ℕ)
+names_of [] = []
+names_of (good name fixes ∷ entries) = name ∷ names_of entries
+names_of (bad fault ∷ entries) = names_of entries
+
+abbrev pub points_in : Entry → List Position
+points_in (good name fixes) = points_of fixes
+points_in (bad fault) = []
+
+-- the points of the file at a place
+abbrev pub points_at : List Entry → ℕ → List Position
+points_at entries place = slice_index_or (map points_in entries) place []
+
+-- the reader wanted memory
+abbrev pub wants_memory : Read → Bool
+wants_memory (Err reads.OutOfMemory) = true
+wants_memory read = false
+
+-- memory was wanting for the file, to its reader or to its estimator
+abbrev pub lacks_memory : {A : Type 0} {clone : Ghosts A} → Followed A clone → Bool
+lacks_memory f = f.estimator.stopped || wants_memory f.read
+
+-- the mark of the file was not taken
+abbrev pub is_cut : {A : Type 0} {clone : Ghosts A} → Followed A clone → Bool
+is_cut f = not f.marked
+
+-- why files that were followed cannot be judged by what their readers say: want of memory, else the first file whose mark was not taken
+abbrev pub lost : {A : Type 0} {clone : Ghosts A} → List (Followed A clone) → Option AnalyseFault
+lost followed =
+    if list_any lacks_memory followed then Some OutOfMemory
+    else option_map LineCut (position is_cut followed)

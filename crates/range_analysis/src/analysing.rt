@@ -1,0 +1,42 @@
+// From the sources to their analysis.
+
+ghost use Rattle.std.specs.Prelude.{◌≤◌, All, IfErr, IfOk, map, vec_len};
+ghost use Rattle.range_line.specs.Limits.{file_limit};
+ghost use Rattle.range_stats.specs.Levels.{IsLevel};
+ghost use Rattle.range_analysis.specs.Sources.{HasNoAnalysisOf, IsAnalysisOf};
+
+use crate::analysis::Analysis;
+use crate::fault::AnalyseFault;
+use crate::judging::judge;
+use range_collect::{Gate, Plan, follow};
+use range_line::{last_messages_come_next, streams_are_lawful};
+use std::alloc::Global;
+use std::io::Read;
+use std::sync::Wait;
+use std::thread::Threads;
+
+/// The analysis of 1 to [`FILE_LIMIT`](range_line::FILE_LIMIT) files, which are followed side by side as
+/// [`follow`] says, with a percent polygon of each animal at each of the levels.
+///
+/// # Errors
+///
+/// As [`judge`] says; `OutOfMemory` also where the files could not be followed for want of memory or of a
+/// thread.
+pub fn analyse<R: Wait + Threads + Sync, S: Read + Send + Drop, G: Gate>(
+    rt: &R,
+    alloc: Global,
+    sources: Vec<S>,
+    gate: &G,
+    plan: Plan,
+    levels: &[u8],
+) -> Result<Analysis, AnalyseFault>
+    requires sources { (1 ≤ vec_len sources) × (vec_len sources ≤ file_limit) }
+    requires levels { All IsLevel levels.now }
+    ensures analysis { IfOk result (IsAnalysisOf (map S.remaining sources.items) levels.now) }
+    ensures fault { IfErr result (HasNoAnalysisOf (map S.remaining sources.items)) }
+{
+    streams_are_lawful();
+    last_messages_come_next();
+    let followed = follow(rt, alloc, alloc, sources, gate, plan)?;
+    judge(alloc, followed, levels)
+}

@@ -1,0 +1,44 @@
+// Why files have no analysis.
+
+ghost use Rattle.std.specs.Prelude.{◌≡◌};
+ghost use Rattle.range_analysis.specs.declared.fault.AnalyseFault.TheVariants as faults;
+
+use range_fixes::ReadFault;
+use range_plane::OutOfMemory;
+use std::alloc::AllocError;
+use thiserror::Error;
+
+/// Why files have no analysis. Files are numbered from 0.
+#[derive(Clone, Copy, PartialEq, Eq, Debug, Error)]
+pub enum AnalyseFault {
+    /// A growth was refused for want of memory.
+    #[error("out of memory")]
+    OutOfMemory,
+    /// Not all fixes of a file, and the mark after them, were handed on.
+    #[error("the fixes of file {file} were not all handed on")]
+    LineCut { file: u32 },
+    /// A file cannot be read to its end. This is the first such file; the fault is neither want of memory
+    /// nor `Gone`.
+    #[error("file {file}: {fault}")]
+    File { file: u32, fault: ReadFault },
+    /// Two files have the same animal. `second` is the first file whose animal stands in an earlier one, and
+    /// `first` is that one.
+    #[error("files {first} and {second} have the same animal")]
+    SameAnimal { first: u32, second: u32 },
+}
+
+impl From<OutOfMemory> for AnalyseFault {
+    ghost from_gives = { λ _ fault. fault ≡ faults.OutOfMemory };
+
+    fn from(_refused: OutOfMemory) -> AnalyseFault {
+        AnalyseFault::OutOfMemory
+    }
+}
+
+impl From<AllocError> for AnalyseFault {
+    ghost from_gives = { λ _ fault. fault ≡ faults.OutOfMemory };
+
+    fn from(_refused: AllocError) -> AnalyseFault {
+        AnalyseFault::OutOfMemory
+    }
+}

@@ -1,0 +1,88 @@
+// What files that were followed come to.
+
+ghost use Rattle.std.specs.Prelude.{◌≡◌, ◌≤◌, false, true, All, Err, IfErr, IfOk, MatchResult, None, Some, vec_len};
+ghost use Rattle.range_line.specs.Limits.{file_limit};
+ghost use Rattle.range_stats.specs.Levels.{IsLevel};
+ghost use Rattle.range_analysis.specs.Analysis.{HasNoAnalysis, IsAnalysis};
+ghost use Rattle.range_analysis.specs.Entries.{bad, entries_of, entry_of, first_bad, good, lost};
+ghost use Rattle.range_analysis.specs.Tracks.{entries_in};
+
+use crate::analysis::Analysis;
+use crate::fault::AnalyseFault;
+use crate::losses::lost;
+use crate::names::first_repeat;
+use crate::tables::tabulate;
+use crate::track::Track;
+use range_collect::Followed;
+use range_fixes::ReadFault;
+use std::alloc::Global;
+
+// The track of a file that was handed on whole, or the fault of its reader.
+fn track(followed: Followed) -> Result<Track, ReadFault>
+    requires whole { (followed.marked ≡ true) × (followed.estimator.stopped ≡ false) }
+    ensures { MatchResult result
+        (λ track. entry_of followed.read followed.estimator.fixes ≡ good track.name track.estimator.fixes)
+        (λ fault. entry_of followed.read followed.estimator.fixes ≡ bad fault) }
+{
+    let Followed {
+        read,
+        estimator,
+        ..
+    } = followed;
+    let name = read?;
+    Ok(Track { name, estimator })
+}
+
+// The tracks of files that were handed on whole, or the fault of the first that has one.
+fn tracks(alloc: Global, followed: Vec<Followed>) -> Result<Vec<Track>, AnalyseFault>
+    requires files { vec_len followed ≤ file_limit }
+    requires whole { lost followed.items ≡ None }
+    ensures tracks { IfOk result (λ tracks. entries_in tracks.items ≡ entries_of followed.items) }
+    ensures good { IfOk result (λ _. first_bad (entries_of followed.items) ≡ None) }
+    ensures fault { IfErr result (HasNoAnalysis (entries_of followed.items)) }
+{
+    let mut tracks = Vec::with_capacity(alloc, followed.len())?;
+    for followed in followed {
+        match track(followed) {
+            Ok(track) => tracks.push_reserved(track),
+            Err(fault) => {
+                let file = tracks.len() as u32;
+                return Err(AnalyseFault::File { file, fault });
+            }
+        }
+    }
+    Ok(tracks)
+}
+
+/// The analysis of 1 to [`FILE_LIMIT`](range_line::FILE_LIMIT) files that were followed, with a percent
+/// polygon of each animal at each of the levels.
+///
+/// # Errors
+///
+/// The first of these: memory was wanting for a file; the first file whose mark was not taken; the first
+/// that could not be read to its end; the first animal that stands in an earlier file. Want of memory for
+/// the analysis itself may come before the last two.
+pub fn judge(
+    alloc: Global,
+    followed: Vec<Followed>,
+    levels: &[u8],
+) -> Result<Analysis, AnalyseFault>
+    requires files { (1 ≤ vec_len followed) × (vec_len followed ≤ file_limit) }
+    requires levels { All IsLevel levels.now }
+    ensures lost { (fault : AnalyseFault) → lost followed.items ≡ Some fault → result ≡ Err fault }
+    ensures judged { lost followed.items ≡ None → MatchResult result
+        (IsAnalysis (entries_of followed.items) levels.now)
+        (HasNoAnalysis (entries_of followed.items)) }
+{
+    if let Some(fault) = lost(&followed) {
+        return Err(fault);
+    }
+    let tracks = tracks(alloc, followed)?;
+    if let Some((first, second)) = first_repeat(alloc, &tracks)? {
+        return Err(AnalyseFault::SameAnimal {
+            first: first as u32,
+            second: second as u32,
+        });
+    }
+    Ok(tabulate(alloc, tracks, levels)?)
+}

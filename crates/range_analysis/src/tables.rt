@@ -1,0 +1,62 @@
+// The tables of animals, and the overlap of each two.
+
+ghost use Rattle.std.specs.Prelude.{◌≡◌, ◌≤◌, All, IfOk, length, map, vec_len};
+ghost use Rattle.std.specs.List.{AllZip};
+ghost use Rattle.range_line.specs.Limits.{file_limit};
+ghost use Rattle.range_stats.specs.Levels.{IsLevel};
+ghost use Rattle.range_analysis.specs.Tables.{IsAnimalOf, IsOverlap, pairs};
+ghost use Rattle.range_analysis.specs.Tracks.{IsMeasuredOf, entries_in};
+
+use crate::analysis::Analysis;
+use crate::lists::Animals;
+use crate::measured::Measured;
+use crate::measuring::measure;
+use crate::overlaps::overlaps;
+use crate::track::Track;
+use range_plane::OutOfMemory;
+use std::alloc::Global;
+
+// What is known of each animal, in their order.
+fn measure_all(
+    alloc: Global,
+    tracks: Vec<Track>,
+    levels: &[u8],
+) -> Result<Vec<Measured>, OutOfMemory>
+    requires { All IsLevel levels.now }
+    ensures { IfOk result (λ measured. AllZip (IsMeasuredOf levels.now) tracks.items measured.items) }
+{
+    let mut measured = Vec::with_capacity(alloc, tracks.len())?;
+    for track in tracks {
+        let one = measure(alloc, track, levels)?;
+        measured.push(one)?;
+    }
+    Ok(measured)
+}
+
+// The animals, without their points.
+fn animals(alloc: Global, measured: Vec<Measured>) -> Result<Animals, OutOfMemory>
+    ensures { IfOk result (λ animals. animals ≡ map (λ m. m.animal) measured.items) }
+{
+    let mut animals = Vec::with_capacity(alloc, measured.len())?;
+    for one in measured {
+        animals.push(one.animal)?;
+    }
+    Ok(Animals::new(animals))
+}
+
+// The tables of these animals, with percent polygons at these levels, and their overlaps.
+pub(crate) fn tabulate(
+    alloc: Global,
+    tracks: Vec<Track>,
+    levels: &[u8],
+) -> Result<Analysis, OutOfMemory>
+    requires files { vec_len tracks ≤ file_limit }
+    requires levels { All IsLevel levels.now }
+    ensures animals { IfOk result (λ a. AllZip (IsAnimalOf levels.now) (entries_in tracks.items) a.animals) }
+    ensures overlaps { IfOk result (λ a. AllZip (IsOverlap (entries_in tracks.items)) (pairs (length tracks.items)) a.overlaps) }
+{
+    let measured = measure_all(alloc, tracks, levels)?;
+    let overlaps = overlaps(alloc, &measured)?;
+    let animals = animals(alloc, measured)?;
+    Ok(Analysis { animals, overlaps })
+}

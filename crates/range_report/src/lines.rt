@@ -1,0 +1,191 @@
+// The lines of a report.
+
+ghost use Rattle.std.specs.Prelude.{◌≡◌, ◌++◌, ◌<◌, All, OnOk, codes, length, map};
+ghost use Rattle.std.specs.List.{flat_map};
+ghost use Rattle.range_report.specs.Report.{animal_line, box_line, corner_line, end_line, name_at, numbered, overlap_line, percent_line, point_text, row_line};
+
+use itoa::{Buffer, Integer};
+use range_analysis::{Animal, OverlapRow};
+use range_collect::Row;
+use range_lanes::Extent;
+use range_plane::Point;
+use range_stats::PercentRow;
+use std::alloc::AllocError;
+
+// Appends a number.
+fn push_number<I: Integer>(text: &mut Vec<u8>, n: I) -> Result<(), AllocError>
+    ensures { OnOk result (text.new.items ≡ text.old.items ++ I.text n) }
+{
+    let mut buffer = Buffer::new();
+    text.extend_from_slice(buffer.format(n).as_bytes())
+}
+
+// Appends a number behind a comma.
+fn push_field<I: Integer>(text: &mut Vec<u8>, n: I) -> Result<(), AllocError>
+    ensures { OnOk result (text.new.items ≡ text.old.items ++ (codes "," ++ I.text n)) }
+{
+    text.extend_from_slice(b",")?;
+    push_number(text, n)
+}
+
+// Appends the line of an animal and the number of its fixes.
+pub(crate) fn push_head(text: &mut Vec<u8>, name: &[u8], fixes: usize) -> Result<(), AllocError>
+    ensures { OnOk result (text.new.items ≡ text.old.items ++ animal_line name.now fixes) }
+{
+    text.extend_from_slice(b"animal,")?;
+    text.extend_from_slice(name)?;
+    text.extend_from_slice(b",fixes,")?;
+    push_number(text, fixes)?;
+    text.extend_from_slice(b"\n")
+}
+
+// Appends an easting and a northing, each behind a comma.
+#[tactic(auto, unfolding(crate::specs::Report::point_text))]
+fn push_point(text: &mut Vec<u8>, easting: i64, northing: i64) -> Result<(), AllocError>
+    ensures { OnOk result (text.new.items ≡ text.old.items ++ point_text easting northing) }
+{
+    push_field(text, easting)?;
+    push_field(text, northing)
+}
+
+// Appends the line of a box.
+pub(crate) fn push_box(text: &mut Vec<u8>, name: &[u8], extent: Extent) -> Result<(), AllocError>
+    ensures { OnOk result (text.new.items ≡ text.old.items ++ box_line name.now extent) }
+{
+    text.extend_from_slice(b"box,")?;
+    text.extend_from_slice(name)?;
+    push_point(text, extent.min_e, extent.min_n)?;
+    push_point(text, extent.max_e, extent.max_n)?;
+    text.extend_from_slice(b"\n")?;
+    Ok(())
+}
+
+// Appends the line of the row of the first n fixes.
+fn push_row(text: &mut Vec<u8>, name: &[u8], n: usize, row: Row) -> Result<(), AllocError>
+    ensures { OnOk result (text.new.items ≡ text.old.items ++ row_line name.now n row) }
+{
+    text.extend_from_slice(b"row,")?;
+    text.extend_from_slice(name)?;
+    push_field(text, n)?;
+    push_field(text, row.second)?;
+    push_field(text, row.corners)?;
+    push_field(text, row.area2)?;
+    text.extend_from_slice(b"\n")?;
+    Ok(())
+}
+
+// Appends the lines of rows, counted from 1.
+pub(crate) fn push_rows(text: &mut Vec<u8>, name: &[u8], rows: &[Row]) -> Result<(), AllocError>
+    ensures { OnOk result (text.new.items ≡ text.old.items ++ numbered (row_line name.now) rows.now) }
+{
+    for (i, row) in rows.iter().enumerate() {
+        push_row(text, name, i + 1, *row)?;
+    }
+    Ok(())
+}
+
+// Appends the line of a corner.
+fn push_corner(
+    text: &mut Vec<u8>,
+    name: &[u8],
+    number: usize,
+    corner: Point,
+) -> Result<(), AllocError>
+    ensures { OnOk result (text.new.items ≡ text.old.items ++ corner_line name.now number corner) }
+{
+    text.extend_from_slice(b"corner,")?;
+    text.extend_from_slice(name)?;
+    push_field(text, number)?;
+    push_point(text, corner.e, corner.n)?;
+    text.extend_from_slice(b"\n")?;
+    Ok(())
+}
+
+// Appends the lines of corners, counted from 1.
+pub(crate) fn push_corners(
+    text: &mut Vec<u8>,
+    name: &[u8],
+    corners: &[Point],
+) -> Result<(), AllocError>
+    ensures { OnOk result (text.new.items ≡ text.old.items ++ numbered (corner_line name.now) corners.now) }
+{
+    for (i, corner) in corners.iter().enumerate() {
+        push_corner(text, name, i + 1, *corner)?;
+    }
+    Ok(())
+}
+
+// Appends the line of a percent polygon.
+fn push_percent(text: &mut Vec<u8>, name: &[u8], row: PercentRow) -> Result<(), AllocError>
+    ensures { OnOk result (text.new.items ≡ text.old.items ++ percent_line name.now row) }
+{
+    text.extend_from_slice(b"percent,")?;
+    text.extend_from_slice(name)?;
+    push_field(text, row.level)?;
+    push_field(text, row.kept)?;
+    push_field(text, row.corners)?;
+    push_field(text, row.area2)?;
+    text.extend_from_slice(b"\n")?;
+    Ok(())
+}
+
+// Appends the lines of percent polygons.
+pub(crate) fn push_percents(
+    text: &mut Vec<u8>,
+    name: &[u8],
+    rows: &[PercentRow],
+) -> Result<(), AllocError>
+    ensures { OnOk result (text.new.items ≡ text.old.items ++ flat_map (percent_line name.now) rows.now) }
+{
+    for row in rows {
+        push_percent(text, name, *row)?;
+    }
+    Ok(())
+}
+
+// Appends the name of the animal at a place.
+fn push_name(text: &mut Vec<u8>, animals: &[Animal], place: u32) -> Result<(), AllocError>
+    requires { place < length animals.now }
+    ensures { OnOk result (text.new.items ≡ text.old.items ++ name_at (map (λ a. a.name) animals.now) place) }
+{
+    text.extend_from_slice(animals[place as usize].name.as_slice())
+}
+
+// Appends the line of an overlap.
+fn push_overlap(text: &mut Vec<u8>, animals: &[Animal], row: OverlapRow) -> Result<(), AllocError>
+    requires { (row.animal < length animals.now) × (row.range < length animals.now) }
+    ensures { OnOk result (text.new.items ≡ text.old.items ++ overlap_line (map (λ a. a.name) animals.now) row) }
+{
+    text.extend_from_slice(b"overlap,")?;
+    push_name(text, animals, row.animal)?;
+    text.extend_from_slice(b",")?;
+    push_name(text, animals, row.range)?;
+    push_field(text, row.count)?;
+    push_field(text, row.fixes)?;
+    text.extend_from_slice(b"\n")?;
+    Ok(())
+}
+
+// Appends the lines of overlaps.
+pub(crate) fn push_overlaps(
+    text: &mut Vec<u8>,
+    animals: &[Animal],
+    rows: &[OverlapRow],
+) -> Result<(), AllocError>
+    requires { All (λ row. (row.animal < length animals.now) × (row.range < length animals.now)) rows.now }
+    ensures { OnOk result (text.new.items ≡ text.old.items ++ flat_map (overlap_line (map (λ a. a.name) animals.now)) rows.now) }
+{
+    for row in rows {
+        push_overlap(text, animals, *row)?;
+    }
+    Ok(())
+}
+
+// Appends the last line.
+pub(crate) fn push_end(text: &mut Vec<u8>, animals: usize) -> Result<(), AllocError>
+    ensures { OnOk result (text.new.items ≡ text.old.items ++ end_line animals) }
+{
+    text.extend_from_slice(b"end,")?;
+    push_number(text, animals)?;
+    text.extend_from_slice(b"\n")
+}

@@ -1,0 +1,114 @@
+// The reports of analyses that are made by hand.
+
+use crate::report;
+use range_analysis::{Analysis, Animal, Animals, OverlapRow, Overlaps, Percents};
+use range_collect::{Name, Row, Rows};
+use range_lanes::Extent;
+use range_plane::{Point, Polygon};
+use range_stats::PercentRow;
+use std::alloc::Global;
+use std::test::Fail;
+
+const REPORT: &[u8] =
+    b"animal,A,fixes,5\nbox,A,0,0,10,10\nrow,A,1,0,1,0\nrow,A,2,60,2,0\nrow,A,3,120,3,100\nrow,A,4,180,4,200\nrow,A,5,240,4,200\ncorner,A,1,0,0\ncorner,A,2,10,0\ncorner,A,3,10,10\ncorner,A,4,0,10\npercent,A,50,3,3,50\npercent,A,95,5,4,200\npercent,A,100,5,4,200\nanimal,B,fixes,3\nbox,B,5,5,20,5\nrow,B,1,0,1,0\nrow,B,2,60,2,0\nrow,B,3,120,2,0\ncorner,B,1,5,5\ncorner,B,2,20,5\npercent,B,50,2,2,0\npercent,B,95,3,2,0\npercent,B,100,3,2,0\noverlap,A,B,1,5\noverlap,B,A,2,3\nend,2\n";
+
+fn extent(min_e: i64, min_n: i64, max_e: i64, max_n: i64) -> Extent {
+    Extent {
+        min_e,
+        min_n,
+        max_e,
+        max_n,
+    }
+}
+
+fn row(second: u64, corners: u32, area2: u128) -> Row {
+    Row {
+        second,
+        corners,
+        area2,
+    }
+}
+
+fn percent(level: u8, kept: u32, corners: u32, area2: u128) -> PercentRow {
+    PercentRow {
+        level,
+        kept,
+        corners,
+        area2,
+    }
+}
+
+fn polygon(alloc: Global, places: &[(i64, i64)]) -> Result<Polygon, Fail> {
+    let mut points = Vec::new(alloc);
+    for (e, n) in places {
+        points.push(Point::new(*e, *n).ok_or("a point")?)?;
+    }
+    Ok(
+        Polygon::plain(alloc, &points[..points.len().min(9)])
+            .ok()
+            .ok_or("memory")?,
+    )
+}
+
+fn square(alloc: Global) -> Result<Animal, Fail> {
+    let rows = vec![in alloc;
+        row(0, 1, 0),
+        row(60, 2, 0),
+        row(120, 3, 100),
+        row(180, 4, 200),
+        row(240, 4, 200),
+    ]?;
+    let percents = vec![in alloc;
+        percent(50, 3, 3, 50),
+        percent(95, 5, 4, 200),
+        percent(100, 5, 4, 200),
+    ]?;
+    Ok(Animal {
+        name: Name::new(b"A".to_vec(alloc)?),
+        extent: extent(0, 0, 10, 10),
+        rows: Rows::new(rows),
+        polygon: polygon(alloc, &[(0, 0), (10, 0), (10, 10), (0, 10)])?,
+        percents: Percents::new(percents),
+    })
+}
+
+fn segment(alloc: Global) -> Result<Animal, Fail> {
+    let percents = vec![in alloc;
+        percent(50, 2, 2, 0),
+        percent(95, 3, 2, 0),
+        percent(100, 3, 2, 0),
+    ]?;
+    Ok(Animal {
+        name: Name::new(b"B".to_vec(alloc)?),
+        extent: extent(5, 5, 20, 5),
+        rows: Rows::new(vec![in alloc; row(0, 1, 0), row(60, 2, 0), row(120, 2, 0)]?),
+        polygon: polygon(alloc, &[(5, 5), (20, 5)])?,
+        percents: Percents::new(percents),
+    })
+}
+
+#[test]
+fn reports_two_animals(rt: HostRuntime) -> Result<(), Fail> {
+    let alloc = rt.alloc();
+    let animals = vec![in alloc; square(alloc)?, segment(alloc)?]?;
+    let first = OverlapRow {
+        animal: 0,
+        range: 1,
+        count: 1,
+        fixes: 5,
+    };
+    let second = OverlapRow {
+        animal: 1,
+        range: 0,
+        count: 2,
+        fixes: 3,
+    };
+    let overlaps = vec![in alloc; first, second]?;
+    let analysis = Analysis {
+        animals: Animals::new(animals),
+        overlaps: Overlaps::new(overlaps),
+    };
+    let text = report(alloc, &analysis).ok().ok_or("memory")?;
+    assert_eq!(rt; text.as_slice(), REPORT);
+    Ok(())
+}
