@@ -79,6 +79,12 @@ impl Hull {
         insert(true, &mut self.upper, p, &mut self.tally);
     }
 
+    // Counterclockwise from the least.
+    pub fn corners(&self) -> Vec<Point> {
+        let back = self.upper.iter().rev().skip(1).take(self.upper.len().saturating_sub(2));
+        self.lower.iter().chain(back).copied().collect()
+    }
+
     pub fn corner_count(&self) -> usize {
         match self.lower.len() + self.upper.len() {
             0 => 0,

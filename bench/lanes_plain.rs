@@ -1,10 +1,12 @@
 // The marks and counts of crates/lanes_bench in plain Rust, by a scan of the edges that ends early and by
 // binary search. Reads the corners from standard input, and times the track that is named.
+mod ranges;
 mod tracks;
 
+use ranges::{by_search, top_of};
 use std::hint::black_box;
 use std::time::Instant;
-use tracks::{Point, cloud, rank, read_points, turn, walk};
+use tracks::{Point, cloud, read_points, turn, walk};
 
 fn by_scan(corners: &[Point], q: Point) -> bool {
     let mut from = corners[corners.len() - 1];
@@ -15,23 +17,6 @@ fn by_scan(corners: &[Point], q: Point) -> bool {
         from = to;
     }
     true
-}
-
-fn by_search(corners: &[Point], top: usize, q: Point) -> bool {
-    let r = rank(q);
-    if r < rank(corners[0]) || r > rank(corners[top]) {
-        return false;
-    }
-    if r == rank(corners[top]) {
-        return true;
-    }
-    let low = corners[..=top].partition_point(|c| rank(*c) <= r) - 1;
-    if turn(corners[low], corners[low + 1], q) < 0 {
-        return false;
-    }
-    let high = top + corners[top..].partition_point(|c| rank(*c) > r) - 1;
-    let after = if high + 1 < corners.len() { corners[high + 1] } else { corners[0] };
-    turn(corners[high], after, q) >= 0
 }
 
 fn mark(es: &[i64], ns: &[i64], out: &mut [bool], covers: impl Fn(Point) -> bool) {
@@ -57,7 +42,7 @@ fn best<T>(mut work: impl FnMut() -> T) -> (f64, T) {
 
 fn main() {
     let corners = read_points();
-    let top = (0..corners.len()).max_by_key(|&i| rank(corners[i])).unwrap();
+    let top = top_of(&corners);
     let is_walk = std::env::args().any(|word| word == "walk");
     let points = if is_walk { walk() } else { cloud() };
     let (es, ns): (Vec<i64>, Vec<i64>) = points.iter().map(|p| (p.e, p.n)).unzip();

@@ -20,7 +20,7 @@ def proved(crate):
 
 
 def plain(source, folder):
-    """The program of a file beside this one, built by `rustc -O` into the folder."""
+    """The program of a file beside this one, built by `rustc --edition 2024 -O` into the folder."""
     program = pathlib.Path(folder) / "plain"
-    subprocess.run(["rustc", "-O", TOP / "bench" / source, "-o", program], check=True)
+    subprocess.run(["rustc", "--edition", "2024", "-O", TOP / "bench" / source, "-o", program], check=True)
     return program
