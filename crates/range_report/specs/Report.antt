@@ -1,11 +1,12 @@
 -- The text of a report.
-use Rattle.std.specs.Prelude.{◌++◌, ◌+◌, ℕ, ℤ, List, [], ◌∷◌, length, map, codes, decimal, slice_index_or}
+use Rattle.std.specs.Prelude.{◌++◌, ◌+◌, ℕ, ℤ, List, [], ◌∷◌, length, map, codes, decimal}
 use Rattle.std.specs.Fmt.{signed_decimal}
 use Rattle.std.specs.List.{flat_map}
 use Rattle.range_plane.specs.Plane.{Position}
 use Rattle.range_lanes.specs.declared.extent.Extent.{Extent}
 use Rattle.range_stats.specs.declared.percents.PercentRow.{PercentRow}
 use Rattle.range_collect.specs.declared.row.Row.{Row}
+use Rattle.range_analysis.specs.Names.{name_at}
 use Rattle.range_analysis.specs.declared.animal.Animal.{Animal}
 use Rattle.range_analysis.specs.declared.animal.OverlapRow.{OverlapRow}
 use Rattle.range_analysis.specs.declared.analysis.Analysis.{Analysis}
@@ -46,9 +47,6 @@ numbered line members = lines_from line 1 members
 abbrev pub percent_line : List ℕ → PercentRow → List ℕ
 percent_line name row =
     codes "percent," ++ name ++ field row.level ++ field row.kept ++ field row.corners ++ field row.area2 ++ codes "\n"
-
-abbrev pub name_at : List (List ℕ) → ℕ → List ℕ
-name_at names place = slice_index_or names place []
 
 -- the overlap of two animals of which these are the names
 abbrev pub overlap_line : List (List ℕ) → OverlapRow → List ℕ

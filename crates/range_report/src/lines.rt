@@ -2,7 +2,8 @@
 
 ghost use Rattle.std.specs.Prelude.{◌≡◌, ◌++◌, ◌<◌, All, OnOk, codes, length, map};
 ghost use Rattle.std.specs.List.{flat_map};
-ghost use Rattle.range_report.specs.Report.{animal_line, box_line, corner_line, end_line, name_at, numbered, overlap_line, percent_line, point_text, row_line};
+ghost use Rattle.range_analysis.specs.Names.{name_at};
+ghost use Rattle.range_report.specs.Report.{animal_line, box_line, corner_line, end_line, numbered, overlap_line, percent_line, point_text, row_line};
 
 use itoa::{Buffer, Integer};
 use range_analysis::{Animal, OverlapRow};
