@@ -38,5 +38,5 @@ pub fn analyse<R: Wait + Threads + Sync, S: Read + Send + Drop, G: Gate>(
     streams_are_lawful();
     last_messages_come_next();
     let followed = follow(rt, alloc, alloc, sources, gate, plan)?;
-    judge(alloc, followed, levels)
+    judge(rt, alloc, followed, levels)
 }

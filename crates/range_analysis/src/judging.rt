@@ -16,6 +16,7 @@ use crate::track::Track;
 use range_collect::Followed;
 use range_fixes::ReadFault;
 use std::alloc::Global;
+use std::thread::Threads;
 
 // The track of a file that was handed on whole, or the fault of its reader.
 fn track(followed: Followed) -> Result<Track, ReadFault>
@@ -62,7 +63,8 @@ fn tracks(alloc: Global, followed: Vec<Followed>) -> Result<Vec<Track>, AnalyseF
 /// The first of these: memory was wanting for a file; the first file whose mark was not taken; the first
 /// that could not be read to its end; the first animal that stands in an earlier file. Want of memory for
 /// the analysis itself may come before the last two.
-pub fn judge(
+pub fn judge<R: Threads + Sync>(
+    rt: &R,
     alloc: Global,
     followed: Vec<Followed>,
     levels: &[u8],
@@ -84,5 +86,5 @@ pub fn judge(
             second: second as u32,
         });
     }
-    Ok(tabulate(alloc, tracks, levels)?)
+    Ok(tabulate(rt, alloc, tracks, levels)?)
 }

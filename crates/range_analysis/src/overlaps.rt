@@ -12,7 +12,9 @@ use crate::measured::Measured;
 use range_lanes::Extent;
 use range_plane::{OutOfMemory, covered_is_decided, covering_is_reaching};
 use range_stats::overlap;
+use rayon::prelude::*;
 use std::alloc::Global;
+use std::thread::Threads;
 
 // Whether one box ends before the other begins, from west to east.
 fn are_apart_by_easting(a: Extent, b: Extent) -> bool
@@ -44,42 +46,72 @@ fn count_in(animal: &Measured, range: &Measured) -> u64
     }
 }
 
-// Appends the rows of one animal, one for each other.
-fn push_rows(
-    rows: &mut Vec<OverlapRow>,
-    measured: &[Measured],
+// Appends the pairs of one animal with each other.
+fn push_pairs(
+    pairs: &mut Vec<(usize, usize)>,
+    count: usize,
     animal: usize,
 ) -> Result<(), OutOfMemory>
-    requires files { length measured.now ≤ file_limit }
-    requires known { All IsKnown measured.now }
-    requires animal { animal < length measured.now }
-    ensures { OnOk result (rows.new.items
-        ≡ rows.old.items ++ map (λ range. row_of (fixes_in measured.now) (animal, range)) (others (length measured.now) animal)) }
+    ensures { OnOk result (pairs.new.items ≡ pairs.old.items ++ map (λ range. (animal, range)) (others count animal)) }
 {
-    let counted = &measured[animal];
-    let fixes = counted.fixes.len() as u32;
-    for (range, other) in measured.iter().enumerate() {
+    for range in 0..count {
         if range != animal {
-            rows.push(OverlapRow {
-                animal: animal as u32,
-                range: range as u32,
-                count: count_in(counted, other),
-                fixes,
-            })?;
+            pairs.push((animal, range))?;
         }
     }
     Ok(())
 }
 
-// The rows of each ordered pair of different animals.
-pub(crate) fn overlaps(alloc: Global, measured: &[Measured]) -> Result<Overlaps, OutOfMemory>
+// The ordered pairs of different animals, by their places.
+fn pairs(alloc: Global, count: usize) -> Result<Vec<(usize, usize)>, OutOfMemory>
+    ensures { IfOk result (λ all. all.items ≡ pairs count) }
+{
+    let mut all = Vec::new(alloc);
+    for animal in 0..count {
+        push_pairs(&mut all, count, animal)?;
+    }
+    Ok(all)
+}
+
+// The row of two animals.
+fn row(measured: &[Measured], pair: (usize, usize)) -> OverlapRow
+    requires files { length measured.now ≤ file_limit }
+    requires known { All IsKnown measured.now }
+    requires pair { (pair.0 < length measured.now) × (pair.1 < length measured.now) }
+    ensures { result ≡ row_of (fixes_in measured.now) pair }
+{
+    let (animal, range) = pair;
+    let counted = &measured[animal];
+    OverlapRow {
+        animal: animal as u32,
+        range: range as u32,
+        count: count_in(counted, &measured[range]),
+        fixes: counted.fixes.len() as u32,
+    }
+}
+
+// The rows of each ordered pair of different animals. Several are counted at once.
+pub(crate) fn overlaps<R: Threads + Sync>(
+    rt: &R,
+    alloc: Global,
+    measured: &[Measured],
+) -> Result<Overlaps, OutOfMemory>
     requires files { length measured.now ≤ file_limit }
     requires known { All IsKnown measured.now }
     ensures { IfOk result (λ rows. rows ≡ map (row_of (fixes_in measured.now)) (pairs (length measured.now))) }
 {
-    let mut rows = Vec::new(alloc);
-    for animal in 0..measured.len() {
-        push_rows(&mut rows, measured, animal)?;
-    }
+    let pairs = pairs(alloc, measured.len())?;
+    let rows = pairs
+        .par_iter()
+        .with_min_len(1)
+        .map(
+            |pair: &(usize, usize)| -> OverlapRow
+                requires files { length measured.now ≤ file_limit }
+                requires known { All IsKnown measured.now }
+                requires pair { (pair.now.0 < length measured.now) × (pair.now.1 < length measured.now) }
+                ensures { result ≡ row_of (fixes_in measured.entry.now) pair.now }
+            { row(measured, *pair) },
+        )
+        .collect::<Vec<_>>(rt, alloc)?;
     Ok(Overlaps::new(rows))
 }

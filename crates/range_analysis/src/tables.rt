@@ -14,10 +14,13 @@ use crate::measuring::measure;
 use crate::overlaps::overlaps;
 use crate::track::Track;
 use range_plane::OutOfMemory;
+use rayon::prelude::*;
 use std::alloc::Global;
+use std::thread::Threads;
 
-// What is known of each animal, in their order.
-fn measure_all(
+// What is known of each animal, in their order. Several are measured at once.
+fn measure_all<R: Threads + Sync>(
+    rt: &R,
     alloc: Global,
     tracks: Vec<Track>,
     levels: &[u8],
@@ -25,12 +28,16 @@ fn measure_all(
     requires { All IsLevel levels.now }
     ensures { IfOk result (λ measured. AllZip (IsMeasuredOf levels.now) tracks.items measured.items) }
 {
-    let mut measured = Vec::with_capacity(alloc, tracks.len())?;
-    for track in tracks {
-        let one = measure(alloc, track, levels)?;
-        measured.push(one)?;
-    }
-    Ok(measured)
+    tracks
+        .into_par_iter()
+        .with_min_len(1)
+        .map(
+            |track: Track| -> Result<Measured, OutOfMemory>
+                requires { All IsLevel levels.now }
+                ensures { IfOk result (IsMeasuredOf levels.entry.now track) }
+            { measure(alloc, track, levels) },
+        )
+        .collect::<Result<Vec<Measured>, OutOfMemory>>(rt, alloc)?
 }
 
 // The animals, without their points.
@@ -45,7 +52,8 @@ fn animals(alloc: Global, measured: Vec<Measured>) -> Result<Animals, OutOfMemor
 }
 
 // The tables of these animals, with percent polygons at these levels, and their overlaps.
-pub(crate) fn tabulate(
+pub(crate) fn tabulate<R: Threads + Sync>(
+    rt: &R,
     alloc: Global,
     tracks: Vec<Track>,
     levels: &[u8],
@@ -55,8 +63,8 @@ pub(crate) fn tabulate(
     ensures animals { IfOk result (λ a. AllZip (IsAnimalOf levels.now) (entries_in tracks.items) a.animals) }
     ensures overlaps { IfOk result (λ a. AllZip (IsOverlap (entries_in tracks.items)) (pairs (length tracks.items)) a.overlaps) }
 {
-    let measured = measure_all(alloc, tracks, levels)?;
-    let overlaps = overlaps(alloc, &measured)?;
+    let measured = measure_all(rt, alloc, tracks, levels)?;
+    let overlaps = overlaps(rt, alloc, &measured)?;
     let animals = animals(alloc, measured)?;
     Ok(Analysis { animals, overlaps })
 }

@@ -9,6 +9,7 @@ use range_plane::{Fix, Point};
 use range_stats::PercentRow;
 use std::alloc::Global;
 use std::process::Abort;
+use std::thread::Threads;
 
 // Fixes by their seconds, eastings and northings: a square and a fix within it, a line that ends at its
 // corner, and one fix far from both.
@@ -41,7 +42,7 @@ fn track_of(rt: &impl Abort, alloc: Global, name: &[u8], places: &[(u64, i64, i6
 }
 
 // The analysis of the square, the line and the far fix.
-fn analysis_of(rt: &impl Abort, alloc: Global, levels: &[u8]) -> Analysis {
+fn analysis_of(rt: &(impl Threads + Sync + Abort), alloc: Global, levels: &[u8]) -> Analysis {
     let tracks = vec![in alloc;
         track_of(rt, alloc, b"fox", &SQUARE),
         track_of(rt, alloc, b"hare", &LINE),
@@ -52,7 +53,7 @@ fn analysis_of(rt: &impl Abort, alloc: Global, levels: &[u8]) -> Analysis {
         levels.iter().all(|level| 1 <= *level && *level <= 100),
         "levels"
     );
-    tabulate(alloc, tracks, levels).expect(rt, "memory")
+    tabulate(rt, alloc, tracks, levels).expect(rt, "memory")
 }
 
 const fn row(level: u8, kept: u32, corners: u32, area2: u128) -> PercentRow {
@@ -153,7 +154,7 @@ fn repeated_levels(rt: HostRuntime) {
 #[test]
 fn no_file(rt: HostRuntime) {
     let tracks = Vec::new(rt.alloc());
-    let analysis = tabulate(rt.alloc(), tracks, &[50]).expect(&rt, "memory");
+    let analysis = tabulate(&rt, rt.alloc(), tracks, &[50]).expect(&rt, "memory");
     assert!(rt; analysis.animals.as_slice().is_empty());
     assert!(rt; analysis.overlaps.as_slice().is_empty());
 }

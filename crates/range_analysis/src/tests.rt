@@ -14,6 +14,7 @@ use std::alloc::Global;
 use std::process::Abort;
 use std::sync::Wait;
 use std::test::Fail;
+use std::thread::Threads;
 
 // What a reader says of its file.
 type Said = Result<&'static [u8], ReadFault>;
@@ -81,7 +82,7 @@ fn followed<R: Wait + Abort>(
 }
 
 // Why these files have no analysis.
-fn fault_of<R: Wait + Abort>(
+fn fault_of<R: Wait + Threads + Sync + Abort>(
     rt: &R,
     alloc: Global,
     files: &[(Said, bool)],
@@ -91,7 +92,7 @@ fn fault_of<R: Wait + Abort>(
         all.push(followed(rt, alloc, *said, *mark)?)?;
     }
     assert!(rt; !all.is_empty() && all.len() <= 64, "too many files");
-    Ok(judge(alloc, all, &[]).err())
+    Ok(judge(rt, alloc, all, &[]).err())
 }
 
 // Names are compared by their bytes.
