@@ -2,7 +2,6 @@
 use Rattle.std.proofs.Common.{◌≡◌, ℕ, zero, suc, ◌+◌, ◌<◌, Bool, true, false, cond, eqb, nat_lt, List, [], ◌∷◌, length, get_or, set, map, take, filter, refl, sym, ap, subst, ◌∙◌, arith, rules, tests, suc-le-suc}
 use Rattle.std.specs.Prelude.{count_by}
 use Rattle.std.specs.Cmp.{IsStrictWeakOrder}
-use Rattle.std.specs.Ordering.{is_lt, ordering_then, nat_cmp}
 use Rattle.std.specs.List.{AllByRecursion, IsDistinct, swap}
 use Rattle.std.specs.List.Sorted.{IsPermutation, IsSortedBy}
 use Rattle.std.proofs.lemmas.Bool.Decides.{nat_tests}
@@ -33,13 +32,6 @@ same_place a b = eqb a.1 b.1
 
 before_other : (a b : Entry) → comes_before b a ≡ false → same_place a b ≡ false → comes_before a b ≡ true
 before_other a b h k = grind (arith, nat_tests)
-
--- the order by which a sort compares pairs
-before_is : (a b : Entry) → is_lt (ordering_then (nat_cmp a.0 b.0) (nat_cmp a.1 b.1)) ≡ comes_before a b
-before_is a b = grind (arith, nat_tests)
-
-pub sorted_by_before : (xs : List Entry) → IsSortedBy (λ a b. is_lt (ordering_then (nat_cmp a.0 b.0) (nat_cmp a.1 b.1))) xs → IsSortedBy comes_before xs
-sorted_by_before xs up k d low high = sym (before_is (get_or xs (k + 1) d) (get_or xs k d)) ∙ up k d low high
 
 -- ---- lists in which each entry comes before all later ones
 abbrev Rises : List Entry → Type 0

@@ -1,3 +1,4 @@
+pub mod Keys
 pub mod Levels
 pub mod Overlap
 pub mod Percent

@@ -1,13 +1,17 @@
-// The distances of points from their mean.
+// The distances of points from their mean, and keys by which the points are ranked.
 
-ghost use Rattle.std.specs.Prelude.{◌≡◌, ◌*◌, ◌≤◌, pos, IfOk, length, map};
+ghost use Rattle.std.specs.Prelude.{◌≡◌, ◌*◌, ◌%◌, ◌<◌, ◌≤◌, pos, IfOk, length, map};
 ghost use Rattle.range_plane.specs.Fix.{fix_limit};
 ghost use Rattle.range_plane.specs.Plane.{coordinate_limit};
+ghost use Rattle.range_stats.specs.Keys.{distance_limit, key};
 ghost use Rattle.range_stats.specs.Percent.{entry, places, scaled_distance};
 
 use range_lanes::sums;
-use range_plane::{Columns, OutOfMemory, Point};
+use range_plane::{Columns, FIX_LIMIT, OutOfMemory, Point};
 use std::alloc::Allocator;
+
+// How many places there are, beside each distance.
+const PLACES: u128 = FIX_LIMIT as u128;
 
 // The squared distance of `p` from the mean of points, times the square of their number: so it is a whole
 // number. `count` is their number, the others are the sums of their coordinates.
@@ -15,27 +19,44 @@ fn scaled_distance(count: u64, eastings: u64, northings: u64, p: Point) -> u128
     requires count { count ≤ fix_limit }
     requires eastings { eastings ≤ fix_limit * coordinate_limit }
     requires northings { northings ≤ fix_limit * coordinate_limit }
-    ensures { result ≡ scaled_distance count (pos eastings) (pos northings) p }
+    ensures value { result ≡ scaled_distance count (pos eastings) (pos northings) p }
+    ensures bound { result ≤ distance_limit }
 {
     let east = u128::from((count * p.e.unsigned_abs()).abs_diff(eastings));
     let north = u128::from((count * p.n.unsigned_abs()).abs_diff(northings));
     east * east + north * north
 }
 
-// The distance of each point from the mean of all, scaled as above, and its place.
-pub(crate) fn distances<A: Allocator, B: Allocator>(
+// A distance and a place as one number.
+fn key(distance: u128, place: usize) -> u128
+    requires distance { distance ≤ distance_limit }
+    requires place { place < fix_limit }
+    ensures { result ≡ key (distance, place) }
+{
+    distance * PLACES + place as u128
+}
+
+// The place in a key.
+pub(crate) fn place_in(key: u128) -> usize
+    ensures { result ≡ key % fix_limit }
+{
+    (key % PLACES) as usize
+}
+
+// The key of each point: its distance from the mean of all, scaled as above, and its place.
+pub(crate) fn keys<A: Allocator, B: Allocator>(
     alloc: A,
     fixes: &Columns<B>,
-) -> Result<Vec<(u128, usize), A>, OutOfMemory>
+) -> Result<Vec<u128, A>, OutOfMemory>
     requires { length fixes.now.points ≤ fix_limit }
-    ensures { IfOk result (λ entries. entries.items ≡ map (entry fixes.now.points) (places fixes.now.points)) }
+    ensures { IfOk result (λ keys. keys.items ≡ map (λ i. key (entry fixes.now.points i)) (places fixes.now.points)) }
 {
     let (eastings, northings) = sums(fixes);
     let count = fixes.len() as u64;
-    let mut entries = Vec::with_capacity(alloc, fixes.len())?;
+    let mut keys = Vec::with_capacity(alloc, fixes.len())?;
     for place in 0..fixes.len() {
         let distance = scaled_distance(count, eastings, northings, fixes.at(place));
-        entries.push((distance, place))?;
+        keys.push(key(distance, place))?;
     }
-    Ok(entries)
+    Ok(keys)
 }

@@ -1,13 +1,13 @@
 // Points by their distance from the mean of all.
 
-ghost use Rattle.std.specs.Prelude.{◌≡◌, ◌≤◌, ◌<◌, All, IfOk, List, length, map};
+ghost use Rattle.std.specs.Prelude.{◌≡◌, ◌%◌, ◌≤◌, ◌<◌, All, IfOk, List, length, map};
 ghost use Rattle.range_plane.specs.Edges.{at};
 ghost use Rattle.range_plane.specs.Fix.{fix_limit};
 ghost use Rattle.range_plane.specs.Plane.{Position};
 ghost use Rattle.range_plane.specs.Polygon.{IsPolygon};
 ghost use Rattle.range_stats.specs.Percent.{IsPercentRow, IsRanking, kept_count};
 
-use crate::distances::distances;
+use crate::distances::{keys, place_in};
 use crate::percents::PercentRow;
 use range_hull::OnlineHull;
 use range_plane::{
@@ -44,9 +44,9 @@ impl<A: Allocator> Ranking<A> {
         requires { length fixes.now.points ≤ fix_limit }
         ensures { IfOk result (IsRanking fixes.now.points) }
     {
-        let mut ranked = distances(alloc, fixes)?;
-        ranked.sort_unstable();
-        let points = points_of(alloc, fixes, &ranked)?;
+        let mut keys = keys(alloc, fixes)?;
+        keys.sort_unstable();
+        let points = points_of(alloc, fixes, &keys)?;
         Ok(Ranking { points })
     }
 
@@ -73,18 +73,18 @@ impl<A: Allocator> Ranking<A> {
     }
 }
 
-// The points at the places that stand beside the distances.
+// The points at the places in the keys.
 fn points_of<A: Allocator, B: Allocator>(
     alloc: A,
     fixes: &Columns<B>,
-    ranked: &[(u128, usize)],
+    keys: &[u128],
 ) -> Result<Vec<Point, A>, OutOfMemory>
-    requires { All (λ entry. entry.1 < length fixes.now.points) ranked.now }
-    ensures { IfOk result (λ points. points.items ≡ map (λ entry. at fixes.now.points entry.1) ranked.now) }
+    requires { All (λ key. key % fix_limit < length fixes.now.points) keys.now }
+    ensures { IfOk result (λ points. points.items ≡ map (λ key. at fixes.now.points (key % fix_limit)) keys.now) }
 {
-    let mut points = Vec::with_capacity(alloc, ranked.len())?;
-    for (_, place) in ranked {
-        points.push(fixes.at(*place))?;
+    let mut points = Vec::with_capacity(alloc, keys.len())?;
+    for key in keys {
+        points.push(fixes.at(place_in(*key)))?;
     }
     Ok(points)
 }

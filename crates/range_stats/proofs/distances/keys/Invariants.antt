@@ -1,0 +1,8 @@
+use Rattle.std.proofs.Common.{◌≡◌, map}
+use Rattle.std.specs.List.{range_with_len}
+use Rattle.range_stats.specs.Keys.{key}
+use Rattle.range_stats.specs.Percent.{entry}
+use Rattle.range_stats.proofs.distances.keys.Given as goal
+
+abbrev pub invariant-loop-place : goal.invariant-loop-place
+invariant-loop-place g l = l.keys.items ≡ map (λ i. key (entry l.fixes.points i)) (range_with_len 0 l.place)
