@@ -1,15 +1,14 @@
 -- What is known of each animal by itself makes the analysis of all.
-use Rattle.std.proofs.Common.{◌≡◌, refl, sym, subst, ℕ, ◌<◌, List, [], ◌∷◌, map, All, arith}
-use Rattle.std.proofs.lemmas.List.Elements.{All-append, All-cons, All-filter, All-head, All-map, All-nil, All-tail, All-weaker}
-use Rattle.std.proofs.lemmas.List.FromFn.{get_or-range_with_len, length-range_with_len}
-use Rattle.std.specs.Prelude.{◌==◌, not}
-use Rattle.std.specs.List.{AllZip, flat_map, range_with_len}
+use Rattle.std.proofs.Common.{◌≡◌, refl, sym, subst, ℕ, ◌<◌, List, [], ◌∷◌, map, All}
+use Rattle.std.proofs.lemmas.List.Elements.{All-cons, All-map, All-nil}
+use Rattle.std.specs.List.{AllZip}
 use Rattle.range_plane.specs.Plane.{Position}
 use Rattle.range_plane.specs.Polygon.{IsPolygon}
 use Rattle.range_lanes.specs.Extent.{IsExtent}
 use Rattle.range_analysis.specs.Entries.{Entry, points_in}
+use Rattle.range_analysis.proofs.Pairs.{pairs_below}
 use Rattle.range_analysis.specs.Overlaps.{IsKnown, fixes_in, row_of}
-use Rattle.range_analysis.specs.Tables.{IsAnimalOf, IsOverlap, others, pairs}
+use Rattle.range_analysis.specs.Tables.{IsAnimalOf, IsOverlap, pairs}
 use Rattle.range_analysis.specs.Tracks.{IsMeasuredOf, entries_in}
 use Rattle.range_analysis.specs.declared.animal.OverlapRow.{OverlapRow}
 use Rattle.range_analysis.specs.declared.measured.Measured.{Measured}
@@ -57,18 +56,5 @@ overlaps_of levels tracks measured n each =
     rw (fixes_of levels tracks measured each) (zip_of_map (IsOverlap (entries_in tracks)) (row_of (map points_in (entries_in tracks))) (pairs n) (overlap_of (entries_in tracks)))
 
 -- ---- the rows are of animals that there are
-all_flat_map : {X Y : Type 0} (P : Y → Type 0) (f : X → List Y) (xs : List X) → All (λ x. All P (f x)) xs → All P (flat_map f xs)
-all_flat_map P f [] each = All-nil P
-all_flat_map P f (x ∷ xs) each = All-append P (f x) (flat_map f xs) (All-head (λ x. All P (f x)) x xs each) (all_flat_map P f xs (All-tail (λ x. All P (f x)) x xs each))
-
-places_below : (n : ℕ) → All (λ i. i < n) (range_with_len 0 n)
-places_below n = λ k d within. omega (arith, within, length-range_with_len 0 n, get_or-range_with_len 0 n k d (omega (arith, within, length-range_with_len 0 n)))
-
-pairs_below : (n : ℕ) → All (λ pair. (pair.0 < n) × (pair.1 < n)) (pairs n)
-pairs_below n =
-    let Below = λ (pair : ℕ × ℕ). (pair.0 < n) × (pair.1 < n) in
-    let row = λ (i : ℕ) (below : i < n). All-map Below (λ (j : ℕ). (i, j)) (others n i) (All-weaker (λ j. j < n) (λ j. (i < n) × (j < n)) (λ j h. (below, h)) (others n i) (All-filter (λ j. not (i == j)) (λ j. j < n) (range_with_len 0 n) (places_below n))) in
-    all_flat_map Below (λ i. map (λ j. (i, j)) (others n i)) (range_with_len 0 n) (All-weaker (λ i. i < n) (λ i. All Below (map (λ j. (i, j)) (others n i))) row (range_with_len 0 n) (places_below n))
-
 pub rows_numbered : (fixes : List (List Position)) (n : ℕ) → All (λ (row : OverlapRow). (row.animal < n) × (row.range < n)) (map (row_of fixes) (pairs n))
 rows_numbered fixes n = All-map (λ (row : OverlapRow). (row.animal < n) × (row.range < n)) (row_of fixes) (pairs n) (pairs_below n)

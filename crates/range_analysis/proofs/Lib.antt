@@ -3,6 +3,7 @@ pub mod Boxes
 pub mod HandedOn
 pub mod Kept
 pub mod Outcomes
+pub mod Pairs
 pub mod Positions
 pub mod Repeats
 pub mod Rows

@@ -1,2 +1,3 @@
 pub mod ListFacts
 pub mod Numbered
+pub mod Texts

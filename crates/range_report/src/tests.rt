@@ -108,7 +108,7 @@ fn reports_two_animals(rt: HostRuntime) -> Result<(), Fail> {
         animals: Animals::new(animals),
         overlaps: Overlaps::new(overlaps),
     };
-    let text = report(alloc, &analysis).ok().ok_or("memory")?;
+    let text = report(&rt, alloc, &analysis).ok().ok_or("memory")?;
     assert_eq!(rt; text.as_slice(), REPORT);
     Ok(())
 }

@@ -1,6 +1,7 @@
 // The report of an analysis.
 
-ghost use Rattle.std.specs.Prelude.{◌≡◌, ◌++◌, IfOk, OnOk};
+ghost use Rattle.std.specs.Prelude.{◌≡◌, IfOk};
+ghost use Rattle.std.specs.List.{flat_map};
 ghost use Rattle.range_report.specs.Report.{animal_text, report_text};
 
 use crate::lines::{
@@ -8,7 +9,9 @@ use crate::lines::{
 };
 use range_analysis::{Analysis, Animal};
 use range_plane::OutOfMemory;
+use rayon::prelude::*;
 use std::alloc::{AllocError, Global};
+use std::thread::Threads;
 
 // How many bytes a line of one animal has at most beside its name.
 const LINE_ROOM: usize = 56;
@@ -28,32 +31,62 @@ fn room_of(animal: &Animal) -> usize {
     lines.saturating_mul(animal.name.as_slice().len().saturating_add(LINE_ROOM))
 }
 
-// How many bytes the report has, or some more, so that its memory is taken once.
-fn room(analysis: &Analysis) -> usize {
-    let mut room = analysis
-        .overlaps
-        .as_slice()
-        .len()
-        .saturating_add(1)
-        .saturating_mul(OVERLAP_ROOM);
-    for animal in analysis.animals.as_slice() {
-        room = room.saturating_add(room_of(animal));
-    }
-    room
-}
-
-// Appends the lines of an animal.
+// The lines of an animal.
 #[tactic(auto, unfolding(crate::specs::Report::animal_text))]
-fn push_animal(text: &mut Vec<u8>, animal: &Animal) -> Result<(), AllocError>
-    ensures { OnOk result (text.new.items ≡ text.old.items ++ animal_text animal.now) }
+fn animal_text(alloc: Global, animal: &Animal) -> Result<Vec<u8>, AllocError>
+    ensures { IfOk result (λ text. text.items ≡ animal_text animal.now) }
 {
+    let mut text = Vec::with_capacity(alloc, room_of(animal))?;
     let name = animal.name.as_slice();
     let rows = animal.rows.as_slice();
-    push_head(text, name, rows.len())?;
-    push_box(text, name, animal.extent)?;
-    push_rows(text, name, rows)?;
-    push_corners(text, name, animal.polygon.corners())?;
-    push_percents(text, name, animal.percents.as_slice())
+    push_head(&mut text, name, rows.len())?;
+    push_box(&mut text, name, animal.extent)?;
+    push_rows(&mut text, name, rows)?;
+    push_corners(&mut text, name, animal.polygon.corners())?;
+    push_percents(&mut text, name, animal.percents.as_slice())?;
+    Ok(text)
+}
+
+// The lines of each animal. Those of several are written at once.
+fn animal_texts<R: Threads + Sync>(
+    rt: &R,
+    alloc: Global,
+    animals: &[Animal],
+) -> Result<Vec<Vec<u8>>, AllocError>
+    ensures { IfOk result (λ texts. flat_map (λ text. text.items) texts.items ≡ flat_map animal_text animals.now) }
+{
+    animals
+        .par_iter()
+        .with_min_len(1)
+        .map(
+            |animal: &Animal| -> Result<Vec<u8>, AllocError>
+                ensures { IfOk result (λ text. text.items ≡ animal_text animal.now) }
+            { animal_text(alloc, animal) },
+        )
+        .collect::<Result<Vec<Vec<u8>>, AllocError>>(rt, alloc)?
+}
+
+// How many bytes the texts have.
+fn length_of(texts: &[Vec<u8>]) -> usize {
+    let mut length: usize = 0;
+    for text in texts {
+        length = length.saturating_add(text.len());
+    }
+    length
+}
+
+// The texts one after the other, and room behind them. The first is not copied where its memory can grow.
+fn joined(alloc: Global, texts: Vec<Vec<u8>>, room: usize) -> Result<Vec<u8>, AllocError>
+    ensures { IfOk result (λ all. all.items ≡ flat_map (λ text. text.items) texts.items) }
+{
+    let length = length_of(&texts).saturating_add(room);
+    let mut texts = texts.into_iter();
+    let mut all = texts.next().unwrap_or(Vec::new(alloc));
+    all.reserve(length.saturating_sub(all.len()))?;
+    for text in texts {
+        all.extend_from_slice(&text)?;
+    }
+    Ok(all)
 }
 
 /// The report of an analysis, in ASCII but for the animals' names. Each line ends with a line feed; numbers
@@ -67,15 +100,22 @@ fn push_animal(text: &mut Vec<u8>, animal: &Animal) -> Result<(), AllocError>
 ///   in B's polygon, and how many fixes A has.
 /// - Last `end,ANIMALS`, the number of animals.
 #[tactic(auto, unfolding(crate::specs::Report::report_text))]
-pub fn report(alloc: Global, analysis: &Analysis) -> Result<Vec<u8>, OutOfMemory>
+pub fn report<R: Threads + Sync>(
+    rt: &R,
+    alloc: Global,
+    analysis: &Analysis,
+) -> Result<Vec<u8>, OutOfMemory>
     ensures { IfOk result (λ text. text.items ≡ report_text analysis.now) }
 {
-    let mut text = Vec::with_capacity(alloc, room(analysis))?;
     let animals = analysis.animals.as_slice();
-    for animal in animals {
-        push_animal(&mut text, animal)?;
-    }
-    push_overlaps(&mut text, animals, analysis.overlaps.as_slice())?;
+    let overlaps = analysis.overlaps.as_slice();
+    let texts = animal_texts(rt, alloc, animals)?;
+    let room = overlaps
+        .len()
+        .saturating_add(1)
+        .saturating_mul(OVERLAP_ROOM);
+    let mut text = joined(alloc, texts, room)?;
+    push_overlaps(&mut text, animals, overlaps)?;
     push_end(&mut text, animals.len())?;
     Ok(text)
 }

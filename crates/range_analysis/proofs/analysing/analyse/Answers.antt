@@ -11,7 +11,7 @@ count : (g : given.Over) (c : In_ok-followed g) → length c.in_ok-followed.foll
 count g c = same_count _ 0 (map g.S.Read.remaining c.args.sources.items) c.in_ok-followed.followed.items c.in_ok-followed.ensures.followed
 
 pub judge-requires-clause-files : goal.judge-requires-clause-files
-judge-requires-clause-files g c =
+judge-requires-clause-files g c κs within =
     let sources = c.args.sources.items in
     let all = count g (goal.at.judge-requires-clause-files g c).In_ok-followed in
     let told = length-map sources g.S.Read.remaining in

@@ -3,14 +3,14 @@ use Rattle.range_analysis.proofs.Tracking.{repeat_within, tracks_count}
 use Rattle.range_analysis.proofs.judging.judge.Goals as goal
 
 pub overflow_cast-result : goal.overflow_cast-result
-overflow_cast-result c =
+overflow_cast-result g c =
     let within = repeat_within _ _ _ (rw c.in-Some-2.is at c.in_ok-first.ensures) in
     let count = tracks_count _ _ c.in_ok-tracks.ensures.tracks in
     let same = ap length c.deref-2.ensures.value in
     omega (arith, within.0, count, same, c.args.followed.ok.0, c.requires.files.1)
 
 pub overflow_cast-result-in-Some-2 : goal.overflow_cast-result-in-Some-2
-overflow_cast-result-in-Some-2 c =
+overflow_cast-result-in-Some-2 g c =
     let within = repeat_within _ _ _ (rw c.in-Some-2.is at c.in_ok-first.ensures) in
     let count = tracks_count _ _ c.in_ok-tracks.ensures.tracks in
     let same = ap length c.deref-2.ensures.value in

@@ -1,8 +1,18 @@
-use Rattle.range_analysis.proofs.Rows.{rows_pushed}
+use Rattle.std.proofs.Common.{length, ◌∙◌}
+use Rattle.rayon.proofs.ToStd.{slice-map}
 use Rattle.range_analysis.specs.Overlaps.{fixes_in, row_of}
-use Rattle.std.proofs.Common.{length}
+use Rattle.range_analysis.specs.Tables.{pairs}
+use Rattle.range_analysis.proofs.Pairs.{pairs_below}
 use Rattle.range_analysis.proofs.overlaps.overlaps.Goals as goal
 
-pub loop-animal-preserved : goal.loop-animal-preserved
-loop-animal-preserved c =
-    rows_pushed (row_of (fixes_in c.args.measured.now)) c.loop-animal.rows.items c.push_rows.new.rows.items (length c.args.measured.now) c.loop-animal.animal c.loop-animal.invariant c.in_ok-push_rows.ensures
+pub collect-requires-clause-ready : goal.collect-requires-clause-ready
+collect-requires-clause-ready g c κs within =
+    rw (c.map.ensures.base, c.map.ensures.f, c.with_min_len.ensures.base, c.par_iter.ensures, c.in_ok-pairs.ensures)
+    (λ k d inside pair is. ((c.requires.files, (c.requires.known, rw is (pairs_below (length c.args.measured.now) k d inside))), λ row made. tt))
+
+pub returns : goal.returns
+returns g c =
+    let measured = c.args.measured.now in
+    let rows = c.in_ok-rows.ensures in
+    let chain = rw (c.map.ensures.base, c.map.ensures.f, c.with_min_len.ensures.base) at rows.1 in
+    c.new.ensures ∙ rows.2 ∙ slice-map chain.0 (pairs (length measured)) (chain.1 ∙ c.par_iter.ensures ∙ c.in_ok-pairs.ensures) (row_of (fixes_in measured)) rows.0 chain.2

@@ -1,13 +1,13 @@
-use Rattle.std.proofs.Common.{◌++◌, ◌∷◌, [], sym, ap, ◌∙◌, append_assoc}
-use Rattle.std.proofs.lemmas.Slice.Zip.{all_zipped_more}
-use Rattle.range_analysis.specs.Tracks.{IsMeasuredOf}
+use Rattle.std.proofs.Common.{List, subst, ◌∙◌}
+use Rattle.std.specs.List.{AllZip}
+use Rattle.range_analysis.specs.declared.track.Track.{Track}
+use Rattle.range_analysis.proofs.Tracking.{IsResultOf, measured_of}
 use Rattle.range_analysis.proofs.tables.measure_all.Goals as goal
 
-pub loop-track-preserved : goal.loop-track-preserved
-loop-track-preserved c =
-    let done = c.loop-track.invariant.0 in
-    let track = c.in-Some.track in (
-      done ++ track ∷ [],
-      c.loop-track.invariant.1 ∙ (ap (λ l. done ++ l) c.in-Some.ensures.steps.0 ∙ sym (append_assoc done (track ∷ []) _)),
-      rw c.in_ok-push.ensures.items (all_zipped_more (IsMeasuredOf c.args.levels.now) done c.loop-track.measured.items track c.in_ok-one.one c.loop-track.invariant.2 c.in_ok-one.ensures),
-    )
+pub returns : goal.returns
+returns g c =
+    let levels = c.args.levels.now in
+    let results = c.in_ok-collect.ensures in
+    let chain = rw (c.map.ensures.base, c.map.ensures.f, c.with_min_len.ensures.base) at results.1 in
+    let each = subst (λ (tracks : List Track). AllZip (IsResultOf levels) tracks results.0) (chain.1 ∙ c.into_par_iter.ensures) chain.2 in
+    measured_of levels c.args.tracks.items results.0 c.in_ok-collect.field-0 each results.2
