@@ -12,10 +12,10 @@ def output(command, text):
     return done.stdout, done.stderr
 
 
-def proved(crate):
-    """The program of a crate, built by `rt`."""
+def proved(crate, *words):
+    """The program of a crate, built by `rt`, which runs it once, with these words."""
     folder = TOP / "crates" / crate
-    subprocess.run(["rt", "run"], cwd=folder, stdin=subprocess.DEVNULL, capture_output=True, check=True)
+    subprocess.run(["rt", "run", "--", *words], cwd=folder, stdin=subprocess.DEVNULL, capture_output=True, check=True)
     return folder / "out" / crate
 
 

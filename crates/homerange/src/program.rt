@@ -1,6 +1,7 @@
 // From the words of the command line to what is written.
 
-ghost use Rattle.std.specs.Prelude.{◌≡◌, ◌≢◌, ◌≤◌, All, IfErr, IfOk, vec_len};
+ghost use Rattle.std.specs.Prelude.{◌≡◌, ◌≢◌, ◌≤◌, All, IfErr, IfOk, OnOk, vec_len};
+ghost use Rattle.std.specs.Io.KnownBytes.{Appends};
 ghost use Rattle.range_line.specs.Limits.{file_limit};
 ghost use Rattle.range_stats.specs.Levels.{IsLevel};
 ghost use Rattle.homerange.specs.Status.{refusal_status};
@@ -99,7 +100,8 @@ fn alone<S: Drop>(alloc: Global, source: S) -> Result<Vec<S>, Refusal>
 
 // Writes the help.
 fn write_help<W: Write>(text: &str, out: &mut W) -> Result<(), Refusal>
-    ensures { IfErr result (λ refusal. refusal ≡ Refusal.Unwritten) }
+    ensures help { OnOk result (Appends (W.contents out.old) (W.contents out.new) text.now) }
+    ensures refusal { IfErr result (λ refusal. refusal ≡ Refusal.Unwritten) }
 {
     match write_text(out, text.as_bytes()) {
         Ok(()) => Ok(()),
