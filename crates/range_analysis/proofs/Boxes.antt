@@ -7,7 +7,7 @@ use Rattle.std.specs.Prelude.{◌||◌}
 use Rattle.range_plane.specs.Covering.{Covers, advance, is_covered}
 use Rattle.range_plane.specs.Laws.{CoveredIsDecided, CoveringIsReaching}
 use Rattle.range_plane.specs.Plane.{Position, position}
-use Rattle.range_plane.proofs.Members.{here, there}
+use Rattle.integers_and_lists.proofs.Members.{here, there}
 use Rattle.range_lanes.specs.Extent.{IsExtent}
 use Rattle.range_lanes.specs.declared.extent.Extent.{Extent}
 use Rattle.range_stats.specs.Overlap.{overlap}

@@ -6,8 +6,8 @@ use Rattle.range_plane.specs.Covering.{Covers, advance, is_covered}
 use Rattle.range_plane.specs.Laws.{CornersCoverTheSet, CoveredIsDecided, CoveringIsReaching, CoveringMembersAreCorners, LargerSetsCoverMore}
 use Rattle.range_plane.specs.Plane.{Position}
 use Rattle.range_plane.specs.Polygon.{IsPolygon}
-use Rattle.range_plane.proofs.Integers.{linear}
-use Rattle.range_plane.proofs.Members.{contained, here, there}
+use Rattle.integers_and_lists.proofs.Integers.{linear}
+use Rattle.integers_and_lists.proofs.Members.{contained, here, there}
 
 -- no point is behind itself
 advance_itself : (d p : Position) → pos 0 ≤ℤ advance d p p

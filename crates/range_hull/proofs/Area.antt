@@ -8,8 +8,8 @@ use Rattle.range_plane.specs.Edges.{at}
 use Rattle.range_plane.specs.Order.{rank}
 use Rattle.range_plane.specs.Plane.{Position, origin, turn}
 use Rattle.range_plane.specs.Polygon.{area2, shoelace}
-use Rattle.range_plane.proofs.Integers.{linear}
-use Rattle.range_plane.proofs.Ring.{Expr, var, num, ◌⊕◌, ◌⊖◌, ◌⊗◌, ring}
+use Rattle.integers_and_lists.proofs.Integers.{linear}
+use Rattle.integers_and_lists.proofs.Ring.{Expr, var, num, ◌⊕◌, ◌⊖◌, ◌⊗◌, ring}
 use Rattle.range_hull.specs.declared.side.Side.{Side}
 use Rattle.range_hull.specs.declared.side.Side.TheVariants.{Lower, Upper}
 use Rattle.range_hull.specs.Area.{wedge, path, signed, swept, swept_before, swept_after, open_edge}

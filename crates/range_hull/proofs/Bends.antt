@@ -1,11 +1,10 @@
 -- How the bends of four and five points hang together, and what their signs imply.
-use Rattle.std.proofs.Common.{◌≡◌, sym, ap, ◌∙◌, ℤ, pos, neg_ℤ, ◌+ℤ◌, ◌-ℤ◌, ◌*ℤ◌, ◌≤ℤ◌, ◌<ℤ◌, [], ◌∷◌, arith}
+use Rattle.std.proofs.Common.{◌≡◌, ap, ◌∙◌, ℤ, pos, neg_ℤ, ◌+ℤ◌, ◌-ℤ◌, ◌*ℤ◌, ◌≤ℤ◌, ◌<ℤ◌, [], ◌∷◌, arith}
 use Rattle.std.proofs.lemmas.Int.{by_lt_z}
 use Rattle.range_plane.specs.Order.{rank, rank_base}
 use Rattle.range_plane.specs.Plane.{Position, turn}
-use Rattle.range_plane.proofs.Integers.{linear, product_comm, neg_product, nonneg_product, positive_product, positive_factor}
-use Rattle.range_plane.proofs.Ring.{Expr, var, num, ◌⊕◌, ◌⊖◌, ◌⊗◌, ring}
-use Rattle.range_plane.proofs.Vectors.{turn_cycle, turn_self, turn_swap}
+use Rattle.integers_and_lists.proofs.Integers.{linear, product_comm, neg_product, nonneg_product, positive_product, positive_factor}
+use Rattle.integers_and_lists.proofs.Ring.{Expr, var, num, ◌⊕◌, ◌⊖◌, ◌⊗◌, ring}
 use Rattle.range_hull.specs.declared.side.Side.{Side}
 use Rattle.range_hull.specs.declared.side.Side.TheVariants.{Lower, Upper}
 use Rattle.range_hull.specs.Chain.{bend}
@@ -45,17 +44,30 @@ bend_lift Lower w p a b q = turn_lift w p a b q
 bend_lift Upper w p a b q =
     omega (arith, linear, turn_lift w p a b q, neg_times (turn w p q) (rank b -ℤ rank a), neg_times (turn w p a) (rank b -ℤ rank q), neg_times (turn w p b) (rank q -ℤ rank a), neg_times (turn a b q) (rank p -ℤ rank w))
 
+-- ---- the points in another order
+turn_rotate : (a b c : Position) → turn a b c ≡ turn b c a
+unfolding turn turn_of
+turn_rotate a b c = ring (a.e ∷ a.n ∷ b.e ∷ b.n ∷ c.e ∷ c.n ∷ []) (turn_of (var 0) (var 1) (var 2) (var 3) (var 4) (var 5)) (turn_of (var 2) (var 3) (var 4) (var 5) (var 0) (var 1)) tt
+
+turn_flip : (a b c : Position) → turn a b c ≡ pos 0 -ℤ turn a c b
+unfolding turn turn_of
+turn_flip a b c = ring (a.e ∷ a.n ∷ b.e ∷ b.n ∷ c.e ∷ c.n ∷ []) (turn_of (var 0) (var 1) (var 2) (var 3) (var 4) (var 5)) (num (pos 0) ⊖ turn_of (var 0) (var 1) (var 4) (var 5) (var 2) (var 3)) tt
+
+turn_back : (a b : Position) → turn a b a ≡ pos 0
+unfolding turn turn_of
+turn_back a b = ring (a.e ∷ a.n ∷ b.e ∷ b.n ∷ []) (turn_of (var 0) (var 1) (var 2) (var 3) (var 0) (var 1)) (num (pos 0)) tt
+
 pub bend_rotate : (side : Side) (a b c : Position) → bend side a b c ≡ bend side b c a
-bend_rotate Lower a b c = sym (turn_cycle a b c)
-bend_rotate Upper a b c = ap neg_ℤ (sym (turn_cycle a b c))
+bend_rotate Lower a b c = turn_rotate a b c
+bend_rotate Upper a b c = ap neg_ℤ (turn_rotate a b c)
 
 pub bend_flip : (side : Side) (a b c : Position) → bend side a b c ≡ pos 0 -ℤ bend side a c b
-bend_flip Lower a b c = omega (arith, linear, turn_swap a b c)
-bend_flip Upper a b c = omega (arith, linear, turn_swap a b c)
+bend_flip Lower a b c = turn_flip a b c
+bend_flip Upper a b c = omega (arith, linear, turn_flip a b c)
 
 pub bend_back : (side : Side) (a b : Position) → bend side a b a ≡ pos 0
-bend_back Lower a b = turn_self a b
-bend_back Upper a b = ap neg_ℤ (turn_self a b)
+bend_back Lower a b = turn_back a b
+bend_back Upper a b = ap neg_ℤ (turn_back a b)
 
 -- ---- signs of weighted sums
 pub nonneg_factor : (x m : ℤ) → pos 0 <ℤ m → pos 0 ≤ℤ (x *ℤ m) → pos 0 ≤ℤ x

@@ -1,13 +1,13 @@
 -- A chain in which a point takes the place of the corners that it covers is a chain, and has within it all that it had.
 use Rattle.std.proofs.Common.{◌≡◌, refl, sym, ap, subst, ◌∙◌, ℕ, suc, ◌+◌, ◌-◌, ◌<◌, ◌≤◌, pos, ◌≤ℤ◌, ◌<ℤ◌, ◌⊎◌, inl, inr, List, ◌∷◌, length, take, drop, get_or, arith, eq-or-lt_of_le, length-append, length-drop, Contains}
 use Rattle.std.proofs.lemmas.Bool.{cases_lt}
-use Rattle.std.proofs.lemmas.Int.{by_lt_z}
+use Rattle.std.proofs.lemmas.Int.{by_lt_z, ints}
 use Rattle.std.proofs.lemmas.List.{get_or_append_left, get_or-take, get_or-drop, get_or-append_right, length-take-le, get_or_default, get_or_read}
 use Rattle.range_plane.specs.Edges.{at}
-use Rattle.range_plane.specs.Order.{rank}
+use Rattle.range_plane.specs.Order.{rank, rank_base}
 use Rattle.range_plane.specs.Plane.{Position, IsAtMost, IsWithinLimits, origin}
-use Rattle.range_plane.proofs.Integers.{linear}
-use Rattle.range_plane.proofs.Ranks.{at_most_by_rank}
+use Rattle.integers_and_lists.proofs.Integers.{linear}
+use Rattle.integers_and_lists.proofs.Numbered.{by_one_number}
 use Rattle.range_hull.specs.declared.side.Side.{Side}
 use Rattle.range_hull.specs.Chain.{bend, IsChain, IsWithin, on_corner, on_chord, replaced, IsRising, BeginsAs, EndsAs, Extends}
 use Rattle.range_hull.proofs.Bends.{bend_rotate, bend_flip, bend_back, bend_from, bend_to, bend_outer, bend_inner, dents_later, dents_earlier, lifted, chord_left, chord_right}
@@ -428,6 +428,11 @@ all-after L p m c h i g k =
       | inl e ↦ subst (λ (x : ℕ). rank p ≤ℤ rank (at L x)) e h
       | inr lt ↦ let u : rank (at L m) <ℤ rank (at L i) = c m i lt k in omega (arith, linear)
     ]
+
+-- the order of points within the limits is that of their ranks
+pub at_most_by_rank : (a b : Position) → IsWithinLimits a → IsWithinLimits b → rank a ≤ℤ rank b → IsAtMost a b
+unfolding rank
+at_most_by_rank a b h k le = by_one_number rank_base a.e a.n b.e b.n h.1.0 (omega (arith, ints, k.1.1)) le
 
 -- within the limits no two points have one rank
 pub rank_injective : (a b : Position) → IsWithinLimits a → IsWithinLimits b → rank a ≡ rank b → a ≡ b

@@ -9,16 +9,15 @@ use Rattle.range_plane.specs.Order.{rank, rank_base}
 use Rattle.range_plane.specs.Plane.{Position, IsAtMost, IsWithinLimits, origin, turn}
 use Rattle.range_plane.specs.Polygon.{BeginsWithLeast, IsPolygon, TurnsLeft}
 use Rattle.range_plane.specs.Laws.{CoveringIsReaching, CoveringMembersAreCorners, ReachesEveryWay}
-use Rattle.range_plane.proofs.Integers.{linear, product_comm, nonneg_product, positive_product, nonpos_nonpos, at_least_product, neg_product}
-use Rattle.range_plane.proofs.Ring.{var, num, ◌⊕◌, ◌⊖◌, ◌⊗◌, ring}
-use Rattle.range_plane.proofs.Members.{contained, there}
-use Rattle.range_plane.proofs.Ranks.{at_most_by_rank}
+use Rattle.integers_and_lists.proofs.Integers.{linear, product_comm, nonneg_product, positive_product, nonpos_nonpos, at_least_product, neg_product}
+use Rattle.integers_and_lists.proofs.Ring.{var, num, ◌⊕◌, ◌⊖◌, ◌⊗◌, ring}
+use Rattle.integers_and_lists.proofs.Members.{contained, there}
 use Rattle.range_hull.specs.declared.side.Side.{Side}
 use Rattle.range_hull.specs.declared.side.Side.TheVariants.{Lower, Upper}
 use Rattle.range_hull.specs.Chain.{bend, IsChain, IsWithin, on_corner, on_chord, BeginsAs, EndsAs, Extends}
 use Rattle.range_hull.specs.Hull.{inner, corners_of, AreChains}
 use Rattle.range_hull.proofs.Bends.{bend_rotate, bend_flip, bend_back, bend_lift, positive_left, turn_of, rank_of}
-use Rattle.range_hull.proofs.Chains.{turns-so, contains-at, within_between}
+use Rattle.range_hull.proofs.Chains.{at_most_by_rank, turns-so, contains-at, within_between}
 
 -- ---- both chains after a point was added
 first-shared : {L U : List Position} (M V : List Position) (p : Position) → AreChains L U → BeginsAs L p M → BeginsAs U p V → at M 0 ≡ at V 0

@@ -9,19 +9,19 @@ use Rattle.std.proofs.lemmas.List.{length-map}
 use Rattle.std.specs.List.{take-map, drop-map}
 use Rattle.std.proofs.lemmas.Simd.{map-map, zip2_splat, zip2_splat_left, Each1-chunk, tops_compared, mask_l-mod, ones-mask_l}
 use Rattle.range_plane.specs.Plane.{Position, position, IsCoordinate, coordinate_limit}
-use Rattle.range_plane.proofs.Bounds.{abs_difference}
-use Rattle.range_plane.proofs.Zipped.{eastings_of_zipped, northings_of_zipped}
+use Rattle.integers_and_lists.proofs.Sizes.{abs_difference}
+use Rattle.integers_and_lists.proofs.Zipped.{firsts_of_zipped, seconds_of_zipped}
 use Rattle.range_lanes.specs.Lanes.{IsWithin, AreLanes, is_not_negative}
 use Rattle.range_lanes.proofs.Signed.{each_from_all}
 
 -- a function of the eastings, or of the northings, as one of the points
 pub moved_e : (g : ℤ → ℤ) (es ns : List ℤ) → length es ≡ length ns → map g es ≡ map (λ p. g p.e) (zip2 position es ns)
 moved_e g es ns same =
-    ap (map g) (sym (eastings_of_zipped es ns same)) ∙ map-map g (λ (p : Position). p.e) (zip2 position es ns)
+    ap (map g) (sym (firsts_of_zipped position (λ (p : Position). p.e) (λ e n. refl) es ns same)) ∙ map-map g (λ (p : Position). p.e) (zip2 position es ns)
 
 pub moved_n : (g : ℤ → ℤ) (es ns : List ℤ) → length es ≡ length ns → map g ns ≡ map (λ p. g p.n) (zip2 position es ns)
 moved_n g es ns same =
-    ap (map g) (sym (northings_of_zipped es ns same)) ∙ map-map g (λ (p : Position). p.n) (zip2 position es ns)
+    ap (map g) (sym (seconds_of_zipped position (λ (p : Position). p.n) (λ e n. refl) es ns same)) ∙ map-map g (λ (p : Position). p.n) (zip2 position es ns)
 
 pub each_map : {A : Type 0} (f : A → ℤ) (P : A → Type 0) (Q : ℤ → Type 0) → ((x : A) → P x → Q (f x)) → (xs : List A) → Each1 P xs → Each1 Q (map f xs)
 each_map f P Q s [] h = tt
@@ -31,7 +31,7 @@ pub less_value : (x : ℤ) (es : List ℤ) → length es ≡ 8 → zip2 ◌-ℤ�
 less_value x es eight = zip2_splat ◌-ℤ◌ es 8 x eight
 
 pub less_small : (x : ℤ) (es : List ℤ) → IsCoordinate x → Each1 IsCoordinate es → Each1 (IsWithin coordinate_limit) (map (λ y. y -ℤ x) es)
-less_small x es h = each_map (λ y. y -ℤ x) IsCoordinate (IsWithin coordinate_limit) (λ y f. abs_difference y x f h) es
+less_small x es h = each_map (λ y. y -ℤ x) IsCoordinate (IsWithin coordinate_limit) (λ y f. abs_difference coordinate_limit y x f h) es
 
 -- ---- a block of the columns
 zipped_back : (vs : List Position) → zip2 position (map (λ p. p.e) vs) (map (λ p. p.n) vs) ≡ vs

@@ -1,10 +1,10 @@
 -- Lanes of signed numbers, as the vector operations keep them: each by its bits.
-use Rattle.std.proofs.Common.{◌≡◌, ℕ, ◌<◌, ℤ, ◌+ℤ◌, ◌-ℤ◌, ◌*ℤ◌, List, [], ◌∷◌, map, refl, ap, ◌∙◌, sym, arith, w32, w64, lit<, FitsSigned, to_z, of_z, cond, Bool, true, false}
+use Rattle.std.proofs.Common.{◌≡◌, ℕ, ◌+◌, ◌<◌, ℤ, ◌+ℤ◌, ◌-ℤ◌, ◌*ℤ◌, List, [], ◌∷◌, map, refl, ap, ◌∙◌, sym, arith, w32, w64, lit<, FitsSigned, to_z, of_z, cond, Bool, true, false}
 use lib.Lanes.{zip2, Each1, Each2, sel_l, top}
 use lib.Signed.{lt_z}
 use Rattle.std.specs.Int.{int_min, int_max}
-use Rattle.range_plane.specs.Plane.{IsCoordinate, coordinate_limit, turn_limit}
-use Rattle.range_plane.proofs.Bounds.{abs_add, abs_sub, abs_mul, fits_from_turn_limit, fits_from_twice_turn_limit, fits_from_product_limit, fits_from_coordinate_limit, abs_le}
+use Rattle.range_plane.specs.Plane.{IsCoordinate, coordinate_limit, product_limit, turn_limit}
+use Rattle.integers_and_lists.proofs.Sizes.{abs_add, abs_mul, abs_sub, abs_up_to, fits_from_size}
 use Rattle.range_lanes.specs.Lanes.{IsWithin, AreLanes}
 use Rattle.std.specs.List.{All}
 use Rattle.std.proofs.lemmas.List.Elements.{All-head, All-tail}
@@ -60,20 +60,23 @@ pub record Exact (f : ℤ → ℤ → ℤ) (k : ℕ) : Type 0 where
 
 pub exact_sum : Exact ◌+ℤ◌ turn_limit
 exact_sum = record {
-  small = fits_from_turn_limit;
-  fits = λ x y p q. fits_from_twice_turn_limit (x +ℤ y) (abs_add x y turn_limit turn_limit p q);
+  small = fits_from_size turn_limit (lit< tt);
+  fits = λ x y p q. fits_from_size (turn_limit + turn_limit) (lit< tt) (x +ℤ y) (abs_add x y turn_limit turn_limit p q);
 }
 
 pub exact_difference : Exact ◌-ℤ◌ turn_limit
 exact_difference = record {
-  small = fits_from_turn_limit;
-  fits = λ x y p q. fits_from_twice_turn_limit (x -ℤ y) (abs_sub x y turn_limit turn_limit p q);
+  small = fits_from_size turn_limit (lit< tt);
+  fits = λ x y p q. fits_from_size (turn_limit + turn_limit) (lit< tt) (x -ℤ y) (abs_sub x y turn_limit turn_limit p q);
 }
+
+coordinate_size_fits : (x : ℤ) → IsWithin coordinate_limit x → FitsSigned w64 x
+coordinate_size_fits x h = fits_from_size coordinate_limit (lit< tt) x h
 
 pub exact_product : Exact ◌*ℤ◌ coordinate_limit
 exact_product = record {
-  small = fits_from_coordinate_limit;
-  fits = λ x y p q. fits_from_product_limit (x *ℤ y) (abs_mul x y coordinate_limit coordinate_limit p q);
+  small = coordinate_size_fits;
+  fits = λ x y p q. fits_from_size product_limit (lit< tt) (x *ℤ y) (abs_mul x y coordinate_limit coordinate_limit p q);
 }
 
 module _ (f : ℤ → ℤ → ℤ) (k : ℕ) (exact : Exact f k) (xs ys : List ℤ) (p : Each1 (IsWithin k) xs) (q : Each1 (IsWithin k) ys) where
@@ -89,10 +92,10 @@ module _ (f : ℤ → ℤ → ℤ) (k : ℕ) (exact : Exact f k) (xs ys : List �
   exact_lanes a b = lanes_from_each f (IsWithin k) (IsWithin k) exact.fits xs ys a b p q
 
 pub coordinate_within : (x : ℤ) → IsCoordinate x → IsWithin coordinate_limit x
-coordinate_within x f = abs_le x coordinate_limit (omega (arith, ints)) (omega (arith, ints))
+coordinate_within x f = abs_up_to coordinate_limit x f
 
 coordinate_fits : (x : ℤ) → IsCoordinate x → FitsSigned w64 x
-coordinate_fits x h = fits_from_coordinate_limit x (coordinate_within x h)
+coordinate_fits x h = coordinate_size_fits x (coordinate_within x h)
 
 -- `All` of a list, lane by lane
 pub each_from_all : (P : ℤ → Type 0) (xs : List ℤ) → All P xs → Each1 P xs
@@ -154,15 +157,15 @@ narrow_fits x h =
 pub narrow_asks : (xs : List ℤ) → Each1 (IsWithin coordinate_limit) xs → Each1 (λ b. FitsSigned w32 (to_z w64 b)) (map (of_z w64) xs)
 narrow_asks [] h = tt
 narrow_asks (x ∷ xs) h =
-    (rw (to_z-of_z w64 x (fits_from_coordinate_limit x h.0)) (narrow_fits x h.0), narrow_asks xs h.1)
+    (rw (to_z-of_z w64 x (coordinate_size_fits x h.0)) (narrow_fits x h.0), narrow_asks xs h.1)
 
 pub widen_asks : (xs : List ℤ) → Each1 (IsWithin coordinate_limit) xs → Each1 (λ b. FitsSigned w64 (to_z w32 b)) (map (λ b. of_z w32 (to_z w64 b)) (map (of_z w64) xs))
 widen_asks [] h = tt
 widen_asks (x ∷ xs) h =
-    (rw (to_z-of_z w64 x (fits_from_coordinate_limit x h.0), to_z-of_z w32 x (narrow_fits x h.0)) (fits_from_coordinate_limit x h.0), widen_asks xs h.1)
+    (rw (to_z-of_z w64 x (coordinate_size_fits x h.0), to_z-of_z w32 x (narrow_fits x h.0)) (coordinate_size_fits x h.0), widen_asks xs h.1)
 
 pub narrow_is : (xs : List ℤ) → Each1 (IsWithin coordinate_limit) xs → map (to_z w64) (map (λ b. of_z w64 (to_z w32 b)) (map (λ b. of_z w32 (to_z w64 b)) (map (of_z w64) xs))) ≡ xs
 narrow_is [] h = refl
 narrow_is (x ∷ xs) h =
     ap (λ l. to_z w64 (of_z w64 (to_z w32 (of_z w32 (to_z w64 (of_z w64 x))))) ∷ l) (narrow_is xs h.1)
-    ∙ ap (λ y. y ∷ xs) (rw (to_z-of_z w64 x (fits_from_coordinate_limit x h.0), to_z-of_z w32 x (narrow_fits x h.0)) (to_z-of_z w64 x (fits_from_coordinate_limit x h.0)))
+    ∙ ap (λ y. y ∷ xs) (rw (to_z-of_z w64 x (coordinate_size_fits x h.0), to_z-of_z w32 x (narrow_fits x h.0)) (to_z-of_z w64 x (coordinate_size_fits x h.0)))

@@ -1,5 +1,5 @@
 -- Sums over lanes.
-use Rattle.std.proofs.Common.{◌≡◌, ℕ, ◌+◌, ◌*◌, ◌≤◌, ℤ, pos, negsuc, ◌+ℤ◌, ◌≤ℤ◌, List, [], ◌∷◌, ◌++◌, length, take, drop, fold, refl, ap, ◌∙◌, sym, arith, FitsSigned, Fits, to_z, of_z, w64, length-drop}
+use Rattle.std.proofs.Common.{◌≡◌, ℕ, ◌+◌, ◌*◌, ◌≤◌, ℤ, pos, negsuc, ◌+ℤ◌, ◌≤ℤ◌, List, [], ◌∷◌, ◌++◌, length, take, drop, fold, refl, ap, ◌∙◌, sym, arith, lit<, FitsSigned, Fits, to_z, of_z, w64, length-drop}
 use lib.Dec.{T}
 use lib.IntN.{nat_abs}
 use lib.Signed.{non_neg}
@@ -13,7 +13,7 @@ use Rattle.std.proofs.lemmas.List.Elements.{All-head, All-tail, All-take, All-dr
 use Rattle.std.proofs.lemmas.Simd.{Each1-chunk, Each1-weaker}
 use Rattle.std.proofs.Math.Seq.{take-add}
 use Rattle.range_plane.specs.Plane.{IsCoordinate, coordinate_limit, turn_limit}
-use Rattle.range_plane.proofs.Bounds.{fits_from_turn_limit, abs_le}
+use Rattle.integers_and_lists.proofs.Sizes.{abs_le, fits_from_size}
 use Rattle.range_plane.specs.Fix.{fix_limit}
 use Rattle.range_lanes.specs.Lanes.{IsWithin}
 use Rattle.range_lanes.specs.Totals.{IsSumOf, total}
@@ -61,7 +61,7 @@ block_within xs at h =
 pub few_fit : (n : ℕ) (x : ℤ) → n ≤ fix_limit → IsSumOf n x → FitsSigned w64 x
 few_fit n x few h =
     let bound : n * coordinate_limit ≤ fix_limit * coordinate_limit = omega arith in
-    fits_from_turn_limit x (abs_le x turn_limit (omega (arith, ints)) (omega (arith, ints)))
+    fits_from_size turn_limit (lit< tt) x (abs_le x turn_limit (omega (arith, ints)) (omega (arith, ints)))
 
 -- the two parts of a sum, as code over i64 adds them and casts the result
 pub total_is : (n : ℕ) (xs : List ℤ) (a b : ℤ) → length xs ≤ fix_limit → All IsCoordinate xs → a ≡ total (take n xs) → b ≡ total (drop n xs)

@@ -1,5 +1,5 @@
 -- Turns and margins, lane by lane.
-use Rattle.std.proofs.Common.{◌≡◌, ℤ, pos, negsuc, ◌+ℤ◌, ◌-ℤ◌, ◌*ℤ◌, neg_ℤ, Bool, ◌&&◌, zero, suc, List, [], ◌∷◌, map, refl, ap, ◌∙◌, sym, subst, arith, int_le, to_z, of_z, w64}
+use Rattle.std.proofs.Common.{◌≡◌, ℤ, pos, negsuc, ◌+ℤ◌, ◌-ℤ◌, ◌*ℤ◌, neg_ℤ, Bool, ◌&&◌, zero, suc, List, [], ◌∷◌, map, refl, ap, ◌∙◌, sym, subst, arith, lit<, int_le, to_z, of_z, w64}
 use lib.Lanes.{zip2, Each1}
 use Rattle.std.specs.Int.{int_min}
 use Rattle.std.proofs.lemmas.Int.{ints}
@@ -7,8 +7,8 @@ use Rattle.std.proofs.lemmas.Simd.{map-map, zip2-map, Each1-weaker}
 use Rattle.range_plane.specs.Plane.{IsCoordinate, Position, turn, coordinate_limit, product_limit, turn_limit}
 use Rattle.std.specs.Ordering.{int_eq}
 use Rattle.range_plane.specs.Covering.{facing, is_on_segment}
-use Rattle.range_plane.proofs.Integers.{linear, neg_product, product_comm}
-use Rattle.range_plane.proofs.Bounds.{abs_add, abs_difference, abs_mul, abs_sub, difference_is}
+use Rattle.integers_and_lists.proofs.Integers.{linear, neg_product, product_comm}
+use Rattle.integers_and_lists.proofs.Sizes.{abs_add, abs_difference, abs_mul, abs_sub, difference_kept}
 use Rattle.range_lanes.specs.Lanes.{IsWithin, is_not_negative}
 use Rattle.range_lanes.proofs.Signed.{each_zip}
 use Rattle.range_lanes.proofs.Blocks.{each_map}
@@ -50,7 +50,7 @@ facings_value a b vs east east' north north' s t r he he' hn hn' hs ht hr =
 -- ---- sizes
 -- a difference of two coordinates, as code over i64 passes it on
 pub factor_small : (x y : ℤ) → IsCoordinate x → IsCoordinate y → IsWithin coordinate_limit (to_z w64 (of_z w64 (to_z w64 (of_z w64 x) -ℤ to_z w64 (of_z w64 y))))
-factor_small x y f g = subst (IsWithin coordinate_limit) (sym (difference_is x y f g)) (abs_difference x y f g)
+factor_small x y f g = subst (IsWithin coordinate_limit) (sym (difference_kept coordinate_limit (lit< tt) x y f g)) (abs_difference coordinate_limit x y f g)
 
 pub scaled_small : (k : ℤ) (xs ys : List ℤ) → IsWithin coordinate_limit k → Each1 (IsWithin coordinate_limit) xs → ys ≡ map (λ x. k *ℤ x) xs → Each1 (IsWithin product_limit) ys
 scaled_small k xs ys hk h e =

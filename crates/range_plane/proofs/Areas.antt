@@ -3,8 +3,8 @@ use Rattle.std.proofs.Common.{◌≡◌, refl, ℕ, zero, suc, ◌<◌, take, le
 use Rattle.std.specs.Prelude.{slice_index_or}
 use Rattle.range_plane.specs.Plane.{Position, origin, turn}
 use Rattle.range_plane.specs.Polygon.{TurnsLeft, shoelace, area2}
-use Rattle.range_plane.proofs.Integers.{linear}
-use Rattle.range_plane.proofs.Ring.{var, ◌⊕◌, ◌⊖◌, ◌⊗◌, ring}
+use Rattle.integers_and_lists.proofs.Integers.{linear}
+use Rattle.integers_and_lists.proofs.Ring.{var, ◌⊕◌, ◌⊖◌, ◌⊗◌, ring}
 use Rattle.range_plane.proofs.Vectors.{cross, cross_flip, cross_self, turn_self, turn_swap}
 use Rattle.range_plane.proofs.Unique.{round_head}
 

@@ -4,8 +4,8 @@ use Rattle.std.proofs.lemmas.List.{get_or_default}
 use Rattle.range_plane.specs.Covering.{Covers}
 use Rattle.range_plane.specs.Plane.{Position, turn}
 use Rattle.range_plane.specs.Polygon.{without, BeginsWithLeast, TurnsLeft, IsPolygon}
-use Rattle.range_plane.proofs.Integers.{linear}
-use Rattle.range_plane.proofs.Members.{nowhere, contained}
+use Rattle.integers_and_lists.proofs.Integers.{linear}
+use Rattle.integers_and_lists.proofs.Members.{nowhere, contained}
 use Rattle.range_plane.proofs.Separation.{not_both}
 use Rattle.range_plane.proofs.Extremes.{CoversEach, covers_member, extreme_in}
 use Rattle.range_plane.proofs.HalfPlanes.{in_half_plane, in_order, turn_back}

@@ -9,7 +9,7 @@ use Rattle.range_plane.specs.Covering.{Covers, IsInTriangle, IsOnSegment, facing
 use Rattle.range_plane.specs.Covering.Covers.{by_segment, by_triangle}
 use Rattle.range_plane.specs.Plane.{Position, turn}
 use Rattle.range_plane.specs.Polygon.{same_position}
-use Rattle.range_plane.proofs.Members.{here, there, nowhere, contained}
+use Rattle.integers_and_lists.proofs.Members.{here, there, nowhere, contained}
 use Rattle.range_plane.proofs.Without.{Compared, compared}
 use Rattle.range_plane.proofs.Without.Compared.{apart, equal}
 

@@ -5,8 +5,8 @@ use Rattle.range_plane.specs.Covering.{Covers}
 use Rattle.range_plane.specs.Plane.{Position}
 use Rattle.range_plane.specs.Polygon.{IsExtreme, without}
 use Rattle.range_plane.specs.Covering.Covers.{by_segment}
-use Rattle.range_plane.proofs.Integers.{linear, at_least_product, nonneg_product}
-use Rattle.range_plane.proofs.Members.{here, there, nowhere, each}
+use Rattle.integers_and_lists.proofs.Integers.{linear, at_least_product, nonneg_product}
+use Rattle.integers_and_lists.proofs.Members.{here, there, nowhere, each}
 use Rattle.range_plane.proofs.Without.{equal_or_apart, without_keeps, without_has, shorter-without, find_member}
 use Rattle.range_plane.proofs.Separation.{IsAhead, IsSeparated, not_both, covered_or_separated, segment_from}
 use Rattle.range_plane.proofs.Vectors.{dot, from, dot_from, tilted, dot_tilted, positive_apart, cross_origin, dot_origin}

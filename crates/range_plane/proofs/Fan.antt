@@ -7,8 +7,8 @@ use Rattle.range_plane.specs.Polygon.{BeginsWithLeast, TurnsLeft, IsPolygon}
 use Rattle.range_plane.proofs.Corners.{polygon_by_covering}
 use Rattle.range_plane.proofs.Ends.{first_least}
 use Rattle.range_plane.proofs.Extremes.{covers_member}
-use Rattle.range_plane.proofs.Integers.{linear}
-use Rattle.range_plane.proofs.Members.{each}
+use Rattle.integers_and_lists.proofs.Integers.{linear}
+use Rattle.integers_and_lists.proofs.Members.{each}
 use Rattle.range_plane.proofs.Rising.{rising}
 use Rattle.range_plane.proofs.RoundLeast.{at_most_itself, transitive_round}
 use Rattle.range_plane.proofs.Spanning.{at_member}

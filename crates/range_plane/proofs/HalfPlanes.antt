@@ -6,8 +6,8 @@ use Rattle.range_plane.specs.Covering.{Covers, IsLeftOfEdges}
 use Rattle.range_plane.specs.Plane.{Position, turn}
 use Rattle.range_plane.specs.Polygon.{TurnsLeft}
 use Rattle.range_plane.specs.Covering.Covers.{by_triangle}
-use Rattle.range_plane.proofs.Integers.{linear}
-use Rattle.range_plane.proofs.Members.{here, there}
+use Rattle.integers_and_lists.proofs.Integers.{linear}
+use Rattle.integers_and_lists.proofs.Members.{here, there}
 use Rattle.range_plane.proofs.Separation.{not_both}
 use Rattle.range_plane.proofs.Unique.{round_head, in_rest}
 use Rattle.range_plane.proofs.Vectors.{leftward, dot_leftward, turn_swap, turn_cycle, turn_self, turn_end}

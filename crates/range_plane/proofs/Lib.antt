@@ -6,15 +6,12 @@ pub mod Ends
 pub mod Extremes
 pub mod Fan
 pub mod HalfPlanes
-pub mod Integers
 pub mod Least
-pub mod Members
 pub mod Others
 pub mod OwnPolygons
 pub mod Polygons
 pub mod Ranges
 pub mod Ranks
-pub mod Ring
 pub mod Rising
 pub mod Round
 pub mod RoundLeast

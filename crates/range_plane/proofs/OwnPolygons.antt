@@ -10,8 +10,8 @@ use Rattle.range_plane.specs.Polygon.{TurnsLeft, IsPolygon}
 use Rattle.range_plane.proofs.Corners.{polygon_by_covering}
 use Rattle.range_plane.proofs.Decided.{below-decided}
 use Rattle.range_plane.proofs.Extremes.{covers_member}
-use Rattle.range_plane.proofs.Integers.{linear}
-use Rattle.range_plane.proofs.Members.{nowhere, each}
+use Rattle.integers_and_lists.proofs.Integers.{linear}
+use Rattle.integers_and_lists.proofs.Members.{nowhere, each}
 use Rattle.range_plane.proofs.RoundLeast.{at_most_itself, pairs_with}
 use Rattle.range_plane.proofs.Vectors.{turn_end}
 

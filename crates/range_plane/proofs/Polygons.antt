@@ -3,7 +3,7 @@ use Rattle.std.proofs.Common.{◌↔◌, List, ◌∷◌}
 use Rattle.range_plane.specs.Covering.{Covers}
 use Rattle.range_plane.specs.Plane.{Position}
 use Rattle.range_plane.specs.Polygon.{IsPolygon}
-use Rattle.range_plane.proofs.Members.{here, there, each}
+use Rattle.integers_and_lists.proofs.Members.{here, there, each}
 use Rattle.range_plane.proofs.Separation.{wider}
 use Rattle.range_plane.proofs.Extremes.{CoversEach, covers_member, covers_through, extreme_in, kernel}
 

@@ -4,8 +4,8 @@ use Rattle.std.proofs.lemmas.List.{get_or_default, get_or_read}
 use Rattle.range_plane.specs.Plane.{Position, origin, turn}
 use Rattle.range_plane.specs.Covering.{Covers}
 use Rattle.range_plane.specs.Polygon.{IsExtreme, IsLeast, IsPolygon, without}
-use Rattle.range_plane.proofs.Integers.{linear}
-use Rattle.range_plane.proofs.Members.{here, there, nowhere, contained, each}
+use Rattle.integers_and_lists.proofs.Integers.{linear}
+use Rattle.integers_and_lists.proofs.Members.{here, there, nowhere, contained, each}
 use Rattle.range_plane.proofs.Rising.{rising}
 use Rattle.range_plane.proofs.RoundLeast.{ahead, one_before, pairs_with, polygon_round, transitive_round}
 use Rattle.range_plane.proofs.Unique.{from_head, in_rest}

@@ -6,13 +6,13 @@ use Rattle.range_plane.specs.Covering.{Covers, IsOnSegment}
 use Rattle.range_plane.specs.Plane.{Position, turn, IsAtMost}
 use Rattle.range_plane.specs.Polygon.{IsLeast, IsExtreme, without, TurnsLeft, IsPolygon}
 use Rattle.range_plane.specs.Covering.Covers.{by_segment, by_triangle}
-use Rattle.range_plane.proofs.Integers.{linear, Sign, sign, positive_product, nonneg_product, positive_factor, product_comm}
-use Rattle.range_plane.proofs.Integers.Sign.{negative, naught, positive}
-use Rattle.range_plane.proofs.Members.{here, there, nowhere, contained, each}
+use Rattle.integers_and_lists.proofs.Integers.{linear, Sign, sign, positive_product, nonneg_product, positive_factor, product_comm}
+use Rattle.integers_and_lists.proofs.Integers.Sign.{negative, naught, positive}
+use Rattle.integers_and_lists.proofs.Members.{here, there, nowhere, contained, each}
 use Rattle.range_plane.proofs.Separation.{IsSeparated, not_both, covered_or_separated}
 use Rattle.range_plane.proofs.Unique.{from_head, in_rest}
 use Rattle.range_plane.proofs.Rising.{rising}
-use Rattle.range_plane.proofs.Ring.{var, ◌⊖◌, ◌⊗◌, ring}
+use Rattle.integers_and_lists.proofs.Ring.{var, ◌⊖◌, ◌⊗◌, ring}
 use Rattle.range_plane.proofs.Vectors.{cross, dot, from, across, along, turn-round, facing_round, nonneg_norm, turn_swap, turn_cycle, turn_self, turn_end}
 use Rattle.range_plane.proofs.Without.{equal_or_apart, without_keeps, without_has}
 use lib.IntN.{zero-*ℤ}

@@ -6,10 +6,10 @@ use Rattle.range_plane.specs.Covering.{IsOnSegment, IsInTriangle, Covers, advanc
 use Rattle.range_plane.specs.Laws.{ReachesEveryWay}
 use Rattle.range_plane.specs.Plane.{Position, turn}
 use Rattle.range_plane.specs.Covering.Covers.{by_segment, by_triangle}
-use Rattle.range_plane.proofs.Integers.{linear, Sign, sign, at_least_product, positive_product, nonpos_product, product_comm}
-use Rattle.range_plane.proofs.Integers.Sign.{negative, naught, positive}
+use Rattle.integers_and_lists.proofs.Integers.{linear, Sign, sign, at_least_product, positive_product, nonpos_product, product_comm}
+use Rattle.integers_and_lists.proofs.Integers.Sign.{negative, naught, positive}
 use lib.IntN.{zero-*ℤ}
-use Rattle.range_plane.proofs.Members.{here, there, nowhere, each}
+use Rattle.integers_and_lists.proofs.Members.{here, there, nowhere, each}
 
 -- each member of S lies ahead of q in the direction d
 abbrev pub IsAhead : List Position → Position → Position → Type 0

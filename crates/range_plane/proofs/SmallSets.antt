@@ -3,8 +3,8 @@ use Rattle.std.proofs.Common.{◌≡◌, sym, ◌∙◌, subst, pos, ◌-ℤ◌,
 use Rattle.range_plane.specs.Covering.{facing, Covers, IsOnSegment, IsInTriangle}
 use Rattle.range_plane.specs.Plane.{Position, turn}
 use Rattle.range_plane.specs.Covering.Covers.{by_segment, by_triangle}
-use Rattle.range_plane.proofs.Integers.{linear, product_comm}
-use Rattle.range_plane.proofs.Members.{here, there, nowhere, contained}
+use Rattle.integers_and_lists.proofs.Integers.{linear, product_comm}
+use Rattle.integers_and_lists.proofs.Members.{here, there, nowhere, contained}
 use Rattle.range_plane.proofs.Extremes.{covers_member}
 use Rattle.range_plane.proofs.HalfPlanes.{turn_back}
 use Rattle.range_plane.proofs.Vectors.{from, facing_is, dot_origin, turn_self, turn_end, turn_swap, positive_apart}

@@ -7,8 +7,8 @@ use Rattle.range_plane.specs.Edges.{at, next, Spans}
 use Rattle.range_plane.specs.Plane.{Position, turn, origin, IsAtMost, IsBefore}
 use Rattle.range_plane.specs.Polygon.{TurnsLeft}
 use Rattle.range_plane.proofs.HalfPlanes.{in_half_plane, left_of_edge, left_of_closing, turn_back}
-use Rattle.range_plane.proofs.Integers.{linear, at_least_product, nonneg_product, nonpos_nonpos, product_comm, neg_product}
-use Rattle.range_plane.proofs.Members.{here, there}
+use Rattle.integers_and_lists.proofs.Integers.{linear, at_least_product, nonneg_product, nonpos_nonpos, product_comm, neg_product}
+use Rattle.integers_and_lists.proofs.Members.{here, there}
 use Rattle.range_plane.proofs.Rising.{rising, IsRising}
 use Rattle.range_plane.proofs.RoundLeast.{through_most}
 use Rattle.range_plane.proofs.Separation.{covers_every_way}

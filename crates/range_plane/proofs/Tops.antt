@@ -6,8 +6,8 @@ use Rattle.range_plane.specs.Edges.{at, IsTop}
 use Rattle.range_plane.specs.Plane.{Position, turn, origin, IsAtMost}
 use Rattle.range_plane.specs.Polygon.{TurnsLeft, BeginsWithLeast}
 use Rattle.range_plane.proofs.Ends.{at_most_or_before, first_least}
-use Rattle.range_plane.proofs.Integers.{linear, nonneg_product, nonpos_product, positive_product}
-use Rattle.range_plane.proofs.Members.{nowhere}
+use Rattle.integers_and_lists.proofs.Integers.{linear, nonneg_product, nonpos_product, positive_product}
+use Rattle.integers_and_lists.proofs.Members.{nowhere}
 use Rattle.range_plane.proofs.Rising.{rising, IsRising}
 use Rattle.range_plane.proofs.RoundLeast.{at_most_itself, through_most}
 use Rattle.range_plane.proofs.SmallSets.{one_of_one}

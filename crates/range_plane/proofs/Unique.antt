@@ -2,8 +2,8 @@
 use Rattle.std.proofs.Common.{◌≡◌, ◌≢◌, refl, sym, ap₂, ◌∙◌, subst, suc, pos, ◌<ℤ◌, List, [], ◌∷◌, Contains, AllPairs, ◌⊎◌, inl, inr, arith, suc-le-suc}
 use Rattle.range_plane.specs.Plane.{Position, turn, IsAtMost}
 use Rattle.range_plane.specs.Polygon.{TurnsLeft, IsPolygon}
-use Rattle.range_plane.proofs.Integers.{linear}
-use Rattle.range_plane.proofs.Members.{here, there, nowhere, contained}
+use Rattle.integers_and_lists.proofs.Integers.{linear}
+use Rattle.integers_and_lists.proofs.Members.{here, there, nowhere, contained}
 use Rattle.range_plane.proofs.Vectors.{turn_swap}
 use Rattle.range_plane.proofs.Without.{both_coordinates}
 

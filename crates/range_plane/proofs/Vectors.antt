@@ -4,8 +4,8 @@ use Rattle.std.proofs.lemmas.Int.{by_lt_z}
 use lib.IntN.{zero-*ℤ}
 use Rattle.range_plane.specs.Covering.{facing}
 use Rattle.range_plane.specs.Plane.{Position, turn}
-use Rattle.range_plane.proofs.Integers.{linear, at_least_product, nonneg_product, nonneg_square, square_naught, positive_product, nonpos_nonpos, positive_factor, product_comm, neg_product}
-use Rattle.range_plane.proofs.Ring.{Expr, var, num, ◌⊕◌, ◌⊖◌, ◌⊗◌, ring}
+use Rattle.integers_and_lists.proofs.Integers.{linear, at_least_product, nonneg_product, nonneg_square, square_naught, positive_product, nonpos_nonpos, positive_factor, product_comm, neg_product}
+use Rattle.integers_and_lists.proofs.Ring.{Expr, var, num, ◌⊕◌, ◌⊖◌, ◌⊗◌, ring}
 
 unfoldable pub cross : Position → Position → ℤ
 cross u v = u.e *ℤ v.n -ℤ u.n *ℤ v.e

@@ -4,7 +4,7 @@ use Rattle.std.specs.Bool.{Decides}
 use Rattle.std.specs.Cmp.{signed_Decides}
 use Rattle.range_plane.specs.Plane.{Position}
 use Rattle.range_plane.specs.Polygon.{same_position, without}
-use Rattle.range_plane.proofs.Members.{here, there, nowhere, contained}
+use Rattle.integers_and_lists.proofs.Members.{here, there, nowhere, contained}
 
 pub data Compared (a b : Position) : Bool → Type 0 where
   equal : a ≡ b → Compared a b true

@@ -5,6 +5,7 @@ use Rattle.std.proofs.lemmas.List.Elements.{All-push}
 use Rattle.std.proofs.lemmas.Option.{slice_get_read}
 use Rattle.std.proofs.lemmas.Simd.{length-zip2, get_or-zip2}
 use Rattle.std.proofs.Math.Nat.{suc_inj}
+use Rattle.integers_and_lists.proofs.Zipped.{firsts_of_zipped, seconds_of_zipped}
 use Rattle.range_plane.specs.Plane.{Position, IsCoordinate, position}
 
 -- `length-zip2`, by a name that an attribute in the source can give
@@ -12,16 +13,10 @@ pub length_of_zipped : (es ns : List ℤ) → length es ≡ length ns → length
 length_of_zipped es ns h = length-zip2 position es ns h
 
 pub eastings_of_zipped : (es ns : List ℤ) → length es ≡ length ns → map (λ (p : Position). p.e) (zip2 position es ns) ≡ es
-eastings_of_zipped [] [] h = refl
-eastings_of_zipped [] (y ∷ ys) h = refl
-eastings_of_zipped (x ∷ xs) [] h = cc
-eastings_of_zipped (x ∷ xs) (y ∷ ys) h = ap (λ l. x ∷ l) (eastings_of_zipped xs ys (suc_inj h))
+eastings_of_zipped es ns h = firsts_of_zipped position (λ (p : Position). p.e) (λ x y. refl) es ns h
 
 pub northings_of_zipped : (es ns : List ℤ) → length es ≡ length ns → map (λ (p : Position). p.n) (zip2 position es ns) ≡ ns
-northings_of_zipped [] [] h = refl
-northings_of_zipped [] (y ∷ ys) h = cc
-northings_of_zipped (x ∷ xs) [] h = cc
-northings_of_zipped (x ∷ xs) (y ∷ ys) h = ap (λ l. y ∷ l) (northings_of_zipped xs ys (suc_inj h))
+northings_of_zipped es ns h = seconds_of_zipped position (λ (p : Position). p.n) (λ x y. refl) es ns h
 
 -- one element of a column of coordinates
 pub coordinate_at : (xs : List ℤ) (i : ℕ) (x : ℤ) → All IsCoordinate xs → i < length xs → x ≡ get_or xs i x → IsCoordinate x

@@ -1,7 +1,7 @@
 use Rattle.std.proofs.Common.{◌≡◌, ℕ, ◌+◌, ◌-◌, ◌<◌, length, pos, ◌≤ℤ◌, arith, ap, subst, ◌∙◌}
 use Rattle.range_plane.specs.Edges.{at}
 use Rattle.range_plane.specs.Plane.{Position}
-use Rattle.range_plane.proofs.Integers.{linear}
+use Rattle.integers_and_lists.proofs.Integers.{linear}
 use Rattle.range_hull.specs.Chain.{bend}
 use Rattle.range_hull.proofs.Area.{after-step}
 use Rattle.range_hull.proofs.Chains.{read}

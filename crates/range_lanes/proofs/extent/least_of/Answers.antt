@@ -1,10 +1,11 @@
-use Rattle.std.proofs.Common.{◌≡◌, ◌+◌, ◌-◌, ◌*◌, ◌/◌, ◌≤◌, pos, length, get_or, sym, ◌∙◌, ap, take, drop, fold, arith, to_z, of_z, w64, FitsSigned, length-drop}
+use Rattle.std.proofs.Common.{◌≡◌, ◌+◌, ◌-◌, ◌*◌, ◌/◌, ◌≤◌, pos, length, get_or, sym, ◌∙◌, ap, take, drop, fold, arith, to_z, of_z, w64, FitsSigned, length-drop, lit<}
 use lib.Lanes.{zip2, chunk}
 use Rattle.std.specs.Int.{int_min}
 use Rattle.std.proofs.lemmas.Int.{to_z-of_z}
 use Rattle.std.proofs.lemmas.List.{take_all}
 use Rattle.std.proofs.lemmas.Simd.{length-zip2, length-chunk}
-use Rattle.range_plane.proofs.Bounds.{coordinate_is}
+use Rattle.range_plane.specs.Plane.{coordinate_limit}
+use Rattle.integers_and_lists.proofs.Sizes.{kept}
 use Rattle.range_lanes.proofs.Choosing.{choice_more, choice_parts, min_choice, least_from_fold}
 use Rattle.range_lanes.proofs.extent.least_of.Goals as goal
 
@@ -35,4 +36,4 @@ returns c =
     let rest = take_all (length xs - 8 * whole) (drop (8 * whole) xs) (omega (arith, length-drop (8 * whole) xs)) in
     let e = c.plain_least.ensures ∙ ap (fold int_min (to_z w64 (of_z w64 c.plain_least-least.result))) rest ∙ choice_parts int_min min_choice start (to_z w64 (of_z w64 c.plain_least-least.result)) xs c.loop-block.least (8 * whole) reached from_lanes in
     rw (to_z-of_z w64 c.plain_least.result fits_result)
-    (least_from_fold xs start c.plain_least.result c.requires.some (coordinate_is (get_or xs 0 (pos 0)) (c.requires.limits 0 (pos 0) c.requires.some)) e)
+    (least_from_fold xs start c.plain_least.result c.requires.some (kept coordinate_limit (lit< tt) (get_or xs 0 (pos 0)) (c.requires.limits 0 (pos 0) c.requires.some)) e)

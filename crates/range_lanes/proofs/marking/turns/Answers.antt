@@ -1,6 +1,6 @@
-use Rattle.std.proofs.Common.{◌-ℤ◌, ◌*ℤ◌, map, ap, ◌∙◌}
-use Rattle.range_plane.specs.Plane.{Position, position, turn}
-use Rattle.range_plane.proofs.Bounds.{coordinate_is, difference_is}
+use Rattle.std.proofs.Common.{◌-ℤ◌, ◌*ℤ◌, map, ap, ◌∙◌, lit<}
+use Rattle.range_plane.specs.Plane.{coordinate_limit, Position, position, turn}
+use Rattle.integers_and_lists.proofs.Sizes.{difference_kept, kept}
 use Rattle.range_lanes.proofs.Turning.{difference_small, factor_small, product_to_turn, scaled_small, turns_value}
 use Rattle.range_lanes.proofs.marking.turns.Goals as goal
 
@@ -20,10 +20,10 @@ returns-clause-value c =
     let b = c.b.inside in
     let vs = c.args.block.now in
     turns_value (position a.e a.n) (position b.e b.n) vs c.north_of.result c.east_of.result c.scaled-by_north.result c.scaled-by_east.result c.minus.result
-    (c.north_of.ensures.value ∙ ap (λ x. map (λ (p : Position). p.n -ℤ x) vs) (coordinate_is a.n c.a.invariant.1))
-    (c.east_of.ensures.value ∙ ap (λ x. map (λ (p : Position). p.e -ℤ x) vs) (coordinate_is a.e c.a.invariant.0))
-    (c.scaled-by_north.ensures ∙ ap (λ k. map (λ x. k *ℤ x) c.north_of.result) (difference_is b.e a.e c.b.invariant.0 c.a.invariant.0))
-    (c.scaled-by_east.ensures ∙ ap (λ k. map (λ x. k *ℤ x) c.east_of.result) (difference_is b.n a.n c.b.invariant.1 c.a.invariant.1))
+    (c.north_of.ensures.value ∙ ap (λ x. map (λ (p : Position). p.n -ℤ x) vs) (kept coordinate_limit (lit< tt) a.n c.a.invariant.1))
+    (c.east_of.ensures.value ∙ ap (λ x. map (λ (p : Position). p.e -ℤ x) vs) (kept coordinate_limit (lit< tt) a.e c.a.invariant.0))
+    (c.scaled-by_north.ensures ∙ ap (λ k. map (λ x. k *ℤ x) c.north_of.result) (difference_kept coordinate_limit (lit< tt) b.e a.e c.b.invariant.0 c.a.invariant.0))
+    (c.scaled-by_east.ensures ∙ ap (λ k. map (λ x. k *ℤ x) c.east_of.result) (difference_kept coordinate_limit (lit< tt) b.n a.n c.b.invariant.1 c.a.invariant.1))
     c.minus.ensures
     ∙ ap (λ p. map (turn p (position b.e b.n)) vs) c.a.view_is ∙ ap (λ p. map (turn c.args.a p) vs) c.b.view_is
 

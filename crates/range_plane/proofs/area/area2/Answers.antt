@@ -3,7 +3,7 @@ use Rattle.std.proofs.lemmas.Int.{ints}
 use Rattle.std.proofs.lemmas.List.{get_or_read, take_all}
 use Rattle.range_plane.specs.Plane.{Position, origin, turn}
 use Rattle.range_plane.proofs.Areas.{area2-all, triangles, triangles-more, triangles-start}
-use Rattle.range_plane.proofs.Integers.{linear}
+use Rattle.integers_and_lists.proofs.Integers.{linear}
 use Rattle.range_plane.proofs.area.area2.Goals as goal
 
 pub loop-i-init : goal.loop-i-init

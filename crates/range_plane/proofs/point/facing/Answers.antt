@@ -1,4 +1,4 @@
-use Rattle.range_plane.proofs.Bounds.{facing_fits, abs_product, product_is, difference_is, fits_from_product_limit}
+use Rattle.range_plane.proofs.Bounds.{facing_fits, abs_product, product_is, difference_is, product_fits}
 use Rattle.std.proofs.Common.{◌-ℤ◌, ◌*ℤ◌, w64}
 use Rattle.std.proofs.lemmas.Int.{to_z-of_z}
 use Rattle.range_plane.specs.Plane.{position}
@@ -11,7 +11,7 @@ overflow_mul-result c =
     let b = c.b.inside in
     let q = c.q.inside in
     rw (difference_is a.e q.e c.a.invariant.0 c.q.invariant.0, difference_is b.e q.e c.b.invariant.0 c.q.invariant.0)
-    (fits_from_product_limit ((a.e -ℤ q.e) *ℤ (b.e -ℤ q.e)) (abs_product a.e q.e b.e q.e c.a.invariant.0 c.q.invariant.0 c.b.invariant.0 c.q.invariant.0))
+    (product_fits ((a.e -ℤ q.e) *ℤ (b.e -ℤ q.e)) (abs_product a.e q.e b.e q.e c.a.invariant.0 c.q.invariant.0 c.b.invariant.0 c.q.invariant.0))
 
 pub overflow_mul-result-2 : goal.overflow_mul-result-2
 overflow_mul-result-2 c =
@@ -19,7 +19,7 @@ overflow_mul-result-2 c =
     let b = c.b.inside in
     let q = c.q.inside in
     rw (difference_is a.n q.n c.a.invariant.1 c.q.invariant.1, difference_is b.n q.n c.b.invariant.1 c.q.invariant.1)
-    (fits_from_product_limit ((a.n -ℤ q.n) *ℤ (b.n -ℤ q.n)) (abs_product a.n q.n b.n q.n c.a.invariant.1 c.q.invariant.1 c.b.invariant.1 c.q.invariant.1))
+    (product_fits ((a.n -ℤ q.n) *ℤ (b.n -ℤ q.n)) (abs_product a.n q.n b.n q.n c.a.invariant.1 c.q.invariant.1 c.b.invariant.1 c.q.invariant.1))
 
 pub overflow_add-result : goal.overflow_add-result
 unfolding facing

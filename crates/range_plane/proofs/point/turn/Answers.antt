@@ -1,4 +1,4 @@
-use Rattle.range_plane.proofs.Bounds.{abs_turn, turn_fits, abs_product, product_is, difference_is, fits_from_product_limit}
+use Rattle.range_plane.proofs.Bounds.{abs_turn, turn_fits, abs_product, product_is, difference_is, product_fits}
 use Rattle.std.proofs.Common.{◌-ℤ◌, ◌*ℤ◌, w64}
 use Rattle.std.proofs.lemmas.Int.{to_z-of_z}
 use Rattle.range_plane.specs.Plane.{turn, position}
@@ -10,7 +10,7 @@ overflow_mul-result c =
     let b = c.b.inside in
     let q = c.c.inside in
     rw (difference_is b.e a.e c.b.invariant.0 c.a.invariant.0, difference_is q.n a.n c.c.invariant.1 c.a.invariant.1)
-    (fits_from_product_limit ((b.e -ℤ a.e) *ℤ (q.n -ℤ a.n)) (abs_product b.e a.e q.n a.n c.b.invariant.0 c.a.invariant.0 c.c.invariant.1 c.a.invariant.1))
+    (product_fits ((b.e -ℤ a.e) *ℤ (q.n -ℤ a.n)) (abs_product b.e a.e q.n a.n c.b.invariant.0 c.a.invariant.0 c.c.invariant.1 c.a.invariant.1))
 
 pub overflow_mul-result-2 : goal.overflow_mul-result-2
 overflow_mul-result-2 c =
@@ -18,7 +18,7 @@ overflow_mul-result-2 c =
     let b = c.b.inside in
     let q = c.c.inside in
     rw (difference_is b.n a.n c.b.invariant.1 c.a.invariant.1, difference_is q.e a.e c.c.invariant.0 c.a.invariant.0)
-    (fits_from_product_limit ((b.n -ℤ a.n) *ℤ (q.e -ℤ a.e)) (abs_product b.n a.n q.e a.e c.b.invariant.1 c.a.invariant.1 c.c.invariant.0 c.a.invariant.0))
+    (product_fits ((b.n -ℤ a.n) *ℤ (q.e -ℤ a.e)) (abs_product b.n a.n q.e a.e c.b.invariant.1 c.a.invariant.1 c.c.invariant.0 c.a.invariant.0))
 
 pub overflow_sub-result-5 : goal.overflow_sub-result-5
 unfolding turn
