@@ -13,8 +13,6 @@ mod measuring;
 mod names;
 mod overlaps;
 mod tables;
-#[cfg(test)]
-mod tables_tests;
 mod track;
 
 pub use analysing::analyse;
@@ -23,6 +21,3 @@ pub use animal::{Animal, OverlapRow};
 pub use fault::AnalyseFault;
 pub use judging::judge;
 pub use lists::{Animals, Overlaps, Percents};
-
-#[cfg(test)]
-mod tests;

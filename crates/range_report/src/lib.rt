@@ -5,6 +5,3 @@ mod lines;
 mod writing;
 
 pub use writing::report;
-
-#[cfg(test)]
-mod tests;

@@ -1,0 +1,90 @@
+// Files that were followed, made by hand.
+
+ghost use Rattle.std.specs.Prelude.{◌≤◌, IfOk, length};
+
+use range_analysis::{AnalyseFault, Analysis, judge};
+use range_collect::{Estimator, Followed, Name};
+use range_fixes::ReadFault;
+use range_line::{Feeder, open_line};
+use range_plane::{Fix, Point};
+use std::alloc::Global;
+use std::process::Abort;
+use std::sync::Wait;
+use std::test::Fail;
+use std::thread::Threads;
+
+// A file: what its reader says, its fixes by their seconds, eastings and northings, and whether its mark
+// is sent.
+#[derive(Clone, Copy)]
+pub(crate) struct File {
+    pub(crate) said: Result<&'static [u8], ReadFault>,
+    pub(crate) places: &'static [(u64, i64, i64)],
+    pub(crate) mark: bool,
+}
+
+// More fixes than a file here has.
+const MANY_FIXES: usize = 100;
+
+// The estimator of fixes at these places.
+fn estimator(alloc: Global, places: &[(u64, i64, i64)]) -> Result<Estimator, Fail>
+    ensures { IfOk result (λ e. 1 ≤ length e.fixes) }
+{
+    let mut fixes = Vec::new(alloc);
+    for &(second, e, n) in places {
+        let at = Point::new(e, n).ok_or("no point")?;
+        fixes.push(Fix { second, at })?;
+    }
+    if fixes.is_empty() || fixes.len() > MANY_FIXES {
+        return Err(Fail::from("no such file"));
+    }
+    let mut estimator = Estimator::new(alloc);
+    estimator.take_block(&fixes)?;
+    Ok(estimator)
+}
+
+// The feeder of a file, after its mark where that is sent.
+fn feeder<R: Wait + Abort>(rt: &R, alloc: Global, mark: bool) -> Result<Feeder, Fail> {
+    let (mut feeders, _taker) = open_line(alloc, 0, 1, 1, 1)?;
+    let mut feeder = feeders.pop().ok_or("no feeder")?;
+    if mark {
+        assert!(rt; feeder.close(rt), "the mark");
+    }
+    Ok(feeder)
+}
+
+// What is known of a file.
+fn followed<R: Wait + Abort>(rt: &R, alloc: Global, file: File) -> Result<Followed, Fail> {
+    let feeder = feeder(rt, alloc, file.mark)?;
+    let marked = feeder.closed();
+    let estimator = estimator(alloc, file.places)?;
+    let read = match file.said {
+        Ok(bytes) => Ok(Name::new(Vec::from_slice(alloc, bytes)?)),
+        Err(ReadFault::Gone) => return Err(Fail::from("no such file")),
+        Err(fault) => Err(fault),
+    };
+    Ok(Followed {
+        feeder,
+        read,
+        estimator,
+        marked,
+    })
+}
+
+// What these files come to.
+pub(crate) fn judged<R: Wait + Threads + Sync + Abort>(
+    rt: &R,
+    alloc: Global,
+    files: &[File],
+    levels: &[u8],
+) -> Result<Result<Analysis, AnalyseFault>, Fail> {
+    let mut all = Vec::new(alloc);
+    for file in files {
+        all.push(followed(rt, alloc, *file)?)?;
+    }
+    assert!(rt; !all.is_empty() && all.len() <= 64, "files");
+    assert!(rt;
+        levels.iter().all(|level| 1 <= *level && *level <= 100),
+        "levels"
+    );
+    Ok(judge(rt, alloc, all, levels))
+}

@@ -1,0 +1,12 @@
+//! Tests of judging, over results that no run of threads gives at will; of the tables that it makes; and of
+//! reports, over analyses that are made by hand.
+#![tactic(auto)]
+
+#[cfg(test)]
+mod faults;
+#[cfg(test)]
+mod files;
+#[cfg(test)]
+mod reports;
+#[cfg(test)]
+mod tables;

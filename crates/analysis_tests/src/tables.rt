@@ -1,0 +1,189 @@
+// Tests of the tables of animals.
+
+use crate::files::{File, judged};
+use range_analysis::{Analysis, Animal, OverlapRow};
+use range_stats::PercentRow;
+use std::alloc::Global;
+use std::process::Abort;
+use std::sync::Wait;
+use std::test::Fail;
+use std::thread::Threads;
+
+// A square and a fix within it, a line that ends at its corner, and one fix far from both.
+const FOX: File = File {
+    said: Ok(b"fox"),
+    places: &[
+        (0, 0, 0),
+        (60, 10, 0),
+        (120, 10, 10),
+        (180, 0, 10),
+        (240, 5, 5),
+    ],
+    mark: true,
+};
+
+const HARE: File = File {
+    said: Ok(b"hare"),
+    places: &[(0, 5, 5), (60, 10, 5), (120, 20, 5)],
+    mark: true,
+};
+
+const OWL: File = File {
+    said: Ok(b"owl"),
+    places: &[(7, 1000, 2000)],
+    mark: true,
+};
+
+fn analysis_of<R: Wait + Threads + Sync + Abort>(
+    rt: &R,
+    alloc: Global,
+    files: &[File],
+    levels: &[u8],
+) -> Result<Analysis, Fail> {
+    Ok(judged(rt, alloc, files, levels)?.ok().ok_or("no analysis")?)
+}
+
+const fn percent(level: u8, kept: u32, corners: u32, area2: u128) -> PercentRow {
+    PercentRow {
+        level,
+        kept,
+        corners,
+        area2,
+    }
+}
+
+// What an animal is to be: its name, its box by its least and greatest corners, the second, corners and
+// doubled area of each row, the corners of its polygon, and its percent polygons.
+#[derive(Clone, Copy)]
+struct Expected {
+    name: &'static [u8],
+    extent: [i64; 4],
+    rows: &'static [(u64, u32, u128)],
+    corners: &'static [(i64, i64)],
+    percents: [PercentRow; 3],
+}
+
+fn has_extent(animal: &Animal, expected: [i64; 4]) -> bool {
+    let extent = animal.extent;
+    [extent.min_e, extent.min_n, extent.max_e, extent.max_n] == expected
+}
+
+fn has_rows(animal: &Animal, expected: &[(u64, u32, u128)]) -> bool {
+    let rows = animal.rows.as_slice();
+    rows.len() == expected.len()
+        && rows.iter().zip(expected).all(|(row, &(second, corners, area2))| {
+            row.second == second && row.corners == corners && row.area2 == area2
+        })
+}
+
+fn has_corners(animal: &Animal, expected: &[(i64, i64)]) -> bool {
+    let found = animal.polygon.corners();
+    found.len() == expected.len()
+        && found
+            .iter()
+            .zip(expected)
+            .all(|(p, &(e, n))| p.e == e && p.n == n)
+}
+
+#[test]
+fn animals(rt: HostRuntime) -> Result<(), Fail> {
+    let analysis = analysis_of(&rt, rt.alloc(), &[FOX, HARE, OWL], &[50, 95, 100])?;
+    let expected = [
+        Expected {
+            name: b"fox",
+            extent: [0, 0, 10, 10],
+            rows: &[
+                (0, 1, 0),
+                (60, 2, 0),
+                (120, 3, 100),
+                (180, 4, 200),
+                (240, 4, 200),
+            ],
+            corners: &[(0, 0), (10, 0), (10, 10), (0, 10)],
+            percents: [
+                percent(50, 3, 3, 50),
+                percent(95, 5, 4, 200),
+                percent(100, 5, 4, 200),
+            ],
+        },
+        Expected {
+            name: b"hare",
+            extent: [5, 5, 20, 5],
+            rows: &[(0, 1, 0), (60, 2, 0), (120, 2, 0)],
+            corners: &[(5, 5), (20, 5)],
+            percents: [
+                percent(50, 2, 2, 0),
+                percent(95, 3, 2, 0),
+                percent(100, 3, 2, 0),
+            ],
+        },
+        Expected {
+            name: b"owl",
+            extent: [1000, 2000, 1000, 2000],
+            rows: &[(7, 1, 0)],
+            corners: &[(1000, 2000)],
+            percents: [
+                percent(50, 1, 1, 0),
+                percent(95, 1, 1, 0),
+                percent(100, 1, 1, 0),
+            ],
+        },
+    ];
+    assert_eq!(rt; analysis.animals.as_slice().len(), expected.len());
+    for (animal, expected) in analysis.animals.as_slice().iter().zip(&expected) {
+        assert!(rt; animal.name.as_slice() == expected.name, "the name");
+        assert!(rt; has_extent(animal, expected.extent), "the box");
+        assert!(rt; has_rows(animal, expected.rows), "rows");
+        assert!(rt; has_corners(animal, expected.corners), "corners");
+        assert!(rt;
+            animal.percents.as_slice() == expected.percents.as_slice(),
+            "percents"
+        );
+    }
+    Ok(())
+}
+
+#[test]
+fn overlaps(rt: HostRuntime) -> Result<(), Fail> {
+    let analysis = analysis_of(&rt, rt.alloc(), &[FOX, HARE, OWL], &[100])?;
+    let of = |animal: u32, range: u32, count: u64, fixes: u32| OverlapRow {
+        animal,
+        range,
+        count,
+        fixes,
+    };
+    assert!(rt;
+        analysis.overlaps.as_slice()
+            == [
+                of(0, 1, 1, 5),
+                of(0, 2, 0, 5),
+                of(1, 0, 2, 3),
+                of(1, 2, 0, 3),
+                of(2, 0, 0, 1),
+                of(2, 1, 0, 1),
+            ]
+            .as_slice()
+    );
+    Ok(())
+}
+
+#[test]
+fn repeated_levels(rt: HostRuntime) -> Result<(), Fail> {
+    let analysis = analysis_of(&rt, rt.alloc(), &[FOX, HARE, OWL], &[7, 7])?;
+    for animal in analysis.animals.as_slice() {
+        let percents = animal.percents.as_slice();
+        assert!(rt; percents == [percent(7, 1, 1, 0), percent(7, 1, 1, 0)].as_slice());
+    }
+    Ok(())
+}
+
+#[test]
+fn one_animal(rt: HostRuntime) -> Result<(), Fail> {
+    let analysis = analysis_of(&rt, rt.alloc(), &[HARE], &[])?;
+    let [hare] = analysis.animals.as_slice() else {
+        return Err(Fail::from("one animal"));
+    };
+    assert!(rt; hare.percents.as_slice().is_empty());
+    assert!(rt; analysis.overlaps.as_slice().is_empty());
+    Ok(())
+}
