@@ -1,18 +1,17 @@
 -- A reading is exact.
-use Rattle.std.proofs.Common.{◌≡◌, ◌+◌, ◌<◌, ◌≤◌, ◌⊎◌, inl, inr, ℕ, zero, suc, Bool, true, cond, false, eqb, List, [], ◌∷◌, length, slice_get, Option, Some, None, Result, Ok, Err, refl, ◌∙◌, ap, arith, rules, tests}
+use Rattle.std.proofs.Common.{◌≡◌, ◌+◌, ◌<◌, ◌≤◌, ◌⊎◌, inl, inr, ℕ, zero, suc, Bool, List, [], ◌∷◌, length, slice_get, Option, Some, None, Result, Ok, Err, refl, ◌∙◌, ap, arith}
 use Rattle.std.specs.Option.{option_map}
-use Rattle.std.specs.Bool.{MatchBool}
 use Rattle.std.proofs.lemmas.Bool.{cases_lt}
 use Rattle.range_plane.specs.Fix.{fix_limit}
-use Rattle.range_plane.specs.declared.fix.Fix.{Fix}
+use Rattle.range_fixes.specs.declared.checks.Checked.{Checked}
 use Rattle.range_fixes.specs.declared.fault.ReadFault.{ReadFault}
-use Rattle.range_fixes.specs.declared.fault.ReadFault.TheVariants.{BadHeader, TooManyFixes}
-use Rattle.range_fixes.specs.Check.{fix_in}
-use Rattle.range_fixes.specs.Field.{Record, first_field, is_header}
-use Rattle.range_fixes.specs.Law.{IsExact, ReadsExactly, animal_of, check_at}
+use Rattle.range_fixes.specs.declared.fault.ReadFault.TheVariants.{TooManyFixes}
+use Rattle.range_fixes.specs.Check.{checked_in}
+use Rattle.range_fixes.specs.Field.{Record, first_field, header_of}
+use Rattle.range_fixes.specs.Law.{IsExact, IsExactBelow, ReadsExactly, animal_of, check_at}
 use Rattle.range_fixes.specs.Previous.{Previous, then_previous}
-use Rattle.range_fixes.specs.Reading.{Reading, fixes_after, no_more, then_fixes}
-use Rattle.range_fixes.proofs.ReadingFacts.{end-first, end-later, one-passes, one-fails, too-many}
+use Rattle.range_fixes.specs.Reading.{Passed, none_passed, passed_after, reading_below, then_passed}
+use Rattle.range_fixes.proofs.ReadingFacts.{at-end, one-passes, one-fails, too-many}
 
 none-given : {A : Type 0} (k : ℕ) (x : A) → slice_get [] k ≡ Some x → ⊥
 none-given zero x e = cc e
@@ -23,98 +22,88 @@ none-named : (previous : Option Previous) (records : List Record) → option_map
 none-named None records = refl
 none-named (Some previous) records = refl
 
--- the animal of a fix and those after it
-one-named : (previous : Option Previous) (fields : Record) (fix : Fix) (fixes : List Fix) (records : List Record)
-    → animal_of (Some (then_previous previous (first_field fields) fix.second)) records fixes ≡ animal_of previous (fields ∷ records) (fix ∷ fixes)
-one-named None fields fix fixes records = refl
-one-named (Some previous) fields fix fixes records = refl
+-- the animal of a record and those after it
+one-named : (previous : Option Previous) (fields : Record) (one : Checked) (checked : List Checked) (records : List Record)
+    → animal_of (Some (then_previous previous (first_field fields) one.fix.second)) records checked ≡ animal_of previous (fields ∷ records) (one ∷ checked)
+one-named None fields one checked records = refl
+one-named (Some previous) fields one checked records = refl
 
--- a reading with no fix that ends at a record
-stops : (count : ℕ) (previous : Option Previous) (fields : Record) (records : List Record) (fault : ReadFault) → count ≤ fix_limit
-    → (count ≡ fix_limit → fault ≡ TooManyFixes) → (count < fix_limit → fix_in (count + 1) previous fields ≡ Err fault)
-    → IsExact count previous (fields ∷ records) (no_more previous (Some fault))
-stops count previous fields records fault limit many first = record {
+-- no record passes before one that ends them
+stops : (has_use : Bool) (read : ℕ) (previous : Option Previous) (fields : Record) (records : List Record) (fault : ReadFault) → read ≤ fix_limit
+    → (read ≡ fix_limit → fault ≡ TooManyFixes) → (read < fix_limit → checked_in has_use (read + 1) previous fields ≡ Err fault)
+    → IsExact has_use read previous (fields ∷ records) (none_passed previous (Some fault))
+stops has_use read previous fields records fault limit many first = record {
   within = omega arith;
   limit = omega arith;
   animal = none-named previous (fields ∷ records);
-  passes = λ k fix e. absurd (none-given k fix e);
+  passes = λ k one e. absurd (none-given k one e);
   ended = λ e. absurd (omega arith);
   many = λ l e. ap Some (many (omega arith));
-  first = λ l h. (fault, (let n : count + 0 + 1 ≡ count + 1 = omega arith in rw n (first (omega arith))), refl);
+  first = λ l h. (fault, (let n : read + 0 + 1 ≡ read + 1 = omega arith in rw n (first (omega arith))), refl);
 }
 
--- one record that passes, before an exact reading
-goes-on : (count : ℕ) (previous : Option Previous) (fields : Record) (records : List Record) (fix : Fix) (r : Reading) → count < fix_limit → fix_in (count + 1) previous fields ≡ Ok fix
-    → IsExact (count + 1) (Some (then_previous previous (first_field fields) fix.second)) records r → IsExact count previous (fields ∷ records) (then_fixes fix r)
-goes-on count previous fields records fix r below passed h =
-    let sum : (n : ℕ) → count + suc n ≡ count + 1 + n = λ n. omega arith in
-    let number : (k : ℕ) → count + suc k + 1 ≡ count + 1 + k + 1 = λ k. omega arith in
+-- one record that passes, before others that are exact
+goes-on : (has_use : Bool) (read : ℕ) (previous : Option Previous) (fields : Record) (records : List Record) (one : Checked) (p : Passed) → read < fix_limit
+    → checked_in has_use (read + 1) previous fields ≡ Ok one
+    → IsExact has_use (read + 1) (Some (then_previous previous (first_field fields) one.fix.second)) records p → IsExact has_use read previous (fields ∷ records) (then_passed one p)
+goes-on has_use read previous fields records one p below passed h =
+    let sum : (n : ℕ) → read + suc n ≡ read + 1 + n = λ n. omega arith in
+    let number : (k : ℕ) → read + suc k + 1 ≡ read + 1 + k + 1 = λ k. omega arith in
     record {
       within = let w = h.within in omega arith;
       limit = let l = h.limit in omega arith;
-      animal = h.animal ∙ one-named previous fields fix r.fixes records;
+      animal = h.animal ∙ one-named previous fields one p.checked records;
       passes = λ k. at k;
-      ended = λ e. rw (sum (length r.fixes)) (h.ended (omega arith));
+      ended = λ e. h.ended (omega arith);
       many = λ l e. h.many (omega arith) (omega arith);
-      first = λ l b. rw (number (length r.fixes)) (h.first (omega arith) (omega arith));
+      first = λ l b. rw (number (length p.checked)) (h.first (omega arith) (omega arith));
     }
   where
-    at : (k : ℕ) (x : Fix) → slice_get (fix ∷ r.fixes) k ≡ Some x → check_at count previous (fields ∷ records) (fix ∷ r.fixes) k ≡ Ok x
-    at zero x e = let n : count + 0 + 1 ≡ count + 1 = omega arith in let same : fix ≡ x = cc e in rw (n, passed, same) refl
-    at (suc k) x e = let n : count + suc k + 1 ≡ count + 1 + k + 1 = omega arith in rw n (h.passes k x e)
+    at : (k : ℕ) (x : Checked) → slice_get (one ∷ p.checked) k ≡ Some x → check_at has_use read previous (fields ∷ records) (one ∷ p.checked) k ≡ Ok x
+    at zero x e = let n : read + 0 + 1 ≡ read + 1 = omega arith in let same : one ≡ x = cc e in rw (n, passed, same) refl
+    at (suc k) x e = let n : read + suc k + 1 ≡ read + 1 + k + 1 = omega arith in rw n (h.passes k x e)
 
 -- no record is left
-at-end : (count : ℕ) (previous : Option Previous) → count ≤ fix_limit → IsExact count previous [] (fixes_after count previous [])
-at-end zero previous limit = rw (end-first previous) (record {
+ends : (has_use : Bool) (read : ℕ) (previous : Option Previous) → read ≤ fix_limit → IsExact has_use read previous [] (passed_after has_use read previous [])
+ends has_use read previous limit = rw (at-end has_use read previous) (record {
   within = omega arith;
   limit = omega arith;
   animal = none-named previous [];
-  passes = λ k fix e. absurd (none-given k fix e);
+  passes = λ k one e. absurd (none-given k one e);
   ended = λ e. refl;
   many = λ l e. absurd (omega arith);
   first = λ l h. absurd (omega arith);
 })
-at-end (suc count) previous limit =
-    let later : eqb (suc count + 0) 0 ≡ false = search (rules, tests) in
-    rw (end-later (suc count) previous (omega arith)) (record {
-      within = omega arith;
-      limit = omega arith;
-      animal = none-named previous [];
-      passes = λ k fix e. absurd (none-given k fix e);
-      ended = λ e. rw later refl;
-      many = λ l e. absurd (omega arith);
-      first = λ l h. absurd (omega arith);
-    })
 
 -- the record at the limit
-at-limit : (count : ℕ) (previous : Option Previous) (fields : Record) (records : List Record) → count ≡ fix_limit
-    → IsExact count previous (fields ∷ records) (fixes_after count previous (fields ∷ records))
-at-limit count previous fields records e =
-    rw (e, too-many previous fields records) (stops fix_limit previous fields records TooManyFixes (omega arith) (λ _. refl) (λ h. absurd (omega arith)))
+at-limit : (has_use : Bool) (read : ℕ) (previous : Option Previous) (fields : Record) (records : List Record) → read ≡ fix_limit
+    → IsExact has_use read previous (fields ∷ records) (passed_after has_use read previous (fields ∷ records))
+at-limit has_use read previous fields records e =
+    rw (e, too-many has_use previous fields records) (stops has_use fix_limit previous fields records TooManyFixes (omega arith) (λ _. refl) (λ h. absurd (omega arith)))
 
 -- a record below the limit
-below-limit : (count : ℕ) (previous : Option Previous) (fields : Record) (records : List Record) (checked : Result Fix ReadFault) → count < fix_limit → fix_in (count + 1) previous fields ≡ checked
-    → ((next : Option Previous) → IsExact (count + 1) next records (fixes_after (count + 1) next records))
-    → IsExact count previous (fields ∷ records) (fixes_after count previous (fields ∷ records))
-below-limit count previous fields records (Ok fix) below e more =
-    rw (one-passes count previous fields fix records below e) (goes-on count previous fields records fix _ below e (more (Some (then_previous previous (first_field fields) fix.second))))
-below-limit count previous fields records (Err fault) below e more =
-    rw (one-fails count previous fields fault records below e) (stops count previous fields records fault (omega arith) (λ same. absurd (omega arith)) (λ _. e))
+below-limit : (has_use : Bool) (read : ℕ) (previous : Option Previous) (fields : Record) (records : List Record) (checked : Result Checked ReadFault) → read < fix_limit
+    → checked_in has_use (read + 1) previous fields ≡ checked
+    → ((next : Option Previous) → IsExact has_use (read + 1) next records (passed_after has_use (read + 1) next records))
+    → IsExact has_use read previous (fields ∷ records) (passed_after has_use read previous (fields ∷ records))
+below-limit has_use read previous fields records (Ok one) below e more =
+    rw (one-passes has_use read previous fields one records below e) (goes-on has_use read previous fields records one _ below e (more (Some (then_previous previous (first_field fields) one.fix.second))))
+below-limit has_use read previous fields records (Err fault) below e more =
+    rw (one-fails has_use read previous fields fault records below e) (stops has_use read previous fields records fault (omega arith) (λ same. absurd (omega arith)) (λ _. e))
 
-exact : (count : ℕ) (previous : Option Previous) (records : List Record) → count ≤ fix_limit → IsExact count previous records (fixes_after count previous records)
-exact count previous [] limit = at-end count previous limit
-exact count previous (fields ∷ records) limit = by (cases_lt count fix_limit) (λ next below. exact (count + 1) next records (omega arith))
+exact : (has_use : Bool) (read : ℕ) (previous : Option Previous) (records : List Record) → read ≤ fix_limit → IsExact has_use read previous records (passed_after has_use read previous records)
+exact has_use read previous [] limit = ends has_use read previous limit
+exact has_use read previous (fields ∷ records) limit = by (cases_lt read fix_limit) (λ next below. exact has_use (read + 1) next records (omega arith))
   where
-    by : (count < fix_limit) ⊎ (fix_limit ≤ count) → ((next : Option Previous) → count < fix_limit → IsExact (count + 1) next records (fixes_after (count + 1) next records))
-        → IsExact count previous (fields ∷ records) (fixes_after count previous (fields ∷ records))
-    by (inl below) more = below-limit count previous fields records _ below refl (λ next. more next below)
-    by (inr past) more = at-limit count previous fields records (omega arith)
+    by : (read < fix_limit) ⊎ (fix_limit ≤ read) → ((next : Option Previous) → read < fix_limit → IsExact has_use (read + 1) next records (passed_after has_use (read + 1) next records))
+        → IsExact has_use read previous (fields ∷ records) (passed_after has_use read previous (fields ∷ records))
+    by (inl below) more = below-limit has_use read previous fields records _ below refl (λ next. more next below)
+    by (inr past) more = at-limit has_use read previous fields records (omega arith)
 
-below-header : (header : Record) (records : List Record) (good : Bool)
-    → MatchBool good (IsExact 0 None records (cond good (fixes_after 0 None records) (no_more None (Some BadHeader)))) (cond good (fixes_after 0 None records) (no_more None (Some BadHeader)) ≡ no_more None (Some BadHeader))
-below-header header records true = exact 0 None records (omega arith)
-below-header header records false = refl
+below-header : (header : Option Bool) (records : List Record) → IsExactBelow header records (reading_below header records)
+below-header None records = refl
+below-header (Some has_use) records = (passed_after has_use 0 None records, exact has_use 0 None records (omega arith), refl)
 
 pub reads-exactly : ReadsExactly
 reads-exactly [] = refl
-reads-exactly (header ∷ records) = below-header header records (is_header header)
+reads-exactly (header ∷ records) = below-header (header_of header) records

@@ -1,5 +1,5 @@
 -- A reader's progress through a reading.
-use Rattle.std.proofs.Common.{◌≡◌, ◌+◌, ◌≤◌, ℕ, zero, suc, true, false, eqb, List, [], ◌∷◌, length, drop, Option, Some, None, refl, sym, ◌∙◌, ap, arith, rules, tests, length-drop, slice_get, add-one, IsSome}
+use Rattle.std.proofs.Common.{◌≡◌, ◌+◌, ◌≤◌, ℕ, zero, suc, Bool, true, false, eqb, List, [], ◌∷◌, length, drop, Option, Some, None, refl, sym, ◌∙◌, ap, arith, rules, tests, length-drop, slice_get, add-one, IsSome}
 use Rattle.std.specs.Option.{option_map}
 use Rattle.range_plane.specs.declared.fix.Fix.{Fix}
 use Rattle.range_fixes.specs.declared.fault.ReadFault.{ReadFault}
@@ -8,7 +8,7 @@ use Rattle.range_fixes.specs.Field.{Record}
 use Rattle.range_fixes.specs.Previous.{Previous}
 use Rattle.range_fixes.specs.Progress.{Progress, Reads, is_unhurt}
 use Rattle.range_fixes.specs.Reader.{progress_by}
-use Rattle.range_fixes.specs.Reading.{Reading, fixes_after, no_more, then_fixes}
+use Rattle.range_fixes.specs.Reading.{Reading, no_more, then_fixes}
 use Rattle.range_fixes.specs.Steps.{Leads, rest_of}
 use Rattle.range_fixes.proofs.ReadingFacts.{animal-after}
 
@@ -48,20 +48,22 @@ one-more p q r m fix h unhurt e f count animal =
     (record { count = rw (count, add-one) d.2; animal = rw some (animal ∙ sym named); ahead = λ _. rw (count, add-one, d.1, named, fault) f }, d.0)
 
 -- a fix that was given is the next of the reading
-pub fix-given : (count : ℕ) (old new : Option Previous) (left after : Option (List Record)) (fix : Fix) (r : Reading)
-    → Leads (option_map (rest_of count old) left) (option_map (λ records. then_fixes fix (fixes_after (count + 1) new records)) after) → IsSome new
-    → Reads (progress_by Going count old left) r
-    → Reads (progress_by Going (count + 1) new after) r × (slice_get r.fixes count ≡ Some fix)
-fix-given count old None left after fix r leads some h = cc some
-fix-given count old (Some q) None after fix r leads some h = cc (h.ahead refl)
-fix-given count old (Some q) (Some records) None fix r leads some h = cc leads
-fix-given count old (Some q) (Some records) (Some below) fix r leads some h =
-    one-more (progress_by Going count old (Some records)) (progress_by Going (count + 1) (Some q) (Some below)) r (fixes_after (count + 1) (Some q) below) fix
-    h refl (sym leads) refl refl (sym (animal-after (count + 1) q below))
+pub fix-given : (header had : Option Bool) (read before count : ℕ) (old new : Option Previous) (left after : Option (List Record)) (s t : Bool) (fix : Fix) (r : Reading)
+    → Leads (option_map (rest_of had before count old) left) (option_map (λ records. then_fixes fix (rest_of header read (count + 1) new records)) after) → IsSome header → IsSome new
+    → Reads (progress_by Going had before count old left s) r
+    → Reads (progress_by Going header read (count + 1) new after t) r × (slice_get r.fixes count ≡ Some fix)
+fix-given None had read before count old new left after s t fix r leads headed named h = cc headed
+fix-given (Some has_use) had read before count old None left after s t fix r leads headed named h = cc named
+fix-given (Some has_use) had read before count old (Some q) None after s t fix r leads headed named h = cc (h.ahead refl)
+fix-given (Some has_use) had read before count old (Some q) (Some records) None s t fix r leads headed named h = cc leads
+fix-given (Some has_use) had read before count old (Some q) (Some records) (Some below) s t fix r leads headed named h =
+    let some : eqb (count + 1) 0 ≡ false = search (rules, tests) in
+    one-more (progress_by Going had before count old (Some records) s) (progress_by Going (Some has_use) read (count + 1) (Some q) (Some below) t) r (rest_of (Some has_use) read (count + 1) (Some q) below) fix
+    h refl (sym leads) refl refl (rw some (sym (animal-after has_use read q below)))
 
 -- no fix is ahead: the end, or a fault of the text
-pub stop-given : (count : ℕ) (old : Option Previous) (left : Option (List Record)) (fault : Option ReadFault) (r : Reading)
-    → Leads (option_map (rest_of count old) left) (Some (no_more old fault))
-    → Reads (progress_by Going count old left) r → (length r.fixes ≡ count) × (r.fault ≡ fault)
-stop-given count old None fault r leads h = cc (h.ahead refl)
-stop-given count old (Some records) fault r leads h = at-stop (progress_by Going count old (Some records)) r (no_more old fault) h refl (sym leads) refl
+pub stop-given : (had : Option Bool) (before count : ℕ) (old new : Option Previous) (left : Option (List Record)) (s : Bool) (fault : Option ReadFault) (r : Reading)
+    → Leads (option_map (rest_of had before count old) left) (Some (no_more new fault))
+    → Reads (progress_by Going had before count old left s) r → (length r.fixes ≡ count) × (r.fault ≡ fault)
+stop-given had before count old new None s fault r leads h = cc (h.ahead refl)
+stop-given had before count old new (Some records) s fault r leads h = at-stop (progress_by Going had before count old (Some records) s) r (no_more new fault) h refl (sym leads) refl

@@ -1,81 +1,135 @@
 -- What one record adds to a reading.
-use Rattle.std.proofs.Common.{◌≡◌, ◌≢◌, ◌+◌, ◌<◌, ℕ, Bool, true, false, cond, eqb, List, [], ◌∷◌, Option, Some, None, Result, Ok, Err, refl, IfErr, rules, tests, not, nat_lt}
+use Rattle.std.proofs.Common.{◌≡◌, ◌≢◌, ◌+◌, ◌<◌, ◌≤◌, ℕ, Bool, true, false, cond, eqb, List, [], ◌∷◌, Option, Some, None, Result, Ok, Err, refl, ◌∙◌, ap, IfErr, IfOk, IfSome, IsTrue, rules, tests, arith, not, nat_lt, length, map, filter, suc}
 use Rattle.std.specs.Option.{option_map}
+use Rattle.std.proofs.lemmas.Bool.{false≢true}
+use Rattle.std.specs.Str.{bytes_eq}
 use Rattle.std.specs.Str.Parse.{digits_value}
-use Rattle.range_plane.specs.Fix.{fix_limit}
+use Rattle.std.specs.Prelude.{codes}
+use Rattle.range_plane.specs.Fix.{fix_limit, second_limit}
+use Rattle.range_plane.specs.Plane.{coordinate_limit}
 use Rattle.range_plane.specs.declared.fix.Fix.{Fix}
+use Rattle.range_fixes.specs.declared.checks.Checked.{Checked}
 use Rattle.range_fixes.specs.declared.fault.ReadFault.{ReadFault}
-use Rattle.range_fixes.specs.declared.fault.ReadFault.TheVariants.{BadName, OtherAnimal, NotNumber, TooLarge, SecondFalls, NoFixes, TooManyFixes, Gone}
-use Rattle.range_fixes.specs.Check.{animal_in, falls, fix_in, is_other, number_in, ◌>>=◌}
+use Rattle.range_fixes.specs.declared.fault.ReadFault.TheVariants.{BadName, OtherAnimal, NotNumber, TooLarge, SecondFalls, BadUse, TooManyFixes, Gone}
+use Rattle.range_fixes.specs.Check.{animal_in, checked_in, checks_of, falls, fix_in, is_other, number_in, used_in, ◌>>=◌}
 use Rattle.range_fixes.specs.Field.{Record, first_field, is_name, is_number}
 use Rattle.range_fixes.specs.Previous.{Previous, then_previous}
-use Rattle.range_fixes.specs.Reading.{Reading, fixes_after, if_passes, no_more, then_fixes}
+use Rattle.range_fixes.specs.Progress.{is_of_text}
+use Rattle.range_fixes.specs.Reading.{Passed, Reading, if_passes, no_more, none_passed, passed_after, fault_after, reading_by, then_fixes, then_passed}
 use Rattle.range_fixes.specs.Records.{TakesRecord}
+use Rattle.range_fixes.specs.Reader.{IsWithin}
 use Rattle.range_fixes.specs.Steps.{Leads}
+use Rattle.range_fixes.proofs.CheckFacts.{checked-cases}
 
--- a reading of what is left, where there is no record
-pub takes-none : (read : List Record → Reading) (left : Option (List Record)) (fields : Record) (after : Option (List Record)) (r : Reading)
+-- what is left where there is no record
+pub takes-none : {X : Type 0} (read : List Record → X) (left : Option (List Record)) (fields : Record) (after : Option (List Record)) (r : X)
     → TakesRecord left false fields after → read [] ≡ r → Leads (option_map read left) (Some r)
 takes-none read None fields after r t e = tt
 takes-none read (Some records) fields after r t e = rw (t, e) refl
 
 -- where there is one that ends the reading
-pub takes-last : (read : List Record → Reading) (left : Option (List Record)) (fields : Record) (after : Option (List Record)) (r : Reading)
+pub takes-last : {X : Type 0} (read : List Record → X) (left : Option (List Record)) (fields : Record) (after : Option (List Record)) (r : X)
     → TakesRecord left true fields after → ((records : List Record) → read (fields ∷ records) ≡ r) → Leads (option_map read left) (Some r)
 takes-last read None fields after r t e = tt
 takes-last read (Some records) fields after r t e = rw (t.1, e t.0) refl
 
 -- and where the reading goes on behind it
-pub takes-more : (read more : List Record → Reading) (left : Option (List Record)) (fields : Record) (after : Option (List Record))
+pub takes-more : {X : Type 0} (read more : List Record → X) (left : Option (List Record)) (fields : Record) (after : Option (List Record))
     → TakesRecord left true fields after → ((records : List Record) → read (fields ∷ records) ≡ more records) → Leads (option_map read left) (option_map more after)
 takes-more read more None fields after t e = tt
 takes-more read more (Some records) fields after t e = rw (t.1, t.2, e t.0) refl
 
-pub end-first : (previous : Option Previous) → fixes_after 0 previous [] ≡ no_more previous (Some NoFixes)
-unfolding fixes_after
-end-first previous = refl
+pub leads-far : {X : Type 0} (a b c : Option X) → Leads a b → Leads b c → Leads a c
+leads-far None b c l m = tt
+leads-far (Some x) None c l m = cc l
+leads-far (Some x) (Some y) c l m = m ∙ l
 
-pub end-later : (count : ℕ) (previous : Option Previous) → 0 < count → fixes_after count previous [] ≡ no_more previous None
-unfolding fixes_after
-end-later count previous h =
-    let some : eqb count 0 ≡ false = search (rules, tests) in
-    rw some refl
+-- what is known of records is known of the reading that they make
+pub leads-end : (given : ℕ) (read : List Record → Passed) (left : Option (List Record)) (p : Passed)
+    → Leads (option_map read left) (Some p) → Leads (option_map (λ records. reading_by given (read records)) left) (Some (reading_by given p))
+leads-end given read None p l = tt
+leads-end given read (Some records) p l = let same : p ≡ read records = cc in rw same refl
 
-pub too-many : (previous : Option Previous) (fields : Record) (records : List Record) → fixes_after fix_limit previous (fields ∷ records) ≡ no_more previous (Some TooManyFixes)
-unfolding fixes_after
-too-many previous fields records = refl
+pub leads-more : (given : ℕ) (read : List Record → Passed) (more : List Record → Passed) (then : List Record → Reading) (left after : Option (List Record))
+    → ((records : List Record) → reading_by given (more records) ≡ then records)
+    → Leads (option_map read left) (option_map more after) → Leads (option_map (λ records. reading_by given (read records)) left) (option_map then after)
+leads-more given read more then None after e l = tt
+leads-more given read more then (Some records) None e l = cc l
+leads-more given read more then (Some records) (Some below) e l = let same : read records ≡ more below = cc in rw (same, e below) refl
 
-pub one-passes : (count : ℕ) (previous : Option Previous) (fields : Record) (fix : Fix) (records : List Record) → count < fix_limit → fix_in (count + 1) previous fields ≡ Ok fix
-    → fixes_after count previous (fields ∷ records) ≡ then_fixes fix (fixes_after (count + 1) (Some (then_previous previous (first_field fields) fix.second)) records)
-unfolding fixes_after
-one-passes count previous fields fix records h e =
-    let below : eqb count fix_limit ≡ false = search (rules, tests) in
+pub at-end : (has_use : Bool) (read : ℕ) (previous : Option Previous) → passed_after has_use read previous [] ≡ none_passed previous None
+unfolding passed_after
+at-end has_use read previous = refl
+
+pub too-many : (has_use : Bool) (previous : Option Previous) (fields : Record) (records : List Record) → passed_after has_use fix_limit previous (fields ∷ records) ≡ none_passed previous (Some TooManyFixes)
+unfolding passed_after
+too-many has_use previous fields records = refl
+
+pub one-passes : (has_use : Bool) (read : ℕ) (previous : Option Previous) (fields : Record) (one : Checked) (records : List Record) → read < fix_limit → checked_in has_use (read + 1) previous fields ≡ Ok one
+    → passed_after has_use read previous (fields ∷ records) ≡ then_passed one (passed_after has_use (read + 1) (Some (then_previous previous (first_field fields) one.fix.second)) records)
+unfolding passed_after
+one-passes has_use read previous fields one records h e =
+    let below : eqb read fix_limit ≡ false = search (rules, tests) in
     rw (below, e) refl
 
-pub one-fails : (count : ℕ) (previous : Option Previous) (fields : Record) (fault : ReadFault) (records : List Record) → count < fix_limit → fix_in (count + 1) previous fields ≡ Err fault
-    → fixes_after count previous (fields ∷ records) ≡ no_more previous (Some fault)
-unfolding fixes_after
-one-fails count previous fields fault records h e =
-    let below : eqb count fix_limit ≡ false = search (rules, tests) in
+pub one-fails : (has_use : Bool) (read : ℕ) (previous : Option Previous) (fields : Record) (fault : ReadFault) (records : List Record) → read < fix_limit → checked_in has_use (read + 1) previous fields ≡ Err fault
+    → passed_after has_use read previous (fields ∷ records) ≡ none_passed previous (Some fault)
+unfolding passed_after
+one-fails has_use read previous fields fault records h e =
+    let below : eqb read fix_limit ≡ false = search (rules, tests) in
     rw (below, e) refl
 
--- the animal of a reading is that of the record before
-pub animal-after : (count : ℕ) (previous : Previous) (records : List Record) → (fixes_after count (Some previous) records).animal ≡ Some previous.animal
-unfolding fixes_after
-animal-after count previous [] = refl
-animal-after count previous (fields ∷ records) =
-    by (eqb count fix_limit) (fix_in (count + 1) (Some previous) fields) (λ second. animal-after (count + 1) (record previous { second = second }) records)
+-- the animal of records is that of the record before
+pub animal-after : (has_use : Bool) (read : ℕ) (previous : Previous) (records : List Record) → (passed_after has_use read (Some previous) records).animal ≡ Some previous.animal
+unfolding passed_after
+animal-after has_use read previous [] = refl
+animal-after has_use read previous (fields ∷ records) =
+    by (eqb read fix_limit) (checked_in has_use (read + 1) (Some previous) fields) (λ second. animal-after has_use (read + 1) (record previous { second = second }) records)
   where
-    by : (b : Bool) (checked : Result Fix ReadFault)
-        → ((second : ℕ) → (fixes_after (count + 1) (Some (record previous { second = second })) records).animal ≡ Some previous.animal)
-        → (cond b (no_more (Some previous) (Some TooManyFixes)) (if_passes (Some previous) checked (λ fix. fixes_after (count + 1) (Some (record previous { second = fix.second })) records))).animal ≡ Some previous.animal
+    by : (b : Bool) (checked : Result Checked ReadFault)
+        → ((second : ℕ) → (passed_after has_use (read + 1) (Some (record previous { second = second })) records).animal ≡ Some previous.animal)
+        → (cond b (none_passed (Some previous) (Some TooManyFixes)) (if_passes (Some previous) checked (λ one. passed_after has_use (read + 1) (Some (record previous { second = one.fix.second })) records))).animal ≡ Some previous.animal
     by true checked more = refl
     by false (Err fault) more = refl
-    by false (Ok fix) more = more fix.second
+    by false (Ok one) more = more one.fix.second
+
+abbrev used_list : List Checked → List Fix
+used_list checked = map (λ one. one.fix) checked
+
+-- a reading of these fixes
+abbrev with_fixes : Passed → List Fix → ℕ → Reading
+with_fixes p fixes count = record { animal = p.animal; fixes = fixes; fault = fault_after count p.fault }
+
+-- a record that is used gives its fix
+pub one-used : (given : ℕ) (one : Checked) (p : Passed) → one.used ≡ true → reading_by given (then_passed one p) ≡ then_fixes one.fix (reading_by (given + 1) p)
+one-used given one p e = by one.used e
+  where
+    rest : List Checked
+    rest = filter (λ one. one.used) p.checked
+
+    by : (b : Bool) → b ≡ true → with_fixes p (used_list (cond b (one ∷ rest) rest)) (given + length (used_list (cond b (one ∷ rest) rest))) ≡ then_fixes one.fix (reading_by (given + 1) p)
+    by true e = ap (with_fixes p (used_list (one ∷ rest))) (let more : given + suc (length (used_list rest)) ≡ given + 1 + length (used_list rest) = omega arith in more)
+    by false e = cc e
+
+-- and one that is not leaves the reading as it is
+pub one-unused : (given : ℕ) (one : Checked) (p : Passed) → one.used ≡ false → reading_by given (then_passed one p) ≡ reading_by given p
+one-unused given one p e = by one.used e
+  where
+    rest : List Checked
+    rest = filter (λ one. one.used) p.checked
+
+    by : (b : Bool) → b ≡ false → with_fixes p (used_list (cond b (one ∷ rest) rest)) (given + length (used_list (cond b (one ∷ rest) rest))) ≡ reading_by given p
+    by true e = cc e
+    by false e = refl
+
+pub later-end : (given : ℕ) (previous : Option Previous) → 0 < given → reading_by given (none_passed previous None) ≡ no_more previous None
+later-end given previous h =
+    let some : eqb (given + 0) 0 ≡ false = search (rules, tests) in
+    rw some refl
 
 -- a fault of a record's checks
 abbrev IsOwn : {A : Type 0} → Result A ReadFault → Type 0
-IsOwn r = IfErr r (λ fault. fault ≢ Gone)
+IsOwn r = IfErr r (λ fault. is_of_text fault ≡ true)
 
 own-bind : {A B : Type 0} (r : Result A ReadFault) (f : A → Result B ReadFault) → IsOwn r → ((x : A) → IsOwn (f x)) → IsOwn (r >>= f)
 own-bind (Ok x) f h k = k x
@@ -87,26 +141,74 @@ own-cond false x y h k = k
 
 own-animal : (rec : ℕ) (previous : Option Previous) (name : List ℕ) → IsOwn (animal_in rec previous name)
 own-animal rec previous name =
-    let bad : BadName rec ≢ Gone = λ e. cc e in
-    let other : OtherAnimal rec ≢ Gone = λ e. cc e in
-    own-cond (not (is_name name)) (Err (BadName rec)) _ bad (own-cond (is_other previous name) (Err (OtherAnimal rec)) _ other tt)
+    own-cond (not (is_name name)) (Err (BadName rec)) _ refl (own-cond (is_other previous name) (Err (OtherAnimal rec)) _ refl tt)
 
 own-number : (rec field limit : ℕ) (bytes : List ℕ) → IsOwn (number_in rec field limit bytes)
 own-number rec field limit bytes =
-    let not_number : NotNumber rec field ≢ Gone = λ e. cc e in
-    let large : TooLarge rec field ≢ Gone = λ e. cc e in
-    own-cond (not (is_number bytes)) (Err (NotNumber rec field)) _ not_number (own-cond (nat_lt limit (digits_value 10 bytes)) (Err (TooLarge rec field)) _ large tt)
+    own-cond (not (is_number bytes)) (Err (NotNumber rec field)) _ refl (own-cond (nat_lt limit (digits_value 10 bytes)) (Err (TooLarge rec field)) _ refl tt)
 
-own-fix : (rec : ℕ) (previous : Option Previous) (fields : Record) → IsOwn (fix_in rec previous fields)
-unfolding fix_in
-own-fix rec previous [] = λ e. cc e
-own-fix rec previous (a ∷ []) = λ e. cc e
-own-fix rec previous (a ∷ b ∷ []) = λ e. cc e
-own-fix rec previous (a ∷ b ∷ c ∷ []) = λ e. cc e
-own-fix rec previous (a ∷ b ∷ c ∷ d ∷ []) =
-    let down : SecondFalls rec ≢ Gone = λ e. cc e in
-    own-bind _ _ (own-animal rec previous a) (λ _. own-bind _ _ (own-number rec 1 _ b) (λ s. own-bind _ _ (own-number rec 2 _ c) (λ e. own-bind _ _ (own-number rec 3 _ d) (λ n. own-cond (falls previous s) (Err (SecondFalls rec)) _ down tt))))
-own-fix rec previous (a ∷ b ∷ c ∷ d ∷ e ∷ more) = λ e. cc e
+own-fix : (rec : ℕ) (previous : Option Previous) (a b c d : List ℕ) → IsOwn (fix_in rec previous a b c d)
+own-fix rec previous a b c d =
+    own-bind _ _ (own-animal rec previous a) (λ _. own-bind _ _ (own-number rec 1 _ b) (λ s. own-bind _ _ (own-number rec 2 _ c) (λ e. own-bind _ _ (own-number rec 3 _ d) (λ n. own-cond (falls previous s) (Err (SecondFalls rec)) _ refl tt))))
 
-pub own-fault : (rec : ℕ) (previous : Option Previous) (fields : Record) (fault : ReadFault) → fix_in rec previous fields ≡ Err fault → fault ≢ Gone
-own-fault rec previous fields fault e = let own = own-fix rec previous fields in rw e at own
+own-used : (rec : ℕ) (bytes : List ℕ) → IsOwn (used_in rec bytes)
+own-used rec bytes = own-cond (bytes_eq bytes (codes "1")) (Ok true) _ tt (own-cond (bytes_eq bytes (codes "0")) (Ok false) (Err (BadUse rec)) tt refl)
+
+own-checks : (rec : ℕ) (previous : Option Previous) (a b c d e : List ℕ) → IsOwn (checks_of rec previous a b c d e)
+own-checks rec previous a b c d e = own-bind _ _ (own-fix rec previous a b c d) (λ fix. own-bind _ _ (own-used rec e) (λ used. tt))
+
+own-checked : (has_use : Bool) (rec : ℕ) (previous : Option Previous) (fields : Record) → IsOwn (checked_in has_use rec previous fields)
+own-checked has_use rec previous = checked-cases has_use rec previous (λ fields. IsOwn) (λ a b c d e more. own-checks rec previous a b c d e) (λ fields. refl)
+
+-- a fault of a record is one of the text
+pub text-fault : (has_use : Bool) (rec : ℕ) (previous : Option Previous) (fields : Record) (fault : ReadFault) → checked_in has_use rec previous fields ≡ Err fault → is_of_text fault ≡ true
+text-fault has_use rec previous fields fault e = let own = own-checked has_use rec previous fields in rw e at own
+
+pub not-gone : (fault : ReadFault) → is_of_text fault ≡ true → fault ≢ Gone
+not-gone fault own = λ gone. false≢true (rw gone at own)
+
+-- what holds of each value that a step may give holds of what the steps give together
+ok-bind : {A B : Type 0} (P : B → Type 0) (r : Result A ReadFault) (f : A → Result B ReadFault) → ((x : A) → r ≡ Ok x → IfOk (f x) P) → IfOk (r >>= f) P
+ok-bind P (Ok x) f h = h x refl
+ok-bind P (Err e) f h = tt
+
+ok-cond : {A : Type 0} (P : A → Type 0) (b : Bool) (x y : Result A ReadFault) → (b ≡ true → IfOk x P) → (b ≡ false → IfOk y P) → IfOk (cond b x y) P
+ok-cond P true x y h k = h refl
+ok-cond P false x y h k = k refl
+
+name-within : (rec : ℕ) (previous : Option Previous) (name : List ℕ) → IfOk (animal_in rec previous name) (λ _. IsTrue (is_name name))
+name-within rec previous name =
+    ok-cond _ (not (is_name name)) (Err (BadName rec)) _ (λ _. tt) (λ e. ok-cond _ (is_other previous name) (Err (OtherAnimal rec)) (Ok tt) (λ _. tt) (λ _. search (rules, tests)))
+
+number-within : (rec field limit : ℕ) (bytes : List ℕ) → IfOk (number_in rec field limit bytes) (λ n. n ≤ limit)
+number-within rec field limit bytes =
+    ok-cond _ (not (is_number bytes)) (Err (NotNumber rec field)) _ (λ _. tt)
+    (λ _. ok-cond _ (nat_lt limit (digits_value 10 bytes)) (Err (TooLarge rec field)) (Ok (digits_value 10 bytes)) (λ _. tt) (λ e. search (rules, tests)))
+
+-- what is within its limits in a record of this name
+abbrev IsFixWithin : List ℕ → Fix → Type 0
+IsFixWithin name fix = (fix.second ≤ second_limit) × IsTrue (is_name name)
+
+fix-within : (rec : ℕ) (previous : Option Previous) (a b c d : List ℕ) → IfOk (fix_in rec previous a b c d) (IsFixWithin a)
+fix-within rec previous a b c d =
+    ok-bind _ (animal_in rec previous a) _ (λ u named. ok-bind _ (number_in rec 1 second_limit b) _ (λ s counted. ok-bind _ (number_in rec 2 coordinate_limit c) _ (λ e _. ok-bind _ (number_in rec 3 coordinate_limit d) _ (λ n _.
+    ok-cond _ (falls previous s) (Err (SecondFalls rec)) _ (λ _. tt) (λ _.
+    let name = name-within rec previous a in
+    let second = number-within rec 1 second_limit b in
+    (rw counted at second, rw named at name))))))
+
+checks-within : (rec : ℕ) (previous : Option Previous) (a b c d e : List ℕ) → IfOk (checks_of rec previous a b c d e) (λ one. IsFixWithin a one.fix)
+checks-within rec previous a b c d e =
+    ok-bind _ (fix_in rec previous a b c d) _ (λ fix passed. ok-bind _ (used_in rec e) _ (λ used _. let within = fix-within rec previous a b c d in rw passed at within))
+
+-- a record that passes is within the limits of names and seconds
+pub passed-within : (has_use : Bool) (rec : ℕ) (previous : Option Previous) (fields : Record) (one : Checked) → checked_in has_use rec previous fields ≡ Ok one
+    → (one.fix.second ≤ second_limit) × IsTrue (is_name (first_field fields))
+passed-within has_use rec previous fields one e =
+    let within = checked-cases has_use rec previous (λ fields checked. IfOk checked (λ one. IsFixWithin (first_field fields) one.fix)) (λ a b c d e more. checks-within rec previous a b c d e) (λ fields. tt) fields in
+    rw e at within
+
+-- and so is what it leaves as the record before
+pub then-within : (previous : Option Previous) (name : List ℕ) (second : ℕ) → IfSome previous IsWithin → (second ≤ second_limit) × IsTrue (is_name name) → IsWithin (then_previous previous name second)
+then-within None name second h within = record { name = within.1; second = within.0 }
+then-within (Some previous) name second h within = record { name = h.name; second = within.0 }

@@ -1,13 +1,14 @@
--- What is wrong with a record, or the fix that it gives.
-use Rattle.std.specs.Prelude.{ℕ, Bool, false, List, [], ◌∷◌, length, Option, Some, None, Result, Ok, Err, not, nat_lt, pos, if◌then◌else◌}
+-- What is wrong with a record, or the fix that it has.
+use Rattle.std.specs.Prelude.{◌≡◌, ℕ, Bool, true, false, List, [], ◌∷◌, length, Option, Some, None, Result, Ok, Err, not, nat_lt, pos, codes, if◌then◌else◌}
 use Rattle.std.specs.Str.{bytes_eq}
 use Rattle.std.specs.Str.Parse.{digits_value}
 use Rattle.range_plane.specs.Fix.{second_limit}
 use Rattle.range_plane.specs.Plane.{coordinate_limit, position}
 use Rattle.range_plane.specs.declared.fix.Fix.{Fix}
+use Rattle.range_fixes.specs.declared.checks.Checked.{Checked}
 use Rattle.range_fixes.specs.declared.fault.ReadFault.{ReadFault}
-use Rattle.range_fixes.specs.declared.fault.ReadFault.TheVariants.{WrongFieldCount, BadName, OtherAnimal, NotNumber, TooLarge, SecondFalls}
-use Rattle.range_fixes.specs.Field.{Record, is_name, is_number}
+use Rattle.range_fixes.specs.declared.fault.ReadFault.TheVariants.{WrongFieldCount, BadName, OtherAnimal, NotNumber, TooLarge, SecondFalls, BadUse}
+use Rattle.range_fixes.specs.Field.{Record, is_name, is_number, width}
 use Rattle.range_fixes.specs.Previous.{Previous}
 
 -- another animal than that of the records before
@@ -39,12 +40,33 @@ number_in rec field limit bytes =
     else if nat_lt limit (digits_value 10 bytes) then Err (TooLarge rec field)
     else Ok (digits_value 10 bytes)
 
--- the fix of record number rec, or the first fault of the record
-unfoldable pub fix_in : ℕ → Option Previous → Record → Result Fix ReadFault
-fix_in rec previous (name ∷ second ∷ easting ∷ northing ∷ []) = do
+-- whether the fix of record number rec is used, by the field that says so
+abbrev pub used_in : ℕ → List ℕ → Result Bool ReadFault
+used_in rec bytes = if bytes_eq bytes (codes "1") then Ok true else if bytes_eq bytes (codes "0") then Ok false else Err (BadUse rec)
+
+-- the fix of record number rec, or the first fault of its first four fields
+abbrev pub fix_in : ℕ → Option Previous → List ℕ → List ℕ → List ℕ → List ℕ → Result Fix ReadFault
+fix_in rec previous name second easting northing = do
   _ ← animal_in rec previous name
   s ← number_in rec 1 second_limit second
   e ← number_in rec 2 coordinate_limit easting
   n ← number_in rec 3 coordinate_limit northing
   if falls previous s then Err (SecondFalls rec) else Ok (record { second = s; at = position (pos e) (pos n) })
-fix_in rec previous fields = Err (WrongFieldCount rec (length fields))
+
+-- the checks of record number rec, in their order
+abbrev pub checks_of : ℕ → Option Previous → List ℕ → List ℕ → List ℕ → List ℕ → List ℕ → Result Checked ReadFault
+checks_of rec previous name second easting northing used = do
+  fix ← fix_in rec previous name second easting northing
+  is_used ← used_in rec used
+  Ok (record { fix = fix; used = is_used })
+
+-- what record number rec comes to below a header that has the column `use` or not, or the first fault of the record; one that has no field `use` is used
+unfoldable pub checked_in : Bool → ℕ → Option Previous → Record → Result Checked ReadFault
+checked_in false rec previous (name ∷ second ∷ easting ∷ northing ∷ []) = checks_of rec previous name second easting northing (codes "1")
+checked_in true rec previous (name ∷ second ∷ easting ∷ northing ∷ used ∷ []) = checks_of rec previous name second easting northing used
+checked_in has_use rec previous fields = Err (WrongFieldCount rec (length fields) (width has_use))
+
+-- a record split into fields below such a header
+abbrev pub IsSplit : Bool → Record → List ℕ → List ℕ → List ℕ → List ℕ → List ℕ → Type 0
+IsSplit false fields name second easting northing used = (fields ≡ name ∷ second ∷ easting ∷ northing ∷ []) × (used ≡ codes "1")
+IsSplit true fields name second easting northing used = fields ≡ name ∷ second ∷ easting ∷ northing ∷ used ∷ []

@@ -1,5 +1,5 @@
 -- The fields of a record.
-use Rattle.std.specs.Prelude.{ℕ, Bool, false, List, [], ◌∷◌, ◌++◌, ◌&&◌, ◌||◌, not, length, nat_lt, nat_le, ◌==◌, codes}
+use Rattle.std.specs.Prelude.{ℕ, Bool, true, false, List, [], ◌∷◌, ◌++◌, ◌&&◌, ◌||◌, not, length, nat_lt, nat_le, ◌==◌, codes, Option, Some, None, if◌then◌else◌}
 use Rattle.std.specs.List.{list_all}
 use Rattle.std.specs.Char.{is_ascii_digit}
 use Rattle.std.specs.Str.{bytes_eq}
@@ -29,10 +29,22 @@ abbrev pub names_animal : List ℕ → Bool
 names_animal field =
     bytes_eq field (codes "animal") || bytes_eq field (byte_order_mark ++ codes "animal") || bytes_eq field (byte_order_mark ++ codes "\"animal\"")
 
-abbrev pub is_header : Record → Bool
-is_header (animal ∷ second ∷ easting ∷ northing ∷ []) =
+-- the columns that the checks of each record begin with
+abbrev pub names_columns : List ℕ → List ℕ → List ℕ → List ℕ → Bool
+names_columns animal second easting northing =
     names_animal animal && bytes_eq second (codes "second") && bytes_eq easting (codes "easting") && bytes_eq northing (codes "northing")
-is_header _ = false
+
+-- whether a header has the column `use`; none where the record is no header
+abbrev pub header_of : Record → Option Bool
+header_of (animal ∷ second ∷ easting ∷ northing ∷ []) = if names_columns animal second easting northing then Some false else None
+header_of (animal ∷ second ∷ easting ∷ northing ∷ used ∷ []) =
+    if names_columns animal second easting northing && bytes_eq used (codes "use") then Some true else None
+header_of _ = None
+
+-- how many fields each record has below such a header
+abbrev pub width : Bool → ℕ
+width false = 4
+width true = 5
 
 -- the first field of a record
 abbrev pub first_field : Record → List ℕ

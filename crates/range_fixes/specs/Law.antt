@@ -1,46 +1,50 @@
 -- What a reading is, in the words of its format: record by record.
-use Rattle.std.specs.Prelude.{◌≡◌, ◌+◌, ◌<◌, ◌≤◌, ℕ, zero, suc, List, [], ◌∷◌, length, slice_get, slice_index_or, Option, Some, None, Result, Ok, Err, ◌==◌, if◌then◌else◌, MatchBool}
+use Rattle.std.specs.Prelude.{◌≡◌, ◌+◌, ◌<◌, ◌≤◌, ℕ, zero, suc, Bool, List, [], ◌∷◌, length, slice_get, slice_index_or, Option, Some, None, Result, Ok, Err}
 use Rattle.range_plane.specs.Fix.{fix_limit}
-use Rattle.range_plane.specs.declared.fix.Fix.{Fix}
+use Rattle.range_fixes.specs.declared.checks.Checked.{Checked}
 use Rattle.range_fixes.specs.declared.fault.ReadFault.{ReadFault}
-use Rattle.range_fixes.specs.declared.fault.ReadFault.TheVariants.{BadHeader, NoFixes, NoHeader, TooManyFixes}
-use Rattle.range_fixes.specs.Check.{fix_in}
-use Rattle.range_fixes.specs.Field.{Record, first_field, is_header}
+use Rattle.range_fixes.specs.declared.fault.ReadFault.TheVariants.{BadHeader, NoHeader, TooManyFixes}
+use Rattle.range_fixes.specs.Check.{checked_in}
+use Rattle.range_fixes.specs.Field.{Record, first_field, header_of}
 use Rattle.range_fixes.specs.Previous.{Previous, then_previous}
-use Rattle.range_fixes.specs.Reading.{Reading, no_more, reading_of}
+use Rattle.range_fixes.specs.Reading.{Passed, Reading, no_more, reading_by, reading_of}
 
 -- the record before the one at a place, with the name of the first
-abbrev pub previous_at : Option Previous → List Record → List Fix → ℕ → Option Previous
-previous_at previous records fixes zero = previous
-previous_at previous [] fixes (suc k) = None
+abbrev pub previous_at : Option Previous → List Record → List Checked → ℕ → Option Previous
+previous_at previous records checked zero = previous
+previous_at previous [] checked (suc k) = None
 previous_at previous (fields ∷ records) [] (suc k) = None
-previous_at previous (fields ∷ records) (fix ∷ fixes) (suc k) = previous_at (Some (then_previous previous (first_field fields) fix.second)) records fixes k
+previous_at previous (fields ∷ records) (one ∷ checked) (suc k) = previous_at (Some (then_previous previous (first_field fields) one.fix.second)) records checked k
 
 -- the check of the record at a place, by its number
-abbrev pub check_at : ℕ → Option Previous → List Record → List Fix → ℕ → Result Fix ReadFault
-check_at count previous records fixes k = fix_in (count + k + 1) (previous_at previous records fixes k) (slice_index_or records k [])
+abbrev pub check_at : Bool → ℕ → Option Previous → List Record → List Checked → ℕ → Result Checked ReadFault
+check_at has_use read previous records checked k = checked_in has_use (read + k + 1) (previous_at previous records checked k) (slice_index_or records k [])
 
 -- the name of the records before, or else of the first that passes
-abbrev pub animal_of : Option Previous → List Record → List Fix → Option (List ℕ)
-animal_of (Some previous) records fixes = Some previous.animal
+abbrev pub animal_of : Option Previous → List Record → List Checked → Option (List ℕ)
+animal_of (Some previous) records checked = Some previous.animal
 animal_of None records [] = None
-animal_of None records (fix ∷ fixes) = Some (first_field (slice_index_or records 0 []))
+animal_of None records (one ∷ checked) = Some (first_field (slice_index_or records 0 []))
 
--- the fixes are those of the records that pass, up to the first that does not, or to the limit, or to the end
-pub record IsExact (count : ℕ) (previous : Option Previous) (records : List Record) (r : Reading) : Type 0 where
-  pub within : length r.fixes ≤ length records
-  pub limit : count + length r.fixes ≤ fix_limit
-  pub animal : r.animal ≡ animal_of previous records r.fixes
-  pub passes : (k : ℕ) (fix : Fix) → slice_get r.fixes k ≡ Some fix → check_at count previous records r.fixes k ≡ Ok fix
-  pub ended : length r.fixes ≡ length records → r.fault ≡ (if count + length r.fixes == 0 then Some NoFixes else None)
-  pub many : length r.fixes < length records → count + length r.fixes ≡ fix_limit → r.fault ≡ Some TooManyFixes
-  pub first : length r.fixes < length records → count + length r.fixes < fix_limit
-      → (fault : ReadFault) × (check_at count previous records r.fixes (length r.fixes) ≡ Err fault) × (r.fault ≡ Some fault)
+-- these are the records that pass, up to the first that does not, or to the limit, or to the end
+pub record IsExact (has_use : Bool) (read : ℕ) (previous : Option Previous) (records : List Record) (p : Passed) : Type 0 where
+  pub within : length p.checked ≤ length records
+  pub limit : read + length p.checked ≤ fix_limit
+  pub animal : p.animal ≡ animal_of previous records p.checked
+  pub passes : (k : ℕ) (one : Checked) → slice_get p.checked k ≡ Some one → check_at has_use read previous records p.checked k ≡ Ok one
+  pub ended : length p.checked ≡ length records → p.fault ≡ None
+  pub many : length p.checked < length records → read + length p.checked ≡ fix_limit → p.fault ≡ Some TooManyFixes
+  pub first : length p.checked < length records → read + length p.checked < fix_limit
+      → (fault : ReadFault) × (check_at has_use read previous records p.checked (length p.checked) ≡ Err fault) × (p.fault ≡ Some fault)
 
--- the records of a file are a header and records that are read exactly, or there is no header
+-- the records below a header are read exactly, and the fixes are those of the used ones among them
+abbrev pub IsExactBelow : Option Bool → List Record → Reading → Type 0
+IsExactBelow None records r = r ≡ no_more None (Some BadHeader)
+IsExactBelow (Some has_use) records r = (p : Passed) × IsExact has_use 0 None records p × (r ≡ reading_by 0 p)
+
 abbrev pub IsExactReading : List Record → Reading → Type 0
 IsExactReading [] r = r ≡ no_more None (Some NoHeader)
-IsExactReading (header ∷ records) r = MatchBool (is_header header) (IsExact 0 None records r) (r ≡ no_more None (Some BadHeader))
+IsExactReading (header ∷ records) r = IsExactBelow (header_of header) records r
 
 abbrev pub ReadsExactly : Type 0
 ReadsExactly = (records : List Record) → IsExactReading records (reading_of records)

@@ -1,5 +1,5 @@
 -- How far a reader of fixes is.
-use Rattle.std.specs.Prelude.{◌≡◌, ◌≤◌, ◌<◌, ◌+◌, ℕ, Bool, true, false, List, length, drop, slice_get, Option, Some, None, Result, Ok, Err, IsSome, IfSome, ◌==◌, if◌then◌else◌}
+use Rattle.std.specs.Prelude.{◌≡◌, ◌⊎◌, ◌≤◌, ◌<◌, ◌+◌, ℕ, Bool, true, false, List, length, drop, slice_get, Option, Some, None, Result, Ok, Err, IsSome, IfSome, ◌==◌, if◌then◌else◌}
 use Rattle.range_plane.specs.declared.fix.Fix.{Fix}
 use Rattle.range_fixes.specs.declared.fault.ReadFault.{ReadFault}
 use Rattle.range_fixes.specs.declared.fault.ReadFault.TheVariants as faults
@@ -9,10 +9,14 @@ pub record Progress : Type 0 where
   -- how many fixes were given, and their animal
   pub count : ℕ
   pub animal : Option (List ℕ)
+  -- how many records below the header were read
+  pub read : ℕ
   -- every call from here on answers this fault
   pub fault : Option ReadFault
   -- every call from here on answers that there is no fix
   pub ended : Bool
+  -- a read of the source or a growth failed under the records
+  pub stopped : Bool
   -- what calls give from here on, where the source tells its bytes
   pub ahead : Option Reading
 
@@ -22,6 +26,10 @@ is_of_text faults.OutOfMemory = false
 is_of_text faults.Read = false
 is_of_text faults.Gone = false
 is_of_text _ = true
+
+-- a fault in which the text has no part comes where a read or a growth failed under the records, or no memory was found for the name of the first
+abbrev pub IsHurt : Progress → ReadFault → Bool → Type 0
+IsHurt old fault stopped = is_of_text fault ≡ false → (stopped ≡ true) ⊎ ((fault ≡ faults.OutOfMemory) × (old.animal ≡ None))
 
 -- the source and memory have not failed so far
 abbrev pub is_unhurt : Option ReadFault → Bool
@@ -47,9 +55,10 @@ pub record GivesFix (old new : Progress) : Type 0 where
   pub same_animal : IfSome old.animal (λ name. new.animal ≡ Some name)
   pub no_fault : new.fault ≡ None
   pub goes_on : new.ended ≡ false
+  pub unhurt : new.stopped ≡ false
 
 -- what an answer leaves
 abbrev pub Moves : Progress → Result (Option Fix) ReadFault → Progress → Type 0
 Moves old (Ok (Some fix)) new = GivesFix old new
-Moves old (Ok None) new = (new ≡ record old { ended = true; ahead = new.ahead }) × (0 < old.count)
-Moves old (Err fault) new = new ≡ record old { fault = Some fault; ahead = new.ahead }
+Moves old (Ok None) new = (new ≡ record old { ended = true; read = new.read; ahead = new.ahead }) × (0 < old.count)
+Moves old (Err fault) new = new ≡ record old { fault = Some fault; stopped = new.stopped; read = new.read; ahead = new.ahead }

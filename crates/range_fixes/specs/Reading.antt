@@ -1,16 +1,55 @@
 -- What the bytes of a file say: its animal, its fixes, and what is wrong after them.
-use Rattle.std.specs.Prelude.{ℕ, ◌+◌, List, [], ◌∷◌, Option, Some, None, Result, Ok, Err, ◌==◌, if◌then◌else◌, option_map}
+use Rattle.std.specs.Prelude.{ℕ, ◌+◌, Bool, List, [], ◌∷◌, filter, length, map, Option, Some, None, Result, Ok, Err, ◌==◌, if◌then◌else◌, option_map}
 use Rattle.csv.specs.Reading.{default_config, records, strip_bom}
 use Rattle.range_plane.specs.Fix.{fix_limit}
 use Rattle.range_plane.specs.declared.fix.Fix.{Fix}
 use Rattle.range_fixes.specs.declared.fault.ReadFault.{ReadFault}
 use Rattle.range_fixes.specs.declared.fault.ReadFault.TheVariants.{NoHeader, BadHeader, NoFixes, TooManyFixes}
-use Rattle.range_fixes.specs.Check.{fix_in}
-use Rattle.range_fixes.specs.Field.{Record, first_field, is_header}
+use Rattle.range_fixes.specs.declared.checks.Checked.{Checked}
+use Rattle.range_fixes.specs.Check.{checked_in}
+use Rattle.range_fixes.specs.Field.{Record, first_field, header_of}
 use Rattle.range_fixes.specs.Previous.{Previous, then_previous}
 
+-- the records below a header that pass all checks, up to the first that does not
+pub record Passed : Type 0 where
+  -- the name of the first record
+  pub animal : Option (List ℕ)
+  pub checked : List Checked
+  -- what is wrong after these records, or nothing where the file ends
+  pub fault : Option ReadFault
+
+-- no record, after the one before
+abbrev pub none_passed : Option Previous → Option ReadFault → Passed
+none_passed previous fault = record { animal = option_map (λ p. p.animal) previous; checked = []; fault = fault }
+
+-- a record, and then the others
+abbrev pub then_passed : Checked → Passed → Passed
+then_passed one more = record more { checked = one ∷ more.checked }
+
+-- a record that passes comes before the others, and the first that does not ends them
+abbrev pub if_passes : Option Previous → Result Checked ReadFault → (Checked → Passed) → Passed
+if_passes previous (Err fault) more = none_passed previous (Some fault)
+if_passes previous (Ok one) more = then_passed one (more one)
+
+-- what these records come to, which so many records come before
+unfoldable pub passed_after : Bool → ℕ → Option Previous → List Record → Passed
+passed_after has_use read previous [] = none_passed previous None
+passed_after has_use read previous (fields ∷ records) =
+    if read == fix_limit then none_passed previous (Some TooManyFixes)
+    else if_passes previous (checked_in has_use (read + 1) previous fields)
+    (λ one. passed_after has_use (read + 1) (Some (then_previous previous (first_field fields) one.fix.second)) records)
+
+-- the fixes of the records that are used
+abbrev pub used_fixes : List Checked → List Fix
+used_fixes checked = map (λ one. one.fix) (filter (λ one. one.used) checked)
+
+-- what is wrong with a file of so many fixes, whose records end in this way: it has to have a fix
+abbrev pub fault_after : ℕ → Option ReadFault → Option ReadFault
+fault_after fixes (Some fault) = Some fault
+fault_after fixes None = if fixes == 0 then Some NoFixes else None
+
 pub record Reading : Type 0 where
-  -- the name of the first fix
+  -- the name of the first record
   pub animal : Option (List ℕ)
   pub fixes : List Fix
   -- what is wrong after these fixes, or nothing where the file ends
@@ -24,23 +63,23 @@ no_more previous fault = record { animal = option_map (λ p. p.animal) previous;
 abbrev pub then_fixes : Fix → Reading → Reading
 then_fixes fix more = record more { fixes = fix ∷ more.fixes }
 
--- a record that passes gives its fix, and the first that does not ends the reading
-abbrev pub if_passes : Option Previous → Result Fix ReadFault → (Fix → Reading) → Reading
-if_passes previous (Err fault) more = no_more previous (Some fault)
-if_passes previous (Ok fix) more = then_fixes fix (more fix)
+-- the fixes of records that passed, which so many fixes come before
+abbrev pub reading_by : ℕ → Passed → Reading
+reading_by given p = record {
+  animal = p.animal;
+  fixes = used_fixes p.checked;
+  fault = fault_after (given + length (used_fixes p.checked)) p.fault;
+}
 
--- what these records say, which count fixes come before
-unfoldable pub fixes_after : ℕ → Option Previous → List Record → Reading
-fixes_after count previous [] = no_more previous (if count == 0 then Some NoFixes else None)
-fixes_after count previous (fields ∷ records) =
-    if count == fix_limit then no_more previous (Some TooManyFixes)
-    else if_passes previous (fix_in (count + 1) previous fields)
-    (λ fix. fixes_after (count + 1) (Some (then_previous previous (first_field fields) fix.second)) records)
+-- what the records below a header say
+abbrev pub reading_below : Option Bool → List Record → Reading
+reading_below None records = no_more None (Some BadHeader)
+reading_below (Some has_use) records = reading_by 0 (passed_after has_use 0 None records)
 
 -- a header, and the records below it
 abbrev pub reading_of : List Record → Reading
 reading_of [] = no_more None (Some NoHeader)
-reading_of (header ∷ records) = if is_header header then fixes_after 0 None records else no_more None (Some BadHeader)
+reading_of (header ∷ records) = reading_below (header_of header) records
 
 -- the bytes of a file
 unfoldable pub reading : List ℕ → Reading

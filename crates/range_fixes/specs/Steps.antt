@@ -1,30 +1,35 @@
--- What one step of a reader takes of the records that are left.
-use Rattle.std.specs.Prelude.{◌≡◌, ◌+◌, ⊤, ℕ, true, List, Option, Some, None, Result, Ok, Err, IsSome, IfSome, option_map}
+-- What the steps of a reader take of the records that are left.
+use Rattle.std.specs.Prelude.{◌≡◌, ◌+◌, ⊤, ℕ, Bool, true, List, Option, Some, None, Result, Ok, Err, IfSome, IsSomeAnd, option_map}
 use Rattle.range_plane.specs.declared.fix.Fix.{Fix}
 use Rattle.range_fixes.specs.declared.fault.ReadFault.{ReadFault}
+use Rattle.range_fixes.specs.declared.checks.Checked.{Checked}
 use Rattle.range_fixes.specs.Field.{Record}
 use Rattle.range_fixes.specs.Previous.{Previous}
 use Rattle.range_fixes.specs.Progress.{is_of_text}
-use Rattle.range_fixes.specs.Reading.{Reading, fixes_after, no_more, reading_of, then_fixes}
+use Rattle.range_fixes.specs.Reading.{Passed, Reading, no_more, none_passed, passed_after, reading_by, reading_of, then_fixes, then_passed}
 
--- what the records that are left say: the header is among them where no record passed yet
-abbrev pub rest_of : ℕ → Option Previous → List Record → Reading
-rest_of count None records = reading_of records
-rest_of count (Some previous) records = fixes_after count (Some previous) records
+-- what the records that are left say, which so many records and so many fixes come before: the header is among them where it was not read yet
+abbrev pub rest_of : Option Bool → ℕ → ℕ → Option Previous → List Record → Reading
+rest_of None read given previous records = reading_of records
+rest_of (Some has_use) read given previous records = reading_by given (passed_after has_use read previous records)
 
--- a known reading is that one
-abbrev pub Leads : Option Reading → Option Reading → Type 0
+-- what is known is that
+abbrev pub Leads : {X : Type 0} → Option X → Option X → Type 0
 Leads None after = ⊤
-Leads (Some r) after = after ≡ Some r
+Leads (Some x) after = after ≡ Some x
 
--- what an answer after so many fixes says of the reading of the records that were left
-abbrev pub Gives : Option Reading → ℕ → Option Previous → Result (Option Fix) ReadFault → Option Previous → Option (List Record) → Type 0
-Gives rest count old (Ok (Some fix)) new left = Leads rest (option_map (λ records. then_fixes fix (fixes_after (count + 1) new records)) left)
-Gives rest count old (Ok None) new left = Leads rest (Some (no_more old None))
-Gives rest count old (Err fault) new left = is_of_text fault ≡ true → Leads rest (Some (no_more old (Some fault)))
+-- what an answer on the next record says of those that were left, which so many come before
+abbrev pub Takes : Option Passed → Bool → ℕ → Result (Option Checked) ReadFault → Option Previous → Option (List Record) → Type 0
+Takes rest has_use read (Ok (Some one)) new left = Leads rest (option_map (λ records. then_passed one (passed_after has_use (read + 1) new records)) left)
+Takes rest has_use read (Ok None) new left = Leads rest (Some (none_passed new None))
+Takes rest has_use read (Err fault) new left = is_of_text fault ≡ true → Leads rest (Some (none_passed new (Some fault)))
 
--- what it leaves as the record before
-abbrev pub Follows : Option Previous → Result (Option Fix) ReadFault → Option Previous → Type 0
-Follows old (Ok (Some fix)) new = IsSome new × IfSome old (λ p. new ≡ Some (record p { second = fix.second }))
-Follows old (Ok None) new = (new ≡ old) × IsSome old
-Follows old (Err fault) new = new ≡ old
+-- what an answer says of the reading of the records that were left, which so many fixes come before
+abbrev pub Gives : Option Reading → ℕ → Result (Option Fix) ReadFault → Option Bool → ℕ → Option Previous → Option (List Record) → Type 0
+Gives rest given (Ok (Some fix)) header read new left = Leads rest (option_map (λ records. then_fixes fix (rest_of header read (given + 1) new records)) left)
+Gives rest given (Ok None) header read new left = Leads rest (Some (no_more new None))
+Gives rest given (Err fault) header read new left = is_of_text fault ≡ true → Leads rest (Some (no_more new (Some fault)))
+
+-- the animal stays that of the first record
+abbrev pub KeepsAnimal : Option Previous → Option Previous → Type 0
+KeepsAnimal old new = IfSome old (λ p. IsSomeAnd new (λ q. q.animal ≡ p.animal))

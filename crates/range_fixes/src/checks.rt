@@ -2,8 +2,8 @@
 
 ghost use Rattle.std.specs.Prelude.{◌≡◌, ◌≢◌, ◌∷◌, ◌^◌, ◌<◌, [], length, option_map, MatchOption};
 ghost use Rattle.csv.specs.Records.{fields_of};
-ghost use Rattle.range_fixes.specs.Check.{animal_in, falls, fix_in, number_in};
-ghost use Rattle.range_fixes.specs.Field.{first_field, is_header, is_name, is_name_byte, names_animal};
+ghost use Rattle.range_fixes.specs.Check.{IsSplit, animal_in, checked_in, falls, fix_in, number_in, used_in};
+ghost use Rattle.range_fixes.specs.Field.{first_field, header_of, is_name, is_name_byte, names_animal, width};
 
 use crate::fault::ReadFault;
 use crate::number::{capped_value, is_number};
@@ -11,27 +11,48 @@ use crate::previous::Previous;
 use csv::ByteRecord;
 use range_plane::{COORDINATE_LIMIT, Fix, Point, SECOND_LIMIT};
 
-// How many fields the header and each record have.
+// How many fields the header and each record have, without the column `use` and with it.
 pub(crate) const FIELD_COUNT: usize = 4;
+
+pub(crate) const FIELD_COUNT_WITH_USE: usize = 5;
 
 // The most bytes of a name.
 const NAME_LIMIT: usize = 32;
 
-// The fields of a record that has four.
+// A record that passed all checks: its fix, and whether that is used.
+#[derive(Clone, Copy)]
+pub(crate) struct Checked {
+    pub fix: Fix,
+    pub used: bool,
+}
+
+// How many fields each record has below a header that has the column `use` or not.
+fn width(has_use: bool) -> usize
+    ensures { result ≡ width has_use }
+{
+    if has_use {
+        FIELD_COUNT_WITH_USE
+    } else {
+        FIELD_COUNT
+    }
+}
+
+// The fields of a record. One that has no field `use` is used.
 #[derive(Clone, Copy)]
 struct Fields<'a> {
     name: &'a [u8],
     second: &'a [u8],
     easting: &'a [u8],
     northing: &'a [u8],
+    used: &'a [u8],
 }
 
-// The fields of a record, if it has exactly four.
-fn four_fields(row: &ByteRecord) -> Option<Fields<'_>>
-    ensures { MatchOption result (length (fields_of row.now) ≢ 4)
-        (λ four. fields_of row.now ≡ four.name.now ∷ four.second.now ∷ four.easting.now ∷ four.northing.now ∷ []) }
+// The fields of a record, if it has as many as the header asks.
+fn fields_in(row: &ByteRecord, has_use: bool) -> Option<Fields<'_>>
+    ensures { MatchOption result (length (fields_of row.now) ≢ width has_use)
+        (λ f. IsSplit has_use (fields_of row.now) f.name.now f.second.now f.easting.now f.northing.now f.used.now) }
 {
-    if row.len() != FIELD_COUNT {
+    if row.len() != width(has_use) {
         return None;
     }
     Some(Fields {
@@ -39,6 +60,7 @@ fn four_fields(row: &ByteRecord) -> Option<Fields<'_>>
         second: row.get(1)?,
         easting: row.get(2)?,
         northing: row.get(3)?,
+        used: if has_use { row.get(4)? } else { b"1" },
     })
 }
 
@@ -61,19 +83,18 @@ fn names_animal(field: &[u8]) -> bool
         || field == b"\xEF\xBB\xBF\"animal\"".as_slice()
 }
 
-// Whether a record is the header.
-pub(crate) fn is_header(row: &ByteRecord) -> bool
-    ensures { result ≡ is_header (fields_of row.now) }
+// Whether a header has the column `use`; `None` where the record is no header.
+pub(crate) fn header_of(row: &ByteRecord) -> Option<bool>
+    ensures { result ≡ header_of (fields_of row.now) }
 {
-    match four_fields(row) {
-        Some(four) => {
-            names_animal(four.name)
-                && four.second == b"second".as_slice()
-                && four.easting == b"easting".as_slice()
-                && four.northing == b"northing".as_slice()
-        }
-        None => false,
-    }
+    let has_use = row.len() == FIELD_COUNT_WITH_USE;
+    let fields = fields_in(row, has_use)?;
+    let is_header = names_animal(fields.name)
+        && fields.second == b"second".as_slice()
+        && fields.easting == b"easting".as_slice()
+        && fields.northing == b"northing".as_slice()
+        && (!has_use || fields.used == b"use".as_slice());
+    if is_header { Some(has_use) } else { None }
 }
 
 // Whether a byte may stand in a name.
@@ -131,25 +152,49 @@ fn falls(second: u64, previous: Option<&Previous>) -> bool
 }
 
 // The fix of a record, which is held against the one before it.
-#[tactic(auto, unfolding(crate::specs::Check::fix_in))]
-pub(crate) fn fix_in(
-    row: &ByteRecord,
-    rec: u32,
-    previous: Option<&Previous>,
-) -> Result<Fix, ReadFault>
-    ensures { result ≡ fix_in rec (option_map (λ p. p.now) previous.entry) (fields_of row.now) }
+fn fix_in(fields: Fields<'_>, rec: u32, previous: Option<&Previous>) -> Result<Fix, ReadFault>
+    ensures { result ≡ fix_in rec (option_map (λ p. p.now) previous.entry)
+        fields.entry.name.now fields.entry.second.now fields.entry.easting.now fields.entry.northing.now }
 {
-    let Some(four) = four_fields(row) else {
-        let found = row.len() as u64;
-        return Err(ReadFault::WrongFieldCount { rec, found });
-    };
-    check_animal(four.name, rec, previous)?;
-    let second = number_in(four.second, rec, 1, SECOND_LIMIT)?;
-    let easting = number_in(four.easting, rec, 2, COORDINATE_LIMIT as u64)?;
-    let northing = number_in(four.northing, rec, 3, COORDINATE_LIMIT as u64)?;
+    check_animal(fields.name, rec, previous)?;
+    let second = number_in(fields.second, rec, 1, SECOND_LIMIT)?;
+    let easting = number_in(fields.easting, rec, 2, COORDINATE_LIMIT as u64)?;
+    let northing = number_in(fields.northing, rec, 3, COORDINATE_LIMIT as u64)?;
     if falls(second, previous) {
         return Err(ReadFault::SecondFalls { rec });
     }
     let at = Point::new(easting as i64, northing as i64).unwrap();
     Ok(Fix { second, at })
+}
+
+// Whether a record is used, by the field that says so.
+fn used_in(field: &[u8], rec: u32) -> Result<bool, ReadFault>
+    ensures { result ≡ used_in rec field.now }
+{
+    if field == b"1".as_slice() {
+        Ok(true)
+    } else if field == b"0".as_slice() {
+        Ok(false)
+    } else {
+        Err(ReadFault::BadUse { rec })
+    }
+}
+
+// What a record comes to, which is held against the one before it.
+pub(crate) fn checked_in(
+    row: &ByteRecord,
+    has_use: bool,
+    rec: u32,
+    previous: Option<&Previous>,
+) -> Result<Checked, ReadFault>
+    ensures { result ≡ checked_in has_use rec (option_map (λ p. p.now) previous.entry) (fields_of row.now) }
+{
+    let Some(fields) = fields_in(row, has_use) else {
+        let found = row.len() as u64;
+        let wanted = width(has_use) as u32;
+        return Err(ReadFault::WrongFieldCount { rec, found, wanted });
+    };
+    let fix = fix_in(fields, rec, previous)?;
+    let used = used_in(fields.used, rec)?;
+    Ok(Checked { fix, used })
 }

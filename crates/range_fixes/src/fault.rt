@@ -1,6 +1,5 @@
 // Why a file cannot be read to its end.
 
-use crate::checks::FIELD_COUNT;
 use range_plane::{COORDINATE_LIMIT, FIX_LIMIT, SECOND_LIMIT};
 use std::error::Error;
 use std::fmt;
@@ -17,8 +16,8 @@ pub enum ReadFault {
     NoHeader,
     /// The first record is not the header.
     BadHeader,
-    /// The record has not exactly four fields but `found`.
-    WrongFieldCount { rec: u32, found: u64 },
+    /// The record has `found` fields, and not the `wanted` ones of the header.
+    WrongFieldCount { rec: u32, found: u64, wanted: u32 },
     /// The record's first field is not a name.
     BadName { rec: u32 },
     /// The record's name is not that of the first record.
@@ -29,12 +28,14 @@ pub enum ReadFault {
     TooLarge { rec: u32, field: u32 },
     /// The record's second is less than that of the record before.
     SecondFalls { rec: u32 },
-    /// There is a record after as many fixes as a file may have.
+    /// There is a record after as many as a file may have.
     TooManyFixes,
-    /// There is no record after the header.
+    /// There is no record after the header that is used.
     NoFixes,
     /// The fixes could not be handed on. No reader answers this.
     Gone,
+    /// The record's fifth field is neither `0` nor `1`.
+    BadUse { rec: u32 },
 }
 
 // How the header is written.
@@ -70,8 +71,15 @@ impl ReadFault {
             | ReadFault::OtherAnimal { rec }
             | ReadFault::NotNumber { rec, .. }
             | ReadFault::TooLarge { rec, .. }
-            | ReadFault::SecondFalls { rec } => Some(rec),
-            _ => None,
+            | ReadFault::SecondFalls { rec }
+            | ReadFault::BadUse { rec } => Some(rec),
+            ReadFault::OutOfMemory
+            | ReadFault::Read
+            | ReadFault::NoHeader
+            | ReadFault::BadHeader
+            | ReadFault::TooManyFixes
+            | ReadFault::NoFixes
+            | ReadFault::Gone => None,
         }
     }
 }
@@ -86,11 +94,13 @@ impl fmt::Display for ReadFault {
             ReadFault::Read => write!(f, "a read failed"),
             ReadFault::NoHeader => write!(f, "empty where {HEADER} is wanted"),
             ReadFault::BadHeader => write!(f, "another header than {HEADER}"),
-            ReadFault::WrongFieldCount { found: 1, .. } => {
-                write!(f, "1 field where {FIELD_COUNT} are wanted")
-            }
-            ReadFault::WrongFieldCount { found, .. } => {
-                write!(f, "{found} fields where {FIELD_COUNT} are wanted")
+            ReadFault::WrongFieldCount {
+                found: 1,
+                wanted,
+                ..
+            } => { write!(f, "1 field where {wanted} are wanted") }
+            ReadFault::WrongFieldCount { found, wanted, .. } => {
+                write!(f, "{found} fields where {wanted} are wanted")
             }
             ReadFault::BadName { .. } => write!(f, "animal is not a name of {NAME_RULE}"),
             ReadFault::OtherAnimal { .. } => write!(f, "animal is another than in record 1"),
@@ -111,8 +121,9 @@ impl fmt::Display for ReadFault {
             }
             ReadFault::SecondFalls { .. } => write!(f, "second is less than in the record before"),
             ReadFault::TooManyFixes => write!(f, "more than {FIX_LIMIT} records after the header"),
-            ReadFault::NoFixes => write!(f, "no record after the header"),
+            ReadFault::NoFixes => write!(f, "no record after the header is used"),
             ReadFault::Gone => write!(f, "the fixes could not be handed on"),
+            ReadFault::BadUse { .. } => write!(f, "use is neither 0 nor 1"),
         }
     }
 }

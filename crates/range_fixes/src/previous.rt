@@ -1,6 +1,6 @@
 // What a record is held against: the record before it.
 
-ghost use Rattle.std.specs.Prelude.{◌≡◌, Some, IfErr, OnErr, OnOk};
+ghost use Rattle.std.specs.Prelude.{◌≡◌, Some, None, IfErr, OnErr, OnOk};
 ghost use Rattle.range_fixes.specs.Previous.{then_previous};
 
 use crate::fault::ReadFault;
@@ -48,6 +48,7 @@ pub(crate) fn note(
     ensures ok { OnOk result (previous.new ≡ Some (then_previous previous.old name.now second)) }
     ensures memory { IfErr result (λ fault. fault ≡ ReadFault.OutOfMemory) }
     ensures err { OnErr result (previous.new ≡ previous.old) }
+    ensures first { OnErr result (previous.old ≡ None) }
 {
     if let Some(previous) = previous {
         previous.second = second;

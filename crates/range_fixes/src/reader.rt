@@ -1,13 +1,14 @@
 // The fixes of a source, one at a time.
 
-ghost use Rattle.std.specs.Prelude.{◌≡◌, ◌≢◌, ◌<◌, ◌≤◌, ◌↔◌, Ok, Err, Some, None, true, false, IfSome, IfErr, OnOk, IfOk, IsSome, option_map};
-ghost use Rattle.range_plane.specs.Fix.{fix_limit};
-ghost use Rattle.range_fixes.specs.Progress.{Answers, Moves, Reads, is_of_text};
-ghost use Rattle.range_fixes.specs.Reading.{Reading, fixes_after, no_more, reading, reading_of};
-ghost use Rattle.range_fixes.specs.Reader.{CountFits};
-ghost use Rattle.range_fixes.specs.Steps.{Follows, Gives, Leads, rest_of};
+ghost use Rattle.std.specs.Prelude.{◌≡◌, ◌≢◌, ◌⊎◌, ◌+◌, ◌<◌, ◌≤◌, ◌↔◌, Ok, Err, Some, None, true, false, IfSome, IfErr, OnOk, IfOk, IsSome, IsTrue, MatchOption, option_map};
+ghost use Rattle.range_plane.specs.Fix.{fix_limit, second_limit};
+ghost use Rattle.range_fixes.specs.Field.{is_name};
+ghost use Rattle.range_fixes.specs.Progress.{Answers, IsHurt, Moves, Reads, is_of_text};
+ghost use Rattle.range_fixes.specs.Reading.{Reading, no_more, passed_after, reading, reading_of};
+ghost use Rattle.range_fixes.specs.Reader.{HeaderFits, IsWithin};
+ghost use Rattle.range_fixes.specs.Steps.{Gives, KeepsAnimal, Leads, Takes, rest_of};
 
-use crate::checks::{fix_in, is_header, name_of};
+use crate::checks::{Checked, checked_in, header_of, name_of};
 use crate::fault::ReadFault;
 use crate::previous::{Previous, note};
 use crate::records::Records;
@@ -33,6 +34,11 @@ pub struct FixReader<R: Read + Drop> {
     alloc: Global,
     records: Records<R>,
     stage: Stage,
+    // Whether the header has the column `use`, once it was read.
+    header: Option<bool>,
+    // How many records below the header were read.
+    read: u32,
+    // How many fixes were given.
     count: u32,
     previous: Option<Previous>,
 }
@@ -46,115 +52,176 @@ impl<R: Read + Drop> Model for FixReader<R> {
 
     ghost view = { λ a. progress_of a };
 
-    ghost invariant = { λ a. IsSound a.previous a.stage a.count a.records.stopped };
+    ghost invariant = { λ a. IsSound a.header a.previous a.stage a.read a.count a.records.stopped };
 }
 
-// Reads the header.
-fn take_header<R: Read + Drop>(records: &mut Records<R>) -> Result<(), ReadFault>
+// Reads the header, and says whether it has the column `use`.
+fn take_header<R: Read + Drop>(records: &mut Records<R>) -> Result<bool, ReadFault>
     requires { records.old.stopped ≡ false }
     ensures going { OnOk result (records.new.stopped ≡ false) }
-    ensures header { OnOk result (Leads (option_map reading_of records.old.left)
-        (option_map (fixes_after 0 None) records.new.left)) }
+    ensures header { IfOk result (λ has_use. Leads (option_map reading_of records.old.left)
+        (option_map (rest_of (Some has_use) 0 0 None) records.new.left)) }
     ensures fault { IfErr result (λ fault. is_of_text fault ≡ true
         → Leads (option_map reading_of records.old.left) (Some (no_more None (Some fault)))) }
     ensures own { IfErr result (λ fault. fault ≢ ReadFault.Gone) }
+    ensures hurt { IfErr result (λ fault. is_of_text fault ≡ false → records.new.stopped ≡ true) }
 {
     if !records.advance()? {
         return Err(ReadFault::NoHeader);
     }
-    if is_header(records.current()) {
-        Ok(())
-    } else {
-        Err(ReadFault::BadHeader)
+    match header_of(records.current()) {
+        Some(has_use) => Ok(has_use),
+        None => Err(ReadFault::BadHeader),
     }
 }
 
-// Reads a record, after so many fixes, and gives its fix.
-fn take_fix<R: Read + Drop>(
+// Reads the next record, which `read` others come before, and checks it; `None` where there is none.
+fn take_record<R: Read + Drop>(
     alloc: Global,
     records: &mut Records<R>,
-    count: u32,
+    has_use: bool,
+    read: &mut u32,
+    previous: &mut Option<Previous>,
+) -> Result<Option<Checked>, ReadFault>
+    requires going { records.old.stopped ≡ false }
+    requires limit { read.old ≤ fix_limit }
+    requires within { IfSome previous.old IsWithin }
+    ensures going { OnOk result (records.new.stopped ≡ false) }
+    ensures read { IfOk result (λ o. MatchOption o (read.new ≡ read.old) (λ one. (read.new ≡ read.old + 1) × (read.new ≤ fix_limit) × (one.fix.second ≤ second_limit))) }
+    ensures limit { (read.old ≤ read.new) × (read.new ≤ fix_limit + 1) }
+    ensures takes { Takes (option_map (passed_after has_use read.old previous.old) records.old.left)
+        has_use read.old result previous.new records.new.left }
+    ensures named { IfOk result (λ o. IfSome o (λ one. IsSome previous.new)) }
+    ensures animal { KeepsAnimal previous.old previous.new }
+    ensures within { IfSome previous.new IsWithin }
+    ensures own { IfErr result (λ fault. fault ≢ ReadFault.Gone) }
+    ensures hurt { IfErr result (λ fault. is_of_text fault ≡ false → (records.new.stopped ≡ true) ⊎ ((fault ≡ ReadFault.OutOfMemory) × (previous.old ≡ None))) }
+{
+    if !records.advance()? {
+        return Ok(None);
+    }
+    *read += 1;
+    if *read > FIX_LIMIT {
+        return Err(ReadFault::TooManyFixes);
+    }
+    let one = checked_in(records.current(), has_use, *read, previous.as_ref())?;
+    note(alloc, previous, name_of(records.current()), one.fix.second)?;
+    Ok(Some(one))
+}
+
+// Reads records up to the next that is used, and gives its fix, after so many fixes; `None` where there is
+// none.
+fn take_used<R: Read + Drop>(
+    alloc: Global,
+    records: &mut Records<R>,
+    has_use: bool,
+    read: &mut u32,
+    given: u32,
     previous: &mut Option<Previous>,
 ) -> Result<Option<Fix>, ReadFault>
     requires going { records.old.stopped ≡ false }
-    requires limit { count ≤ fix_limit }
-    requires counted { CountFits previous.old count }
+    requires limit { read.old ≤ fix_limit }
+    requires within { IfSome previous.old IsWithin }
     ensures going { OnOk result (records.new.stopped ≡ false) }
-    ensures limit { IfOk result (λ o. IfSome o (λ fix. count < fix_limit)) }
-    ensures gives { Gives (option_map (fixes_after count previous.old) records.old.left)
-        count previous.old result previous.new records.new.left }
-    ensures follows { Follows previous.old result previous.new }
+    ensures read { IfOk result (λ o. IfSome o (λ fix. (read.old < read.new) × (read.new ≤ fix_limit) × (fix.second ≤ second_limit))) }
+    ensures limit { (read.old ≤ read.new) × (read.new ≤ fix_limit + 1) }
+    ensures gives { Gives (option_map (rest_of (Some has_use) read.old given previous.old) records.old.left)
+        given result (Some has_use) read.new previous.new records.new.left }
+    ensures named { IfOk result (λ o. IfSome o (λ fix. IsSome previous.new)) }
+    ensures animal { KeepsAnimal previous.old previous.new }
+    ensures within { IfSome previous.new IsWithin }
     ensures own { IfErr result (λ fault. fault ≢ ReadFault.Gone) }
+    ensures hurt { IfErr result (λ fault. is_of_text fault ≡ false → (records.new.stopped ≡ true) ⊎ ((fault ≡ ReadFault.OutOfMemory) × (previous.old ≡ None))) }
+    ensures end { result ≡ Ok None → 0 < given }
 {
-    if !records.advance()? {
-        return if count == 0 {
-            Err(ReadFault::NoFixes)
-        } else {
-            Ok(None)
+    loop {
+        let Some(one) = take_record(alloc, records, has_use, read, previous)? else {
+            return if given == 0 {
+                Err(ReadFault::NoFixes)
+            } else {
+                Ok(None)
+            };
         };
+        if one.used {
+            return Ok(Some(one.fix));
+        }
     }
-    if count == FIX_LIMIT {
-        return Err(ReadFault::TooManyFixes);
-    }
-    let fix = fix_in(records.current(), count + 1, previous.as_ref())?;
-    note(alloc, previous, name_of(records.current()), fix.second)?;
-    Ok(Some(fix))
 }
 
-// Reads a record, and before the first one the header, and gives its fix.
+// The same, and before the first record the header is read.
 fn take_next<R: Read + Drop>(
     alloc: Global,
     records: &mut Records<R>,
-    count: u32,
+    header: &mut Option<bool>,
+    read: &mut u32,
+    given: u32,
     previous: &mut Option<Previous>,
 ) -> Result<Option<Fix>, ReadFault>
     requires going { records.old.stopped ≡ false }
-    requires limit { count ≤ fix_limit }
-    requires counted { CountFits previous.old count }
+    requires limit { read.old ≤ fix_limit }
+    requires within { IfSome previous.old IsWithin }
+    requires header { HeaderFits header.old read.old given previous.old }
     ensures going { OnOk result (records.new.stopped ≡ false) }
-    ensures limit { IfOk result (λ o. IfSome o (λ fix. count < fix_limit)) }
-    ensures gives { Gives (option_map (rest_of count previous.old) records.old.left)
-        count previous.old result previous.new records.new.left }
-    ensures follows { Follows previous.old result previous.new }
+    ensures read { IfOk result (λ o. IfSome o (λ fix. (read.old < read.new) × (read.new ≤ fix_limit) × (fix.second ≤ second_limit))) }
+    ensures limit { (read.old ≤ read.new) × (read.new ≤ fix_limit + 1) }
+    ensures gives { Gives (option_map (rest_of header.old read.old given previous.old) records.old.left)
+        given result header.new read.new previous.new records.new.left }
+    ensures header { HeaderFits header.new read.new given previous.new }
+    ensures named { IfOk result (λ o. IfSome o (λ fix. IsSome header.new × IsSome previous.new)) }
+    ensures animal { KeepsAnimal previous.old previous.new }
+    ensures within { IfSome previous.new IsWithin }
     ensures own { IfErr result (λ fault. fault ≢ ReadFault.Gone) }
+    ensures hurt { IfErr result (λ fault. is_of_text fault ≡ false → (records.new.stopped ≡ true) ⊎ ((fault ≡ ReadFault.OutOfMemory) × (previous.old ≡ None))) }
+    ensures end { result ≡ Ok None → 0 < given }
 {
-    if count == 0 {
-        take_header(records)?;
-    }
-    take_fix(alloc, records, count, previous)
+    let has_use = match *header {
+        Some(has_use) => has_use,
+        None => {
+            let has_use = take_header(records)?;
+            *header = Some(has_use);
+            has_use
+        }
+    };
+    take_used(alloc, records, has_use, read, given, previous)
 }
 
 impl<R: Read + Drop> FixReader<R> {
     /// A reader of a source, of which nothing is read yet. It takes no memory.
     #[tactic(auto, unfolding(crate::specs::Reading::reading))]
     pub fn new(alloc: Global, source: R) -> FixReader<R>
-        ensures count { result.count ≡ 0 }
+        ensures count { (result.count ≡ 0) × (result.read ≡ 0) }
         ensures animal { result.animal ≡ None }
         ensures fault { result.fault ≡ None }
         ensures ended { result.ended ≡ false }
+        ensures unhurt { result.stopped ≡ false }
         ensures reads { IfSome (R.remaining source) (λ bytes. Reads result (reading bytes)) }
     {
         FixReader {
             alloc,
             records: Records::new(alloc, source),
             stage: Stage::Going,
+            header: None,
+            read: 0,
             count: 0,
             previous: None,
         }
     }
 
-    /// The next fix, or `None` at the end and from then on. The first call reads the header and
-    /// a record, each later one a record. After a fault every call answers that fault, and name and
-    /// count stay. `Read` is answered only where the source failed, which is not retried.
+    /// The next fix that is used, or `None` at the end and from then on. The first call reads the header,
+    /// and each call reads records up to the next that is used. After a fault every call answers that fault,
+    /// and name and count stay. `Read` is answered only where the source failed, which is not retried.
     pub fn next(&mut self) -> Result<Option<Fix>, ReadFault>
         ensures failed { IfSome self.old.fault (λ fault. (result ≡ Err fault) × (self.new ≡ self.old)) }
         ensures ended { self.old.ended ≡ true → (result ≡ Ok None) × (self.new ≡ self.old) }
         ensures moves { Moves self.old result self.new }
         ensures limit { self.new.count ≤ fix_limit }
+        ensures records { (self.new.count ≤ self.new.read) × (self.old.read ≤ self.new.read) × (self.new.read ≤ fix_limit + 1) }
+        ensures second { IfOk result (λ o. IfSome o (λ fix. fix.second ≤ second_limit)) }
         // Of each reading that the reader goes through, it gives the next fix or what ends it.
         ensures reads { (r : Reading) → Reads self.old r → Reads self.new r }
         ensures text { (r : Reading) → Reads self.old r → Answers r self.old.count result }
         ensures own { IfErr result (λ fault. fault ≢ ReadFault.Gone) }
+        ensures hurt { self.old.fault ≡ None → IfErr result (λ fault. IsHurt self.old fault self.new.stopped) }
     {
         match self.stage {
             Stage::Going => {}
@@ -164,6 +231,8 @@ impl<R: Read + Drop> FixReader<R> {
         match take_next(
             self.alloc,
             &mut self.records,
+            &mut self.header,
+            &mut self.read,
             self.count,
             &mut self.previous,
         ) {
@@ -182,11 +251,15 @@ impl<R: Read + Drop> FixReader<R> {
         }
     }
 
-    /// The animal's name, as its bytes stand in the file; `None` before the first fix was given.
+    /// The animal's name, as its bytes stand in the first record; `None` before the first fix was given.
     pub fn name(&self) -> Option<&[u8]>
         ensures name { option_map (λ name. name.now) result ≡ self.now.animal }
         ensures given { IsSome result ↔ (0 < self.now.count) }
+        ensures within { IfSome result (λ name. IsTrue (is_name name.now)) }
     {
+        if self.count == 0 {
+            return None;
+        }
         self.previous.as_ref().map(|previous| previous.animal())
     }
 

@@ -1,6 +1,6 @@
 // The records of a source, one at a time. No other file reads by the crate that splits them.
 
-ghost use Rattle.std.specs.Prelude.{◌≡◌, ◌⊎◌, false, IfOk, OnOk, IfErr, option_map, if◌then◌else◌};
+ghost use Rattle.std.specs.Prelude.{◌≡◌, ◌⊎◌, false, true, IfOk, OnErr, OnOk, IfErr, option_map, if◌then◌else◌};
 ghost use Rattle.csv.specs.Reading.{default_config, error_kind, is_io, records, strip_bom};
 ghost use Rattle.csv.specs.Records.{fields_of};
 ghost use Rattle.range_fixes.specs.Records.{TakesRecord};
@@ -63,6 +63,7 @@ impl<R: Read + Drop> Records<R> {
         requires { self.old.stopped ≡ false }
         ensures takes { IfOk result (λ found. TakesRecord self.old.left found self.new.current self.new.left) }
         ensures going { OnOk result (self.new.stopped ≡ false) }
+        ensures stopped { OnErr result (self.new.stopped ≡ true) }
         ensures fault { IfErr result (λ fault. (fault ≡ ReadFault.Read) ⊎ (fault ≡ ReadFault.OutOfMemory)) }
     {
         match self.reader.read_byte_record(&mut self.current) {

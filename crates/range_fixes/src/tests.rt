@@ -141,7 +141,11 @@ fn bad_fields(rt: HostRuntime) {
     let cases = [
         (
             b",x,0,0,0".as_slice(),
-            ReadFault::WrongFieldCount { rec: 1, found: 5 },
+            ReadFault::WrongFieldCount {
+                rec: 1,
+                found: 5,
+                wanted: 4,
+            },
         ),
         (b",x,0,0", name),
         (b"\"A,B\",0,0,0", name),
@@ -178,7 +182,11 @@ fn order_of_checks(rt: HostRuntime) {
         (
             b"A,0,x".as_slice(),
             0,
-            ReadFault::WrongFieldCount { rec: 1, found: 3 },
+            ReadFault::WrongFieldCount {
+                rec: 1,
+                found: 3,
+                wanted: 4,
+            },
         ),
         (
             b"A,0,x,99999999",
@@ -219,7 +227,8 @@ fn order_of_checks(rt: HostRuntime) {
 #[test]
 fn cut_files(rt: HostRuntime) {
     let alloc = rt.alloc();
-    let wrong = |rec, found| Some(ReadFault::WrongFieldCount { rec, found });
+    let wanted = 4;
+    let wrong = |rec, found| Some(ReadFault::WrongFieldCount { rec, found, wanted });
     let empty = |rec| Some(ReadFault::NotNumber { rec, field: 3 });
     let cases = [
         (0, 1, 0, None, Some(ReadFault::NoHeader)),
@@ -333,11 +342,19 @@ fn texts(rt: HostRuntime) -> Result<(), Fail> {
             "another header than animal,second,easting,northing",
         ),
         (
-            ReadFault::WrongFieldCount { rec: 5, found: 3 },
+            ReadFault::WrongFieldCount {
+                rec: 5,
+                found: 3,
+                wanted: 4,
+            },
             "record 5: 3 fields where 4 are wanted",
         ),
         (
-            ReadFault::WrongFieldCount { rec: 2, found: 1 },
+            ReadFault::WrongFieldCount {
+                rec: 2,
+                found: 1,
+                wanted: 4,
+            },
             "record 2: 1 field where 4 are wanted",
         ),
         (

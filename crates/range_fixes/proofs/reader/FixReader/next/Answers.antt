@@ -1,7 +1,7 @@
 use Rattle.std.proofs.Common.{◌≡◌, Some, None, true, refl}
 use Rattle.range_fixes.specs.Progress.{is_unhurt}
 use Rattle.range_fixes.specs.Reading.{no_more}
-use Rattle.range_fixes.proofs.ProgressFacts.{at-stop, fix-given, stop-given}
+use Rattle.range_fixes.proofs.ProgressFacts.{at-stop, fix-given}
 use Rattle.range_fixes.proofs.reader.FixReader.next.Goals as goal
 
 pub returns-in-Ended-clause-text : goal.returns-in-Ended-clause-text
@@ -22,25 +22,14 @@ pub returns-in-Ok-Some-clause-reads : goal.returns-in-Ok-Some-clause-reads
 returns-in-Ok-Some-clause-reads g c = λ r h.
     let i = c.self.inside in
     let gives = rw c.in-Ok-Some.field-0-is at c.in-Ok-Some.ensures.gives in
-    let follows = rw c.in-Ok-Some.field-0-is at c.in-Ok-Some.ensures.follows in
-    let given = fix-given i.count i.previous c.take_next.new.previous i.records.left c.take_next.new.records.left c.in-Ok-Some.fix r gives follows.0 (rw (← c.self.view_is, c.in-Going.is) at h) in
+    let named = rw c.in-Ok-Some.field-0-is at c.in-Ok-Some.ensures.named in
+    let given = fix-given c.take_next.new.header i.header c.take_next.new.read i.read i.count i.previous c.take_next.new.previous i.records.left c.take_next.new.records.left i.records.stopped c.take_next.new.records.stopped c.in-Ok-Some.fix r gives named.0 named.1 (rw (← c.self.view_is, c.in-Going.is) at h) in
     rw c.in-Going.is given.0
 
 pub returns-in-Ok-Some-clause-text : goal.returns-in-Ok-Some-clause-text
 returns-in-Ok-Some-clause-text g c = λ r h.
     let i = c.self.inside in
     let gives = rw c.in-Ok-Some.field-0-is at c.in-Ok-Some.ensures.gives in
-    let follows = rw c.in-Ok-Some.field-0-is at c.in-Ok-Some.ensures.follows in
-    let given = fix-given i.count i.previous c.take_next.new.previous i.records.left c.take_next.new.records.left c.in-Ok-Some.fix r gives follows.0 (rw (← c.self.view_is, c.in-Going.is) at h) in
+    let named = rw c.in-Ok-Some.field-0-is at c.in-Ok-Some.ensures.named in
+    let given = fix-given c.take_next.new.header i.header c.take_next.new.read i.read i.count i.previous c.take_next.new.previous i.records.left c.take_next.new.records.left i.records.stopped c.take_next.new.records.stopped c.in-Ok-Some.fix r gives named.0 named.1 (rw (← c.self.view_is, c.in-Going.is) at h) in
     rw (← c.self.view_is) given.1
-
-pub returns-in-Ok-None-clause-text : goal.returns-in-Ok-None-clause-text
-returns-in-Ok-None-clause-text g c = λ r h.
-    let i = c.self.inside in
-    let gives = rw c.in-Ok-None.field-0-is at c.in-Ok-None.ensures.gives in
-    rw (← c.self.view_is) (stop-given i.count i.previous i.records.left None r gives (rw (← c.self.view_is, c.in-Going.is) at h))
-
-pub returns-in-Err-clause-text : goal.returns-in-Err-clause-text
-returns-in-Err-clause-text g c = λ r h text.
-    let i = c.self.inside in
-    rw (← c.self.view_is) (stop-given i.count i.previous i.records.left (Some c.in-Err.fault) r (c.in-Err.ensures.gives text) (rw (← c.self.view_is, c.in-Going.is) at h))

@@ -1,0 +1,18 @@
+use Rattle.std.proofs.Common.{◌≡◌, ◌+◌, ◌-◌, ◌≤◌, false, Some, IfSome}
+use Rattle.std.specs.Option.{option_map}
+use Rattle.range_plane.specs.Fix.{fix_limit}
+use Rattle.range_fixes.specs.Reader.{IsWithin}
+use Rattle.range_fixes.specs.Steps.{KeepsAnimal, Leads, rest_of}
+use Rattle.range_fixes.proofs.reader.take_used.Given as goal
+
+abbrev pub invariant-loop-one : goal.invariant-loop-one
+invariant-loop-one g l = record {
+  going : l.records.stopped ≡ false;
+  below : (l.fn.read ≤ l.read) × (l.read ≤ fix_limit);
+  unused : Leads (option_map (rest_of (Some l.has_use) l.fn.read l.given l.fn.previous) l.fn.records.left) (option_map (rest_of (Some l.has_use) l.read l.given l.previous) l.records.left);
+  animal : KeepsAnimal l.fn.previous l.previous;
+  within : IfSome l.previous IsWithin;
+}
+
+abbrev pub decreases-loop-one : goal.decreases-loop-one
+decreases-loop-one g l = fix_limit + 1 - l.read
