@@ -7,7 +7,8 @@
 
 use bench_tracks::{cloud, read_points, shuffle, spiral, walk};
 use itoa::Buffer;
-use range_collect::{Followed, FreeGate, Plan, follow};
+use range_collect::{Followed, FreeGate, follow};
+use range_plan::Plan;
 use range_plane::Point;
 use std::alloc::{AllocError, Global};
 use std::io;

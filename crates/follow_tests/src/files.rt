@@ -1,6 +1,7 @@
 // Files whose rows and polygons were made by hand.
 
-use range_collect::{Followed, Plan};
+use range_collect::Followed;
+use range_plan::Plan;
 use range_plane::Polygon;
 use std::alloc::Global;
 use std::process::Abort;

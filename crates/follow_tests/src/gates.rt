@@ -3,7 +3,8 @@
 
 use crate::files::{Case, LINE, SQUARE, expect_whole, plan};
 use crate::sources::Repeated;
-use range_collect::{FreeGate, Gate, Plan, follow};
+use range_collect::{FreeGate, Gate, follow};
+use range_plan::Plan;
 use range_plane::FIX_LIMIT;
 use std::alloc::Global;
 use std::io::Read;

@@ -4,8 +4,9 @@ use crate::files::{
     Case, EAST, LIMITS, LINE, OUTWARD, PLACE, SLOPE, SQUARE, WEST, expect_whole, plan,
 };
 use crate::sources::Repeated;
-use range_collect::{Followed, FreeGate, Plan, follow};
+use range_collect::{Followed, FreeGate, follow};
 use range_fixes::ReadFault;
+use range_plan::Plan;
 use range_plane::FIX_LIMIT;
 use std::alloc::Global;
 use std::io::Read;

@@ -15,8 +15,7 @@ use Rattle.clap.specs.declared.error.Error.{Error}
 use Rattle.clap.proofs.CallerLemmas.{same_rules_by_id}
 use Rattle.clap.proofs.OnLiterals.{clap_on_literals}
 use Rattle.clap.proofs.SimpleLemmas.{HasPlainFields, plain_fields, simple_groups}
-use Rattle.range_line.specs.Limits.{block_limit, depth_limit}
-use Rattle.range_collect.specs.Plan.{worker_limit}
+use Rattle.range_plan.specs.Limits.{block_limit, depth_limit, worker_limit}
 use Rattle.homerange.specs.CommandLine.{HasNumber, found_in, homerange}
 use Rattle.homerange.proofs.Entries.{AreNumbers, number_found, number_parser}
 

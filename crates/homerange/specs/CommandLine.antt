@@ -6,8 +6,7 @@ use Rattle.clap.specs.Words.{App, IsSignedIn, Row, Rule, Text, all_of, first_of,
 use Rattle.clap.specs.declared.builder.ArgAction.TheVariants.{Append}
 use Rattle.clap.specs.declared.builder.ValueParser.TheVariants as value_parser
 use Rattle.clap.specs.declared.ArgMatches.{ArgMatches}
-use Rattle.range_line.specs.Limits.{block_limit, depth_limit}
-use Rattle.range_collect.specs.Plan.{worker_limit}
+use Rattle.range_plan.specs.Limits.{block_limit, depth_limit, worker_limit}
 
 -- an option with one value
 abbrev pub option_rule : Text → Rule

@@ -3,7 +3,7 @@ use Rattle.std.specs.Prelude.{◌≡◌, ◌≢◌, ◌≤◌, ◌<◌, ⊤, All
 use Rattle.clap.specs.Words.{IsAmong, Kinds, Row, Text, fault_of}
 use Rattle.clap.specs.declared.error.ErrorKind.{ErrorKind}
 use Rattle.clap.specs.declared.error.ErrorKind.TheVariants as kind
-use Rattle.range_line.specs.Limits.{file_limit}
+use Rattle.range_plan.specs.Limits.{file_limit}
 use Rattle.range_stats.specs.Levels.{IsLevel, IsRefusedFor, level_count_limit, level_in, parts}
 use Rattle.range_stats.specs.declared.level.LevelFault.TheVariants as level_fault
 use Rattle.homerange.specs.CommandLine.{files_in, found_in, homerange, levels_in, number_in}

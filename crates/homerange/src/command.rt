@@ -2,16 +2,14 @@
 
 ghost use Rattle.std.specs.Prelude.{◌≡◌, ◌≤◌, IfOk, codes, false, map, string_bytes};
 ghost use Rattle.clap.specs.Words.{FailsBy, app_of, fault_of, found_of, new_app, rows_of, rule_of};
-ghost use Rattle.range_line.specs.Limits.{block_limit, depth_limit};
-ghost use Rattle.range_collect.specs.Plan.{worker_limit};
+ghost use Rattle.range_plan.specs.Limits.{block_limit, depth_limit, worker_limit};
 ghost use Rattle.homerange.specs.CommandLine.{HasNumber, files_rule, found_in, homerange, number_rule, option_rule};
 
 use crate::help::{
     ABOUT, AFTER_HELP, BLOCK_HELP, DEPTH_HELP, FILES_HELP, PERCENT_HELP, USAGE, WORKERS_HELP,
 };
 use clap::{Arg, ArgAction, ArgMatches, Command, Error, value_parser};
-use range_collect::WORKER_LIMIT;
-use range_line::{BLOCK_LIMIT, DEPTH_LIMIT};
+use range_plan::{BLOCK_LIMIT, DEPTH_LIMIT, WORKER_LIMIT};
 use std::alloc::{AllocError, Global};
 
 // The option of the levels.

@@ -5,7 +5,6 @@ mod command;
 mod fault;
 mod files;
 mod help;
-mod options;
 mod output;
 mod program;
 mod refusal;

@@ -2,7 +2,7 @@
 
 ghost use Rattle.std.specs.Prelude.{◌≡◌, ◌≢◌, ◌≤◌, All, IfErr, IfOk, OnOk, vec_len};
 ghost use Rattle.std.specs.Io.KnownBytes.{Appends};
-ghost use Rattle.range_line.specs.Limits.{file_limit};
+ghost use Rattle.range_plan.specs.Limits.{file_limit};
 ghost use Rattle.range_stats.specs.Levels.{IsLevel};
 ghost use Rattle.homerange.specs.Status.{refusal_status};
 

@@ -2,17 +2,14 @@
 
 ghost use Rattle.std.specs.Prelude.{◌≡◌, ◌≤◌, [], IfErr, IfOk, codes, length, map, string_bytes};
 ghost use Rattle.clap.specs.Words.{found_of, kind_of, rows_of};
-ghost use Rattle.range_line.specs.Limits.{block_limit, depth_limit, file_limit};
-ghost use Rattle.range_collect.specs.Plan.{worker_limit};
+ghost use Rattle.range_plan.specs.Limits.{block_limit, depth_limit, file_limit, worker_limit};
 ghost use Rattle.homerange.specs.CommandLine.{HasNumber, files_in, levels_in, number_in};
 ghost use Rattle.homerange.specs.WordList.{AreFrom, AreWordsOf, IsRefusal, IsRefusalOf, SpeaksFor};
 
 use crate::command::found;
-use crate::options::Options;
 use clap::error::ErrorKind;
 use clap::{ArgMatches, Error};
-use range_collect::{Plan, WORKER_LIMIT};
-use range_line::{BLOCK_LIMIT, DEPTH_LIMIT, FILE_LIMIT};
+use range_plan::{BLOCK_LIMIT, DEPTH_LIMIT, FILE_LIMIT, Options, Plan, WORKER_LIMIT};
 use range_stats::{LevelFault, levels};
 use std::alloc::{AllocError, Global};
 use thiserror::Error as ErrorText;

@@ -9,7 +9,7 @@ use Rattle.range_fixes.specs.declared.fault.ReadFault.TheVariants as reads
 use Rattle.range_fixes.specs.Progress.{is_of_text}
 use Rattle.range_fixes.specs.Reading.{reading}
 use Rattle.range_line.specs.Laws.{LastMessagesComeNext, StreamsAreLawful}
-use Rattle.range_line.specs.Limits.{block_limit}
+use Rattle.range_plan.specs.Limits.{block_limit}
 use Rattle.range_line.specs.Lines.{FeederView}
 use Rattle.range_line.specs.Messages.{IsLawful, block_count, blocks, fixes, message, stream, the_mark}
 use Rattle.range_collect.specs.Estimation.{Estimation}

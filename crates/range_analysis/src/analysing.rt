@@ -1,21 +1,22 @@
 // From the sources to their analysis.
 
 ghost use Rattle.std.specs.Prelude.{◌≤◌, All, IfErr, IfOk, map, vec_len};
-ghost use Rattle.range_line.specs.Limits.{file_limit};
+ghost use Rattle.range_plan.specs.Limits.{file_limit};
 ghost use Rattle.range_stats.specs.Levels.{IsLevel};
 ghost use Rattle.range_analysis.specs.Sources.{HasNoAnalysisOf, IsAnalysisOf};
 
 use crate::analysis::Analysis;
 use crate::fault::AnalyseFault;
 use crate::judging::judge;
-use range_collect::{Gate, Plan, follow};
+use range_collect::{Gate, follow};
 use range_line::{last_messages_come_next, streams_are_lawful};
+use range_plan::Plan;
 use std::alloc::Global;
 use std::io::Read;
 use std::sync::Wait;
 use std::thread::Threads;
 
-/// The analysis of 1 to [`FILE_LIMIT`](range_line::FILE_LIMIT) files, which are followed side by side as
+/// The analysis of 1 to [`FILE_LIMIT`](range_plan::FILE_LIMIT) files, which are followed side by side as
 /// [`follow`] says, with a percent polygon of each animal at each of the levels.
 ///
 /// # Errors

@@ -1,7 +1,7 @@
 // What files that were followed come to.
 
 ghost use Rattle.std.specs.Prelude.{◌≡◌, ◌≤◌, false, true, All, Err, IfErr, IfOk, MatchResult, None, Some, vec_len};
-ghost use Rattle.range_line.specs.Limits.{file_limit};
+ghost use Rattle.range_plan.specs.Limits.{file_limit};
 ghost use Rattle.range_stats.specs.Levels.{IsLevel};
 ghost use Rattle.range_analysis.specs.Analysis.{HasNoAnalysis, IsAnalysis};
 ghost use Rattle.range_analysis.specs.Entries.{bad, entries_of, entry_of, first_bad, good, lost};
@@ -55,7 +55,7 @@ fn tracks(alloc: Global, followed: Vec<Followed>) -> Result<Vec<Track>, AnalyseF
     Ok(tracks)
 }
 
-/// The analysis of 1 to [`FILE_LIMIT`](range_line::FILE_LIMIT) files that were followed, with a percent
+/// The analysis of 1 to [`FILE_LIMIT`](range_plan::FILE_LIMIT) files that were followed, with a percent
 /// polygon of each animal at each of the levels.
 ///
 /// # Errors

@@ -2,7 +2,7 @@
 
 ghost use Rattle.std.specs.Prelude.{◌≡◌, ◌<◌, ◌≤◌, IfSome, length};
 ghost use Rattle.std.specs.List.{list_any, position};
-ghost use Rattle.range_line.specs.Limits.{file_limit};
+ghost use Rattle.range_plan.specs.Limits.{file_limit};
 ghost use Rattle.range_analysis.specs.Entries.{is_cut, lacks_memory, lost};
 
 use crate::fault::AnalyseFault;

@@ -1,7 +1,7 @@
 // How many fixes of each animal lie in the range of each other one.
 
 ghost use Rattle.std.specs.Prelude.{◌≡◌, ◌++◌, ◌<◌, ◌≤◌, All, IfOk, OnOk, length, map};
-ghost use Rattle.range_line.specs.Limits.{file_limit};
+ghost use Rattle.range_plan.specs.Limits.{file_limit};
 ghost use Rattle.range_stats.specs.Overlap.{overlap};
 ghost use Rattle.range_analysis.specs.Overlaps.{IsKnown, are_apart_by_easting, are_apart_by_northing, fixes_in, row_of};
 ghost use Rattle.range_analysis.specs.Tables.{others, pairs};

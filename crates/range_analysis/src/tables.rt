@@ -2,7 +2,7 @@
 
 ghost use Rattle.std.specs.Prelude.{◌≡◌, ◌≤◌, All, IfOk, length, map, vec_len};
 ghost use Rattle.std.specs.List.{AllZip};
-ghost use Rattle.range_line.specs.Limits.{file_limit};
+ghost use Rattle.range_plan.specs.Limits.{file_limit};
 ghost use Rattle.range_stats.specs.Levels.{IsLevel};
 ghost use Rattle.range_analysis.specs.Tables.{IsAnimalOf, IsOverlap, pairs};
 ghost use Rattle.range_analysis.specs.Tracks.{IsMeasuredOf, entries_in};

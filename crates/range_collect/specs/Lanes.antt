@@ -1,7 +1,7 @@
 -- What is known of the files of one line, and of all lines.
 use Rattle.std.specs.Prelude.{◌≡◌, ℕ, ◌+◌, ◌*◌, ◌<◌, ◌≤◌, List, [], ◌∷◌, ◌++◌, length, slice_get, Some, Option, Bool, false, All}
 use Rattle.std.specs.declared.clone.Clone.{Ghosts}
-use Rattle.range_line.specs.Limits.{file_limit}
+use Rattle.range_plan.specs.Limits.{file_limit}
 use Rattle.range_line.specs.Lines.{files_from, new_feeder, FeederView, Line, TakerView}
 use Rattle.range_line.specs.Messages.{of_file, IsLawful}
 use Rattle.range_collect.specs.Estimation.{Estimation, IsEstimate}

@@ -4,7 +4,6 @@ pub mod Follow
 pub mod Lanes
 pub mod Marker
 pub mod Pairs
-pub mod Plan
 pub mod Pump
 pub mod Table
 pub mod Work

@@ -1,7 +1,7 @@
 // All files, followed side by side.
 
 ghost use Rattle.std.specs.Prelude.{◌≡◌, ◌≤◌, ℕ, ◌%◌, Some, map, slice_get, length, IfOk, vec_len};
-ghost use Rattle.range_line.specs.Limits.{file_limit};
+ghost use Rattle.range_plan.specs.Limits.{file_limit};
 ghost use Rattle.range_collect.specs.Follow.{IsFollowed};
 ghost use Rattle.range_collect.specs.Pairs.{Paired};
 
@@ -10,14 +10,14 @@ use crate::followed::Followed;
 use crate::gate::Gate;
 use crate::lines::follow_lanes;
 use crate::merging::merge;
-use crate::plan::Plan;
+use range_plan::Plan;
 use range_plane::OutOfMemory;
 use std::alloc::{Allocator, Global};
 use std::io::Read;
 use std::sync::Wait;
 use std::thread::Threads;
 
-/// Follows 1 to [`FILE_LIMIT`](range_line::FILE_LIMIT) files at once, which are numbered from 0 in the
+/// Follows 1 to [`FILE_LIMIT`](range_plan::FILE_LIMIT) files at once, which are numbered from 0 in the
 /// order of their sources. Each file is read by a pump, a thread of its own, which sends its fixes in blocks
 /// on a line, a channel that the files with numbers of one remainder by `plan.workers` share. Each line has
 /// a worker, a thread too, which gives each block to the estimator of its file. Gives the result of each

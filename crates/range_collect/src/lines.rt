@@ -1,7 +1,7 @@
 // The lines, each in a thread of its own.
 
 ghost use Rattle.std.specs.Prelude.{◌≡◌, ℕ, ◌≤◌, [], false, All, IfOk, OnOk, Some, map, slice_get, vec_len, vec_capacity};
-ghost use Rattle.range_line.specs.Limits.{file_limit};
+ghost use Rattle.range_plan.specs.Limits.{file_limit};
 ghost use Rattle.range_collect.specs.Lanes.{AreLanesFollowed, IsLaneFollowed};
 
 use crate::followed::Followed;
@@ -9,7 +9,7 @@ use crate::gate::Gate;
 use crate::lane::{Lane, read_lane};
 use crate::numbers::Numbers;
 use crate::pairing::pair;
-use crate::plan::Plan;
+use range_plan::Plan;
 use range_plane::OutOfMemory;
 use std::alloc::{Allocator, Global};
 use std::io::Read;

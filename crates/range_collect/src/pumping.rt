@@ -2,7 +2,7 @@
 
 ghost use Rattle.std.specs.Prelude.{◌≡◌, ◌≢◌, ◌+◌, ◌<◌, ◌≤◌, [], false, length, Err, Some, IfErr, IfOk, MatchBool, OnOk};
 ghost use Rattle.range_plane.specs.Fix.{fix_limit};
-ghost use Rattle.range_line.specs.Limits.{block_limit};
+ghost use Rattle.range_plan.specs.Limits.{block_limit};
 ghost use Rattle.range_line.specs.Messages.{joined};
 ghost use Rattle.range_collect.specs.Feeding.{after_block, IsFed};
 ghost use Rattle.range_collect.specs.Pump.{IsPumped};
@@ -92,7 +92,7 @@ fn is_gone(read: &Result<Name, ReadFault>) -> bool
 }
 
 /// Reads a source and sends its fixes in blocks of `block` fixes, from 1 to
-/// [`BLOCK_LIMIT`](range_line::BLOCK_LIMIT), of which the last may have fewer, and then the mark. Takes
+/// [`BLOCK_LIMIT`](range_plan::BLOCK_LIMIT), of which the last may have fewer, and then the mark. Takes
 /// memory for the reading, for each block and for the name, and waits while the line is full.
 ///
 /// Where the reader has a fault, or memory is wanting for a block or the name, that is what `read` says; the

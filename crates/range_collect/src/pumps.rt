@@ -1,17 +1,17 @@
 // The pumps of a line, each in a thread of its own.
 
 ghost use Rattle.std.specs.Prelude.{◌≡◌, ℕ, ◌≤◌, [], All, IfOk, OnOk, Some, map, slice_get, vec_len, vec_capacity};
-ghost use Rattle.range_line.specs.Limits.{block_limit};
+ghost use Rattle.range_plan.specs.Limits.{block_limit};
 ghost use Rattle.range_line.specs.Lines.{FeederView};
 ghost use Rattle.range_collect.specs.Lanes.{IsNew};
 ghost use Rattle.range_collect.specs.Pump.{IsPumped, Read as ReadView};
 
 use crate::gate::Gate;
 use crate::lists::Name;
-use crate::plan::Plan;
 use crate::pumping::{Pumped, pump};
 use range_fixes::ReadFault;
 use range_line::Feeder;
+use range_plan::Plan;
 use range_plane::OutOfMemory;
 use std::alloc::{Allocator, Global};
 use std::io::Read;

@@ -9,7 +9,7 @@ use Rattle.crossbeam_channel.specs.declared.flavors.array.Rows.{Rows}
 use Rattle.crossbeam_channel.specs.Claims.{view, IsSeatAt}
 use Rattle.range_plane.specs.Fix.{fix_limit}
 use Rattle.range_plane.specs.declared.Fix.{Fix}
-use Rattle.range_line.specs.Limits.{block_limit}
+use Rattle.range_plan.specs.Limits.{block_limit}
 use Rattle.range_line.specs.declared.message.Body.{Body}
 use Rattle.range_line.specs.declared.message.Message.{Message}
 use Rattle.range_line.specs.declared.rule.PassView.{PassView}

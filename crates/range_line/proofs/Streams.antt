@@ -6,7 +6,7 @@ use Rattle.std.proofs.Math.Nat.{lt-div-mul-add, div-mul-le_self}
 use Rattle.std.proofs.Math.Seq.{take-add}
 use Rattle.range_plane.specs.Fix.{fix_limit}
 use Rattle.range_plane.specs.declared.Fix.{Fix}
-use Rattle.range_line.specs.Limits.{block_limit}
+use Rattle.range_plan.specs.Limits.{block_limit}
 use Rattle.range_line.specs.Messages.{message, the_mark, of_file, joined, has_mark, IsOrderly, block, blocks, block_count, stream}
 use Rattle.range_line.specs.Laws.{StreamsAreLawful}
 use Rattle.range_line.proofs.Orderly.{joined-append, of_file-push, has_mark-push, orderly_empty, orderly_push}

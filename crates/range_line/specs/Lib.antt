@@ -1,4 +1,3 @@
-pub mod Limits
 pub mod Messages
 pub mod Rule
 pub mod Lines

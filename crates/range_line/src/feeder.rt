@@ -4,7 +4,7 @@ ghost use Rattle.std.specs.Prelude.{◌≡◌, ◌+◌, ◌≤◌, ◌⊎◌, Li
 ghost use Rattle.crossbeam_channel.specs.Claims.{view, IsSeatAt};
 ghost use Rattle.crossbeam_channel.specs.Ends.{sends_on, ruled_capacity};
 ghost use Rattle.range_plane.specs.Fix.{fix_limit};
-ghost use Rattle.range_line.specs.Limits.{block_limit};
+ghost use Rattle.range_plan.specs.Limits.{block_limit};
 ghost use Rattle.range_line.specs.Lines.{after_send, ended_feeder, new_feeder, next_message};
 ghost use Rattle.range_line.specs.Messages.{block_of, has_mark, joined, of_file, the_mark, IsLawful};
 ghost use Rattle.range_line.specs.Passes.{after_joining_all, line_of, IsTaking};
@@ -103,7 +103,7 @@ impl<A: Allocator + Clone> Feeder<A> {
         }
     }
 
-    /// Sends a block of 1 to [`BLOCK_LIMIT`](crate::BLOCK_LIMIT) fixes, and waits while the line is full.
+    /// Sends a block of 1 to [`BLOCK_LIMIT`](range_plan::BLOCK_LIMIT) fixes, and waits while the line is full.
     /// Takes no memory.
     ///
     /// # Errors

@@ -15,6 +15,6 @@ pub use laws::{
     files_have_places, last_messages_come_next, lines_are_in_order, messages_add_their_fixes,
     streams_are_lawful, the_mark_is_last,
 };
-pub use message::{BLOCK_LIMIT, Block, Body, Message};
+pub use message::{Block, Body, Message};
 pub use settling::{Settled, settle};
-pub use taker::{DEPTH_LIMIT, FILE_LIMIT, Taker, open_line};
+pub use taker::{Taker, open_line};

@@ -6,9 +6,6 @@ ghost use Rattle.range_line.specs.Messages.{fixes_in, is_mark};
 use range_plane::Fix;
 use std::marker::Model;
 
-/// The most fixes of a block: 1024.
-pub const BLOCK_LIMIT: u32 = 1024;
-
 /// Fixes in the order of their file. Contracts see the list.
 #[derive(Drop)]
 pub struct Block {
@@ -51,7 +48,7 @@ impl Block {
 /// What a message says of its file.
 #[derive(Drop)]
 pub enum Body {
-    /// The next fixes: on a line, from 1 to [`BLOCK_LIMIT`] of them.
+    /// The next fixes: on a line, from 1 to [`BLOCK_LIMIT`](range_plan::BLOCK_LIMIT) of them.
     Block(Block),
     /// No more fixes come.
     Mark,

@@ -2,7 +2,7 @@
 
 ghost use Rattle.std.specs.Prelude.{◌≡◌, ℕ, ◌<◌, ◌≤◌, false, map, Contains, IfOk, IfSome};
 ghost use Rattle.std.specs.Option.{MatchOption};
-ghost use Rattle.range_line.specs.Limits.{depth_limit, file_limit};
+ghost use Rattle.range_plan.specs.Limits.{depth_limit, file_limit};
 ghost use Rattle.range_line.specs.Lines.{after_take, files_from, new_feeder, new_taker};
 ghost use Rattle.range_line.specs.Messages.{IsLawful};
 
@@ -14,12 +14,6 @@ use range_plane::OutOfMemory;
 use std::alloc::{Allocator, Global};
 use std::marker::Model;
 use std::sync::Wait;
-
-/// The most messages that a line may be opened to hold: 64.
-pub const DEPTH_LIMIT: u32 = 64;
-
-/// The most files of a run, and so of a line: 64.
-pub const FILE_LIMIT: u32 = 64;
 
 /// The end of a line that takes what its feeders send.
 ///

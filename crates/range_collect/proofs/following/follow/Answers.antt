@@ -1,6 +1,6 @@
 use Rattle.std.proofs.Common.{◌≡◌, ℕ, ◌+◌, ◌<◌, ◌≤◌, List, Vec, length, map, min, ap, sym, ◌∙◌, subst, arith, vec_len}
 use Rattle.std.proofs.lemmas.Option.{slice_get_within}
-use Rattle.range_line.specs.Limits.{file_limit}
+use Rattle.range_plan.specs.Limits.{file_limit}
 use Rattle.range_collect.specs.Follow.{IsFollowed}
 use Rattle.range_collect.specs.Lanes.{Dealt}
 use Rattle.range_collect.specs.declared.followed.Followed.{Followed}

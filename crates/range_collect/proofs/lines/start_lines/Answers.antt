@@ -1,6 +1,6 @@
 use Rattle.std.proofs.Common.{◌≡◌, ◌≤◌, All, length, arith, ap, ◌∙◌, subst, vec_len, inl, inr, Vec}
 use Rattle.std.proofs.lemmas.List.Elements.{All-head, All-rest}
-use Rattle.range_line.specs.Limits.{file_limit}
+use Rattle.range_plan.specs.Limits.{file_limit}
 use Rattle.range_collect.specs.declared.numbers.Numbers.{Numbers}
 use Rattle.range_collect.proofs.Places.{before_or_last, moved}
 use Rattle.range_collect.proofs.lines.start_lines.Goals as goal

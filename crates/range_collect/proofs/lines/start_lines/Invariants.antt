@@ -1,6 +1,6 @@
 use Rattle.std.proofs.Common.{◌≡◌, ℕ, ◌+◌, ◌≤◌, ◌++◌, All, Some, map, slice_get, vec_len, vec_capacity, length}
 use Rattle.std.specs.Vec.Iter.{into_iter_items}
-use Rattle.range_line.specs.Limits.{file_limit}
+use Rattle.range_plan.specs.Limits.{file_limit}
 use Rattle.range_collect.proofs.lines.start_lines.Given as goal
 
 abbrev pub invariant-loop-sources : goal.invariant-loop-sources

@@ -1,12 +1,9 @@
 // How files are followed.
 
 ghost use Rattle.std.specs.Prelude.{◌≡◌, IfSome, IsSome, ◌↔◌};
-ghost use Rattle.range_collect.specs.Plan.{IsPlan};
+ghost use Rattle.range_plan.specs.Plan.{IsPlan};
 
-use range_line::{BLOCK_LIMIT, DEPTH_LIMIT};
-
-/// The most workers of a run.
-pub const WORKER_LIMIT: u32 = 8;
+use crate::limits::{BLOCK_LIMIT, DEPTH_LIMIT, WORKER_LIMIT};
 
 /// How files are followed: how many fixes a block has at most, how many messages a line holds at most,
 /// and how many workers there are, each with a line of its own.
@@ -19,15 +16,15 @@ pub struct Plan {
 }
 
 impl Plan {
-    /// The plan with 1 to [`BLOCK_LIMIT`](range_line::BLOCK_LIMIT) fixes in a block, lines of 1 to
-    /// [`DEPTH_LIMIT`](range_line::DEPTH_LIMIT) messages and 1 to [`WORKER_LIMIT`] workers; `None` where
-    /// one of these is outside its limits.
+    /// The plan with 1 to [`BLOCK_LIMIT`](crate::BLOCK_LIMIT) fixes in a block, lines of 1 to
+    /// [`DEPTH_LIMIT`](crate::DEPTH_LIMIT) messages and 1 to [`WORKER_LIMIT`](crate::WORKER_LIMIT)
+    /// workers; `None` where one of these is outside its limits.
     pub fn new(block: u32, depth: u32, workers: u32) -> Option<Plan>
         ensures limits { IsSome result ↔ IsPlan block depth workers }
         ensures value { IfSome result (λ plan. (plan.block ≡ block) × (plan.depth ≡ depth) × (plan.workers ≡ workers)) }
     {
         if (1..=BLOCK_LIMIT).contains(&block)
-            && (1..=DEPTH_LIMIT as u32).contains(&depth)
+            && (1..=DEPTH_LIMIT).contains(&depth)
             && (1..=WORKER_LIMIT).contains(&workers)
         {
             Some(Plan {

@@ -1,10 +1,6 @@
 -- How files are followed.
 use Rattle.std.specs.Prelude.{ℕ, ◌≤◌}
-use Rattle.range_line.specs.Limits.{block_limit, depth_limit}
-
--- the most workers
-abbrev pub worker_limit : ℕ
-worker_limit = 8
+use Rattle.range_plan.specs.Limits.{block_limit, depth_limit, worker_limit}
 
 -- the fixes of a block, the messages that a line holds, and the workers
 abbrev pub IsPlan : ℕ → ℕ → ℕ → Type 0

@@ -1,4 +1,4 @@
--- The limits of lines.
+-- The limits of a run.
 use Rattle.std.specs.Prelude.{ℕ}
 
 -- the most fixes of a block
@@ -12,3 +12,7 @@ depth_limit = 64
 -- the most files of a run, and so of a line
 abbrev pub file_limit : ℕ
 file_limit = 64
+
+-- the most workers
+abbrev pub worker_limit : ℕ
+worker_limit = 8

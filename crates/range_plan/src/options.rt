@@ -1,6 +1,6 @@
 // What is asked of an analysis.
 
-use range_collect::Plan;
+use crate::plan::Plan;
 
 /// What is asked of an analysis.
 #[derive(Drop)]
