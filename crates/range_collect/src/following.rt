@@ -7,11 +7,11 @@ ghost use Rattle.range_collect.specs.Pairs.{Paired};
 
 use crate::dealing::deal;
 use crate::followed::Followed;
-use crate::gate::Gate;
 use crate::lines::follow_lanes;
 use crate::merging::merge;
 use range_plan::Plan;
 use range_plane::OutOfMemory;
+use range_pump::Gate;
 use std::alloc::{Allocator, Global};
 use std::io::Read;
 use std::sync::Wait;
