@@ -12,7 +12,7 @@ use Rattle.range_estimator.specs.Estimation.{Estimation}
 use Rattle.range_collect.specs.Follow.{Holds, IsFollowed, IsResult}
 use Rattle.range_collect.specs.Lanes.{IsLane, IsSeen}
 use Rattle.range_pump.specs.Pump.{IsPumped, IsPumpedFrom, Read}
-use Rattle.range_collect.proofs.Places.{all_of, map_length, mapped, mapped_from, of_all, range_at, same_places, there_is, Threes, Twos}
+use Rattle.integers_and_lists.proofs.Places.{all_of, map_length, mapped, mapped_from, of_all, range_at, same_places, there_is, Threes, Twos}
 
 -- ---- what the pumps gave
 module _ {S H : Type 0} (tell : S → Option (List ℕ)) (source : H → S) (feeder : H → FeederView) (block : H → ℕ) where

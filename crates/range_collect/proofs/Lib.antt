@@ -1,5 +1,4 @@
 pub mod Deals
 pub mod Holding
 pub mod Lanes
-pub mod Places
 pub mod Results

@@ -1,4 +1,3 @@
 pub mod Follow
 pub mod Lanes
-pub mod Pairs
 pub mod Work

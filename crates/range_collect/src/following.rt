@@ -3,7 +3,7 @@
 ghost use Rattle.std.specs.Prelude.{◌≡◌, ◌≤◌, ℕ, ◌%◌, Some, map, slice_get, length, IfOk, vec_len};
 ghost use Rattle.range_plan.specs.Limits.{file_limit};
 ghost use Rattle.range_collect.specs.Follow.{IsFollowed};
-ghost use Rattle.range_collect.specs.Pairs.{Paired};
+ghost use Rattle.integers_and_lists.specs.Pairs.{Paired};
 
 use crate::dealing::deal;
 use crate::followed::Followed;

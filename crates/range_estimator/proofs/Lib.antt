@@ -1,4 +1,3 @@
 pub mod Blocks
-pub mod Places
 pub mod Sets
 pub mod Tables

@@ -11,7 +11,7 @@ use Rattle.range_plane.specs.declared.fix.Fix.{Fix}
 use Rattle.range_estimator.specs.declared.row.Row.{Row}
 use Rattle.range_estimator.specs.Estimation.{IsEstimate, IsTable}
 use Rattle.range_estimator.specs.Table.{fix_at, fixes_of}
-use Rattle.range_estimator.proofs.Places.{before_or_last, slice_get_before, slice_get_last}
+use Rattle.integers_and_lists.proofs.Places.{before_or_last, slice_get_before, slice_get_last}
 use Rattle.range_estimator.proofs.Sets.{polygon_pushed}
 
 -- ---- fixes by their rows and points
