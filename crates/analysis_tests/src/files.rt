@@ -3,10 +3,12 @@
 ghost use Rattle.std.specs.Prelude.{◌≤◌, IfOk, length};
 
 use range_analysis::{AnalyseFault, Analysis, judge};
-use range_collect::{Estimator, Followed, Name};
+use range_collect::Followed;
+use range_estimator::Estimator;
 use range_fixes::ReadFault;
 use range_line::{Feeder, open_line};
 use range_plane::{Fix, Point};
+use range_pump::Name;
 use std::alloc::Global;
 use std::process::Abort;
 use std::sync::Wait;

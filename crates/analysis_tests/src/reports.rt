@@ -1,9 +1,10 @@
 // The reports of analyses that are made by hand.
 
 use range_analysis::{Analysis, Animal, Animals, OverlapRow, Overlaps, Percents};
-use range_collect::{Name, Row, Rows};
+use range_estimator::{Row, Rows};
 use range_lanes::Extent;
 use range_plane::{Point, Polygon};
+use range_pump::Name;
 use range_report::report;
 use range_stats::PercentRow;
 use std::alloc::Global;

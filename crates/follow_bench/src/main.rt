@@ -7,9 +7,10 @@
 
 use bench_tracks::{cloud, read_points, shuffle, spiral, walk};
 use itoa::Buffer;
-use range_collect::{Followed, FreeGate, follow};
+use range_collect::{Followed, follow};
 use range_plan::Plan;
 use range_plane::Point;
+use range_pump::FreeGate;
 use std::alloc::{AllocError, Global};
 use std::io;
 use std::rt::Runtime;

@@ -3,9 +3,10 @@
 
 use crate::files::{Case, LINE, SQUARE, expect_whole, plan};
 use crate::sources::Repeated;
-use range_collect::{FreeGate, Gate, follow};
+use range_collect::follow;
 use range_plan::Plan;
 use range_plane::FIX_LIMIT;
+use range_pump::{FreeGate, Gate};
 use std::alloc::Global;
 use std::io::Read;
 use std::process::Abort;

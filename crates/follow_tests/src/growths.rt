@@ -1,7 +1,8 @@
 // A test of refused growths.
 
 use crate::files::{LINE, SQUARE, plan};
-use range_collect::{Followed, FreeGate, follow};
+use range_collect::{Followed, follow};
+use range_pump::FreeGate;
 use refusing::Refusing;
 use std::alloc::Global;
 use std::process::Abort;

@@ -4,10 +4,11 @@ use crate::files::{
     Case, EAST, LIMITS, LINE, OUTWARD, PLACE, SLOPE, SQUARE, WEST, expect_whole, plan,
 };
 use crate::sources::Repeated;
-use range_collect::{Followed, FreeGate, follow};
+use range_collect::{Followed, follow};
 use range_fixes::ReadFault;
 use range_plan::Plan;
 use range_plane::FIX_LIMIT;
+use range_pump::FreeGate;
 use std::alloc::Global;
 use std::io::Read;
 use std::process::Abort;

@@ -12,10 +12,10 @@ use Rattle.range_line.specs.Laws.{LastMessagesComeNext, StreamsAreLawful}
 use Rattle.range_plan.specs.Limits.{block_limit}
 use Rattle.range_line.specs.Lines.{FeederView}
 use Rattle.range_line.specs.Messages.{IsLawful, block_count, blocks, fixes, message, stream, the_mark}
-use Rattle.range_collect.specs.Estimation.{Estimation}
+use Rattle.range_estimator.specs.Estimation.{Estimation}
 use Rattle.range_collect.specs.Follow.{IsFollowed, IsResult}
-use Rattle.range_collect.specs.Pairs.{PairedFrom}
-use Rattle.range_collect.specs.Pump.{IsReadAs, IsSent, Read}
+use Rattle.integers_and_lists.specs.Pairs.{PairedFrom}
+use Rattle.range_pump.specs.Pump.{IsReadAs, IsSent, Read}
 use Rattle.range_collect.specs.declared.followed.Followed.{Followed}
 use Rattle.range_analysis.specs.Entries.{entries_of, entry_of, lost, wants_memory}
 use Rattle.range_analysis.specs.Sources.{Gives, IsWhole}

@@ -4,7 +4,7 @@ use Rattle.std.specs.Prelude.{option_map}
 use Rattle.std.specs.List.{AllZip, list_any, position}
 use Rattle.std.specs.declared.clone.Clone.{Ghosts}
 use Rattle.std.proofs.lemmas.Option.{none-some, same_Some}
-use Rattle.range_collect.specs.Pairs.{PairedFrom}
+use Rattle.integers_and_lists.specs.Pairs.{PairedFrom}
 use Rattle.range_collect.specs.declared.followed.Followed.{Followed}
 use Rattle.range_analysis.proofs.Positions.{place_within}
 use Rattle.range_analysis.specs.Analysis.{HasNoAnalysis, IsAnalysis}

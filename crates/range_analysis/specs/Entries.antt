@@ -7,7 +7,7 @@ use Rattle.range_plane.specs.Row.{points_of}
 use Rattle.range_plane.specs.declared.fix.Fix.{Fix}
 use Rattle.range_fixes.specs.declared.fault.ReadFault.{ReadFault}
 use Rattle.range_fixes.specs.declared.fault.ReadFault.TheVariants as reads
-use Rattle.range_collect.specs.Pump.{Read}
+use Rattle.range_pump.specs.Pump.{Read}
 use Rattle.range_collect.specs.declared.followed.Followed.{Followed}
 use Rattle.range_analysis.specs.declared.fault.AnalyseFault.{AnalyseFault}
 use Rattle.range_analysis.specs.declared.fault.AnalyseFault.TheVariants.{OutOfMemory, LineCut, File}

@@ -7,7 +7,7 @@ use Rattle.range_plane.specs.declared.fix.Fix.{Fix}
 use Rattle.range_lanes.specs.Extent.{IsExtent}
 use Rattle.range_stats.specs.Overlap.{overlap}
 use Rattle.range_stats.specs.Percent.{IsPercentRow}
-use Rattle.range_collect.specs.Estimation.{IsTable}
+use Rattle.range_estimator.specs.Estimation.{IsTable}
 use Rattle.range_analysis.specs.Entries.{Entry, good, bad, points_at}
 use Rattle.range_analysis.specs.declared.animal.Animal.{Animal}
 use Rattle.range_analysis.specs.declared.animal.OverlapRow.{OverlapRow}

@@ -1,9 +1,10 @@
 // What is known of an animal, and of two.
 
 use crate::lists::Percents;
-use range_collect::{Name, Rows};
+use range_estimator::Rows;
 use range_lanes::Extent;
 use range_plane::Polygon;
+use range_pump::Name;
 
 /// An animal and what its fixes come to.
 #[derive(Drop)]

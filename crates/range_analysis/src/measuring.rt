@@ -11,7 +11,7 @@ use crate::animal::Animal;
 use crate::lists::Percents;
 use crate::measured::Measured;
 use crate::track::Track;
-use range_collect::Rows;
+use range_estimator::Rows;
 use range_lanes::extremes;
 use range_plane::{Columns, OutOfMemory};
 use range_stats::Ranking;

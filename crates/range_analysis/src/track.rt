@@ -2,7 +2,8 @@
 
 ghost use Rattle.std.specs.Prelude.{◌≤◌, length};
 
-use range_collect::{Estimator, Name};
+use range_estimator::Estimator;
+use range_pump::Name;
 
 // An animal and the estimator of its fixes, of which there is at least one.
 #[derive(Drop)]

@@ -4,7 +4,7 @@ use Rattle.std.proofs.lemmas.List.{nil_from_length}
 use Rattle.std.proofs.lemmas.List.Elements.{All-map, All-nil, All-cons, All-head, All-tail}
 use Rattle.std.proofs.lemmas.Option.{none-some, same_Some, slice_get_within}
 use Rattle.range_collect.specs.Lanes.{Dealt}
-use Rattle.range_collect.proofs.Places.{map_pushed, of_all, slice_get_before, slice_get_last}
+use Rattle.integers_and_lists.proofs.Places.{map_pushed, of_all, slice_get_before, slice_get_last}
 
 pub dealt_map : {X Y : Type 0} (f : X → Y) (xs : List X) (lanes : List (List X)) → Dealt xs lanes → Dealt (map f xs) (map (map f) lanes)
 dealt_map {X} {Y} f [] lanes dealt = All-map (λ (lane : List Y). lane ≡ []) (map f) lanes (λ k d below. ap (map f) (dealt k d below))

@@ -9,10 +9,10 @@ use Rattle.range_line.specs.declared.message.Message.{Message}
 use Rattle.range_line.specs.Laws.{FilesHavePlaces, LastMessagesComeNext, MessagesAddTheirFixes}
 use Rattle.range_line.specs.Lines.{ended_feeder, files_from, FeederView}
 use Rattle.range_line.specs.Messages.{fixes, fixes_in, joined, of_file, IsLawful}
-use Rattle.range_collect.specs.Estimation.{Estimation}
+use Rattle.range_estimator.specs.Estimation.{Estimation}
 use Rattle.range_collect.specs.Follow.{Holds}
 use Rattle.range_collect.specs.Work.{EachHolds}
-use Rattle.range_collect.proofs.Places.{mapped, range_at, set_or_kept}
+use Rattle.integers_and_lists.proofs.Places.{mapped, range_at, set_or_kept}
 
 -- ---- the estimators of a line
 pub place_is : (first step place file : ℕ) → 1 ≤ step → file ≡ first + place * step → (file - first) / step ≡ place

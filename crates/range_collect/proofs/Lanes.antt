@@ -8,11 +8,11 @@ use Rattle.range_plane.specs.declared.fix.Fix.{Fix}
 use Rattle.range_line.specs.declared.message.Message.{Message}
 use Rattle.range_line.specs.Lines.{ended_feeder, files_from, new_feeder, AreOfLine, FeederView, Line, TakerView}
 use Rattle.range_line.specs.Messages.{block, block_count, joined, of_file, stream, IsLawful}
-use Rattle.range_collect.specs.Estimation.{Estimation}
+use Rattle.range_estimator.specs.Estimation.{Estimation}
 use Rattle.range_collect.specs.Follow.{Holds, IsFollowed, IsResult}
 use Rattle.range_collect.specs.Lanes.{IsLane, IsSeen}
-use Rattle.range_collect.specs.Pump.{IsPumped, IsPumpedFrom, Read}
-use Rattle.range_collect.proofs.Places.{all_of, map_length, mapped, mapped_from, of_all, range_at, same_places, there_is, Threes, Twos}
+use Rattle.range_pump.specs.Pump.{IsPumped, IsPumpedFrom, Read}
+use Rattle.integers_and_lists.proofs.Places.{all_of, map_length, mapped, mapped_from, of_all, range_at, same_places, there_is, Threes, Twos}
 
 -- ---- what the pumps gave
 module _ {S H : Type 0} (tell : S → Option (List ℕ)) (source : H → S) (feeder : H → FeederView) (block : H → ℕ) where

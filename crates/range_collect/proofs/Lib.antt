@@ -1,11 +1,4 @@
-pub mod Blocks
-pub mod Cuts
 pub mod Deals
-pub mod Feedings
 pub mod Holding
 pub mod Lanes
-pub mod Places
-pub mod Readings
 pub mod Results
-pub mod Sets
-pub mod Tables

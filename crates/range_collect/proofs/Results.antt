@@ -7,7 +7,7 @@ use Rattle.range_collect.specs.Follow.{IsFollowed}
 use Rattle.range_collect.specs.Lanes.{AreLanesFollowed, Dealt, IsLaneFollowed}
 use Rattle.range_collect.specs.declared.followed.Followed.{Followed}
 use Rattle.range_collect.proofs.Deals.{dealt_at, dealt_short}
-use Rattle.range_collect.proofs.Places.{map_length, mapped_from, of_all, same_places, there_is}
+use Rattle.integers_and_lists.proofs.Places.{map_length, mapped_from, of_all, same_places, there_is}
 
 -- ---- lanes
 -- a dealt list's member is in the lane that its place leaves over

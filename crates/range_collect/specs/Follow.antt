@@ -5,8 +5,8 @@ use Rattle.range_plane.specs.declared.fix.Fix.{Fix}
 use Rattle.range_fixes.specs.declared.fault.ReadFault.TheVariants.{Gone}
 use Rattle.range_line.specs.Lines.{FeederView}
 use Rattle.range_line.specs.Messages.{IsLawful, fixes}
-use Rattle.range_collect.specs.Estimation.{Estimation, IsEstimate}
-use Rattle.range_collect.specs.Pump.{IsPumpedFrom, Read}
+use Rattle.range_estimator.specs.Estimation.{Estimation, IsEstimate}
+use Rattle.range_pump.specs.Pump.{IsPumpedFrom, Read}
 
 -- the estimator took a beginning of the fixes, and all of them where it has not stopped
 pub record Holds (e : Estimation) (sent : List Fix) : Type 0 where

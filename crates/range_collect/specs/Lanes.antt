@@ -4,9 +4,9 @@ use Rattle.std.specs.declared.clone.Clone.{Ghosts}
 use Rattle.range_plan.specs.Limits.{file_limit}
 use Rattle.range_line.specs.Lines.{files_from, new_feeder, FeederView, Line, TakerView}
 use Rattle.range_line.specs.Messages.{of_file, IsLawful}
-use Rattle.range_collect.specs.Estimation.{Estimation, IsEstimate}
+use Rattle.range_estimator.specs.Estimation.{Estimation, IsEstimate}
 use Rattle.range_collect.specs.Follow.{IsFollowed}
-use Rattle.range_collect.specs.Pump.{IsPumped, Read}
+use Rattle.range_pump.specs.Pump.{IsPumped, Read}
 use Rattle.range_collect.specs.declared.followed.Followed.{Followed}
 
 -- the first file of a line, and the step to the next

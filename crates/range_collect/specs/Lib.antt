@@ -1,9 +1,3 @@
-pub mod Estimation
-pub mod Feeding
 pub mod Follow
 pub mod Lanes
-pub mod Marker
-pub mod Pairs
-pub mod Pump
-pub mod Table
 pub mod Work

@@ -3,7 +3,7 @@ use Rattle.std.specs.Prelude.{◌≡◌, ℕ, ◌+◌, ◌*◌, List, [], ◌∷
 use Rattle.range_line.specs.declared.message.Message.{Message}
 use Rattle.range_line.specs.Lines.{files_from}
 use Rattle.range_line.specs.Messages.{fixes, IsLawful}
-use Rattle.range_collect.specs.Estimation.{Estimation}
+use Rattle.range_estimator.specs.Estimation.{Estimation}
 use Rattle.range_collect.specs.Follow.{Holds}
 
 -- each estimator holds what was taken of its file, the files being numbered from the first on by this step

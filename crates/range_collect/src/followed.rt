@@ -2,10 +2,10 @@
 
 ghost use Rattle.range_collect.specs.Follow.{IsResult};
 
-use crate::estimator::Estimator;
-use crate::lists::Name;
+use range_estimator::Estimator;
 use range_fixes::ReadFault;
 use range_line::Feeder;
+use range_pump::Name;
 use std::alloc::{Allocator, Global};
 
 /// What was sent of a file, what its reader says of it, and what its estimator took.

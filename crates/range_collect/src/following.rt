@@ -3,15 +3,15 @@
 ghost use Rattle.std.specs.Prelude.{◌≡◌, ◌≤◌, ℕ, ◌%◌, Some, map, slice_get, length, IfOk, vec_len};
 ghost use Rattle.range_plan.specs.Limits.{file_limit};
 ghost use Rattle.range_collect.specs.Follow.{IsFollowed};
-ghost use Rattle.range_collect.specs.Pairs.{Paired};
+ghost use Rattle.integers_and_lists.specs.Pairs.{Paired};
 
 use crate::dealing::deal;
 use crate::followed::Followed;
-use crate::gate::Gate;
 use crate::lines::follow_lanes;
 use crate::merging::merge;
 use range_plan::Plan;
 use range_plane::OutOfMemory;
+use range_pump::Gate;
 use std::alloc::{Allocator, Global};
 use std::io::Read;
 use std::sync::Wait;

@@ -4,8 +4,6 @@ ghost use Rattle.std.specs.Prelude.{◌≡◌, ◌≤◌, map, IfOk, vec_len};
 ghost use Rattle.range_plan.specs.Limits.{file_limit};
 ghost use Rattle.range_collect.specs.Lanes.{IsLane};
 
-use crate::gate::Gate;
-use crate::lists::Name;
 use crate::numbers::Numbers;
 use crate::pumps::{join_pumps, start_pumps};
 use crate::worker::Worker;
@@ -13,6 +11,7 @@ use range_fixes::ReadFault;
 use range_line::{Feeder, open_line};
 use range_plan::Plan;
 use range_plane::OutOfMemory;
+use range_pump::{Gate, Name};
 use std::alloc::{Allocator, Global};
 use std::io::Read;
 use std::sync::Wait;

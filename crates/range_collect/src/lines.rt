@@ -5,12 +5,12 @@ ghost use Rattle.range_plan.specs.Limits.{file_limit};
 ghost use Rattle.range_collect.specs.Lanes.{AreLanesFollowed, IsLaneFollowed};
 
 use crate::followed::Followed;
-use crate::gate::Gate;
 use crate::lane::{Lane, read_lane};
 use crate::numbers::Numbers;
 use crate::pairing::pair;
 use range_plan::Plan;
 use range_plane::OutOfMemory;
+use range_pump::Gate;
 use std::alloc::{Allocator, Global};
 use std::io::Read;
 use std::snapshot::Snapshot;

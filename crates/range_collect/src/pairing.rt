@@ -2,17 +2,17 @@
 
 ghost use Rattle.std.specs.Prelude.{◌≡◌, ℕ, All, map, slice_get, Some, IfOk, vec_len};
 ghost use Rattle.range_line.specs.Lines.{FeederView};
-ghost use Rattle.range_collect.specs.Estimation.{Estimation};
+ghost use Rattle.range_estimator.specs.Estimation.{Estimation};
 ghost use Rattle.range_collect.specs.Follow.{IsResult};
 ghost use Rattle.range_collect.specs.Lanes.{IsSeen};
-ghost use Rattle.range_collect.specs.Pump.{Read};
+ghost use Rattle.range_pump.specs.Pump.{Read};
 
-use crate::estimator::Estimator;
 use crate::followed::Followed;
-use crate::lists::Name;
+use range_estimator::Estimator;
 use range_fixes::ReadFault;
 use range_line::Feeder;
 use range_plane::OutOfMemory;
+use range_pump::Name;
 use std::alloc::Allocator;
 
 // The result of a file.

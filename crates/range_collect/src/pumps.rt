@@ -4,15 +4,13 @@ ghost use Rattle.std.specs.Prelude.{◌≡◌, ℕ, ◌≤◌, [], All, IfOk, On
 ghost use Rattle.range_plan.specs.Limits.{block_limit};
 ghost use Rattle.range_line.specs.Lines.{FeederView};
 ghost use Rattle.range_collect.specs.Lanes.{IsNew};
-ghost use Rattle.range_collect.specs.Pump.{IsPumped, Read as ReadView};
+ghost use Rattle.range_pump.specs.Pump.{IsPumped, Read as ReadView};
 
-use crate::gate::Gate;
-use crate::lists::Name;
-use crate::pumping::{Pumped, pump};
 use range_fixes::ReadFault;
 use range_line::Feeder;
 use range_plan::Plan;
 use range_plane::OutOfMemory;
+use range_pump::{Gate, Name, Pumped, pump};
 use std::alloc::{Allocator, Global};
 use std::io::Read;
 use std::snapshot::Snapshot;
@@ -28,7 +26,7 @@ pub(crate) struct PumpOf<S: Drop, A: Allocator + Clone> {
 }
 
 impl<S: Read + Drop, A: Allocator + Clone> Promise<Pumped<A>> for PumpOf<S, A> {
-    ghost use Rattle.range_collect.specs.Pump.{IsPumped};
+    ghost use Rattle.range_pump.specs.Pump.{IsPumped};
 
     ghost kept_by = { λ p r. IsPumped (S.remaining p.source.value) p.block p.feeder.value r.feeder r.read };
 }

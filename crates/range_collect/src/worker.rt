@@ -6,18 +6,18 @@ ghost use Rattle.range_plane.specs.declared.fix.Fix.{Fix};
 ghost use Rattle.range_line.specs.declared.message.Message.{Message};
 ghost use Rattle.range_line.specs.Lines.{ended_feeder, files_from, AreOfLine, FeederView};
 ghost use Rattle.range_line.specs.Messages.{fixes_in, joined};
-ghost use Rattle.range_collect.specs.Estimation.{Estimation};
+ghost use Rattle.range_estimator.specs.Estimation.{Estimation};
 ghost use Rattle.range_collect.specs.Follow.{Holds};
 ghost use Rattle.range_collect.specs.Work.{ComesTo, EachHolds};
 
-use crate::estimator::Estimator;
-use crate::gate::Gate;
 use crate::numbers::Numbers;
+use range_estimator::Estimator;
 use range_line::{
     Body, Feeder, Message, Settled, Taker, files_have_places, last_messages_come_next,
     messages_add_their_fixes, settle,
 };
 use range_plane::OutOfMemory;
+use range_pump::Gate;
 use std::alloc::Allocator;
 use std::marker::Model;
 use std::sync::Wait;

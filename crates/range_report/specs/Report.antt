@@ -5,7 +5,7 @@ use Rattle.std.specs.List.{flat_map}
 use Rattle.range_plane.specs.Plane.{Position}
 use Rattle.range_lanes.specs.declared.extent.Extent.{Extent}
 use Rattle.range_stats.specs.declared.percents.PercentRow.{PercentRow}
-use Rattle.range_collect.specs.declared.row.Row.{Row}
+use Rattle.range_estimator.specs.declared.row.Row.{Row}
 use Rattle.range_analysis.specs.Names.{name_at}
 use Rattle.range_analysis.specs.declared.animal.Animal.{Animal}
 use Rattle.range_analysis.specs.declared.animal.OverlapRow.{OverlapRow}

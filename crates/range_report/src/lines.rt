@@ -7,7 +7,7 @@ ghost use Rattle.range_report.specs.Report.{animal_line, box_line, corner_line, 
 
 use itoa::{Buffer, Integer};
 use range_analysis::{Animal, OverlapRow};
-use range_collect::Row;
+use range_estimator::Row;
 use range_lanes::Extent;
 use range_plane::Point;
 use range_stats::PercentRow;

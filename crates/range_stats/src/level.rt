@@ -16,9 +16,11 @@ pub enum LevelFault {
     TooMany,
 }
 
-const LEVEL_COUNT_LIMIT: usize = 8;
+/// The most levels of a list.
+pub const LEVEL_COUNT_LIMIT: usize = 8;
 
-const GREATEST_LEVEL: u8 = 100;
+/// The greatest level.
+pub const LEVEL_LIMIT: u8 = 100;
 
 /// The levels in a text, in its order: 1 to 8 numbers from 1 to 100, separated by commas. A number is
 /// digits alone, and may begin with zeros. The first bad part decides; a ninth part is not read.
@@ -66,7 +68,7 @@ fn level_in(part: &[u8]) -> Option<u8>
         return None;
     }
     let value = capped_value(part);
-    if (1..=GREATEST_LEVEL).contains(&value) {
+    if (1..=LEVEL_LIMIT).contains(&value) {
         Some(value)
     } else {
         None
@@ -90,7 +92,7 @@ fn capped_value(digits: &[u8]) -> u8
         value = value
             .saturating_mul(10)
             .saturating_add(*digit - b'0')
-            .min(GREATEST_LEVEL + 1);
+            .min(LEVEL_LIMIT + 1);
     }
     value
 }

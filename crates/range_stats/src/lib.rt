@@ -8,7 +8,7 @@ mod overlaps;
 mod percents;
 mod ranking;
 
-pub use level::{LevelFault, levels};
+pub use level::{LEVEL_COUNT_LIMIT, LEVEL_LIMIT, LevelFault, levels};
 pub use overlaps::overlap;
 pub use percents::{PercentRow, percent};
 pub use ranking::Ranking;

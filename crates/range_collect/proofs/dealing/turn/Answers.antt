@@ -1,7 +1,7 @@
 use Rattle.std.proofs.Common.{◌≡◌, ℕ, ◌+◌, ◌-◌, ◌++◌, ◌∷◌, map, take, length, ap, ◌∙◌, arith}
 use Rattle.std.proofs.lemmas.List.{append-nil}
 use Rattle.range_collect.proofs.Deals.{dealt_first, last_split, past_last}
-use Rattle.range_collect.proofs.Places.{map_pushed}
+use Rattle.integers_and_lists.proofs.Places.{map_pushed}
 use Rattle.range_collect.proofs.dealing.turn.Goals as goal
 
 pub returns-clause-dealt : goal.returns-clause-dealt

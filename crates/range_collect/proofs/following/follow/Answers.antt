@@ -5,7 +5,7 @@ use Rattle.range_collect.specs.Follow.{IsFollowed}
 use Rattle.range_collect.specs.Lanes.{Dealt}
 use Rattle.range_collect.specs.declared.followed.Followed.{Followed}
 use Rattle.range_collect.proofs.Deals.{dealt_alike, dealt_map}
-use Rattle.range_collect.proofs.Places.{all_of, map_length, map_map, mapped, paired_at}
+use Rattle.integers_and_lists.proofs.Places.{all_of, map_length, map_map, mapped, paired_at}
 use Rattle.range_collect.proofs.Results.{file_followed, lane_sizes, lanes_alike, same_line, same_over}
 use Rattle.range_collect.proofs.following.follow.Given as given
 use Rattle.range_collect.proofs.following.follow.Goals as goal

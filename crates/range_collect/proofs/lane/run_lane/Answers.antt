@@ -4,7 +4,7 @@ use Rattle.std.proofs.lemmas.List.FromFn.{length-map-range_with_len}
 use Rattle.range_line.specs.Lines.{files_from, new_feeder, Line, TakerView}
 use Rattle.range_collect.specs.Lanes.{IsNew}
 use Rattle.range_collect.proofs.Lanes.{pumped_at}
-use Rattle.range_collect.proofs.Places.{map_length}
+use Rattle.integers_and_lists.proofs.Places.{map_length}
 use Rattle.range_collect.proofs.lane.run_lane.Goals as goal
 
 pub start_pumps-started-requires-clause-feeders : goal.start_pumps-started-requires-clause-feeders

@@ -2,7 +2,7 @@ use Rattle.std.proofs.Common.{length, map, ap, arith}
 use Rattle.range_line.specs.Lines.{ended_feeder}
 use Rattle.range_collect.specs.declared.followed.Followed.{Followed}
 use Rattle.range_collect.proofs.Lanes.{lane_files, lane_followed, lane_line, lane_of_line, lane_results}
-use Rattle.range_collect.proofs.Places.{map_length}
+use Rattle.integers_and_lists.proofs.Places.{map_length}
 use Rattle.range_collect.proofs.lines.follow_lane.Goals as goal
 
 pub drain-feeders-requires-clause-line : goal.drain-feeders-requires-clause-line

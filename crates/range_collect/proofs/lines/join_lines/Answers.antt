@@ -1,7 +1,7 @@
 use Rattle.std.proofs.Common.{◌++◌, ◌∷◌, [], map, length, arith, sym, ap, ◌∙◌, append_assoc}
 use Rattle.std.proofs.lemmas.List.{length_push}
 use Rattle.range_collect.specs.Lanes.{IsLaneFollowed}
-use Rattle.range_collect.proofs.Places.{twos_pushed}
+use Rattle.integers_and_lists.proofs.Places.{twos_pushed}
 use Rattle.range_collect.proofs.lines.join_lines.Goals as goal
 
 pub loop-handle-preserved-in-Ok : goal.loop-handle-preserved-in-Ok

@@ -1,7 +1,7 @@
 use Rattle.std.proofs.Common.{◌≡◌, ◌+◌, ◌≤◌, ◌++◌, List, false, map, vec_len, vec_capacity, length}
 use Rattle.std.specs.Vec.Iter.{into_iter_items}
 use Rattle.range_collect.specs.Lanes.{IsLaneFollowed}
-use Rattle.range_collect.proofs.Places.{Twos}
+use Rattle.integers_and_lists.proofs.Places.{Twos}
 use Rattle.range_collect.proofs.lines.join_lines.Given as goal
 
 abbrev pub invariant-loop-handle : goal.invariant-loop-handle

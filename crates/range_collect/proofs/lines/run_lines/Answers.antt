@@ -1,6 +1,6 @@
 use Rattle.std.proofs.Common.{◌≡◌, Vec, length, map, ap, sym, ◌∙◌, subst, arith, slice_get, Some}
 use Rattle.std.proofs.lemmas.Option.{same_Some, slice_get_within}
-use Rattle.range_collect.proofs.Places.{map_length, mapped, mapped_from, there_is}
+use Rattle.integers_and_lists.proofs.Places.{map_length, mapped, mapped_from, there_is}
 use Rattle.range_collect.proofs.Results.{same_lane}
 use Rattle.range_collect.proofs.lines.run_lines.Goals as goal
 

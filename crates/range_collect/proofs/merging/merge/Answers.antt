@@ -1,7 +1,7 @@
 use Rattle.std.proofs.Common.{◌≡◌, ℕ, ◌<◌, ◌++◌, ◌∷◌, [], List, length, map, sym, ap, ◌∙◌, arith, drop, get_or, length-append, append_assoc}
 use Rattle.std.proofs.lemmas.List.{append-nil, nil_from_length}
 use Rattle.range_collect.proofs.Deals.{head}
-use Rattle.range_collect.proofs.Places.{map_pushed}
+use Rattle.integers_and_lists.proofs.Places.{map_pushed}
 use Rattle.range_collect.proofs.merging.merge.Goals as goal
 
 some_left : {X : Type 0} (dealt all rest : List X) (n k count : ℕ) → dealt ≡ all ++ rest → length dealt ≡ count → k ≡ n → n ≡ length all → k < count → 0 < length rest

@@ -3,7 +3,7 @@ use Rattle.std.proofs.lemmas.List.{append-nil, nil_from_length}
 use Rattle.std.proofs.lemmas.List.Elements.{All-push}
 use Rattle.std.specs.Vec.Iter.{into_iter_items}
 use Rattle.range_collect.specs.Lanes.{IsSeen}
-use Rattle.range_collect.proofs.Places.{moved}
+use Rattle.integers_and_lists.proofs.Places.{moved}
 use Rattle.range_collect.proofs.pairing.pair.Goals as goal
 
 pub loop-read-init : goal.loop-read-init

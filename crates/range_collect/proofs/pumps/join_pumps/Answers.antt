@@ -2,8 +2,8 @@ use Rattle.std.proofs.Common.{◌≡◌, ◌++◌, ◌∷◌, [], Some, slice_ge
 use Rattle.std.proofs.lemmas.List.{append-nil, nil_from_length}
 use Rattle.std.specs.Vec.Iter.{into_iter_items}
 use Rattle.std.proofs.lemmas.List.{length_push}
-use Rattle.range_collect.specs.Pump.{IsPumped}
-use Rattle.range_collect.proofs.Places.{threes_pushed}
+use Rattle.range_pump.specs.Pump.{IsPumped}
+use Rattle.integers_and_lists.proofs.Places.{threes_pushed}
 use Rattle.range_collect.proofs.pumps.join_pumps.Goals as goal
 
 pub loop-handle-preserved : goal.loop-handle-preserved

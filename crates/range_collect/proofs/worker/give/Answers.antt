@@ -1,6 +1,6 @@
 use Rattle.std.proofs.Common.{◌≡◌, ℕ, ◌+◌, ◌*◌, ◌-◌, ◌/◌, ◌<◌, subst, sym, ◌∙◌, length, slice_get, Some, ap, refl, arith}
 use Rattle.std.proofs.lemmas.Option.{slice_get_read}
-use Rattle.range_collect.specs.Estimation.{Estimation}
+use Rattle.range_estimator.specs.Estimation.{Estimation}
 use Rattle.range_collect.specs.Follow.{Holds}
 use Rattle.range_line.specs.Messages.{fixes}
 use Rattle.range_collect.proofs.Holding.{each_holds_more, few, is_at}

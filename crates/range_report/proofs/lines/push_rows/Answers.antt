@@ -1,5 +1,5 @@
 use Rattle.std.proofs.Common.{refl, get_or}
-use Rattle.range_collect.specs.declared.row.Row.{Row}
+use Rattle.range_estimator.specs.declared.row.Row.{Row}
 use Rattle.range_report.specs.Report.{row_line}
 use Rattle.range_report.proofs.Numbered.{numbered_more}
 use Rattle.range_report.proofs.lines.push_rows.Goals as goal

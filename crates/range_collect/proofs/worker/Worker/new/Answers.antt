@@ -2,10 +2,10 @@ use Rattle.std.proofs.Common.{◌++◌, [], ap, sym, ◌∙◌, arith, subst, Li
 use Rattle.std.proofs.lemmas.List.Elements.{All-push}
 use Rattle.range_line.specs.declared.message.Message.{Message}
 use Rattle.range_line.specs.Lines.{files_from}
-use Rattle.range_collect.specs.Estimation.{Estimation}
+use Rattle.range_estimator.specs.Estimation.{Estimation}
 use Rattle.range_collect.specs.Follow.{Holds}
 use Rattle.range_collect.specs.Work.{EachHolds}
-use Rattle.range_collect.proofs.Places.{of_all}
+use Rattle.integers_and_lists.proofs.Places.{of_all}
 use Rattle.range_collect.proofs.worker.Worker.new.Goals as goal
 
 pub loop-made-preserved : goal.loop-made-preserved

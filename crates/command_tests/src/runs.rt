@@ -1,0 +1,241 @@
+// What a run writes, and the status it ends with.
+
+use crate::options::options;
+use range_analysis::AnalyseFault;
+use range_fixes::ReadFault;
+use range_run::{RunFault, run, status};
+use std::alloc::Global;
+use std::io;
+use std::io::{Read, Write};
+use std::process::Abort;
+use std::sync::Wait;
+use std::thread::Threads;
+
+const FILE_A: &[u8] =
+    b"animal,second,easting,northing\nA,0,0,0\nA,60,10,0\nA,120,10,10\nA,180,0,10\nA,240,5,5\n";
+
+const REPORT_A: &[u8] =
+    b"animal,A,fixes,5\nbox,A,0,0,10,10\nrow,A,1,0,1,0\nrow,A,2,60,2,0\nrow,A,3,120,3,100\nrow,A,4,180,4,200\nrow,A,5,240,4,200\ncorner,A,1,0,0\ncorner,A,2,10,0\ncorner,A,3,10,10\ncorner,A,4,0,10\npercent,A,50,3,3,50\npercent,A,95,5,4,200\npercent,A,100,5,4,200\nend,1\n";
+
+// Takes so many bytes at each write, fails after so many writes, may fail to flush, and counts flushes.
+#[derive(Drop)]
+struct Narrow {
+    held: Vec<u8>,
+    most: usize,
+    writes: usize,
+    can_flush: bool,
+    flushes: u32,
+}
+
+impl Write for Narrow {
+    fn write(&mut self, buf: &[u8]) -> io::Result<usize> {
+        if self.writes == 0 {
+            return Err(io::Error::from(io::ErrorKind::PermissionDenied));
+        }
+        self.writes -= 1;
+        let n = self.most.min(buf.len());
+        self.held.extend_from_slice(&buf[..n])?;
+        Ok(n)
+    }
+
+    fn flush(&mut self) -> io::Result<()> {
+        self.flushes = self.flushes.saturating_add(1);
+        if self.can_flush {
+            Ok(())
+        } else {
+            Err(io::Error::from(io::ErrorKind::PermissionDenied))
+        }
+    }
+}
+
+// Fails at its first read.
+#[derive(Drop)]
+struct Broken;
+
+impl Read for Broken {
+    fn read(&mut self, _buf: &mut [u8]) -> io::Result<usize> {
+        Err(io::Error::from(io::ErrorKind::PermissionDenied))
+    }
+}
+
+// Runs over one source with the options that are there where words give none.
+fn run_over<R: Wait + Threads + Sync + Abort, S: Read + Send + Drop, W: Write>(
+    rt: &R,
+    alloc: Global,
+    source: S,
+    out: &mut W,
+) -> Result<(), RunFault> {
+    let options = options(rt, alloc, &[50, 95, 100], (256, 4, 2));
+    let mut sources = Vec::new(alloc);
+    if sources.push(source).is_err() {
+        return Err(RunFault::OutOfMemory);
+    }
+    run(rt, alloc, sources, &options, out)
+}
+
+// Runs over a text, and over it behind a byte order mark.
+fn expect_report<R: Wait + Threads + Sync + Abort>(
+    rt: &R,
+    alloc: Global,
+    text: &[u8],
+    report: &[u8],
+) {
+    let mut marked = Vec::from_slice(alloc, b"\xEF\xBB\xBF").expect(rt, "memory");
+    marked.extend_from_slice(text).expect(rt, "memory");
+    for source in [text, marked.as_slice()] {
+        let mut out = Vec::new(alloc);
+        let outcome = run_over(rt, alloc, source, &mut out);
+        assert!(rt; outcome == Ok(()) && status(&outcome) == 0);
+        assert!(rt; out.as_slice() == report);
+    }
+}
+
+#[test]
+fn reports(rt: HostRuntime) {
+    let alloc = rt.alloc();
+    let quoted =
+        b"\"animal\",\"second\",\"easting\",\"northing\"\r\n\"A\",0,0,0\r\n\"A\",60,10,0\r\n\"A\",120,10,10\r\n\"A\",180,0,10\r\n\"A\",240,5,5\r\n";
+    let cases = [
+        (FILE_A, REPORT_A),
+        (quoted.as_slice(), REPORT_A),
+        (
+            b"animal,second,easting,northing\n\xFF,7,16777216,3",
+            b"animal,\xFF,fixes,1\nbox,\xFF,16777216,3,16777216,3\nrow,\xFF,1,7,1,0\ncorner,\xFF,1,16777216,3\npercent,\xFF,50,1,1,0\npercent,\xFF,95,1,1,0\npercent,\xFF,100,1,1,0\nend,1\n",
+        ),
+    ];
+    for (text, report) in cases {
+        expect_report(&rt, alloc, text, report);
+    }
+}
+
+// Ranges without area, the largest area, and corners that come, stay and go.
+#[test]
+fn rows_and_corners(rt: HostRuntime) {
+    let alloc = rt.alloc();
+    let cases = [
+        (
+            b"animal,second,easting,northing\nB,0,5,5\nB,60,10,5\nB,120,20,5\n".as_slice(),
+            b"animal,B,fixes,3\nbox,B,5,5,20,5\nrow,B,1,0,1,0\nrow,B,2,60,2,0\nrow,B,3,120,2,0\ncorner,B,1,5,5\ncorner,B,2,20,5\npercent,B,50,2,2,0\npercent,B,95,3,2,0\npercent,B,100,3,2,0\nend,1\n".as_slice(),
+        ),
+        (
+            b"animal,second,easting,northing\nC,4,7,7\nC,4,7,7\nC,9,7,7\n".as_slice(),
+            b"animal,C,fixes,3\nbox,C,7,7,7,7\nrow,C,1,4,1,0\nrow,C,2,4,1,0\nrow,C,3,9,1,0\ncorner,C,1,7,7\npercent,C,50,2,1,0\npercent,C,95,3,1,0\npercent,C,100,3,1,0\nend,1\n".as_slice(),
+        ),
+        (
+            b"animal,second,easting,northing\nD,0,0,0\nD,1,2,2\nD,2,1,1\nD,3,4,4\n".as_slice(),
+            b"animal,D,fixes,4\nbox,D,0,0,4,4\nrow,D,1,0,1,0\nrow,D,2,1,2,0\nrow,D,3,2,2,0\nrow,D,4,3,2,0\ncorner,D,1,0,0\ncorner,D,2,4,4\npercent,D,50,2,2,0\npercent,D,95,4,2,0\npercent,D,100,4,2,0\nend,1\n".as_slice(),
+        ),
+        (
+            b"animal,second,easting,northing\nE,0,5,5\nE,1,6,5\nE,2,6,6\nE,3,0,5\n".as_slice(),
+            b"animal,E,fixes,4\nbox,E,0,5,6,6\nrow,E,1,0,1,0\nrow,E,2,1,2,0\nrow,E,3,2,3,1\nrow,E,4,3,3,6\ncorner,E,1,0,5\ncorner,E,2,6,5\ncorner,E,3,6,6\npercent,E,50,2,2,0\npercent,E,95,4,3,6\npercent,E,100,4,3,6\nend,1\n".as_slice(),
+        ),
+        (
+            b"animal,second,easting,northing\nF,0,0,0\nF,1,16777216,0\nF,2,16777216,16777216\nF,1099511627776,0,16777216\n".as_slice(),
+            b"animal,F,fixes,4\nbox,F,0,0,16777216,16777216\nrow,F,1,0,1,0\nrow,F,2,1,2,0\nrow,F,3,2,3,281474976710656\nrow,F,4,1099511627776,4,562949953421312\ncorner,F,1,0,0\ncorner,F,2,16777216,0\ncorner,F,3,16777216,16777216\ncorner,F,4,0,16777216\npercent,F,50,2,2,0\npercent,F,95,4,4,562949953421312\npercent,F,100,4,4,562949953421312\nend,1\n".as_slice(),
+        ),
+        (
+            b"animal,second,easting,northing\nG,0,0,0\nG,1,10,0\nG,2,10,10\nG,3,0,10\nG,4,15,5\nG,5,20,5\nG,6,5,5\n".as_slice(),
+            b"animal,G,fixes,7\nbox,G,0,0,20,10\nrow,G,1,0,1,0\nrow,G,2,1,2,0\nrow,G,3,2,3,100\nrow,G,4,3,4,200\nrow,G,5,4,5,250\nrow,G,6,5,5,300\nrow,G,7,6,5,300\ncorner,G,1,0,0\ncorner,G,2,10,0\ncorner,G,3,20,5\ncorner,G,4,10,10\ncorner,G,5,0,10\npercent,G,50,4,4,100\npercent,G,95,7,5,300\npercent,G,100,7,5,300\nend,1\n".as_slice(),
+        ),
+    ];
+    for (text, report) in cases {
+        expect_report(&rt, alloc, text, report);
+    }
+}
+
+#[test]
+fn refused_files(rt: HostRuntime) {
+    let alloc = rt.alloc();
+    let wrong = |rec, found| ReadFault::WrongFieldCount { rec, found };
+    let cut = FILE_A.strip_suffix(b",5\n").expect(&rt, "a suffix");
+    let cases = [
+        (b"".as_slice(), ReadFault::NoHeader),
+        (b"animal,second,easting,northing\n", ReadFault::NoFixes),
+        (b"Animal,second,easting,northing\n", ReadFault::BadHeader),
+        (
+            b"animal,second,easting,northing\nA,0,1,2\nA,0,3",
+            wrong(2, 3),
+        ),
+        (cut, wrong(5, 3)),
+    ];
+    for (text, fault) in cases {
+        let mut out = Vec::new(alloc);
+        let outcome = run_over(&rt, alloc, text, &mut out);
+        assert!(rt; status(&outcome) == 1 && out.is_empty());
+        assert!(rt; outcome == Err(RunFault::Analyse(AnalyseFault::File { file: 0, fault })));
+    }
+}
+
+#[test]
+fn broken_source(rt: HostRuntime) {
+    let mut out = Vec::new(rt.alloc());
+    let outcome = run_over(&rt, rt.alloc(), Broken, &mut out);
+    assert!(rt; status(&outcome) == 1 && out.is_empty());
+    let fault = ReadFault::Read;
+    assert!(rt; outcome == Err(RunFault::Analyse(AnalyseFault::File { file: 0, fault })));
+}
+
+// An output that fails at each of its writes in turn holds the first bytes of the report.
+#[test]
+fn failing_outputs(rt: HostRuntime) {
+    let alloc = rt.alloc();
+    let cases = [
+        (10, 0, true, 0, 4),
+        (10, 1, true, 10, 4),
+        (10, 2, true, 20, 4),
+        (10, 24, true, 240, 4),
+        (10, 25, true, 249, 0),
+        (1, 248, true, 248, 4),
+        (1, 249, true, 249, 0),
+        (0, 9, true, 0, 4),
+        (999, 9, false, 249, 4),
+    ];
+    for (most, writes, can_flush, length, code) in cases {
+        let mut out = Narrow {
+            held: Vec::new(alloc),
+            most,
+            writes,
+            can_flush,
+            flushes: 0,
+        };
+        let outcome = run_over(&rt, alloc, FILE_A, &mut out);
+        assert!(rt; status(&outcome) == code);
+        assert!(rt; code == 0 || outcome == Err(RunFault::Write));
+        assert!(rt; code == 4 || out.flushes == 1);
+        assert!(rt; out.held.len() == length && REPORT_A.starts_with(out.held.as_slice()));
+    }
+}
+
+// The animals of two files, and how they overlap; the same animal twice; and the first of two faults.
+#[test]
+fn two_files(rt: HostRuntime) {
+    let alloc = rt.alloc();
+    let file_b = b"animal,second,easting,northing\nB,0,5,5\nB,60,10,5\nB,120,20,5\n".as_slice();
+    let report =
+        b"animal,A,fixes,5\nbox,A,0,0,10,10\nrow,A,1,0,1,0\nrow,A,2,60,2,0\nrow,A,3,120,3,100\nrow,A,4,180,4,200\nrow,A,5,240,4,200\ncorner,A,1,0,0\ncorner,A,2,10,0\ncorner,A,3,10,10\ncorner,A,4,0,10\npercent,A,100,5,4,200\npercent,A,50,3,3,50\nanimal,B,fixes,3\nbox,B,5,5,20,5\nrow,B,1,0,1,0\nrow,B,2,60,2,0\nrow,B,3,120,2,0\ncorner,B,1,5,5\ncorner,B,2,20,5\npercent,B,100,3,2,0\npercent,B,50,2,2,0\noverlap,A,B,1,5\noverlap,B,A,2,3\nend,2\n".as_slice();
+    let no_fixes = b"animal,second,easting,northing\n".as_slice();
+    let same = AnalyseFault::SameAnimal {
+        first: 0,
+        second: 1,
+    };
+    let empty = AnalyseFault::File {
+        file: 0,
+        fault: ReadFault::NoHeader,
+    };
+    let cases = [
+        ([FILE_A, file_b], Ok(())),
+        ([FILE_A, FILE_A], Err(RunFault::Analyse(same))),
+        ([b"".as_slice(), no_fixes], Err(RunFault::Analyse(empty))),
+    ];
+    for (files, expected) in cases {
+        for plan in [(256, 4, 2), (1, 1, 8)] {
+            let options = options(&rt, alloc, &[100, 50], plan);
+            let sources = vec![in alloc; files[0], files[1]].expect(&rt, "memory");
+            let mut out = Vec::new(alloc);
+            let outcome = run(&rt, alloc, sources, &options, &mut out);
+            assert!(rt; outcome == expected);
+            assert!(rt; outcome.is_ok() == (out.as_slice() == report));
+            assert!(rt; outcome.is_ok() || out.is_empty());
+        }
+    }
+}

@@ -1,0 +1,152 @@
+// What words say, and which are refused.
+
+use crate::line::read;
+use range_stats::LevelFault;
+use range_words::WordFault;
+use std::test::Fail;
+
+// The files, levels, block, depth and workers of words.
+#[test]
+fn words_that_are_read(rt: HostRuntime) -> Result<(), Fail> {
+    let alloc = rt.alloc();
+    let cases = [
+        ([].as_slice(), 0, [50, 95, 100].as_slice(), (256, 4, 2)),
+        (&["--percent", "7,7", "x.csv"], 1, &[7, 7], (256, 4, 2)),
+        (
+            &["x.csv", "--workers", "8", "y.csv"],
+            2,
+            &[50, 95, 100],
+            (256, 4, 8),
+        ),
+        (
+            &["--block", "1024", "--depth=+64"],
+            0,
+            &[50, 95, 100],
+            (1024, 64, 2),
+        ),
+        (
+            &[
+                "--block=1",
+                "--depth",
+                "01",
+                "--workers=1",
+                "--percent=1,100",
+            ],
+            0,
+            &[1, 100],
+            (1, 1, 1),
+        ),
+        (&["--", "--block"], 1, &[50, 95, 100], (256, 4, 2)),
+    ];
+    for (words, files, levels, plan) in cases {
+        let read = read(&rt, alloc, words)?;
+        let options = &read.options;
+        assert_eq!(rt; read.files.len(), files, "{words:?}");
+        assert_eq!(rt; options.levels.as_slice(), levels, "{words:?}");
+        assert_eq!(rt;
+            (options.plan.block, options.plan.depth, options.plan.workers),
+            plan,
+            "{words:?}"
+        );
+    }
+    Ok(())
+}
+
+#[test]
+fn paths_are_kept(rt: HostRuntime) -> Result<(), Fail> {
+    let alloc = rt.alloc();
+    let read = read(&rt, alloc, &["b.csv", "a b.csv", "b.csv"])?;
+    let files = read.files.as_slice();
+    assert!(rt; files.len() == 3 && files[0].as_str() == "b.csv");
+    assert!(rt; files[1].as_str() == "a b.csv" && files[2].as_str() == "b.csv");
+    Ok(())
+}
+
+// Words that `clap` refuses by something else than its help.
+#[test]
+fn bad_words(rt: HostRuntime) {
+    let alloc = rt.alloc();
+    let cases = [
+        ["--block", "0"].as_slice(),
+        &["--block", "1025"],
+        &["--block", "x"],
+        &["--block"],
+        &["--block", "1", "--block", "1"],
+        &["--depth", "0"],
+        &["--depth", "65"],
+        &["--workers", "0"],
+        &["--workers", "9"],
+        &["--percent"],
+        &["--version"],
+        &["--bogus", "--help"],
+    ];
+    for words in cases {
+        let refused = read(&rt, alloc, words);
+        assert!(rt;
+            matches!(&refused, Err(WordFault::BadWords(_))),
+            "{words:?}"
+        );
+    }
+}
+
+#[test]
+fn bad_levels(rt: HostRuntime) {
+    let alloc = rt.alloc();
+    let bad = |index| LevelFault::BadLevel { index };
+    let cases = [
+        ("0", bad(0)),
+        ("", bad(0)),
+        ("50,101", bad(1)),
+        ("50, 95", bad(1)),
+        ("1,2,3,4,5,6,7,8,", LevelFault::TooMany),
+        ("1,2,3,4,5,6,7,8,9", LevelFault::TooMany),
+    ];
+    for (levels, fault) in cases {
+        let refused = read(&rt, alloc, &["--percent", levels]);
+        assert!(rt;
+            matches!(&refused, Err(WordFault::BadLevels(found)) if *found == fault),
+            "{levels}"
+        );
+    }
+}
+
+#[test]
+fn sixty_four_files(rt: HostRuntime) -> Result<(), Fail> {
+    let alloc = rt.alloc();
+    let mut words = vec![in alloc; "x"; 65]?;
+    let refused = read(&rt, alloc, words.as_slice());
+    assert!(rt; matches!(&refused, Err(WordFault::TooManyFiles)));
+    let _ = words.pop();
+    let read = read(&rt, alloc, words.as_slice())?;
+    assert_eq!(rt; read.files.len(), 64);
+    Ok(())
+}
+
+// The help names every option with its default, and is asked for before a word that is bad.
+#[test]
+fn help(rt: HostRuntime) -> Result<(), Fail> {
+    let alloc = rt.alloc();
+    let parts = [
+        "Usage: homerange [--percent LIST] [--block N] [--depth N] [--workers N] [FILE ...]\n",
+        "1 to 8 whole numbers from 1 to 100 [default: 50,95,100]",
+        "1 to 1024 [default: 256]",
+        "1 to 64 [default: 4]",
+        "1 to 8 [default: 2]",
+        "Files to read, 64 at most",
+        "animal,second,easting,northing",
+        "1 to 32 bytes",
+        "0 to 1099511627776",
+        "0 to 16777216",
+        "1 to 1048576 fixes",
+        "(p*n + 99)/100",
+    ];
+    for words in [["--help"].as_slice(), &["-h"], &["--help", "--bogus"]] {
+        let Err(WordFault::Help(text)) = read(&rt, alloc, words) else {
+            return Err(Fail::from("no help"));
+        };
+        for part in parts {
+            assert!(rt; text.as_str().contains(part), "{part}");
+        }
+    }
+    Ok(())
+}

@@ -1,0 +1,82 @@
+// Fixes, and estimators that take them, for the tests.
+
+use range_estimator::Estimator;
+use range_plane::{FIX_LIMIT, Fix, Point, Polygon};
+use std::alloc::{Allocator, Global};
+use std::process::Abort;
+
+// Fixes by their seconds, eastings and northings: a square, and a fix within it.
+pub(crate) const SQUARE: [(u64, i64, i64); 5] = [
+    (0, 0, 0),
+    (60, 10, 0),
+    (120, 10, 10),
+    (180, 0, 10),
+    (240, 5, 5),
+];
+
+pub(crate) fn fixes_of(rt: &impl Abort, alloc: Global, places: &[(u64, i64, i64)]) -> Vec<Fix> {
+    let mut fixes = Vec::new(alloc);
+    for &(second, e, n) in places {
+        let at = Point::new(e, n).expect(rt, "a point");
+        fixes.push(Fix { second, at }).expect(rt, "memory");
+    }
+    fixes
+}
+
+// Whether the estimator takes a block that it may be given.
+pub(crate) fn takes<A: Allocator + Copy>(
+    rt: &impl Abort,
+    estimator: &mut Estimator<A>,
+    block: &[Fix],
+) -> bool {
+    assert!(rt; !estimator.stopped(), "running");
+    let taken = estimator.rows().len();
+    assert!(rt; taken <= FIX_LIMIT as usize, "few fixes");
+    assert!(rt; block.len() <= FIX_LIMIT as usize - taken, "room");
+    estimator.take_block(block).is_ok()
+}
+
+// The estimator of these fixes, taken in blocks of this size.
+pub(crate) fn estimator_of(
+    rt: &impl Abort,
+    alloc: Global,
+    fixes: &[Fix],
+    size: usize,
+) -> Estimator {
+    assert!(rt; size > 0, "a size");
+    let mut estimator = Estimator::new(alloc);
+    for block in fixes.chunks(size) {
+        assert!(rt; takes(rt, &mut estimator, block), "memory");
+    }
+    estimator
+}
+
+// Whether these are the corners of the estimator's polygon, in this order.
+pub(crate) fn has_corners<A: Allocator + Copy>(
+    rt: &impl Abort,
+    alloc: Global,
+    estimator: &Estimator<A>,
+    corners: &[(i64, i64)],
+) -> bool {
+    let polygon: Polygon = estimator.polygon(alloc).expect(rt, "memory");
+    let found = polygon.corners();
+    found.len() == corners.len()
+        && found
+            .iter()
+            .zip(corners)
+            .all(|(p, &(e, n))| p.e == e && p.n == n)
+}
+
+// Whether the estimator holds these fixes, and a row for each, of its second.
+pub(crate) fn holds<A: Allocator + Copy>(estimator: &Estimator<A>, fixes: &[Fix]) -> bool {
+    let (rows, columns) = (estimator.rows(), estimator.columns());
+    if rows.len() != fixes.len() || columns.len() != fixes.len() {
+        return false;
+    }
+    for (i, fix) in fixes.iter().enumerate() {
+        if rows[i].second != fix.second || columns.at(i) != fix.at {
+            return false;
+        }
+    }
+    true
+}

@@ -1,0 +1,12 @@
+//! Tests of estimators: their rows and polygons against worked ones and those by definition, and a block
+//! refused its memory, a growth at a time.
+#![tactic(auto)]
+
+#[cfg(test)]
+mod fixes;
+#[cfg(test)]
+mod growths;
+#[cfg(test)]
+mod plain;
+#[cfg(test)]
+mod rows;

@@ -1,0 +1,6 @@
+//! Tests of the pump: what it sends of files that are whole, cut and failing, and over a line whose taker is
+//! gone.
+#![tactic(auto)]
+
+#[cfg(test)]
+mod pumps;

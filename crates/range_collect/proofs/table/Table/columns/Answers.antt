@@ -1,9 +1,0 @@
-use Rattle.std.proofs.Common.{sym, ap, ◌∙◌}
-use Rattle.range_plane.specs.Row.{points_of}
-use Rattle.range_collect.specs.Table.{TableView}
-use Rattle.range_collect.proofs.Tables.{points_of_fixes}
-use Rattle.range_collect.proofs.table.Table.columns.Goals as goal
-
-pub returns : goal.returns
-returns g c =
-    sym (points_of_fixes c.self.inside.rows.items c.self.inside.columns.points c.self.invariant.count) ∙ ap (λ (t : TableView). points_of t.fixes) c.self.view_is

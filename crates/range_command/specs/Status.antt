@@ -1,0 +1,15 @@
+-- How the program ends where it is refused.
+use Rattle.std.specs.Prelude.{ℕ, Err}
+use Rattle.range_run.specs.Status.{status_of}
+use Rattle.range_words.specs.declared.words.WordFault.TheVariants as words
+use Rattle.range_command.specs.declared.refusal.Refusal.{Refusal}
+use Rattle.range_command.specs.declared.refusal.Refusal.TheVariants as refusals
+
+abbrev pub refusal_status : Refusal → ℕ
+refusal_status refusals.OutOfMemory = 3
+refusal_status refusals.NotText = 2
+refusal_status (refusals.Words words.OutOfMemory) = 3
+refusal_status (refusals.Words fault) = 2
+refusal_status (refusals.Unopened path reason) = 1
+refusal_status refusals.Unwritten = 4
+refusal_status (refusals.Run files fault) = status_of (Err fault)

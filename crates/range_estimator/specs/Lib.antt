@@ -1,0 +1,3 @@
+pub mod Estimation
+pub mod Marker
+pub mod Table

@@ -1,0 +1,13 @@
+//! What the fixes of a file come to: an estimator takes them a block at a time, and keeps their polygon and
+//! the table of incremental area analysis.
+#![tactic(auto)]
+
+mod estimator;
+mod marker;
+mod row;
+mod rows;
+mod table;
+
+pub use estimator::Estimator;
+pub use row::Row;
+pub use rows::Rows;

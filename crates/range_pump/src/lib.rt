@@ -1,0 +1,11 @@
+//! How a file is handed on: a pump reads its fixes, and sends them on a line in blocks and then a mark.
+#![tactic(auto)]
+
+mod batch;
+mod gate;
+mod name;
+mod pumping;
+
+pub use gate::{FreeGate, Gate};
+pub use name::Name;
+pub use pumping::{Pumped, pump};

@@ -1,0 +1,46 @@
+// One run: from the sources to the report.
+
+ghost use Rattle.std.specs.Prelude.{◌≡◌, ◌≢◌, ◌≤◌, All, Err, IfErr, OnOk, map, vec_len};
+ghost use Rattle.range_plan.specs.Limits.{file_limit};
+ghost use Rattle.range_stats.specs.Levels.{IsLevel};
+ghost use Rattle.range_run.specs.Run.{Explains, WritesPrefix, WritesReport};
+
+use crate::fault::RunFault;
+use crate::output::write_text;
+use range_analysis::analyse;
+use range_plan::Options;
+use range_pump::FreeGate;
+use range_report::report;
+use std::alloc::Global;
+use std::io::{Read, Write};
+use std::sync::Wait;
+use std::thread::Threads;
+
+/// Reads the sources in threads, makes the whole report of their analysis, writes it and flushes once.
+/// `Write` is answered only where a write failed or took no byte, or the flush failed.
+pub fn run<R: Wait + Threads + Sync, S: Read + Send + Drop, W: Write>(
+    rt: &R,
+    alloc: Global,
+    sources: Vec<S>,
+    options: &Options,
+    out: &mut W,
+) -> Result<(), RunFault>
+    requires sources { (1 ≤ vec_len sources) × (vec_len sources ≤ file_limit) }
+    requires levels { All IsLevel options.now.levels.items }
+    ensures report { OnOk result (WritesReport (map S.remaining sources.items) options.now.levels.items
+        (W.contents out.old) (W.contents out.new)) }
+    ensures prefix { result ≡ Err RunFault.Write → WritesPrefix (map S.remaining sources.items) options.now.levels.items
+        (W.contents out.old) (W.contents out.new) }
+    ensures unwritten { IfErr result (λ fault. fault ≢ RunFault.Write → out.new ≡ out.old) }
+    ensures fault { IfErr result (Explains (map S.remaining sources.items)) }
+{
+    let levels = options.levels.as_slice();
+    let analysis = match analyse(rt, alloc, sources, &FreeGate, options.plan, levels) {
+        Ok(analysis) => analysis,
+        Err(fault) => return Err(RunFault::Analyse(fault)),
+    };
+    let Ok(text) = report(rt, alloc, &analysis) else {
+        return Err(RunFault::OutOfMemory);
+    };
+    write_text(out, text.as_slice())
+}

@@ -1,0 +1,3 @@
+pub mod Entries
+pub mod KnownWords
+pub mod Values

@@ -1,0 +1,45 @@
+-- What the program makes of its words, and why it refuses them.
+use Rattle.std.specs.Prelude.{◌≡◌, ◌≢◌, ◌≤◌, ◌<◌, ⊤, All, List, [], length, map, codes, Some, string_bytes}
+use Rattle.clap.specs.Words.{IsAmong, Kinds, Row, Text, fault_of}
+use Rattle.clap.specs.declared.error.ErrorKind.{ErrorKind}
+use Rattle.clap.specs.declared.error.ErrorKind.TheVariants as kind
+use Rattle.range_plan.specs.Limits.{file_limit}
+use Rattle.range_stats.specs.Levels.{IsLevel, IsRefusedFor, level_count_limit, level_in, parts}
+use Rattle.range_stats.specs.declared.level.LevelFault.TheVariants as level_fault
+use Rattle.range_words.specs.CommandLine.{files_in, found_in, homerange, levels_in, number_in}
+use Rattle.range_words.specs.declared.words.Words.{Words}
+use Rattle.range_words.specs.declared.words.WordFault.{WordFault}
+use Rattle.range_words.specs.declared.words.WordFault.TheVariants.{OutOfMemory, Help, BadWords, TooManyFiles, BadLevels}
+
+-- the words say this, where `clap` finds these rows
+pub record AreFrom (rows : List Row) (words : Words) : Type 0 where
+  pub files : map string_bytes words.files.items ≡ files_in rows
+  pub few_files : length words.files.items ≤ file_limit
+  pub levels : map level_in (parts (levels_in rows)) ≡ map Some words.options.levels.items
+  pub level_count : (1 ≤ length words.options.levels.items) × (length words.options.levels.items ≤ level_count_limit)
+  pub level_range : All IsLevel words.options.levels.items
+  pub block : words.options.plan.block ≡ number_in (codes "block") 256 rows
+  pub depth : words.options.plan.depth ≡ number_in (codes "depth") 4 rows
+  pub workers : words.options.plan.workers ≡ number_in (codes "workers") 2 rows
+
+abbrev pub AreWordsOf : List Text → Words → Type 0
+AreWordsOf words read = AreFrom (found_in words) read
+
+-- why words are refused, where `clap` refuses them by these kinds, or else finds these rows
+abbrev pub IsRefusal : Kinds → List Row → WordFault → Type 0
+IsRefusal kinds rows OutOfMemory = ⊤
+IsRefusal kinds rows (Help text) = IsAmong kind.DisplayHelp kinds
+IsRefusal kinds rows (BadWords text) = (k : ErrorKind) × IsAmong k kinds × (k ≢ kind.DisplayHelp)
+IsRefusal kinds rows TooManyFiles = (kinds ≡ []) × (file_limit < length (files_in rows))
+IsRefusal kinds rows (BadLevels fault) =
+    (kinds ≡ []) × IsRefusedFor fault (parts (levels_in rows)) × (fault ≢ level_fault.OutOfMemory)
+
+abbrev pub IsRefusalOf : List Text → WordFault → Type 0
+IsRefusalOf words fault = IsRefusal (fault_of homerange words) (found_in words) fault
+
+-- the fault says what a refusal of this kind by `clap` says
+abbrev pub SpeaksFor : ErrorKind → WordFault → Type 0
+SpeaksFor k OutOfMemory = ⊤
+SpeaksFor k (Help text) = k ≡ kind.DisplayHelp
+SpeaksFor k (BadWords text) = (k ≢ kind.DisplayHelp) × (k ≢ kind.OutOfMemory)
+SpeaksFor k fault = ⊥

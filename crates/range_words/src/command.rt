@@ -1,0 +1,83 @@
+// The words that the program knows, and what `clap` finds in those that are given.
+
+ghost use Rattle.std.specs.Prelude.{◌≡◌, ◌≤◌, IfOk, codes, false, map, string_bytes};
+ghost use Rattle.clap.specs.Words.{FailsBy, app_of, fault_of, found_of, new_app, rows_of, rule_of};
+ghost use Rattle.range_plan.specs.Limits.{block_limit, depth_limit, worker_limit};
+ghost use Rattle.range_words.specs.CommandLine.{HasNumber, files_rule, found_in, homerange, number_rule, option_rule};
+
+use crate::help::{ABOUT, HelpTexts, USAGE};
+use clap::{Arg, ArgAction, ArgMatches, Command, Error, value_parser};
+use range_plan::{BLOCK_LIMIT, DEPTH_LIMIT, WORKER_LIMIT};
+use std::alloc::{AllocError, Global};
+
+// The option of the levels.
+fn percent_option<'a>(alloc: Global, help: &'a str) -> Arg<'a>
+    ensures rule { rule_of result ≡ option_rule (codes "percent") }
+    ensures local { result.global ≡ false }
+{
+    Arg::new(alloc, "percent")
+        .long("percent")
+        .value_name("LIST")
+        .help(help)
+}
+
+// An option whose value is a number from 1 to a limit.
+fn number_option<'a>(alloc: Global, name: &'a str, limit: u32, help: &'a str) -> Arg<'a>
+    ensures rule { rule_of result ≡ number_rule name.entry.now limit }
+    ensures local { result.global ≡ false }
+{
+    Arg::new(alloc, name)
+        .long(name)
+        .value_name("N")
+        .value_parser(value_parser!(u32).range(1..=i64::from(limit)))
+        .help(help)
+}
+
+// The files.
+fn files_argument<'a>(alloc: Global, help: &'a str) -> Arg<'a>
+    ensures rule { rule_of result ≡ files_rule }
+    ensures local { result.global ≡ false }
+{
+    Arg::new(alloc, "FILE")
+        .value_name("FILE")
+        .action(ArgAction::Append)
+        .help(help)
+}
+
+// The program and the texts of its help.
+fn program<'a>(alloc: Global, after_help: &'a str) -> Command<'a>
+    ensures { app_of result ≡ new_app (codes "homerange") }
+{
+    Command::new(alloc, "homerange")
+        .about(ABOUT)
+        .override_usage(USAGE)
+        .after_help(after_help)
+}
+
+// The program with its options and arguments.
+fn command<'a>(alloc: Global, texts: &'a HelpTexts) -> Result<Command<'a>, AllocError>
+    ensures { IfOk result (λ c. app_of c ≡ homerange) }
+{
+    program(alloc, texts.after.as_str())
+        .arg(percent_option(alloc, texts.percent.as_str()))?
+        .arg(number_option(alloc, "block", BLOCK_LIMIT, texts.block.as_str()))?
+        .arg(number_option(alloc, "depth", DEPTH_LIMIT, texts.depth.as_str()))?
+        .arg(number_option(alloc, "workers", WORKER_LIMIT, texts.workers.as_str()))?
+        .arg(files_argument(alloc, texts.files.as_str()))
+}
+
+/// What `clap` finds in the words, of which the first is the program's name.
+pub(crate) fn found<'a>(
+    alloc: Global,
+    texts: &'a HelpTexts,
+    words: &'a [String],
+) -> Result<ArgMatches<'a>, Error>
+    ensures rows { IfOk result (λ m. rows_of (found_of m) ≡ found_in (map string_bytes words.entry.now)) }
+    ensures fault { FailsBy (fault_of homerange (map string_bytes words.entry.now)) result }
+    ensures block { IfOk result (HasNumber (codes "block") block_limit) }
+    ensures depth { IfOk result (HasNumber (codes "depth") depth_limit) }
+    ensures workers { IfOk result (HasNumber (codes "workers") worker_limit) }
+{
+    let command = command(alloc, texts)?;
+    command.try_get_matches_from(words)
+}

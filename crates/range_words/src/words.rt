@@ -1,0 +1,152 @@
+// What the words of the command line say.
+
+ghost use Rattle.std.specs.Prelude.{◌≡◌, ◌≤◌, [], IfErr, IfOk, codes, length, map, string_bytes};
+ghost use Rattle.clap.specs.Words.{found_of, kind_of, rows_of};
+ghost use Rattle.range_plan.specs.Limits.{block_limit, depth_limit, file_limit, worker_limit};
+ghost use Rattle.range_words.specs.CommandLine.{HasNumber, files_in, levels_in, number_in};
+ghost use Rattle.range_words.specs.WordList.{AreFrom, AreWordsOf, IsRefusal, IsRefusalOf, SpeaksFor};
+
+use crate::command::found;
+use crate::defaults::{DEFAULT_BLOCK, DEFAULT_DEPTH, DEFAULT_LEVELS, DEFAULT_WORKERS};
+use crate::help::{HelpTexts, help_texts};
+use clap::error::ErrorKind;
+use clap::{ArgMatches, Error};
+use range_plan::{BLOCK_LIMIT, DEPTH_LIMIT, FILE_LIMIT, Options, Plan, WORKER_LIMIT};
+use range_stats::{LEVEL_COUNT_LIMIT, LEVEL_LIMIT, LevelFault, levels};
+use std::alloc::{AllocError, Global};
+use thiserror::Error as ErrorText;
+
+/// What the words of the command line say.
+#[derive(Drop)]
+pub struct Words {
+    /// The paths of the files; none stands for standard input.
+    pub files: Vec<String>,
+    pub options: Options,
+}
+
+/// Why the words of the command line are refused.
+#[derive(Debug, Drop, ErrorText)]
+pub enum WordFault {
+    /// A growth was refused for want of memory.
+    #[error("out of memory")]
+    OutOfMemory,
+    /// Help was asked for. This is its text.
+    #[error("{0}")]
+    Help(String),
+    /// The words are not the program's: an option that it does not have, or has not in this form, or a
+    /// number outside its range. This is what `clap` says of them, in several lines.
+    #[error("{0}")]
+    BadWords(String),
+    /// There are more files than [`FILE_LIMIT`].
+    #[error("more than {FILE_LIMIT} files")]
+    TooManyFiles,
+    /// The levels are no list of levels.
+    #[error("the levels are not 1 to {LEVEL_COUNT_LIMIT} whole numbers from 1 to {LEVEL_LIMIT}, separated by commas")]
+    BadLevels(LevelFault),
+}
+
+/// Reads the words of the command line, of which the first is the program's name: options, and at most
+/// [`FILE_LIMIT`] files.
+pub fn read_words(alloc: Global, words: &[String]) -> Result<Words, WordFault>
+    ensures ok { IfOk result (AreWordsOf (map string_bytes words.now)) }
+    ensures err { IfErr result (IsRefusalOf (map string_bytes words.now)) }
+{
+    match help_texts(alloc) {
+        Ok(texts) => words_or_help(alloc, &texts, words),
+        Err(_) => Err(WordFault::OutOfMemory),
+    }
+}
+
+// What the words say, by a command that has these texts for its help.
+fn words_or_help(alloc: Global, texts: &HelpTexts, words: &[String]) -> Result<Words, WordFault>
+    ensures ok { IfOk result (AreWordsOf (map string_bytes words.now)) }
+    ensures err { IfErr result (IsRefusalOf (map string_bytes words.now)) }
+{
+    match found(alloc, texts, words) {
+        Ok(matches) => words_in(alloc, &matches),
+        Err(error) => Err(refusal(alloc, &error)),
+    }
+}
+
+// What the matches say.
+fn words_in(alloc: Global, matches: &ArgMatches) -> Result<Words, WordFault>
+    requires block { HasNumber (codes "block") block_limit matches.now }
+    requires depth { HasNumber (codes "depth") depth_limit matches.now }
+    requires workers { HasNumber (codes "workers") worker_limit matches.now }
+    ensures ok { IfOk result (AreFrom (rows_of (found_of matches.now))) }
+    ensures err { IfErr result (IsRefusal [] (rows_of (found_of matches.now))) }
+{
+    let files = files_of(alloc, matches)?;
+    let levels = match levels(alloc, level_text(matches).as_bytes()) {
+        Ok(levels) => levels,
+        Err(LevelFault::OutOfMemory) => return Err(WordFault::OutOfMemory),
+        Err(fault) => return Err(WordFault::BadLevels(fault)),
+    };
+    let plan = Plan {
+        block: number_of(matches, "block", BLOCK_LIMIT, DEFAULT_BLOCK),
+        depth: number_of(matches, "depth", DEPTH_LIMIT, DEFAULT_DEPTH),
+        workers: number_of(matches, "workers", WORKER_LIMIT, DEFAULT_WORKERS),
+    };
+    let options = Options { levels, plan };
+    Ok(Words { files, options })
+}
+
+// What a refusal by `clap` comes to.
+fn refusal(alloc: Global, error: &Error) -> WordFault
+    ensures { SpeaksFor (kind_of error.now) result }
+{
+    let Ok(text) = format!(in alloc; "{error}") else {
+        return WordFault::OutOfMemory;
+    };
+    match error.kind() {
+        ErrorKind::OutOfMemory => WordFault::OutOfMemory,
+        ErrorKind::DisplayHelp => WordFault::Help(text),
+        _ => WordFault::BadWords(text),
+    }
+}
+
+// The paths of the files.
+fn files_of(alloc: Global, matches: &ArgMatches) -> Result<Vec<String>, WordFault>
+    ensures files { IfOk result (λ files. map string_bytes files.items ≡ files_in (rows_of (found_of matches.now))) }
+    ensures few { IfOk result (λ files. length files.items ≤ file_limit) }
+    ensures err { IfErr result (IsRefusal [] (rows_of (found_of matches.now))) }
+{
+    let Some(paths) = matches.get_strs("FILE") else {
+        return Ok(Vec::new(alloc));
+    };
+    if paths.len() > FILE_LIMIT as usize {
+        return Err(WordFault::TooManyFiles);
+    }
+    match copied(alloc, paths) {
+        Ok(files) => Ok(files),
+        Err(_) => Err(WordFault::OutOfMemory),
+    }
+}
+
+// Copies of the texts.
+fn copied(alloc: Global, texts: &[&str]) -> Result<Vec<String>, AllocError>
+    ensures { IfOk result (λ copies. map string_bytes copies.items ≡ map (λ text. text.now) texts.now) }
+{
+    let mut copies = Vec::new(alloc);
+    for text in texts {
+        copies.push(String::from_str(alloc, text)?)?;
+    }
+    Ok(copies)
+}
+
+// The text of the levels.
+fn level_text<'a>(matches: &ArgMatches<'a>) -> &'a str
+    ensures { result.now ≡ levels_in (rows_of (found_of matches.now)) }
+{
+    matches.get_str("percent").unwrap_or(DEFAULT_LEVELS)
+}
+
+// The number of an option, or what stands for it.
+fn number_of(matches: &ArgMatches, name: &str, limit: u32, default: u32) -> u32
+    requires passed { HasNumber name.now limit matches.now }
+    requires default { (1 ≤ default) × (default ≤ limit) }
+    ensures value { result ≡ number_in name.now default (rows_of (found_of matches.now)) }
+    ensures limits { (1 ≤ result) × (result ≤ limit) }
+{
+    matches.get_one::<u32>(name).unwrap_or(default)
+}
