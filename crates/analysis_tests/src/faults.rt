@@ -102,7 +102,7 @@ fn texts(rt: HostRuntime) -> Result<(), Fail> {
         ),
         (
             AnalyseFault::File { file: 1, fault },
-            "file 1: no record after the header",
+            "file 1: no record after the header is used",
         ),
         (
             AnalyseFault::SameAnimal {

@@ -91,7 +91,11 @@ fn help_is_written(rt: HostRuntime) -> Result<(), Fail> {
 #[test]
 fn runs(rt: HostRuntime) -> Result<(), Fail> {
     let alloc = rt.alloc();
-    let fields = ReadFault::WrongFieldCount { rec: 5, found: 3 };
+    let fields = ReadFault::WrongFieldCount {
+        rec: 5,
+        found: 3,
+        wanted: 4,
+    };
     let same = AnalyseFault::SameAnimal {
         first: 0,
         second: 1,
@@ -125,7 +129,7 @@ fn runs(rt: HostRuntime) -> Result<(), Fail> {
                 fault: ReadFault::NoFixes,
             }),
             1,
-            "standard input: no record after the header",
+            "standard input: no record after the header is used",
         ),
         (
             &["b.csv"],

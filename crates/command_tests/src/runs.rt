@@ -146,7 +146,8 @@ fn rows_and_corners(rt: HostRuntime) {
 #[test]
 fn refused_files(rt: HostRuntime) {
     let alloc = rt.alloc();
-    let wrong = |rec, found| ReadFault::WrongFieldCount { rec, found };
+    let wanted = 4;
+    let wrong = |rec, found| ReadFault::WrongFieldCount { rec, found, wanted };
     let cut = FILE_A.strip_suffix(b",5\n").expect(&rt, "a suffix");
     let cases = [
         (b"".as_slice(), ReadFault::NoHeader),

@@ -95,7 +95,11 @@ fn file_with_a_fault(rt: HostRuntime) {
     let text = SQUARE.text.strip_suffix(b",5\n").expect(&rt, "a suffix");
     for (block, depth) in [(1, 1), (2, 4), (1024, 64)] {
         let followed = follow_one(&rt, rt.alloc(), text, plan(&rt, block, depth, 2));
-        let fault = ReadFault::WrongFieldCount { rec: 5, found: 3 };
+        let fault = ReadFault::WrongFieldCount {
+            rec: 5,
+            found: 3,
+            wanted: 4,
+        };
         assert!(rt;
             followed.read.is_err_and(|found| found == fault),
             "the fault"

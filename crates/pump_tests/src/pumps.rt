@@ -170,7 +170,11 @@ fn cut_record(rt: HostRuntime) -> Result<(), Fail> {
     let (feeder, mut taker) = open_one(rt.alloc())?;
     let text = FILE_A.strip_suffix(b",5\n").ok_or("no suffix")?;
     let pumped = pump(&rt, rt.alloc(), text, feeder, &FreeGate, 2);
-    let fault = ReadFault::WrongFieldCount { rec: 5, found: 3 };
+    let fault = ReadFault::WrongFieldCount {
+        rec: 5,
+        found: 3,
+        wanted: 4,
+    };
     assert!(rt; ends(&pumped, 4, true, fault), "the fault");
     assert!(rt; is_block(&taker.take(&rt), 0, 2), "the first block");
     assert!(rt; is_block(&taker.take(&rt), 2, 2), "the second block");

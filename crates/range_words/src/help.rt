@@ -73,12 +73,14 @@ fn after_help(alloc: Global) -> Result<String, AllocError> {
 
 Files:
   A file is comma-separated text. Its first line is animal,second,easting,northing and each line
-  after it is one fix; there are 1 to {FIX_LIMIT} fixes.
+  after it is one fix; there are 1 to {FIX_LIMIT} such lines. With the first line
+  animal,second,easting,northing,use each line says at its end whether its fix is used.
     animal    the animal's name, the same in the whole file and in no other file of the run:
               1 to 32 bytes, with no comma, double quote or control character
     second    when it was there: a whole second from 0 to {SECOND_LIMIT}, which never falls
     easting   where it was, such as a UTM easting: whole metres from 0 to {COORDINATE_LIMIT}
     northing  likewise; the fixes of a run have to be of one zone
+    use       1, or 0 for a fix that is left out; at least one has to be used
 
 {REPORT_HELP}"
     )
