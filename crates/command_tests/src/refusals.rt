@@ -5,12 +5,44 @@ use range_analysis::AnalyseFault;
 use range_command::{Refusal, obey};
 use range_fixes::ReadFault;
 use range_run::RunFault;
-use std::test::Fail;
+use std::alloc::Global;
+use std::fs::File;
+use std::process::Abort;
+use std::rt::Files;
+use std::sync::Wait;
+use std::thread::Threads;
+
+// A refusal is told by this text and this status.
+fn expect_told<R: Abort>(rt: &R, alloc: Global, refusal: &Refusal, status: u8, text: &str) {
+    let shown = format!(in alloc; "{refusal}").expect(rt, "memory");
+    assert!(rt; shown.as_str() == text, "{shown}");
+    assert!(rt; refusal.status() == status);
+}
+
+// Words are refused by this text and this status, and nothing is written.
+fn expect_refused<R: Wait + Threads + Sync + Files<File = File> + AllocGlobal + Abort>(
+    rt: &R,
+    words: &[&str],
+    status: u8,
+    text: &str,
+) {
+    let alloc = rt.alloc();
+    let words = line(rt, alloc, words);
+    let mut out = Vec::new(alloc);
+    let refused = obey(rt, words.as_slice(), b"".as_slice(), &mut out);
+    expect_told(
+        rt,
+        alloc,
+        &refused.err().expect(rt, "a refusal"),
+        status,
+        text,
+    );
+    assert!(rt; out.is_empty());
+}
 
 // Words that end before a run, and what is said of them; nothing is written.
 #[test]
-fn words_and_files(rt: HostRuntime) -> Result<(), Fail> {
-    let alloc = rt.alloc();
+fn words_and_files(rt: HostRuntime) {
     let cases = [
         (
             ["--bogus"].as_slice(),
@@ -51,45 +83,29 @@ fn words_and_files(rt: HostRuntime) -> Result<(), Fail> {
         (&["/", "/no/such.csv"], 1, "/: Is a directory"),
     ];
     for (words, status, text) in cases {
-        let mut out = Vec::new(alloc);
-        let words = line(&rt, alloc, words);
-        let Err(refusal) = obey(&rt, words.as_slice(), b"".as_slice(), &mut out) else {
-            return Err(Fail::from("no refusal"));
-        };
-        let shown = format!(in alloc; "{refusal}")?;
-        assert!(rt; shown.as_str() == text, "{shown}");
-        assert!(rt; refusal.status() == status && out.is_empty());
+        expect_refused(&rt, words, status, text);
     }
-    Ok(())
 }
 
 #[test]
-fn many_files(rt: HostRuntime) -> Result<(), Fail> {
-    let alloc = rt.alloc();
-    let words = line(&rt, alloc, vec![in alloc; "/no/such.csv"; 65]?.as_slice());
-    let mut out = Vec::new(alloc);
-    let Err(refusal) = obey(&rt, words.as_slice(), b"".as_slice(), &mut out) else {
-        return Err(Fail::from("no refusal"));
-    };
-    let shown = format!(in alloc; "{refusal}")?;
-    assert!(rt; shown.as_str() == "more than 64 files" && refusal.status() == 2);
-    Ok(())
+fn many_files(rt: HostRuntime) {
+    let words = vec![in rt.alloc(); "/no/such.csv"; 65].expect(&rt, "memory");
+    expect_refused(&rt, words.as_slice(), 2, "more than 64 files");
 }
 
 #[test]
-fn help_is_written(rt: HostRuntime) -> Result<(), Fail> {
+fn help_is_written(rt: HostRuntime) {
     let alloc = rt.alloc();
     let words = line(&rt, alloc, &["--help"]);
     let mut out = Vec::new(alloc);
     assert!(rt; obey(&rt, words.as_slice(), b"".as_slice(), &mut out).is_ok());
     assert!(rt; out.as_slice().starts_with(b"Home ranges of tagged animals"));
     assert!(rt; out.as_slice().ends_with(b"says why.\n"));
-    Ok(())
 }
 
 // The faults of runs over two files, and of one over standard input.
 #[test]
-fn runs(rt: HostRuntime) -> Result<(), Fail> {
+fn runs(rt: HostRuntime) {
     let alloc = rt.alloc();
     let fields = ReadFault::WrongFieldCount {
         rec: 5,
@@ -142,12 +158,8 @@ fn runs(rt: HostRuntime) -> Result<(), Fail> {
     ];
     for (paths, fault, status, text) in cases {
         let files = texts(&rt, alloc, paths);
-        let refusal = Refusal::Run { files, fault };
-        let shown = format!(in alloc; "{refusal}")?;
-        assert!(rt; shown.as_str() == text, "{shown}");
-        assert!(rt; refusal.status() == status);
+        expect_told(&rt, alloc, &Refusal::Run { files, fault }, status, text);
     }
-    Ok(())
 }
 
 // Names have at most the 32 bytes that the help tells.

@@ -3,26 +3,33 @@
 use crate::line::read;
 use range_stats::LevelFault;
 use range_words::WordFault;
-use std::test::Fail;
+use std::alloc::Global;
+use std::process::Abort;
 
-// The files, levels, block, depth and workers of words.
+// Words say this: so many files, these levels, and this block, depth and workers.
+fn expect<R: Abort>(rt: &R, alloc: Global, words: &[&str], said: (usize, &[u8], (u32, u32, u32))) {
+    let (files, levels, plan) = said;
+    let read = read(rt, alloc, words).expect(rt, "words");
+    let found = read.options.plan;
+    assert!(rt; read.files.len() == files);
+    assert!(rt; read.options.levels.as_slice() == levels);
+    assert!(rt; (found.block, found.depth, found.workers) == plan);
+}
+
 #[test]
-fn words_that_are_read(rt: HostRuntime) -> Result<(), Fail> {
+fn words_that_are_read(rt: HostRuntime) {
     let alloc = rt.alloc();
+    let (plan, levels) = ((256, 4, 2), [50, 95, 100].as_slice());
     let cases = [
-        ([].as_slice(), 0, [50, 95, 100].as_slice(), (256, 4, 2)),
-        (&["--percent", "7,7", "x.csv"], 1, &[7, 7], (256, 4, 2)),
+        ([].as_slice(), (0, levels, plan)),
+        (&["--percent", "7,7", "x.csv"], (1, &[7, 7], plan)),
         (
             &["x.csv", "--workers", "8", "y.csv"],
-            2,
-            &[50, 95, 100],
-            (256, 4, 8),
+            (2, levels, (256, 4, 8)),
         ),
         (
             &["--block", "1024", "--depth=+64"],
-            0,
-            &[50, 95, 100],
-            (1024, 64, 2),
+            (0, levels, (1024, 64, 2)),
         ),
         (
             &[
@@ -32,34 +39,22 @@ fn words_that_are_read(rt: HostRuntime) -> Result<(), Fail> {
                 "--workers=1",
                 "--percent=1,100",
             ],
-            0,
-            &[1, 100],
-            (1, 1, 1),
+            (0, &[1, 100], (1, 1, 1)),
         ),
-        (&["--", "--block"], 1, &[50, 95, 100], (256, 4, 2)),
+        (&["--", "--block"], (1, levels, plan)),
     ];
-    for (words, files, levels, plan) in cases {
-        let read = read(&rt, alloc, words)?;
-        let options = &read.options;
-        assert_eq!(rt; read.files.len(), files, "{words:?}");
-        assert_eq!(rt; options.levels.as_slice(), levels, "{words:?}");
-        assert_eq!(rt;
-            (options.plan.block, options.plan.depth, options.plan.workers),
-            plan,
-            "{words:?}"
-        );
+    for (words, said) in cases {
+        expect(&rt, alloc, words, said);
     }
-    Ok(())
 }
 
 #[test]
-fn paths_are_kept(rt: HostRuntime) -> Result<(), Fail> {
+fn paths_are_kept(rt: HostRuntime) {
     let alloc = rt.alloc();
-    let read = read(&rt, alloc, &["b.csv", "a b.csv", "b.csv"])?;
+    let read = read(&rt, alloc, &["b.csv", "a b.csv", "b.csv"]).expect(&rt, "words");
     let files = read.files.as_slice();
     assert!(rt; files.len() == 3 && files[0].as_str() == "b.csv");
     assert!(rt; files[1].as_str() == "a b.csv" && files[2].as_str() == "b.csv");
-    Ok(())
 }
 
 // Words that `clap` refuses by something else than its help.
@@ -111,20 +106,19 @@ fn bad_levels(rt: HostRuntime) {
 }
 
 #[test]
-fn sixty_four_files(rt: HostRuntime) -> Result<(), Fail> {
+fn sixty_four_files(rt: HostRuntime) {
     let alloc = rt.alloc();
-    let mut words = vec![in alloc; "x"; 65]?;
+    let mut words = vec![in alloc; "x"; 65].expect(&rt, "memory");
     let refused = read(&rt, alloc, words.as_slice());
     assert!(rt; matches!(&refused, Err(WordFault::TooManyFiles)));
     let _ = words.pop();
-    let read = read(&rt, alloc, words.as_slice())?;
-    assert_eq!(rt; read.files.len(), 64);
-    Ok(())
+    let read = read(&rt, alloc, words.as_slice()).expect(&rt, "words");
+    assert!(rt; read.files.len() == 64);
 }
 
 // The help names every option with its default, and is asked for before a word that is bad.
 #[test]
-fn help(rt: HostRuntime) -> Result<(), Fail> {
+fn help(rt: HostRuntime) {
     let alloc = rt.alloc();
     let parts = [
         "Usage: homerange [--percent LIST] [--block N] [--depth N] [--workers N] [FILE ...]\n",
@@ -141,12 +135,13 @@ fn help(rt: HostRuntime) -> Result<(), Fail> {
         "(p*n + 99)/100",
     ];
     for words in [["--help"].as_slice(), &["-h"], &["--help", "--bogus"]] {
-        let Err(WordFault::Help(text)) = read(&rt, alloc, words) else {
-            return Err(Fail::from("no help"));
+        let refused = read(&rt, alloc, words);
+        let text = match &refused {
+            Err(WordFault::Help(text)) => text.as_str(),
+            _ => "",
         };
         for part in parts {
-            assert!(rt; text.as_str().contains(part), "{part}");
+            assert!(rt; text.contains(part), "{part}");
         }
     }
-    Ok(())
 }
