@@ -108,6 +108,29 @@ fn reports(rt: HostRuntime) {
     }
 }
 
+// Records that are used, and others among them, whose fixes are left out.
+#[test]
+fn use_column(rt: HostRuntime) {
+    let alloc = rt.alloc();
+    let cases = [
+        (
+            b"animal,second,easting,northing,use\nA,0,0,0,1\nA,60,10,0,1\nA,120,10,10,1\nA,180,0,10,1\nA,240,5,5,1\n".as_slice(),
+            REPORT_A,
+        ),
+        (
+            b"animal,second,easting,northing,use\nA,0,99,0,0\nA,0,0,0,1\nA,60,10,0,1\nA,60,0,99,0\nA,120,10,10,1\nA,180,0,10,1\nA,240,5,5,1\nA,241,16777216,16777216,0\n",
+            REPORT_A,
+        ),
+        (
+            b"animal,second,easting,northing,use\nA,0,0,0,1\nA,60,10,0,1\nA,120,99,99,0\nA,180,10,10,1\n",
+            b"animal,A,fixes,3\nbox,A,0,0,10,10\nrow,A,1,0,1,0\nrow,A,2,60,2,0\nrow,A,3,180,3,100\ncorner,A,1,0,0\ncorner,A,2,10,0\ncorner,A,3,10,10\npercent,A,50,2,2,0\npercent,A,95,3,3,100\npercent,A,100,3,3,100\nend,1\n",
+        ),
+    ];
+    for (text, report) in cases {
+        expect_report(&rt, alloc, text, report);
+    }
+}
+
 // Ranges without area, the largest area, and corners that come, stay and go.
 #[test]
 fn rows_and_corners(rt: HostRuntime) {
@@ -146,8 +169,7 @@ fn rows_and_corners(rt: HostRuntime) {
 #[test]
 fn refused_files(rt: HostRuntime) {
     let alloc = rt.alloc();
-    let wanted = 4;
-    let wrong = |rec, found| ReadFault::WrongFieldCount { rec, found, wanted };
+    let wrong = |rec, found, wanted| ReadFault::WrongFieldCount { rec, found, wanted };
     let cut = FILE_A.strip_suffix(b",5\n").expect(&rt, "a suffix");
     let cases = [
         (b"".as_slice(), ReadFault::NoHeader),
@@ -155,9 +177,33 @@ fn refused_files(rt: HostRuntime) {
         (b"Animal,second,easting,northing\n", ReadFault::BadHeader),
         (
             b"animal,second,easting,northing\nA,0,1,2\nA,0,3",
-            wrong(2, 3),
+            wrong(2, 3, 4),
         ),
-        (cut, wrong(5, 3)),
+        (cut, wrong(5, 3, 4)),
+        (
+            b"animal,second,easting,northing,Use\nA,0,0,0,1\n",
+            ReadFault::BadHeader,
+        ),
+        (
+            b"animal,second,easting,northing,use\nA,0,0,0,1\nA,0,0,0\n",
+            wrong(2, 4, 5),
+        ),
+        (
+            b"animal,second,easting,northing,use\nA,0,0,0,01\n",
+            ReadFault::BadUse { rec: 1 },
+        ),
+        (
+            b"animal,second,easting,northing,use\nA,60,0,0,0\nA,59,0,0,1\n",
+            ReadFault::SecondFalls { rec: 2 },
+        ),
+        (
+            b"animal,second,easting,northing,use\nA,0,0,0,0\nB,0,0,0,1\n",
+            ReadFault::OtherAnimal { rec: 2 },
+        ),
+        (
+            b"animal,second,easting,northing,use\nA,0,0,0,0\n",
+            ReadFault::NoFixes,
+        ),
     ];
     for (text, fault) in cases {
         let mut out = Vec::new(alloc);
