@@ -1,3 +1,4 @@
+pub mod Gathered
 pub mod Integers
 pub mod Members
 pub mod Numbered

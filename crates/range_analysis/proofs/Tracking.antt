@@ -1,17 +1,12 @@
 -- Files that become tracks, one after the other.
-use Rattle.std.proofs.Common.{◌≡◌, ℕ, ◌+◌, ◌<◌, get_or, arith, List, [], ◌∷◌, ◌++◌, length, map, Some, None, Ok, Err, Vec, Global, refl, sym, ap, ◌∙◌}
+use Rattle.std.proofs.Common.{◌≡◌, ℕ, ◌+◌, ◌<◌, get_or, arith, List, [], ◌∷◌, ◌++◌, length, map, Some, None, refl, sym, ap, ◌∙◌}
 use Rattle.std.proofs.lemmas.List.{get_or-map, length-map}
-use Rattle.std.specs.Prelude.{Contains, IfOk, MatchResult}
-use Rattle.std.specs.List.{AllZip}
 use Rattle.std.specs.declared.clone.Clone.{Ghosts}
-use Rattle.std.specs.declared.result.Result.{Result}
 use Rattle.range_plane.specs.declared.fix.Fix.{Fix}
-use Rattle.range_plane.specs.declared.memory.OutOfMemory.{OutOfMemory}
 use Rattle.range_collect.specs.declared.followed.Followed.{Followed}
 use Rattle.range_analysis.specs.Entries.{Entry, good, entries_of, entry_of, first_bad_from, names_of}
 use Rattle.range_analysis.specs.Names.{IsFirstRepeat, name_at}
-use Rattle.range_analysis.specs.Tracks.{IsMeasuredOf, entries_in}
-use Rattle.range_analysis.specs.declared.measured.Measured.{Measured}
+use Rattle.range_analysis.specs.Tracks.{entries_in}
 use Rattle.range_analysis.specs.declared.track.Track.{Track}
 
 -- the entries of the tracks so far, and of the files that are left
@@ -49,19 +44,3 @@ pub repeat_within : (tracks : List Track) (first second : ℕ) → IsFirstRepeat
 repeat_within tracks first second repeat =
     let count = names_count tracks in
     (omega (arith, count, repeat.0, repeat.1), omega (arith, count, repeat.1))
-
--- ---- tracks that are measured side by side
--- what a thread gives of a track
-abbrev pub IsResultOf : List ℕ → Track → Result Measured OutOfMemory → Type 0
-IsResultOf levels track result = IfOk result (IsMeasuredOf levels track)
-
-each_measured : (levels : List ℕ) (tracks : List Track) (all : List Measured) → AllZip (IsResultOf levels) tracks (map Ok all) → AllZip (IsMeasuredOf levels) tracks all
-each_measured levels [] [] each = tt
-each_measured levels [] (m ∷ all) each = absurd each
-each_measured levels (t ∷ tracks) [] each = absurd each
-each_measured levels (t ∷ tracks) (m ∷ all) each = (each.0, each_measured levels tracks all each.1)
-
-pub measured_of : (levels : List ℕ) (tracks : List Track) (results : List (Result Measured OutOfMemory)) (all : Result (Vec Measured Global) OutOfMemory) → AllZip (IsResultOf levels) tracks results
-    → MatchResult all (λ vec. (each : List Measured) × (results ≡ map Ok each) × (vec.items ≡ each)) (λ fault. Contains results (Err fault)) → IfOk all (λ vec. AllZip (IsMeasuredOf levels) tracks vec.items)
-measured_of levels tracks results (Ok vec) each gives = rw gives.2 (each_measured levels tracks gives.0 (rw gives.1 at each))
-measured_of levels tracks results (Err fault) each gives = tt

@@ -17,6 +17,3 @@ mod records;
 pub use fault::ReadFault;
 pub use law::reads_exactly;
 pub use reader::FixReader;
-
-#[cfg(test)]
-mod tests;

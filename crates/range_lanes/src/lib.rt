@@ -6,8 +6,6 @@ mod extent;
 mod inside;
 mod lanes;
 mod marking;
-#[cfg(test)]
-mod tests;
 mod totals;
 
 pub use extent::{Extent, extremes};

@@ -8,7 +8,6 @@ pub mod Fan
 pub mod HalfPlanes
 pub mod Least
 pub mod Others
-pub mod OwnPolygons
 pub mod Polygons
 pub mod Ranges
 pub mod Ranks

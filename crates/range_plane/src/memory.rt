@@ -27,15 +27,3 @@ impl From<AllocError> for OutOfMemory {
         OutOfMemory
     }
 }
-
-#[cfg(test)]
-mod tests {
-    use super::*;
-    use std::test::Fail;
-
-    #[test]
-    fn text(rt: HostRuntime) -> Result<(), Fail> {
-        assert!(rt; format!(in rt.alloc(); "{OutOfMemory}")?.as_str() == "out of memory");
-        Ok(())
-    }
-}

@@ -28,18 +28,3 @@ pub(crate) fn comes_before(a: Point, b: Point) -> bool
 {
     rank(a) - rank(b) < 0
 }
-
-#[cfg(test)]
-mod tests {
-    use super::*;
-
-    #[test]
-    fn easting_comes_first(rt: HostRuntime) {
-        let south = Point { e: 1, n: 0 };
-        let north = Point {
-            e: 0,
-            n: COORDINATE_LIMIT,
-        };
-        assert!(rt; rank(north) < rank(south));
-    }
-}

@@ -59,21 +59,3 @@ pub(crate) fn facing(q: Point, a: Point, b: Point) -> i64
 {
     (a.e - q.e) * (b.e - q.e) + (a.n - q.n) * (b.n - q.n)
 }
-
-#[cfg(test)]
-mod tests {
-    use super::*;
-
-    #[test]
-    fn limits(rt: HostRuntime) {
-        assert!(rt; Point::new(-1, 0).is_none());
-        assert!(rt; Point::new(0, 16_777_217).is_none());
-        assert!(rt;
-            Point::new(16_777_216, 0)
-                == Some(Point {
-                    e: 16_777_216,
-                    n: 0
-                })
-        );
-    }
-}

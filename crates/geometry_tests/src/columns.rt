@@ -1,6 +1,6 @@
 // Tests of lists of points.
 
-use range_plane::{Columns, OutOfMemory, Point};
+use range_plane::{Columns, Point};
 use refusing::Refusing;
 use std::alloc::Allocator;
 
@@ -33,24 +33,27 @@ fn is_diagonal<A: Allocator>(columns: &Columns<A>, count: u8) -> bool {
 }
 
 #[test]
-fn each_call(rt: HostRuntime) -> Result<(), OutOfMemory> {
+fn pushes(rt: HostRuntime) {
     let mut columns = Columns::new(rt.alloc());
     assert!(rt; columns.is_empty(), "at first");
-    columns.push(Point { e: 1, n: 2 })?;
-    assert_eq!(rt; columns.len(), 1, "after a push");
+    columns.push(Point { e: 1, n: 2 }).expect(&rt, "memory");
+    assert!(rt; columns.len() == 1 && !columns.is_empty(), "after a push");
     assert!(rt; columns.at(0) == Point { e: 1, n: 2 }, "the pushed point");
-    columns.reserve(2)?;
-    assert!(rt; columns.spare() >= 2, "after reserve");
+}
+
+#[test]
+fn reserved_pushes(rt: HostRuntime) {
+    let mut columns = Columns::new(rt.alloc());
+    columns.reserve(3).expect(&rt, "memory");
+    assert!(rt; columns.spare() >= 3, "after reserve");
+    columns.push_reserved(Point { e: 1, n: 2 });
     columns.push_reserved(Point { e: 3, n: 4 });
     columns.push_reserved(Point { e: 5, n: 6 });
-    assert_eq!(rt; columns.len(), 3, "after two more");
-    assert!(rt; !columns.is_empty(), "after two more");
+    assert!(rt; columns.len() == 3, "after three");
     assert!(rt; columns.eastings() == [1, 3, 5].as_slice(), "eastings");
     assert!(rt; columns.northings() == [2, 4, 6].as_slice(), "northings");
     columns.clear();
-    assert_eq!(rt; columns.len(), 0, "after clear");
-    assert!(rt; columns.spare() >= 3, "after clear");
-    Ok(())
+    assert!(rt; columns.len() == 0 && columns.spare() >= 3, "after clear");
 }
 
 #[test]

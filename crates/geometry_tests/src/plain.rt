@@ -1,6 +1,7 @@
 // Tests of polygons by definition.
 
-use range_plane::{OutOfMemory, Point, Polygon};
+use crate::points::{HEXAGON, LATTICE, LIMITS, SEGMENT, SQUARE, plain_of, points_of};
+use range_plane::{Point, Polygon};
 use refusing::Refusing;
 use std::alloc::Global;
 use std::process::Abort;
@@ -23,48 +24,10 @@ const OCTAGON: [(i64, i64); 8] = [
 // The first corner takes memory, and so does one past those that the first growth has room for.
 const LEAST_GROWTHS: u32 = 2;
 
-// Two dozen points of a lattice, with repeats and many in line, and a few far ones.
-const POINTS: [(i64, i64); 24] = [
-    (5, 5),
-    (5, 5),
-    (6, 4),
-    (4, 6),
-    (7, 7),
-    (3, 3),
-    (5, 9),
-    (9, 5),
-    (2, 8),
-    (8, 2),
-    (5, 1),
-    (1, 5),
-    (9, 9),
-    (1, 1),
-    (1, 9),
-    (9, 1),
-    (5, 5),
-    (12, 5),
-    (5, 12),
-    (0, 0),
-    (16, 0),
-    (8, 16_777_216),
-    (16_777_216, 3),
-    (4, 4),
-];
-
-fn points_of(rt: &impl Abort, alloc: Global, places: &[(i64, i64)]) -> Vec<Point> {
-    let mut points = Vec::new(alloc);
-    for (e, n) in places {
-        let point = Point::new(*e, *n).expect(rt, "a point");
-        points.push(point).expect(rt, "memory");
-    }
-    points
-}
-
 // Checks how many corners the first points have, and their doubled area.
 fn expect_row(rt: &impl Abort, alloc: Global, places: &[(i64, i64)], corners: usize, area2: u128) {
     let points = points_of(rt, alloc, places);
-    assert!(rt; points.len() < 100);
-    let polygon = Polygon::plain(alloc, &points).expect(rt, "memory");
+    let polygon = plain_of(rt, alloc, &points);
     assert!(rt;
         polygon.corners().len() == corners,
         "corners of the first {}",
@@ -81,25 +44,13 @@ fn expect_row(rt: &impl Abort, alloc: Global, places: &[(i64, i64)], corners: us
 fn expect_corners(rt: &impl Abort, alloc: Global, places: &[(i64, i64)], corners: &[(i64, i64)]) {
     let points = points_of(rt, alloc, places);
     let corners = points_of(rt, alloc, corners);
-    assert!(rt; points.len() < 100);
-    let polygon = Polygon::plain(alloc, &points).expect(rt, "memory");
+    let polygon = plain_of(rt, alloc, &points);
     assert!(rt;
         polygon.corners() == corners.as_slice(),
         "of {} points",
         points.len()
     );
 }
-
-const SQUARE: [(i64, i64); 5] = [(0, 0), (10, 0), (10, 10), (0, 10), (5, 5)];
-
-const HEXAGON: [(i64, i64); 6] = [(0, 0), (4, 0), (5, 2), (4, 4), (0, 4), (10, 2)];
-
-const LIMITS: [(i64, i64); 4] = [
-    (0, 0),
-    (16_777_216, 0),
-    (16_777_216, 16_777_216),
-    (0, 16_777_216),
-];
 
 #[test]
 fn rows(rt: HostRuntime) {
@@ -109,7 +60,7 @@ fn rows(rt: HostRuntime) {
             [1, 2, 3, 4, 4].as_slice(),
             [0, 0, 100, 200, 200].as_slice(),
         ),
-        (&[(5, 5), (10, 5), (20, 5)], &[1, 2, 2], &[0, 0, 0]),
+        (&SEGMENT, &[1, 2, 2], &[0, 0, 0]),
         (
             &LIMITS,
             &[1, 2, 3, 4],
@@ -144,7 +95,7 @@ fn corners(rt: HostRuntime) {
             SQUARE.as_slice(),
             [(0, 0), (10, 0), (10, 10), (0, 10)].as_slice(),
         ),
-        (&[(5, 5), (10, 5), (20, 5)], &[(5, 5), (20, 5)]),
+        (&SEGMENT, &[(5, 5), (20, 5)]),
         (&[(7, 7), (7, 7), (7, 7)], &[(7, 7)]),
         (&[(0, 0), (2, 2), (1, 1), (4, 4)], &[(0, 0), (4, 4)]),
         (&[(5, 5), (6, 5), (6, 6), (0, 5)], &[(0, 5), (6, 5), (6, 6)]),
@@ -156,11 +107,10 @@ fn corners(rt: HostRuntime) {
 }
 
 #[test]
-fn no_points(rt: HostRuntime) -> Result<(), OutOfMemory> {
-    let polygon = Polygon::plain(rt.alloc(), &[])?;
+fn no_points(rt: HostRuntime) {
+    let polygon = plain_of(&rt, rt.alloc(), &[]);
     assert!(rt; polygon.corners().is_empty() && polygon.area2() == 0);
     assert!(rt; !polygon.covers(Point { e: 0, n: 0 }));
-    Ok(())
 }
 
 // Twice the signed area of a triangle, by other products than the crate's.
@@ -214,11 +164,10 @@ fn wrapped(rt: &impl Abort, alloc: Global, points: &[Point]) -> Vec<Point> {
 #[test]
 fn agrees_with_gift_wrapping(rt: HostRuntime) {
     let alloc = rt.alloc();
-    let points = points_of(&rt, alloc, &POINTS);
+    let points = points_of(&rt, alloc, &LATTICE);
     for count in 0..25 {
         let first = &points[..points.len().min(count)];
-        assert!(rt; first.len() < 100);
-        let polygon = Polygon::plain(alloc, first).expect(&rt, "memory");
+        let polygon = plain_of(&rt, alloc, first);
         let corners = wrapped(&rt, alloc, first);
         assert!(rt;
             polygon.corners() == corners.as_slice(),
@@ -229,7 +178,7 @@ fn agrees_with_gift_wrapping(rt: HostRuntime) {
 
 #[test]
 fn plain_is_refused_each_growth(rt: HostRuntime) {
-    let points = points_of(&rt, rt.alloc(), &POINTS[..14]);
+    let points = points_of(&rt, rt.alloc(), &LATTICE[..14]);
     let corners = points_of(&rt, rt.alloc(), &OCTAGON);
     assert!(rt; points.len() < 100);
     for number in 1..MANY_GROWTHS {

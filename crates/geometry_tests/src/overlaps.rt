@@ -1,21 +1,7 @@
 // Tests of overlaps.
 
-use crate::fixes::{SEGMENT, SQUARE, columns_of};
-use range_plane::{Point, Polygon};
+use crate::points::{SEGMENT, SQUARE, columns_of, plain_of, points_of};
 use range_stats::overlap;
-use std::alloc::Global;
-use std::process::Abort;
-
-fn range_of(rt: &impl Abort, alloc: Global, places: &[(i64, i64)]) -> Polygon {
-    let mut points = Vec::new(alloc);
-    for (e, n) in places {
-        points
-            .push(Point::new(*e, *n).expect(rt, "a point"))
-            .expect(rt, "memory");
-    }
-    assert!(rt; points.len() < 100);
-    Polygon::plain(alloc, &points).expect(rt, "memory")
-}
 
 #[test]
 fn overlaps(rt: HostRuntime) {
@@ -35,6 +21,7 @@ fn overlaps(rt: HostRuntime) {
     ];
     for (fixes, range, count) in cases {
         let fixes = columns_of(&rt, alloc, fixes);
-        assert_eq!(rt; overlap(&fixes, &range_of(&rt, alloc, range)), count);
+        let range = plain_of(&rt, alloc, &points_of(&rt, alloc, range));
+        assert_eq!(rt; overlap(&fixes, &range), count);
     }
 }

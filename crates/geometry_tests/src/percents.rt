@@ -1,7 +1,7 @@
 // Tests of percent polygons. The values of scattered points are those of a program that takes the mean as a
 // fraction and wraps the kept points (Jarvis 1973).
 
-use crate::fixes::{RING, SEGMENT, SQUARE, columns_of, scattered};
+use crate::points::{RING, SEGMENT, SQUARE, columns_of, scattered};
 use range_plane::{COORDINATE_LIMIT, Columns, FIX_LIMIT, Point};
 use range_stats::{PercentRow, Ranking, percent};
 use std::alloc::Global;

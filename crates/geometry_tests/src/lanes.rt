@@ -1,21 +1,13 @@
 // Tests of marks, counts, boxes and sums.
 
-use crate::{Extent, count_inside, extremes, mark_inside, sums};
-use range_plane::{COORDINATE_LIMIT, Columns, Point, Polygon};
+use crate::points::{columns_of, parabola, plain_of, point, points_of};
+use range_lanes::{Extent, count_inside, extremes, mark_inside, sums};
+use range_plane::{COORDINATE_LIMIT, Columns, Polygon};
 use std::alloc::Global;
 use std::process::Abort;
 
-fn point(rt: &impl Abort, e: i64, n: i64) -> Point {
-    Point::new(e, n).expect(rt, "a point")
-}
-
 fn polygon(rt: &impl Abort, alloc: Global, corners: &[(i64, i64)]) -> Polygon {
-    let mut points = Vec::new(alloc);
-    for (e, n) in corners {
-        points.push(point(rt, *e, *n)).expect(rt, "memory");
-    }
-    assert!(rt; points.len() < 100);
-    Polygon::plain(alloc, &points).expect(rt, "memory")
+    plain_of(rt, alloc, &points_of(rt, alloc, corners))
 }
 
 // The points on the line from `(0, start)` on that rises by `rise` for each easting.
@@ -24,7 +16,7 @@ fn line(rt: &impl Abort, alloc: Global, points: u8, start: i64, rise: u8) -> Col
     let mut cols = Columns::new(alloc);
     for i in 0..points {
         let n = start + i64::from(rise) * i64::from(i);
-        cols.push(point(rt, i64::from(i), n)).expect(rt, "memory");
+        cols.push(point(rt, (i64::from(i), n))).expect(rt, "memory");
     }
     cols
 }
@@ -92,53 +84,50 @@ fn marks_of_a_square(rt: HostRuntime) {
     assert_eq!(rt; count_inside(&square, &cols), 11);
 }
 
+const FAR: i64 = COORDINATE_LIMIT;
+
+const FAR_TRIANGLE: [(i64, i64); 3] = [(0, 0), (FAR, 0), (FAR, FAR)];
+
 #[test]
-fn triangle_at_the_limits(rt: HostRuntime) {
-    let far = COORDINATE_LIMIT;
-    let triangle = polygon(&rt, rt.alloc(), &[(0, 0), (far, 0), (far, far)]);
+fn diagonals_at_the_limits(rt: HostRuntime) {
+    let triangle = polygon(&rt, rt.alloc(), &FAR_TRIANGLE);
     let diagonal = line(&rt, rt.alloc(), 9, 0, 1);
     assert_eq!(rt; count_inside(&triangle, &diagonal), 9);
     let above = line(&rt, rt.alloc(), 9, 1, 1);
     assert_eq!(rt; count_inside(&triangle, &above), 0);
-    let places = [
-        (far, far, true),
-        (far - 1, far, false),
-        (far, far - 1, true),
-        (far - 1, far - 1, true),
-        (far - 2, far - 1, false),
-        (far, 0, true),
-        (0, far, false),
-        (far - 1, 0, true),
-        (0, 1, false),
-    ];
-    let mut cols = Columns::new(rt.alloc());
-    for (e, n, _) in places {
-        cols.push(point(&rt, e, n)).expect(&rt, "memory");
-    }
+}
+
+#[test]
+fn marks_at_the_limits(rt: HostRuntime) {
+    let triangle = polygon(&rt, rt.alloc(), &FAR_TRIANGLE);
+    let cols = columns_of(
+        &rt,
+        rt.alloc(),
+        &[
+            (FAR, FAR),
+            (FAR - 1, FAR),
+            (FAR, FAR - 1),
+            (FAR - 1, FAR - 1),
+            (FAR - 2, FAR - 1),
+            (FAR, 0),
+            (0, FAR),
+            (FAR - 1, 0),
+            (0, 1),
+        ],
+    );
     let marks = marks(&rt, rt.alloc(), &triangle, &cols);
-    for (mark, (e, n, inside)) in marks.iter().zip(places) {
-        assert_eq!(rt; *mark, inside, "{e} {n}");
-    }
+    let expected = [true, false, true, true, false, true, false, true, false];
+    assert!(rt; marks.as_slice() == expected.as_slice());
     let extent = Extent {
         min_e: 0,
         min_n: 0,
-        max_e: far,
-        max_n: far,
+        max_e: FAR,
+        max_n: FAR,
     };
     assert_eq!(rt; extremes(&cols), Some(extent));
 }
 
-// The corners `(i, i * i)`, for i from 0 on.
-fn parabola(rt: &impl Abort, alloc: Global, corners: u8) -> Polygon {
-    let mut places = Vec::new(alloc);
-    for i in 0..corners {
-        let e = i64::from(i);
-        places.push((e, e * e)).expect(rt, "memory");
-    }
-    polygon(rt, alloc, &places)
-}
-
-// Whether these cover a point: not below the parabola, nor above the line from first to last.
+// Whether so many corners `(i, i * i)` cover a point: not below the parabola, nor above the line from first to last.
 fn is_in_parabola(corners: u8, e: u8, n: u16) -> bool {
     let last = u16::from(corners.saturating_sub(1));
     e < corners && u16::from(e) * u16::from(e) <= n && n <= last * u16::from(e)
@@ -164,21 +153,28 @@ fn places_near_parabola(rt: &impl Abort, alloc: Global, corners: u8) -> Vec<(u8,
     places
 }
 
+// Checks the marks of each first part of the places near so many corners.
+fn expect_near_parabola(rt: &impl Abort, alloc: Global, corners: u8) {
+    let polygon = plain_of(rt, alloc, &parabola(rt, alloc, u16::from(corners)));
+    assert!(rt; polygon.corners().len() == usize::from(corners));
+    let mut cols = Columns::new(alloc);
+    let mut expected = Vec::new(alloc);
+    for (e, n) in &places_near_parabola(rt, alloc, corners) {
+        let q = point(rt, (i64::from(*e), i64::from(*n)));
+        let inside = is_in_parabola(corners, *e, *n);
+        assert!(rt; polygon.covers(q) == inside, "{e} {n}");
+        cols.push(q).expect(rt, "memory");
+        expected.push(inside).expect(rt, "memory");
+        assert!(rt;
+            marks(rt, alloc, &polygon, &cols) == expected,
+            "up to {e} {n}"
+        );
+    }
+}
+
 #[test]
 fn marks_near_parabolas(rt: HostRuntime) {
     for corners in [0, 1, 2, 3, 16, 35, 36, 37] {
-        let polygon = parabola(&rt, rt.alloc(), corners);
-        assert_eq!(rt; polygon.corners().len(), usize::from(corners));
-        let mut cols = Columns::new(rt.alloc());
-        let mut expected = Vec::new(rt.alloc());
-        for (e, n) in &places_near_parabola(&rt, rt.alloc(), corners) {
-            let q = point(&rt, i64::from(*e), i64::from(*n));
-            let inside = is_in_parabola(corners, *e, *n);
-            assert_eq!(&rt; polygon.covers(q), inside, "{corners} corners, {e} {n}");
-            cols.push(q).expect(&rt, "memory");
-            expected.push(inside).expect(&rt, "memory");
-            let marks = marks(&rt, rt.alloc(), &polygon, &cols);
-            assert!(rt; marks == expected, "{corners} corners, up to {e} {n}");
-        }
+        expect_near_parabola(&rt, rt.alloc(), corners);
     }
 }

@@ -1,17 +1,18 @@
 // Tests of worked lists of points, whose polygons were made by hand.
 
-use crate::points::{HEXAGON, has_corners, hull_of, insert, point, points_of};
+use crate::points::{HEXAGON, LIMITS, has_corners, hull_of, insert, parabola, point, points_of};
 use range_hull::OnlineHull;
 use range_plane::{FIX_LIMIT, Point};
 use std::alloc::Global;
 use std::process::Abort;
 
-const SQUARE_OF_LIMITS: [(i64, i64); 4] = [
-    (0, 0),
-    (16_777_216, 0),
-    (16_777_216, 16_777_216),
-    (0, 16_777_216),
-];
+// Inserts a point, and checks how many corners there are then, and their doubled area.
+fn expect_row(rt: &impl Abort, hull: &mut OnlineHull, p: Point, (corners, area2): (u32, u128)) {
+    insert(rt, hull, p);
+    let n = hull.points();
+    assert!(rt; hull.corner_count() == corners, "corners of the first {n}");
+    assert!(rt; hull.area2() == area2, "area of the first {n}");
+}
 
 // Checks the corners and the doubled area after each of the points, and the corners in the end.
 fn expect_rows(
@@ -21,22 +22,14 @@ fn expect_rows(
     rows: &[(u32, u128)],
     corners: &[(i64, i64)],
 ) {
-    let points = points_of(rt, alloc, places);
     let mut hull = OnlineHull::new(alloc);
-    hull.reserve(points.len()).expect(rt, "memory");
-    assert_eq!(rt; points.len(), rows.len(), "rows");
-    for (p, &(count, area2)) in points.iter().zip(rows) {
-        insert(rt, &mut hull, *p);
-        let n = hull.points();
-        assert_eq!(rt; hull.corner_count(), count, "corners of the first {n}");
-        assert_eq!(rt; hull.area2(), area2, "area of the first {n}");
+    hull.reserve(places.len()).expect(rt, "memory");
+    assert!(rt; places.len() == rows.len(), "rows");
+    for (place, row) in places.iter().zip(rows) {
+        expect_row(rt, &mut hull, point(rt, *place), *row);
     }
     let corners = points_of(rt, alloc, corners);
-    assert!(rt;
-        has_corners(rt, alloc, &hull, &corners),
-        "corners of {}",
-        hull.points()
-    );
+    assert!(rt; has_corners(rt, alloc, &hull, &corners), "corners");
 }
 
 #[test]
@@ -45,14 +38,14 @@ fn rows(rt: HostRuntime) {
     expect_rows(
         &rt,
         alloc,
-        &SQUARE_OF_LIMITS,
+        &LIMITS,
         &[
             (1, 0),
             (2, 0),
             (3, 281_474_976_710_656),
             (4, 562_949_953_421_312),
         ],
-        &SQUARE_OF_LIMITS,
+        &LIMITS,
     );
     expect_rows(
         &rt,
@@ -98,20 +91,11 @@ fn few_turns(rt: HostRuntime) {
     assert!(rt; hull.turns() <= 48, "{} turns", hull.turns());
 }
 
-// The places on a parabola, from the first to the last or back.
-fn parabola(rt: &impl Abort, alloc: Global, is_rising: bool) -> Vec<Point> {
-    let mut points = Vec::new(alloc);
-    for i in 0..4096_u32 {
-        let e = i64::from(if is_rising { i } else { 4095 - i });
-        points.push(point(rt, (e, e * e))).expect(rt, "memory");
-    }
-    points
-}
-
 #[test]
 fn parabola_either_way(rt: HostRuntime) {
-    let rising = parabola(&rt, rt.alloc(), true);
-    let falling = parabola(&rt, rt.alloc(), false);
+    let rising = parabola(&rt, rt.alloc(), 4096);
+    let mut falling = parabola(&rt, rt.alloc(), 4096);
+    falling.reverse();
     for points in [&rising, &falling] {
         let hull = hull_of(&rt, rt.alloc(), points);
         assert_eq!(rt; hull.area2(), 22_889_717_760, "area");

@@ -1,38 +1,10 @@
 // Tests of the hull against `Polygon::plain`, which makes polygons straight from the definitions.
 
-use crate::points::{has_corners, insert, points_of};
+use crate::points::{LATTICE, has_corners, insert, next, plain_of, points_of};
 use range_hull::OnlineHull;
-use range_plane::{COORDINATE_LIMIT, Point, Polygon};
+use range_plane::{COORDINATE_LIMIT, Point};
 use std::alloc::Global;
 use std::process::Abort;
-
-// Two dozen points of a lattice, with repeats and many in line, and a few far ones.
-const POINTS: [(i64, i64); 24] = [
-    (5, 5),
-    (5, 5),
-    (6, 4),
-    (4, 6),
-    (7, 7),
-    (3, 3),
-    (5, 9),
-    (9, 5),
-    (2, 8),
-    (8, 2),
-    (5, 1),
-    (1, 5),
-    (9, 9),
-    (1, 1),
-    (1, 9),
-    (9, 1),
-    (5, 5),
-    (12, 5),
-    (5, 12),
-    (0, 0),
-    (16, 0),
-    (8, 16_777_216),
-    (16_777_216, 3),
-    (4, 4),
-];
 
 // Checks the hull of each first part of the points, of which there are few.
 fn expect_plain(rt: &impl Abort, alloc: Global, points: &[Point]) {
@@ -41,8 +13,7 @@ fn expect_plain(rt: &impl Abort, alloc: Global, points: &[Point]) {
     for (i, p) in points.iter().enumerate() {
         insert(rt, &mut hull, *p);
         let first = &points[..=i];
-        assert!(rt; first.len() < 100);
-        let polygon = Polygon::plain(alloc, first).expect(rt, "memory");
+        let polygon = plain_of(rt, alloc, first);
         assert!(rt;
             has_corners(rt, alloc, &hull, polygon.corners()),
             "corners to {i}"
@@ -53,13 +24,7 @@ fn expect_plain(rt: &impl Abort, alloc: Global, points: &[Point]) {
 
 #[test]
 fn each_first_part(rt: HostRuntime) {
-    expect_plain(&rt, rt.alloc(), &points_of(&rt, rt.alloc(), &POINTS));
-}
-
-// The next number of Knuth's generator for MMIX.
-fn next(seed: u64) -> u64 {
-    seed.wrapping_mul(6364136223846793005)
-        .wrapping_add(1442695040888963407)
+    expect_plain(&rt, rt.alloc(), &points_of(&rt, rt.alloc(), &LATTICE));
 }
 
 // How the coordinates of a cloud are drawn.

@@ -1,12 +1,11 @@
 // What the reader answers to files, whole, cut, hostile and failing.
 
-use crate::{FixReader, ReadFault};
-use range_plane::FIX_LIMIT;
+use range_fixes::{FixReader, ReadFault};
+use range_plane::{FIX_LIMIT, Fix};
 use std::alloc::Global;
 use std::io;
 use std::io::Read;
 use std::process::Abort;
-use std::test::Fail;
 
 const HEADER: &[u8] = b"animal,second,easting,northing\n";
 
@@ -40,20 +39,32 @@ impl Read for Pieces<'_> {
 // What a source gave: how many fixes, the point of the last one, and the fault after them.
 type Outcome = (u32, Option<(i64, i64)>, Option<ReadFault>);
 
-// Reads a source to its end. Later calls answer the same, and count and name stay.
+// Whether the reader has a name just where it gave a fix.
+fn has_name_of_fixes<R: Read + Drop>(reader: &FixReader<R>) -> bool {
+    reader.name().is_some() == (reader.count() > 0)
+}
+
+// Whether one call more answers the same, and count and name stay.
+fn has_ended<R: Read + Drop>(
+    reader: &mut FixReader<R>,
+    end: &Result<Option<Fix>, ReadFault>,
+) -> bool {
+    let count = reader.count();
+    reader.next() == *end && reader.count() == count && has_name_of_fixes(reader)
+}
+
+// Reads a source to its end.
 fn outcome(rt: &impl Abort, alloc: Global, source: Pieces<'_>) -> Outcome {
     let mut reader = FixReader::new(alloc, source);
     let mut last = None;
     for _ in 0..u64::MAX {
         let answer = reader.next();
-        let count = reader.count();
-        assert!(rt; reader.name().is_some() == (count > 0));
+        assert!(rt; has_name_of_fixes(&reader));
         match answer {
             Ok(Some(fix)) => last = Some((fix.at.e, fix.at.n)),
             end => {
-                assert!(rt; reader.next() == end);
-                assert!(rt; reader.count() == count && reader.name().is_some() == (count > 0));
-                return (count, last, end.err());
+                assert!(rt; has_ended(&mut reader, &end));
+                return (reader.count(), last, end.err());
             }
         }
     }
@@ -263,7 +274,7 @@ fn cut_files(rt: HostRuntime) {
 
 // Numbers of any length are read by their value.
 #[test]
-fn long_numbers(rt: HostRuntime) -> Result<(), Fail> {
+fn long_numbers(rt: HostRuntime) {
     let alloc = rt.alloc();
     let large = ReadFault::TooLarge { rec: 1, field: 2 };
     let cases = [
@@ -271,15 +282,13 @@ fn long_numbers(rt: HostRuntime) -> Result<(), Fail> {
         (b'9', 400, (0, None, Some(large))),
     ];
     for (digit, count, expected) in cases {
-        let mut text = HEADER.to_vec(alloc)?;
-        text.extend_from_slice(b"A,0,")?;
+        let mut record = Vec::from_slice(alloc, b"A,0,").expect(&rt, "memory");
         for _ in 0..count {
-            text.push(digit)?;
+            record.push(digit).expect(&rt, "memory");
         }
-        text.extend_from_slice(b"7,0")?;
-        expect(&rt, alloc, text.as_slice(), expected);
+        record.extend_from_slice(b"7,0").expect(&rt, "memory");
+        expect_records(&rt, alloc, record.as_slice(), expected);
     }
-    Ok(())
 }
 
 #[test]
@@ -333,7 +342,7 @@ fn names(rt: HostRuntime) {
 }
 
 #[test]
-fn texts(rt: HostRuntime) -> Result<(), Fail> {
+fn texts(rt: HostRuntime) {
     let alloc = rt.alloc();
     let cases = [
         (ReadFault::Read, "a read failed"),
@@ -384,7 +393,7 @@ fn texts(rt: HostRuntime) -> Result<(), Fail> {
         (ReadFault::NoFixes, "no record after the header"),
     ];
     for (fault, text) in cases {
-        assert!(rt; format!(in alloc; "{fault}")?.as_str() == text, "{fault}");
+        let said = format!(in alloc; "{fault}").expect(&rt, "memory");
+        assert!(rt; said.as_str() == text, "{fault}");
     }
-    Ok(())
 }

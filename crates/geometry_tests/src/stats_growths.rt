@@ -1,6 +1,6 @@
 // Tests of refused growths.
 
-use crate::fixes::{RING, columns_of};
+use crate::points::{RING, columns_of};
 use range_stats::{LevelFault, PercentRow, Ranking, levels, percent};
 use refusing::Refusing;
 

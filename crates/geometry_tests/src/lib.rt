@@ -1,0 +1,33 @@
+//! Tests of the plane, of what a polygon covers of many points, of the on-line hull, and of percent polygons,
+//! overlaps and lists of levels: worked values, values from other programs, polygons against those by
+//! definition, and each call that takes memory refused it, a growth at a time.
+#![tactic(auto)]
+
+#[cfg(test)]
+mod columns;
+#[cfg(test)]
+mod corners;
+#[cfg(test)]
+mod covering;
+#[cfg(test)]
+mod hull_growths;
+#[cfg(test)]
+mod hull_polygons;
+#[cfg(test)]
+mod hull_rows;
+#[cfg(test)]
+mod lanes;
+#[cfg(test)]
+mod levels;
+#[cfg(test)]
+mod limits;
+#[cfg(test)]
+mod overlaps;
+#[cfg(test)]
+mod percents;
+#[cfg(test)]
+mod plain;
+#[cfg(test)]
+mod points;
+#[cfg(test)]
+mod stats_growths;

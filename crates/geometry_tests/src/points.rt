@@ -1,0 +1,137 @@
+// Points, and lists, polygons and hulls of them, for the tests.
+
+use range_hull::OnlineHull;
+use range_plane::{Columns, FIX_LIMIT, Point, Polygon};
+use std::alloc::{Allocator, Global};
+use std::process::Abort;
+
+pub(crate) const SQUARE: [(i64, i64); 5] = [(0, 0), (10, 0), (10, 10), (0, 10), (5, 5)];
+
+pub(crate) const SEGMENT: [(i64, i64); 3] = [(5, 5), (10, 5), (20, 5)];
+
+pub(crate) const LIMITS: [(i64, i64); 4] = [
+    (0, 0),
+    (16_777_216, 0),
+    (16_777_216, 16_777_216),
+    (0, 16_777_216),
+];
+
+// Six points, the last of which takes the corner away that the third is until then.
+pub(crate) const HEXAGON: [(i64, i64); 6] = [(0, 0), (4, 0), (5, 2), (4, 4), (0, 4), (10, 2)];
+
+// Six points as far from their mean as each other.
+pub(crate) const RING: [(i64, i64); 6] = [(10, 5), (0, 5), (8, 9), (2, 1), (9, 2), (1, 8)];
+
+// Two dozen points of a lattice, with repeats and many in line, and a few far ones.
+pub(crate) const LATTICE: [(i64, i64); 24] = [
+    (5, 5),
+    (5, 5),
+    (6, 4),
+    (4, 6),
+    (7, 7),
+    (3, 3),
+    (5, 9),
+    (9, 5),
+    (2, 8),
+    (8, 2),
+    (5, 1),
+    (1, 5),
+    (9, 9),
+    (1, 1),
+    (1, 9),
+    (9, 1),
+    (5, 5),
+    (12, 5),
+    (5, 12),
+    (0, 0),
+    (16, 0),
+    (8, 16_777_216),
+    (16_777_216, 3),
+    (4, 4),
+];
+
+pub(crate) fn point(rt: &impl Abort, (e, n): (i64, i64)) -> Point {
+    Point::new(e, n).expect(rt, "a point")
+}
+
+pub(crate) fn points_of(rt: &impl Abort, alloc: Global, places: &[(i64, i64)]) -> Vec<Point> {
+    let mut points = Vec::new(alloc);
+    for place in places {
+        points.push(point(rt, *place)).expect(rt, "memory");
+    }
+    points
+}
+
+pub(crate) fn columns_of(rt: &impl Abort, alloc: Global, places: &[(i64, i64)]) -> Columns {
+    let mut columns = Columns::new(alloc);
+    for place in places {
+        columns.push(point(rt, *place)).expect(rt, "memory");
+    }
+    columns
+}
+
+// The next number of Knuth's generator for MMIX.
+pub(crate) fn next(seed: u64) -> u64 {
+    seed.wrapping_mul(6364136223846793005)
+        .wrapping_add(1442695040888963407)
+}
+
+// 250 points anywhere in a square of `mask` metres, one less than a power of two.
+pub(crate) fn scattered(rt: &impl Abort, alloc: Global, mask: u32) -> Columns {
+    let mut columns = Columns::new(alloc);
+    let mut seed = 1;
+    for _ in 0..250 {
+        seed = next(seed);
+        let e = (seed >> 33) as u32 & mask;
+        seed = next(seed);
+        let n = (seed >> 33) as u32 & mask;
+        let p = point(rt, (i64::from(e), i64::from(n)));
+        columns.push(p).expect(rt, "memory");
+    }
+    columns
+}
+
+// The polygon of few points.
+pub(crate) fn plain_of(rt: &impl Abort, alloc: Global, points: &[Point]) -> Polygon {
+    assert!(rt; points.len() < 100);
+    Polygon::plain(alloc, points).expect(rt, "memory")
+}
+
+// The points `(i, i * i)`, for i from 0 on.
+pub(crate) fn parabola(rt: &impl Abort, alloc: Global, count: u16) -> Vec<Point> {
+    let mut points = Vec::new(alloc);
+    for i in 0..count {
+        let e = i64::from(i);
+        points
+            .push(point(rt, (e, e.wrapping_mul(e))))
+            .expect(rt, "memory");
+    }
+    points
+}
+
+// Inserts a point for which there has to be room.
+pub(crate) fn insert<A: Allocator>(rt: &impl Abort, hull: &mut OnlineHull<A>, p: Point) {
+    assert!(rt; hull.spare() > 0 && hull.points() < FIX_LIMIT, "room");
+    hull.insert(p);
+}
+
+// The hull of the points, inserted one after the other.
+pub(crate) fn hull_of(rt: &impl Abort, alloc: Global, points: &[Point]) -> OnlineHull {
+    let mut hull = OnlineHull::new(alloc);
+    hull.reserve(points.len()).expect(rt, "memory");
+    for p in points {
+        insert(rt, &mut hull, *p);
+    }
+    hull
+}
+
+// Whether the hull has these corners, in this order.
+pub(crate) fn has_corners<A: Allocator>(
+    rt: &impl Abort,
+    alloc: Global,
+    hull: &OnlineHull<A>,
+    corners: &[Point],
+) -> bool {
+    let polygon = hull.polygon(alloc).expect(rt, "memory");
+    polygon.corners() == corners && usize::try_from(hull.corner_count()) == Ok(corners.len())
+}

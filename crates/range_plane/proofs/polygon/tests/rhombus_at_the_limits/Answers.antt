@@ -1,8 +1,0 @@
-use Rattle.std.proofs.Common.{refl}
-use Rattle.range_plane.specs.Plane.{turn}
-use Rattle.range_plane.proofs.OwnPolygons.{polygon_by_test}
-use Rattle.range_plane.proofs.polygon.tests.rhombus_at_the_limits.Goals as goal
-
-pub of_corners-polygon-requires : goal.of_corners-polygon-requires
-unfolding turn
-of_corners-polygon-requires g c = rw c.in_ok-vec.ensures.items (polygon_by_test _ refl)
