@@ -15,11 +15,11 @@ const FILE_A: &[u8] =
 // Gives the bytes of a text, and then of another again and again, at most so many at a read. After so
 // many reads it fails.
 #[derive(Drop)]
-struct Pieces<'a> {
-    text: &'a [u8],
-    again: &'a [u8],
-    most: usize,
-    reads: u64,
+pub(crate) struct Pieces<'a> {
+    pub(crate) text: &'a [u8],
+    pub(crate) again: &'a [u8],
+    pub(crate) most: usize,
+    pub(crate) reads: u64,
 }
 
 impl Read for Pieces<'_> {
@@ -37,7 +37,7 @@ impl Read for Pieces<'_> {
 }
 
 // What a source gave: how many fixes, the point of the last one, and the fault after them.
-type Outcome = (u32, Option<(i64, i64)>, Option<ReadFault>);
+pub(crate) type Outcome = (u32, Option<(i64, i64)>, Option<ReadFault>);
 
 // Whether the reader has a name just where it gave a fix.
 fn has_name_of_fixes<R: Read + Drop>(reader: &FixReader<R>) -> bool {
@@ -54,7 +54,7 @@ fn has_ended<R: Read + Drop>(
 }
 
 // Reads a source to its end.
-fn outcome(rt: &impl Abort, alloc: Global, source: Pieces<'_>) -> Outcome {
+pub(crate) fn outcome(rt: &impl Abort, alloc: Global, source: Pieces<'_>) -> Outcome {
     let mut reader = FixReader::new(alloc, source);
     let mut last = None;
     for _ in 0..u64::MAX {
@@ -72,7 +72,7 @@ fn outcome(rt: &impl Abort, alloc: Global, source: Pieces<'_>) -> Outcome {
 }
 
 // Checks what a text gives, however it is cut into reads.
-fn expect(rt: &impl Abort, alloc: Global, text: &[u8], expected: Outcome) {
+pub(crate) fn expect(rt: &impl Abort, alloc: Global, text: &[u8], expected: Outcome) {
     for most in [1, 3, 8192] {
         let source = Pieces {
             text,
@@ -125,7 +125,13 @@ fn headers(rt: HostRuntime) {
         (HEADER, (0, None, Some(ReadFault::NoFixes))),
         (b"Animal,second,easting,northing\n", bad),
         (b"animal,second,northing,easting\n", bad),
-        (b"animal,second,easting,northing,use\n", bad),
+        (
+            b"animal,second,easting,northing,use\n",
+            (0, None, Some(ReadFault::NoFixes)),
+        ),
+        (b"animal,second,easting,northing,Use\n", bad),
+        (b"animal,second,easting,northing,use,use\n", bad),
+        (b"animal,second,easting,use,northing\n", bad),
         (
             b"\xEF\xBB\xBFanimal,second,easting,northing\nA,0,1,2\n",
             good,
@@ -348,7 +354,7 @@ fn texts(rt: HostRuntime) {
         (ReadFault::Read, "a read failed"),
         (
             ReadFault::BadHeader,
-            "another header than animal,second,easting,northing",
+            "another header than animal,second,easting,northing or animal,second,easting,northing,use",
         ),
         (
             ReadFault::WrongFieldCount {
@@ -390,7 +396,11 @@ fn texts(rt: HostRuntime) {
             ReadFault::TooManyFixes,
             "more than 1048576 records after the header",
         ),
-        (ReadFault::NoFixes, "no record after the header"),
+        (ReadFault::NoFixes, "no record after the header is used"),
+        (
+            ReadFault::BadUse { rec: 7 },
+            "record 7: use is neither 0 nor 1",
+        ),
     ];
     for (fault, text) in cases {
         let said = format!(in alloc; "{fault}").expect(&rt, "memory");

@@ -1,5 +1,8 @@
-//! Tests of the reader of fixes: whole, cut, hostile and failing files, and the texts of faults.
+//! Tests of the reader of fixes: whole, cut, hostile and failing files, records that are left out, and the
+//! texts of faults.
 #![tactic(auto)]
 
 #[cfg(test)]
 mod files;
+#[cfg(test)]
+mod use_column;

@@ -93,7 +93,7 @@ impl fmt::Display for ReadFault {
             ReadFault::OutOfMemory => write!(f, "out of memory"),
             ReadFault::Read => write!(f, "a read failed"),
             ReadFault::NoHeader => write!(f, "empty where {HEADER} is wanted"),
-            ReadFault::BadHeader => write!(f, "another header than {HEADER}"),
+            ReadFault::BadHeader => write!(f, "another header than {HEADER} or {HEADER},use"),
             ReadFault::WrongFieldCount {
                 found: 1,
                 wanted,
