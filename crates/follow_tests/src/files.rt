@@ -1,8 +1,5 @@
 // Files whose rows and polygons were made by hand.
 
-use range_collect::Followed;
-use range_plan::Plan;
-use range_plane::Polygon;
 use std::alloc::Global;
 use std::process::Abort;
 
@@ -111,35 +108,11 @@ pub(crate) const OUTWARD: Case = Case {
     corners: &[(0, 0), (10, 0), (20, 5), (10, 10), (0, 10)],
 };
 
-pub(crate) fn plan(rt: &impl Abort, block: u32, depth: u32, workers: u32) -> Plan {
-    Plan::new(block, depth, workers).expect(rt, "a plan")
-}
-
-// Checks that the file was read to its end, sent and taken whole.
-pub(crate) fn expect_whole(rt: &impl Abort, alloc: Global, followed: &Followed, case: Case) {
-    assert!(rt; followed.marked && followed.feeder.closed(), "the mark");
-    assert!(rt; !followed.estimator.stopped(), "running");
-    match &followed.read {
-        Ok(name) => assert!(rt; name.as_slice() == case.name, "the name"),
-        Err(fault) => assert!(rt; false, "{fault}"),
+// The texts of the files.
+pub(crate) fn texts_of(rt: &impl Abort, alloc: Global, cases: &[Case]) -> Vec<&'static [u8]> {
+    let mut texts = Vec::new(alloc);
+    for case in cases {
+        assert!(rt; texts.push(case.text).is_ok(), "memory");
     }
-    expect_rows(rt, followed, case);
-    let polygon: Polygon = followed.estimator.polygon(alloc).expect(rt, "memory");
-    let corners = polygon.corners();
-    assert_eq!(rt; corners.len(), case.corners.len(), "corners");
-    for (p, &(e, n)) in corners.iter().zip(case.corners) {
-        assert!(rt; p.e == e && p.n == n, "corner {p:?}");
-    }
-}
-
-fn expect_rows(rt: &impl Abort, followed: &Followed, case: Case) {
-    let rows = followed.estimator.rows();
-    assert_eq!(rt; rows.len(), case.rows.len(), "rows");
-    assert_eq!(rt; followed.feeder.sent_fixes(), rows.len() as u64, "fixes");
-    for (row, &(second, corners, area2)) in rows.iter().zip(case.rows) {
-        assert!(rt;
-            row.second == second && row.corners == corners && row.area2 == area2,
-            "{row:?}"
-        );
-    }
+    texts
 }

@@ -1,9 +1,9 @@
 // Tests of threads that run at once: calls of a gate that return only once another was called, which one
 // thread cannot do. Each waits at most so many turns, and then fails.
 
-use crate::files::{Case, LINE, SQUARE, expect_whole, plan};
+use crate::checks::{expect_whole, follow_all, is_whole, plan};
+use crate::files::{Case, LINE, SQUARE, texts_of};
 use crate::sources::Repeated;
-use range_collect::follow;
 use range_plan::Plan;
 use range_plane::FIX_LIMIT;
 use range_pump::{FreeGate, Gate};
@@ -86,12 +86,7 @@ fn expect_meeting<R: Wait + Threads + Sync + Abort>(
     meeting: &Meeting,
     plan: Plan,
 ) {
-    let mut sources = Vec::new(alloc);
-    for case in cases {
-        assert!(rt; sources.push(case.text).is_ok(), "memory");
-    }
-    assert!(rt; !sources.is_empty() && sources.len() <= 64);
-    let all = follow(rt, alloc, alloc, sources, meeting, plan).expect(rt, "memory");
+    let all = follow_all(rt, alloc, texts_of(rt, alloc, cases), meeting, plan);
     for (followed, &case) in all.iter().zip(cases) {
         expect_whole(rt, alloc, followed, case);
     }
@@ -171,18 +166,11 @@ fn a_worker_while_its_source_is_read(rt: HostRuntime) {
         gate: &gate,
     };
     assert!(rt; sources.push(held).is_ok(), "memory");
-    assert!(rt; sources.len() == 1);
-    let all = follow(&rt, alloc, alloc, sources, &gate, plan(&rt, 256, 4, 1)).expect(&rt, "memory");
+    let all = follow_all(&rt, alloc, sources, &gate, plan(&rt, 256, 4, 1));
     for followed in &all {
-        assert!(rt; followed.read.is_ok() && followed.marked, "the end");
-        assert_eq!(rt;
-            followed.estimator.rows().len(),
-            FIX_LIMIT as usize,
-            "taken"
-        );
+        assert!(rt; is_whole(followed, FIX_LIMIT as usize), "the end");
     }
     assert!(rt; gate.turns.load(Ordering::SeqCst) < MOST_TURNS, "at once");
-    assert_eq!(rt; all.len(), 1, "results");
 }
 
 // The gate that does nothing keeps nobody.

@@ -1,10 +1,9 @@
 // Tests of plans, each of which gives the same rows, and of files that are not followed to their end.
 
-use crate::files::{
-    Case, EAST, LIMITS, LINE, OUTWARD, PLACE, SLOPE, SQUARE, WEST, expect_whole, plan,
-};
+use crate::checks::{expect_whole, follow_all, is_cut, is_whole, plan};
+use crate::files::{Case, EAST, LIMITS, LINE, OUTWARD, PLACE, SLOPE, SQUARE, WEST, texts_of};
 use crate::sources::Repeated;
-use range_collect::{Followed, follow};
+use range_collect::Followed;
 use range_fixes::ReadFault;
 use range_plan::Plan;
 use range_plane::FIX_LIMIT;
@@ -24,21 +23,14 @@ fn follow_one<R: Wait + Threads + Sync + Abort, S: Read + Send + Drop>(
 ) -> Followed {
     let mut sources = Vec::new(alloc);
     assert!(rt; sources.push(source).is_ok(), "memory");
-    assert!(rt; sources.len() == 1);
-    let mut all = follow(rt, alloc, alloc, sources, &FreeGate, plan).expect(rt, "memory");
-    assert_eq!(rt; all.len(), 1, "results");
+    let mut all = follow_all(rt, alloc, sources, &FreeGate, plan);
     all.pop().expect(rt, "a result")
 }
 
 // Follows the files side by side, and checks each.
 fn expect_all<R: Wait + Threads + Sync + Abort>(rt: &R, alloc: Global, cases: &[Case], plan: Plan) {
-    let mut sources = Vec::new(alloc);
-    for case in cases {
-        assert!(rt; sources.push(case.text).is_ok(), "memory");
-    }
-    assert!(rt; !sources.is_empty() && sources.len() <= 64);
-    let all = follow(rt, alloc, alloc, sources, &FreeGate, plan).expect(rt, "memory");
-    assert_eq!(rt; all.len(), cases.len(), "results");
+    let all = follow_all(rt, alloc, texts_of(rt, alloc, cases), &FreeGate, plan);
+    assert!(rt; all.len() == cases.len(), "results");
     for (followed, &case) in all.iter().zip(cases) {
         expect_whole(rt, alloc, followed, case);
     }
@@ -85,7 +77,10 @@ fn many_files(rt: HostRuntime) {
 fn tested_by_block(rt: HostRuntime) {
     for (block, tested) in [(1, 6), (4, 6), (7, 7)] {
         let followed = follow_one(&rt, rt.alloc(), OUTWARD.text, plan(&rt, block, 4, 1));
-        assert_eq!(rt; followed.estimator.tested(), tested, "in blocks of {block}");
+        assert!(rt;
+            followed.estimator.tested() == tested,
+            "in blocks of {block}"
+        );
     }
 }
 
@@ -100,16 +95,11 @@ fn file_with_a_fault(rt: HostRuntime) {
             found: 3,
             wanted: 4,
         };
+        assert!(rt; followed.feeder.sent_fixes() == 4, "sent");
         assert!(rt;
-            followed.read.is_err_and(|found| found == fault),
-            "the fault"
+            is_cut(&followed, fault, 4),
+            "the fault and the fixes before it"
         );
-        assert!(rt;
-            followed.marked && !followed.estimator.stopped(),
-            "the mark"
-        );
-        assert_eq!(rt; followed.feeder.sent_fixes(), 4, "sent");
-        assert_eq!(rt; followed.estimator.rows().len(), 4, "taken");
     }
 }
 
@@ -125,33 +115,19 @@ fn faults_side_by_side(rt: HostRuntime) {
     ] {
         assert!(rt; sources.push(text).is_ok(), "memory");
     }
-    assert!(rt; sources.len() == 3);
-    let all = follow(&rt, alloc, alloc, sources, &FreeGate, plan(&rt, 2, 1, 2)).expect(
-        &rt, "memory",
-    );
-    assert_eq!(rt; all.len(), 3, "results");
-    for (i, followed) in all.iter().enumerate() {
-        assert!(rt; followed.marked, "the mark of file {i}");
-        match (i, &followed.read) {
-            (0, Err(fault)) => assert!(rt; *fault == ReadFault::NoHeader, "{fault}"),
-            (1, Ok(_)) => expect_whole(&rt, alloc, followed, SQUARE),
-            (2, Err(fault)) => assert!(rt; *fault == ReadFault::NoFixes, "{fault}"),
-            _ => assert!(rt; false, "file {i}"),
-        }
-    }
+    let all = follow_all(&rt, alloc, sources, &FreeGate, plan(&rt, 2, 1, 2));
+    assert!(rt; all.len() == 3, "results");
+    assert!(rt; is_cut(&all[0], ReadFault::NoHeader, 0), "the first file");
+    expect_whole(&rt, alloc, &all[1], SQUARE);
+    assert!(rt; is_cut(&all[2], ReadFault::NoFixes, 0), "the last file");
 }
 
 #[test]
 fn most_fixes(rt: HostRuntime) {
     let source = Repeated::new(FIX_LIMIT, b"");
     let followed = follow_one(&rt, rt.alloc(), source, plan(&rt, 256, 4, 1));
-    assert!(rt; followed.read.is_ok() && followed.marked, "the end");
-    assert_eq!(rt;
-        followed.estimator.rows().len(),
-        FIX_LIMIT as usize,
-        "taken"
-    );
-    assert_eq!(rt; followed.estimator.tested(), 256, "tested");
+    assert!(rt; is_whole(&followed, FIX_LIMIT as usize), "the end");
+    assert!(rt; followed.estimator.tested() == 256, "tested");
 }
 
 #[test]
@@ -168,16 +144,7 @@ fn too_many_fixes(rt: HostRuntime) {
             plan(&rt, 1024, 4, 1),
         );
         let fault = ReadFault::TooManyFixes;
-        assert!(rt;
-            followed.read.is_err_and(|found| found == fault),
-            "the fault"
-        );
-        assert!(rt; followed.marked, "the mark");
-        assert_eq!(rt;
-            followed.estimator.rows().len(),
-            FIX_LIMIT as usize,
-            "taken"
-        );
+        assert!(rt; is_cut(&followed, fault, FIX_LIMIT as usize), "the fault");
     }
 }
 

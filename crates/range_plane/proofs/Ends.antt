@@ -9,7 +9,7 @@ use Rattle.range_plane.proofs.Decided.{covered-decided}
 use Rattle.range_plane.proofs.Extremes.{covers_member}
 use Rattle.integers_and_lists.proofs.Members.{here, there, nowhere}
 use Rattle.range_plane.proofs.Rising.{rising}
-use Rattle.range_plane.proofs.RoundLeast.{at_most_one_way, at_most_itself, through_most}
+use Rattle.range_plane.proofs.AtMost.{at_most_one_way, at_most_itself, through_most}
 use Rattle.range_plane.proofs.Separation.{not_both}
 use Rattle.range_plane.proofs.SmallSets.{covers_none}
 use Rattle.range_plane.proofs.Spanning.{at_member}

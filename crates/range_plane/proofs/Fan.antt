@@ -10,7 +10,8 @@ use Rattle.range_plane.proofs.Extremes.{covers_member}
 use Rattle.integers_and_lists.proofs.Integers.{linear}
 use Rattle.integers_and_lists.proofs.Members.{each}
 use Rattle.range_plane.proofs.Rising.{rising}
-use Rattle.range_plane.proofs.RoundLeast.{at_most_itself, transitive_round}
+use Rattle.range_plane.proofs.AtMost.{at_most_itself}
+use Rattle.range_plane.proofs.RoundLeast.{transitive_round}
 use Rattle.range_plane.proofs.Spanning.{at_member}
 use Rattle.range_plane.proofs.Vectors.{dot, from, leftward, dot_leftward, turn_cycle, turn_end}
 

@@ -3,7 +3,7 @@ use Rattle.std.proofs.Common.{◌≡◌, refl, ◌+◌, ◌<◌, ◌≤◌, ◌�
 use Rattle.std.proofs.lemmas.List.{get_or_default, get_or_read}
 use Rattle.range_plane.specs.Plane.{IsAtMost, IsBefore, Position, origin}
 use Rattle.range_plane.specs.Polygon.{IsLeast}
-use Rattle.range_plane.proofs.RoundLeast.{at_most_itself, through_most}
+use Rattle.range_plane.proofs.AtMost.{at_most_itself, through_most}
 
 -- a member that is at most each of the first n
 pub record IsLeastOfFirst (S : List Position) (n : ℕ) (c : Position) : Type 0 where

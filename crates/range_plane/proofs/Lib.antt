@@ -1,4 +1,5 @@
 pub mod Areas
+pub mod AtMost
 pub mod Bounds
 pub mod Corners
 pub mod Decided

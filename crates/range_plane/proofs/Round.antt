@@ -1,13 +1,18 @@
--- The corners of a set in their order round the least of them, one point after the other.
+-- A list that goes round the least point through the corners among the first points, one point after the other: in the end it is the polygon, and so each set has one.
 use Rattle.std.proofs.Common.{◌≡◌, ◌≢◌, ◌+◌, ◌<◌, ◌≤◌, ◌⊎◌, inl, inr, ℕ, zero, suc, pos, ◌<ℤ◌, ◌≤ℤ◌, List, [], ◌∷◌, ◌++◌, AllPairs, Contains, length, take, drop, get_or, refl, sym, ◌∙◌, subst, ap, arith, eq-or-lt_of_le}
+use Rattle.std.proofs.lemmas.Int.{by_lt_z}
 use Rattle.std.proofs.lemmas.List.{get_or_default, get_or_read}
-use Rattle.range_plane.specs.Plane.{Position, origin, turn}
+use Rattle.std.proofs.lemmas.List.Elements.{Contains-get_or}
+use Rattle.range_plane.specs.Plane.{Position, origin, turn, IsAtMost}
 use Rattle.range_plane.specs.Covering.{Covers}
 use Rattle.range_plane.specs.Polygon.{IsExtreme, IsLeast, IsPolygon, without}
 use Rattle.integers_and_lists.proofs.Integers.{linear}
 use Rattle.integers_and_lists.proofs.Members.{here, there, nowhere, contained, each}
 use Rattle.range_plane.proofs.Rising.{rising}
+use Rattle.range_plane.proofs.AtMost.{at_most_itself, at_most_one_way, through_most}
 use Rattle.range_plane.proofs.RoundLeast.{ahead, one_before, pairs_with, polygon_round, transitive_round}
+use Rattle.range_plane.proofs.Separation.{IsSeparated, covered_or_separated, not_both}
+use Rattle.range_plane.proofs.Without.{equal_or_apart}
 use Rattle.range_plane.proofs.Unique.{from_head, in_rest}
 
 -- a list with x put in at a place
@@ -105,6 +110,71 @@ module _ (S : List Position) (c : Position) (l : IsLeast S c) where
           let m = o.0.member in
           let same : get_or S m.0 origin ≡ x = get_or_default S m.0 origin x m.1 ∙ m.2 in
           subst (Contains (drop 1 L)) same (r.all m.0 (omega (arith, m.1)) (subst (IsOther S c) (sym same) o))
+
+  -- ---- such a list for each set
+  -- where x goes: behind those that come before it
+  place_for : (R : List Position) (x : Position) → (k : ℕ) × ((j : ℕ) → j < k → j < length R → InOrder (get_or R j origin) x) × (k < length R → turn c (get_or R k origin) x ≤ℤ pos 0)
+  place_for [] x = (0, λ j h w. absurd (omega arith), λ w. absurd (omega arith))
+  place_for (r ∷ R) x = by_lt_z (pos 0) (turn c r x) (λ h. behind h (place_for R x)) (λ h. (0, λ j g w. absurd (omega arith), λ w. h))
+    where
+      behind : InOrder r x → ((k : ℕ) × ((j : ℕ) → j < k → j < length R → InOrder (get_or R j origin) x) × (k < length R → turn c (get_or R k origin) x ≤ℤ pos 0))
+          → (k : ℕ) × ((j : ℕ) → j < k → j < length (r ∷ R) → InOrder (get_or (r ∷ R) j origin) x) × (k < length (r ∷ R) → turn c (get_or (r ∷ R) k origin) x ≤ℤ pos 0)
+      behind h f = (suc f.0, before, λ w. f.2 (omega arith))
+        where
+          before : (j : ℕ) → j < suc f.0 → j < length (r ∷ R) → InOrder (get_or (r ∷ R) j origin) x
+          before zero g w = h
+          before (suc j) g w = f.1 j (omega arith) (omega arith)
+
+  among : (x : Position) (R : List Position) → Contains R x ⊎ ((y : Position) → Contains R y → x ≢ y)
+  among x [] = inr (λ y m. absurd (nowhere y m))
+  among x (r ∷ R) = go (equal_or_apart x r) (among x R)
+    where
+      go : (x ≡ r) ⊎ (x ≢ r) → Contains R x ⊎ ((y : Position) → Contains R y → x ≢ y) → Contains (r ∷ R) x ⊎ ((y : Position) → Contains (r ∷ R) y → x ≢ y)
+      go (inl e) m = inl (subst (Contains (r ∷ R)) (sym e) (here r R))
+      go (inr a) (inl m) = inl (there r R x m)
+      go (inr a) (inr m) = inr (each (λ y. x ≢ y) r R a m)
+
+  step : (n : ℕ) (R : List Position) → n < length S → IsRound S c n (c ∷ R) → (R' : List Position) × IsRound S c (n + 1) (c ∷ R')
+  step n R within r = go (equal_or_apart p c) (covered_or_separated (without p S) p) (among p R)
+    where
+      p : Position
+      p = get_or S n origin
+
+      is : p ≡ get_or S n p
+      is = get_or_default S n origin p within
+
+      go : (p ≡ c) ⊎ (p ≢ c) → Covers (without p S) p ⊎ IsSeparated (without p S) p → Contains R p ⊎ ((y : Position) → Contains R y → p ≢ y) → (R' : List Position) × IsRound S c (n + 1) (c ∷ R')
+      go (inl e) w m = (R, round-same n (c ∷ R) p r within is (λ o. absurd (o.1 e)))
+      go (inr a) (inl h) m = (R, round-same n (c ∷ R) p r within is (λ o. absurd (o.0.needed h)))
+      go (inr a) (inr s) (inl m) = (R, round-same n (c ∷ R) p r within is (λ o. m))
+      go (inr a) (inr s) (inr new) =
+          let k = place_for R p in
+          (put R k.0 p, round-next n R k.0 p r within is (record { member = Contains-get_or S n origin within; needed = λ h. not_both (without p S) p s.direction h s.ahead }, a) new k.1 k.2)
+
+  rounds : (n : ℕ) → n ≤ length S → (R : List Position) × IsRound S c n (c ∷ R)
+  rounds zero h = ([], round-start)
+  rounds (suc n) h =
+      let r = rounds n (omega arith) in
+      let t = step n r.0 (omega arith) r.1 in
+      (t.0, subst (λ m. IsRound S c m (c ∷ t.0)) (let e : n + 1 ≡ suc n = omega arith in e) t.1)
+
+  pub polygon_from_least : (L : List Position) × IsPolygon S L
+  polygon_from_least = let r = rounds (length S) (omega arith) in (c ∷ r.0, round-all (length S) (c ∷ r.0) r.1 (omega arith))
+
+least_of : (s : Position) (S : List Position) → (c : Position) × IsLeast (s ∷ S) c
+least_of s [] = (s, record { member = here s []; least = each (IsAtMost s) s [] (at_most_itself s) (λ x m. absurd (nowhere x m)) })
+least_of s (t ∷ S) = go (least_of t S)
+  where
+    go : ((c : Position) × IsLeast (t ∷ S) c) → (c : Position) × IsLeast (s ∷ t ∷ S) c
+    go (c, l) = pick (at_most_one_way s c)
+      where
+        pick : IsAtMost s c ⊎ IsAtMost c s → (c : Position) × IsLeast (s ∷ t ∷ S) c
+        pick (inl h) = (s, record { member = here s (t ∷ S); least = each (IsAtMost s) s (t ∷ S) (at_most_itself s) (λ x m. through_most s c x h (l.least x m)) })
+        pick (inr h) = (c, record { member = there s (t ∷ S) c l.member; least = each (IsAtMost c) s (t ∷ S) h l.least })
+
+pub polygon_of : (S : List Position) → (L : List Position) × IsPolygon S L
+polygon_of [] = ([], record { corners = λ x. (λ m. absurd (nowhere x m), λ e. absurd (nowhere x e.member)); distinct = λ i j d h k. absurd (omega arith); least_first = tt; convex = λ i j k d g h n. absurd (omega arith) })
+polygon_of (s ∷ S) = let c = least_of s S in polygon_from_least (s ∷ S) c.0 c.1
 
 -- the list goes round its first member, which is the least of the set, through the corners among the first n points
 pub record GoesRound (S : List Position) (n : ℕ) (L : List Position) : Type 0 where

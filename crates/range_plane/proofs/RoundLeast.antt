@@ -1,16 +1,15 @@
--- The extreme points in their order round the least point of the set are its polygon; and so each set has one.
-use Rattle.std.proofs.Common.{◌≡◌, ◌≢◌, refl, sym, ap, ◌∙◌, subst, ℕ, zero, suc, ◌<◌, length, get_or, ℤ, pos, ◌-ℤ◌, ◌*ℤ◌, ◌≤ℤ◌, ◌<ℤ◌, ◌↔◌, List, [], ◌∷◌, Contains, AllPairs, ◌⊎◌, inl, inr, arith, le_of_suc-le-suc}
+-- The order of corners round the least point of the set: of two one comes before the other, and in this order they are the polygon.
+use Rattle.std.proofs.Common.{◌≡◌, ◌≢◌, sym, ap, ◌∙◌, subst, ℕ, zero, suc, ◌<◌, length, get_or, ℤ, pos, ◌-ℤ◌, ◌*ℤ◌, ◌≤ℤ◌, ◌<ℤ◌, ◌↔◌, List, [], ◌∷◌, Contains, AllPairs, ◌⊎◌, inl, inr, arith, le_of_suc-le-suc}
 use Rattle.std.proofs.lemmas.Int.{by_lt_z}
 use Rattle.std.proofs.lemmas.List.Elements.{Contains-get_or}
-use Rattle.range_plane.specs.Covering.{Covers, IsOnSegment}
-use Rattle.range_plane.specs.Plane.{Position, turn, IsAtMost}
+use Rattle.range_plane.specs.Covering.{IsOnSegment}
+use Rattle.range_plane.specs.Plane.{Position, turn}
 use Rattle.range_plane.specs.Polygon.{IsLeast, IsExtreme, without, TurnsLeft, IsPolygon}
 use Rattle.range_plane.specs.Covering.Covers.{by_segment, by_triangle}
 use Rattle.integers_and_lists.proofs.Integers.{linear, Sign, sign, positive_product, nonneg_product, positive_factor, product_comm}
 use Rattle.integers_and_lists.proofs.Integers.Sign.{negative, naught, positive}
-use Rattle.integers_and_lists.proofs.Members.{here, there, nowhere, contained, each}
-use Rattle.range_plane.proofs.Separation.{IsSeparated, not_both, covered_or_separated}
-use Rattle.range_plane.proofs.Unique.{from_head, in_rest}
+use Rattle.integers_and_lists.proofs.Members.{here, there, each}
+use Rattle.range_plane.proofs.Separation.{not_both}
 use Rattle.range_plane.proofs.Rising.{rising}
 use Rattle.integers_and_lists.proofs.Ring.{var, ◌⊖◌, ◌⊗◌, ring}
 use Rattle.range_plane.proofs.Vectors.{cross, dot, from, across, along, turn-round, facing_round, nonneg_norm, turn_swap, turn_cycle, turn_self, turn_end}
@@ -125,116 +124,3 @@ module _ (S : List Position) (c : Position) (l : IsLeast S c) where
       convex (suc i) (suc j) (suc k) d g h n =
           turns_left_round (get_or R i d) (get_or R j d) (get_or R k d) (place i d (omega arith)).0 (place j d (omega arith)).0 (place k d (le_of_suc-le-suc n)).0
           (pairs i j d (le_of_suc-le-suc g) (omega arith)) (pairs j k d (le_of_suc-le-suc h) (le_of_suc-le-suc n)) (pairs i k d (omega arith) (le_of_suc-le-suc n))
-
-  -- ---- such an order exists
-  IsOther : Position → Type 0
-  IsOther x = IsExtreme S x × (x ≢ c)
-
-  -- R has the members of X that are corners other than c, in their order
-  record IsOrdered (X R : List Position) : Type 0 where
-    others : (x : Position) → Contains R x → IsOther x
-    all : (x : Position) → Contains X x → IsOther x → Contains R x
-    pairs : AllPairs (λ x y. pos 0 <ℤ turn c x y) R
-
-  -- R' has the members of R and x
-  record IsPlaced (x : Position) (R R' : List Position) : Type 0 where
-    only : (y : Position) → Contains R' y → (y ≡ x) ⊎ Contains R y
-    new : Contains R' x
-    old : (y : Position) → Contains R y → Contains R' y
-    pairs : AllPairs (λ x y. pos 0 <ℤ turn c x y) R'
-
-  place_in : (x : Position) (R : List Position) → IsOther x → ((y : Position) → Contains R y → IsOther y) → AllPairs (λ x y. pos 0 <ℤ turn c x y) R → (R' : List Position) × IsPlaced x R R'
-  unfolding IsOther
-  place_in x [] ox oR p = (x ∷ [], record { only = contained x []; new = here x []; old = λ y m. absurd (nowhere y m); pairs = pairs_with (λ x y. pos 0 <ℤ turn c x y) x [] (λ y m. absurd (nowhere y m)) p })
-  place_in x (y ∷ R) ox oR p = go (equal_or_apart x y) (place_in x R ox (λ z m. oR z (there y R z m)) (in_rest (λ x y. pos 0 <ℤ turn c x y) y R p))
-    where
-      before : (z : Position) → Contains R z → pos 0 <ℤ turn c y z
-      before = from_head (λ x y. pos 0 <ℤ turn c x y) y R p
-
-      ahead_of : (z : Position) → IsOther z → pos 0 <ℤ dot (rising S).direction (from c z)
-      ahead_of z o = ahead z o.0.member o.1
-
-      split : x ≢ y → (pos 0 <ℤ turn c x y) ⊎ (pos 0 <ℤ turn c y x) → ((R' : List Position) × IsPlaced x R R') → (R' : List Position) × IsPlaced x (y ∷ R) R'
-      split a (inl h) r = (
-        x ∷ y ∷ R,
-        record {
-          only = contained x (y ∷ R);
-          new = here x (y ∷ R);
-          old = there x (y ∷ R);
-          pairs = pairs_with (λ x y. pos 0 <ℤ turn c x y) x (y ∷ R) (each (λ z. pos 0 <ℤ turn c x z) y R h (λ z m. transitive_round (rising S).direction c x y z (ahead_of x ox) (ahead_of y (oR y (here y R))) (ahead_of z (oR z (there y R z m))) h (before z m))) p;
-        },
-      )
-      split a (inr h) r = (
-        y ∷ r.0,
-        record {
-          only = λ z m. elim (contained y r.0 z m) [ inl e ↦ inr (subst (Contains (y ∷ R)) (sym e) (here y R)) | inr k ↦ elim (r.1.only z k) [ inl e ↦ inl e | inr n ↦ inr (there y R z n) ] ];
-          new = there y r.0 x r.1.new;
-          old = each (Contains (y ∷ r.0)) y R (here y r.0) (λ z m. there y r.0 z (r.1.old z m));
-          pairs = pairs_with (λ x y. pos 0 <ℤ turn c x y) y r.0 (λ z m. elim (r.1.only z m) [ inl e ↦ subst (λ v. pos 0 <ℤ turn c y v) (sym e) h | inr k ↦ before z k ]) r.1.pairs;
-        },
-      )
-
-      go : (x ≡ y) ⊎ (x ≢ y) → ((R' : List Position) × IsPlaced x R R') → (R' : List Position) × IsPlaced x (y ∷ R) R'
-      go (inl e) r = (y ∷ R, record { only = λ z m. inr m; new = subst (Contains (y ∷ R)) (sym e) (here y R); old = λ z m. m; pairs = p })
-      go (inr a) r = split a (one_before x y ox.0 (oR y (here y R)).0 ox.1 (oR y (here y R)).1 a) r
-
-  is_other : (x : Position) → Contains S x → IsOther x ⊎ ¬ (IsOther x)
-  unfolding IsOther
-  is_other x m = go (equal_or_apart x c) (covered_or_separated (without x S) x)
-    where
-      go : (x ≡ c) ⊎ (x ≢ c) → Covers (without x S) x ⊎ IsSeparated (without x S) x → IsOther x ⊎ ¬ (IsOther x)
-      go (inl e) w = inr (λ o. o.1 e)
-      go (inr a) (inl h) = inr (λ o. o.0.needed h)
-      go (inr a) (inr s) = inl (record { member = m; needed = λ h. not_both (without x S) x s.direction h s.ahead }, a)
-
-  order : (X : List Position) → ((x : Position) → Contains X x → Contains S x) → (R : List Position) × IsOrdered X R
-  order [] sub = ([], record { others = λ x m. absurd (nowhere x m); all = λ x m. absurd (nowhere x m); pairs = λ i j d h k. absurd (omega arith) })
-  order (x ∷ X) sub = go (is_other x (sub x (here x X))) (order X (λ z m. sub z (there x X z m)))
-    where
-      go : IsOther x ⊎ ¬ (IsOther x) → ((R : List Position) × IsOrdered X R) → (R : List Position) × IsOrdered (x ∷ X) R
-      go (inl o) r =
-          let p = place_in x r.0 o r.1.others r.1.pairs in (
-            p.0,
-            record {
-              others = λ z m. elim (p.1.only z m) [ inl e ↦ subst IsOther (sym e) o | inr k ↦ r.1.others z k ];
-              all = each (λ z. IsOther z → Contains p.0 z) x X (λ w. p.1.new) (λ z m w. p.1.old z (r.1.all z m w));
-              pairs = p.1.pairs;
-            },
-          )
-      go (inr a) r = (r.0, record { others = r.1.others; all = each (λ z. IsOther z → Contains r.0 z) x X (λ w. absurd (a w)) r.1.all; pairs = r.1.pairs })
-
-  pub polygon_from_least : (L : List Position) × IsPolygon S L
-  unfolding IsOther
-  polygon_from_least = let r = order S (λ x m. m) in (c ∷ r.0, polygon_round r.0 (λ x. (r.1.others x, λ o. r.1.all x o.0.member o)) r.1.pairs)
-
--- ---- the least member
-pub at_most_one_way : (a b : Position) → IsAtMost a b ⊎ IsAtMost b a
-at_most_one_way a b =
-    by_lt_z a.e b.e (λ h. inl (inl h))
-    (λ h. by_lt_z b.e a.e (λ k. inr (inl k))
-    (λ k. let e : a.e ≡ b.e = omega (arith, linear) in
-    by_lt_z a.n b.n (λ m. inl (inr (e, omega (arith, linear)))) (λ m. inr (inr (sym e, m)))))
-
-pub through_most : (a b c : Position) → IsAtMost a b → IsAtMost b c → IsAtMost a c
-through_most a b c (inl h) (inl k) = inl (omega (arith, linear))
-through_most a b c (inl h) (inr k) = let e = k.0 in inl (omega (arith, linear))
-through_most a b c (inr h) (inl k) = let e = h.0 in inl (omega (arith, linear))
-through_most a b c (inr h) (inr k) = let p = h.1 in let q = k.1 in inr (h.0 ∙ k.0, omega (arith, linear))
-
-pub at_most_itself : (a : Position) → IsAtMost a a
-at_most_itself a = inr (refl, omega (arith, linear))
-
-least_of : (s : Position) (S : List Position) → (c : Position) × IsLeast (s ∷ S) c
-least_of s [] = (s, record { member = here s []; least = each (IsAtMost s) s [] (at_most_itself s) (λ x m. absurd (nowhere x m)) })
-least_of s (t ∷ S) = go (least_of t S)
-  where
-    go : ((c : Position) × IsLeast (t ∷ S) c) → (c : Position) × IsLeast (s ∷ t ∷ S) c
-    go (c, l) = pick (at_most_one_way s c)
-      where
-        pick : IsAtMost s c ⊎ IsAtMost c s → (c : Position) × IsLeast (s ∷ t ∷ S) c
-        pick (inl h) = (s, record { member = here s (t ∷ S); least = each (IsAtMost s) s (t ∷ S) (at_most_itself s) (λ x m. through_most s c x h (l.least x m)) })
-        pick (inr h) = (c, record { member = there s (t ∷ S) c l.member; least = each (IsAtMost c) s (t ∷ S) h l.least })
-
-pub polygon_of : (S : List Position) → (L : List Position) × IsPolygon S L
-polygon_of [] = ([], record { corners = λ x. (λ m. absurd (nowhere x m), λ e. absurd (nowhere x e.member)); distinct = λ i j d h k. absurd (omega arith); least_first = tt; convex = λ i j k d g h n. absurd (omega arith) })
-polygon_of (s ∷ S) = let c = least_of s S in polygon_from_least (s ∷ S) c.0 c.1

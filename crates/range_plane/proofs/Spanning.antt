@@ -10,7 +10,7 @@ use Rattle.range_plane.proofs.HalfPlanes.{in_half_plane, left_of_edge, left_of_c
 use Rattle.integers_and_lists.proofs.Integers.{linear, at_least_product, nonneg_product, nonpos_nonpos, product_comm, neg_product}
 use Rattle.integers_and_lists.proofs.Members.{here, there}
 use Rattle.range_plane.proofs.Rising.{rising, IsRising}
-use Rattle.range_plane.proofs.RoundLeast.{through_most}
+use Rattle.range_plane.proofs.AtMost.{through_most}
 use Rattle.range_plane.proofs.Separation.{covers_every_way}
 use Rattle.range_plane.proofs.Unique.{least_alone}
 use Rattle.range_plane.proofs.Vectors.{cross, dot, from, turn_at, dot_from, dot_origin, swing}

@@ -9,7 +9,7 @@ use Rattle.range_plane.proofs.Ends.{at_most_or_before, first_least}
 use Rattle.integers_and_lists.proofs.Integers.{linear, nonneg_product, nonpos_product, positive_product}
 use Rattle.integers_and_lists.proofs.Members.{nowhere}
 use Rattle.range_plane.proofs.Rising.{rising, IsRising}
-use Rattle.range_plane.proofs.RoundLeast.{at_most_itself, through_most}
+use Rattle.range_plane.proofs.AtMost.{at_most_itself, through_most}
 use Rattle.range_plane.proofs.SmallSets.{one_of_one}
 use Rattle.range_plane.proofs.Spanning.{at_member, not_behind}
 use Rattle.range_plane.proofs.Vectors.{dot, from, dot_from, dot_origin, turn_four}

@@ -3,7 +3,7 @@ use Rattle.std.specs.Bool.{OnFalse, OnTrue}
 use Rattle.std.proofs.lemmas.List.{get_or_read}
 use Rattle.range_plane.specs.Edges.{at}
 use Rattle.range_plane.specs.Plane.{Position, origin, IsAtMost, IsBefore}
-use Rattle.range_plane.proofs.RoundLeast.{through_most}
+use Rattle.range_plane.proofs.AtMost.{through_most}
 use Rattle.range_plane.proofs.Searching.{around, halved}
 use Rattle.range_plane.proofs.Spanning.{before_through, through_before}
 use Rattle.range_plane.proofs.Tops.{falls_from_top, rises_to_top}
