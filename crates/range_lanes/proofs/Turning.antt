@@ -6,7 +6,7 @@ use Rattle.std.proofs.lemmas.Int.{ints}
 use Rattle.std.proofs.lemmas.Simd.{map-map, zip2-map, Each1-weaker}
 use Rattle.range_plane.specs.Plane.{IsCoordinate, Position, turn, coordinate_limit, product_limit, turn_limit}
 use Rattle.std.specs.Ordering.{int_eq}
-use Rattle.range_plane.specs.Covering.{facing, is_on_segment}
+use Rattle.range_plane.specs.Covering.{scalar_product, is_on_segment}
 use Rattle.integers_and_lists.proofs.Integers.{linear, neg_product, product_comm}
 use Rattle.integers_and_lists.proofs.Sizes.{abs_add, abs_difference, abs_mul, abs_sub, difference_kept}
 use Rattle.range_lanes.specs.Lanes.{IsWithin, is_not_negative}
@@ -33,19 +33,19 @@ product_back x a b =
     let second : x -ℤ b ≡ neg_ℤ (b -ℤ x) = omega (arith, linear) in
     rw (first, second) (omega (arith, linear, neg_product (neg_ℤ (a -ℤ x)) (b -ℤ x), product_comm (neg_ℤ (a -ℤ x)) (b -ℤ x), neg_product (b -ℤ x) (a -ℤ x), product_comm (b -ℤ x) (a -ℤ x)))
 
-facing_back : (a b q : Position) → ((q.e -ℤ a.e) *ℤ (q.e -ℤ b.e)) +ℤ ((q.n -ℤ a.n) *ℤ (q.n -ℤ b.n)) ≡ facing q a b
-unfolding facing
-facing_back a b q = omega (arith, linear, product_back q.e a.e b.e, product_back q.n a.n b.n)
+scalar_product_back : (a b q : Position) → ((q.e -ℤ a.e) *ℤ (q.e -ℤ b.e)) +ℤ ((q.n -ℤ a.n) *ℤ (q.n -ℤ b.n)) ≡ scalar_product q a b
+unfolding scalar_product
+scalar_product_back a b q = omega (arith, linear, product_back q.e a.e b.e, product_back q.n a.n b.n)
 
-pub facings_value : (a b : Position) (vs : List Position) (east east' north north' s t r : List ℤ)
+pub scalar_products_value : (a b : Position) (vs : List Position) (east east' north north' s t r : List ℤ)
     → east ≡ map (λ p. p.e -ℤ a.e) vs → east' ≡ map (λ p. p.e -ℤ b.e) vs → north ≡ map (λ p. p.n -ℤ a.n) vs → north' ≡ map (λ p. p.n -ℤ b.n) vs
-    → s ≡ zip2 ◌*ℤ◌ east east' → t ≡ zip2 ◌*ℤ◌ north north' → r ≡ zip2 ◌+ℤ◌ s t → r ≡ map (λ q. facing q a b) vs
-facings_value a b vs east east' north north' s t r he he' hn hn' hs ht hr =
+    → s ≡ zip2 ◌*ℤ◌ east east' → t ≡ zip2 ◌*ℤ◌ north north' → r ≡ zip2 ◌+ℤ◌ s t → r ≡ map (λ q. scalar_product q a b) vs
+scalar_products_value a b vs east east' north north' s t r he he' hn hn' hs ht hr =
     let first = hs ∙ ap (λ l. zip2 ◌*ℤ◌ l east') he ∙ ap (zip2 ◌*ℤ◌ (map (λ p. p.e -ℤ a.e) vs)) he' ∙ zip2-map ◌*ℤ◌ (λ (p : Position). p.e -ℤ a.e) (λ (p : Position). p.e -ℤ b.e) vs in
     let second = ht ∙ ap (λ l. zip2 ◌*ℤ◌ l north') hn ∙ ap (zip2 ◌*ℤ◌ (map (λ p. p.n -ℤ a.n) vs)) hn' ∙ zip2-map ◌*ℤ◌ (λ (p : Position). p.n -ℤ a.n) (λ (p : Position). p.n -ℤ b.n) vs in
     hr ∙ ap (λ l. zip2 ◌+ℤ◌ l t) first ∙ ap (zip2 ◌+ℤ◌ (map (λ p. (p.e -ℤ a.e) *ℤ (p.e -ℤ b.e)) vs)) second
     ∙ zip2-map ◌+ℤ◌ (λ (p : Position). (p.e -ℤ a.e) *ℤ (p.e -ℤ b.e)) (λ (p : Position). (p.n -ℤ a.n) *ℤ (p.n -ℤ b.n)) vs
-    ∙ map_same (λ p. ((p.e -ℤ a.e) *ℤ (p.e -ℤ b.e)) +ℤ ((p.n -ℤ a.n) *ℤ (p.n -ℤ b.n))) (λ q. facing q a b) (facing_back a b) vs
+    ∙ map_same (λ p. ((p.e -ℤ a.e) *ℤ (p.e -ℤ b.e)) +ℤ ((p.n -ℤ a.n) *ℤ (p.n -ℤ b.n))) (λ q. scalar_product q a b) (scalar_product_back a b) vs
 
 -- ---- sizes
 -- a difference of two coordinates, as code over i64 passes it on
@@ -105,9 +105,9 @@ naught_signs (pos zero) = refl
 naught_signs (pos (suc n)) = grind (arith, ints)
 naught_signs (negsuc n) = grind (arith, ints)
 
-pub segment_signs : (a b : Position) (vs : List Position) (t f nt nf m z : List ℤ) → t ≡ map (turn a b) vs → f ≡ map (λ q. facing q a b) vs → nt ≡ map (λ x. pos 0 -ℤ x) t → nf ≡ map (λ x. pos 0 -ℤ x) f → m ≡ zip2 int_min nt t → z ≡ zip2 int_min m nf
+pub segment_signs : (a b : Position) (vs : List Position) (t f nt nf m z : List ℤ) → t ≡ map (turn a b) vs → f ≡ map (λ q. scalar_product q a b) vs → nt ≡ map (λ x. pos 0 -ℤ x) t → nf ≡ map (λ x. pos 0 -ℤ x) f → m ≡ zip2 int_min nt t → z ≡ zip2 int_min m nf
     → map is_not_negative z ≡ map (λ q. is_on_segment q a b) vs
 segment_signs a b vs t f nt nf m z ht hf hnt hnf hm hz =
     let straight = both_signs (λ q. int_le (turn a b q) (pos 0)) (λ q. is_not_negative (turn a b q)) vs nt t m (signs_of_negated (turn a b) vs t nt ht hnt) (signs_of_map (turn a b) vs t ht) hm in
-    both_signs (λ q. int_le (turn a b q) (pos 0) && is_not_negative (turn a b q)) (λ q. int_le (facing q a b) (pos 0)) vs m nf z straight (signs_of_negated (λ q. facing q a b) vs f nf hf hnf) hz
-    ∙ map_same (λ q. (int_le (turn a b q) (pos 0) && is_not_negative (turn a b q)) && int_le (facing q a b) (pos 0)) (λ q. is_on_segment q a b) (λ q. ap (λ s. s && int_le (facing q a b) (pos 0)) (naught_signs (turn a b q))) vs
+    both_signs (λ q. int_le (turn a b q) (pos 0) && is_not_negative (turn a b q)) (λ q. int_le (scalar_product q a b) (pos 0)) vs m nf z straight (signs_of_negated (λ q. scalar_product q a b) vs f nf hf hnf) hz
+    ∙ map_same (λ q. (int_le (turn a b q) (pos 0) && is_not_negative (turn a b q)) && int_le (scalar_product q a b) (pos 0)) (λ q. is_on_segment q a b) (λ q. ap (λ s. s && int_le (scalar_product q a b) (pos 0)) (naught_signs (turn a b q))) vs

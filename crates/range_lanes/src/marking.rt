@@ -2,7 +2,7 @@
 
 ghost use Rattle.std.specs.Prelude.{◌≡◌, ◌<◌, length, map};
 ghost use Rattle.std.specs.Simd.Lanes.{Each1};
-ghost use Rattle.range_plane.specs.Covering.{facing, is_covered, is_on_segment};
+ghost use Rattle.range_plane.specs.Covering.{scalar_product, is_covered, is_on_segment};
 ghost use Rattle.range_plane.specs.Plane.{turn, turn_limit};
 ghost use Rattle.range_plane.specs.Polygon.{IsPolygon};
 ghost use Rattle.range_lanes.specs.Lanes.{IsWithin, is_not_negative};
@@ -37,8 +37,8 @@ fn margins_of_segment(a: Point, b: Point, block: &Block) -> Lanes
     ensures { map is_not_negative result ≡ map (λ q. is_on_segment q a b) block.now }
 {
     let turned = turns(a, b, block);
-    let facings = facings(a, b, block);
-    turned.negated().least(turned).least(facings.negated())
+    let products = scalar_products(a, b, block);
+    turned.negated().least(turned).least(products.negated())
 }
 
 // The same for three or more corners: the least of the point's turns from all edges.
@@ -69,10 +69,10 @@ fn turns(a: Point, b: Point, block: &Block) -> Lanes
     by_north.minus(by_east)
 }
 
-// `facing` of each point, `a` and `b`.
+// `scalar_product` of each point, `a` and `b`.
 #[inline(always)]
-fn facings(a: Point, b: Point, block: &Block) -> Lanes
-    ensures value { result ≡ map (λ q. facing q a b) block.now }
+fn scalar_products(a: Point, b: Point, block: &Block) -> Lanes
+    ensures value { result ≡ map (λ q. scalar_product q a b) block.now }
     ensures small { Each1 (IsWithin turn_limit) result }
 {
     let along_e = block.east_of(a.e).times(block.east_of(b.e));

@@ -4,7 +4,7 @@ use mir.Val.{to_z, of_z}
 use Rattle.std.proofs.lemmas.Int.{to_z-of_z}
 use Rattle.integers_and_lists.proofs.Sizes.{abs_add, abs_difference, abs_mul, abs_sub, difference_kept, fits_from_size, kept}
 use Rattle.range_plane.specs.Plane.{Position, IsCoordinate, IsWithinLimits, coordinate_limit, product_limit, turn_limit, turn}
-use Rattle.range_plane.specs.Covering.{facing}
+use Rattle.range_plane.specs.Covering.{scalar_product}
 
 pub abs_product : (a b c d : ℤ) → IsCoordinate a → IsCoordinate b → IsCoordinate c → IsCoordinate d → unsigned_abs ((a -ℤ b) *ℤ (c -ℤ d)) ≤ product_limit
 abs_product a b c d fa fb fc fd =
@@ -17,9 +17,9 @@ abs_turn a b c fa fb fc =
     (abs_product b.e a.e c.n a.n fb.0 fa.0 fc.1 fa.1)
     (abs_product b.n a.n c.e a.e fb.1 fa.1 fc.0 fa.0)
 
-pub abs_facing : (q a b : Position) → IsWithinLimits q → IsWithinLimits a → IsWithinLimits b → unsigned_abs (facing q a b) ≤ turn_limit
-unfolding facing
-abs_facing q a b fq fa fb =
+pub abs_scalar_product : (q a b : Position) → IsWithinLimits q → IsWithinLimits a → IsWithinLimits b → unsigned_abs (scalar_product q a b) ≤ turn_limit
+unfolding scalar_product
+abs_scalar_product q a b fq fa fb =
     abs_add ((a.e -ℤ q.e) *ℤ (b.e -ℤ q.e)) ((a.n -ℤ q.n) *ℤ (b.n -ℤ q.n)) product_limit product_limit
     (abs_product a.e q.e b.e q.e fa.0 fq.0 fb.0 fq.0)
     (abs_product a.n q.n b.n q.n fa.1 fq.1 fb.1 fq.1)
@@ -40,5 +40,5 @@ product_is x y h = to_z-of_z w64 (x *ℤ y) (product_fits (x *ℤ y) h)
 pub turn_fits : (a b c : Position) → IsWithinLimits a → IsWithinLimits b → IsWithinLimits c → FitsSigned w64 (turn a b c)
 turn_fits a b c fa fb fc = fits_from_size turn_limit (lit< tt) (turn a b c) (abs_turn a b c fa fb fc)
 
-pub facing_fits : (q a b : Position) → IsWithinLimits q → IsWithinLimits a → IsWithinLimits b → FitsSigned w64 (facing q a b)
-facing_fits q a b fq fa fb = fits_from_size turn_limit (lit< tt) (facing q a b) (abs_facing q a b fq fa fb)
+pub scalar_product_fits : (q a b : Position) → IsWithinLimits q → IsWithinLimits a → IsWithinLimits b → FitsSigned w64 (scalar_product q a b)
+scalar_product_fits q a b fq fa fb = fits_from_size turn_limit (lit< tt) (scalar_product q a b) (abs_scalar_product q a b fq fa fb)

@@ -5,7 +5,7 @@ use Rattle.std.specs.Prelude.{int_le, int_lt}
 use Rattle.std.specs.Cmp.{signed_Decides}
 use Rattle.std.specs.List.{list_any}
 use Rattle.std.proofs.lemmas.Bool.Decides.{Decides-and, Decides-like, Decides-or}
-use Rattle.range_plane.specs.Covering.{Covers, IsInTriangle, IsOnSegment, facing, is_covered, is_in_triangle, is_on_segment}
+use Rattle.range_plane.specs.Covering.{Covers, IsInTriangle, IsOnSegment, scalar_product, is_covered, is_in_triangle, is_on_segment}
 use Rattle.range_plane.specs.Covering.Covers.{by_segment, by_triangle}
 use Rattle.range_plane.specs.Plane.{Position, turn}
 use Rattle.range_plane.specs.Polygon.{same_position}
@@ -39,7 +39,7 @@ some-decided p P each (s ∷ S) = Decides-like (list_any p (s ∷ S)) to back (D
 pub segment-decided : (q a b : Position) → Decides (is_on_segment q a b) (IsOnSegment q a b)
 segment-decided q a b =
     Decides-like (is_on_segment q a b) (λ h. record { straight = h.0; between = h.1 }) (λ s. (s.straight, s.between))
-    (Decides-and _ _ (signed_Decides (turn a b q) (pos 0)) (at-most-decided (facing q a b) (pos 0)))
+    (Decides-and _ _ (signed_Decides (turn a b q) (pos 0)) (at-most-decided (scalar_product q a b) (pos 0)))
 
 pub triangle-decided : (q a b c : Position) → Decides (is_in_triangle q a b c) (IsInTriangle q a b c)
 triangle-decided q a b c =

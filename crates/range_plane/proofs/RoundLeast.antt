@@ -12,7 +12,7 @@ use Rattle.integers_and_lists.proofs.Members.{here, there, each}
 use Rattle.range_plane.proofs.Separation.{not_both}
 use Rattle.range_plane.proofs.Rising.{rising}
 use Rattle.integers_and_lists.proofs.Ring.{var, ◌⊖◌, ◌⊗◌, ring}
-use Rattle.range_plane.proofs.Vectors.{cross, dot, from, across, along, turn-round, facing_round, nonneg_norm, turn_swap, turn_cycle, turn_self, turn_end}
+use Rattle.range_plane.proofs.Vectors.{cross, dot, from, across, along, turn-round, scalar_product_round, nonneg_norm, turn_swap, turn_cycle, turn_self, turn_end}
 use Rattle.range_plane.proofs.Without.{equal_or_apart, without_keeps, without_has}
 use lib.IntN.{zero-*ℤ}
 
@@ -43,7 +43,7 @@ nearer_covered d c x y hx h e =
     by_lt_z (dot u v) (dot u u)
     (λ k. absurd (omega (arith, linear, along u v d, ap (λ (z : ℤ). z *ℤ cross u d) flat, zero-*ℤ (cross u d), nonneg_product (dot u u) (dot d v -ℤ dot d u) (nonneg_norm u) (omega (arith, linear)), positive_product (dot u u -ℤ dot u v) (dot d u) (omega (arith, linear)) hx, spread (dot u u) (dot d v) (dot d u), spread' (dot u u) (dot u v) (dot d u))))
     (λ k. k) in
-    record { straight = omega (arith, linear, turn_swap c x y); between = omega (arith, linear, facing_round c x y) }
+    record { straight = omega (arith, linear, turn_swap c x y); between = omega (arith, linear, scalar_product_round c x y) }
   where
     spread : (a b c : ℤ) → a *ℤ (b -ℤ c) ≡ a *ℤ b -ℤ a *ℤ c
     spread a b c = ring (a ∷ b ∷ c ∷ []) (var 0 ⊗ (var 1 ⊖ var 2)) (var 0 ⊗ var 1 ⊖ var 0 ⊗ var 2) tt

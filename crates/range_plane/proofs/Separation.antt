@@ -1,7 +1,7 @@
 -- A finite set covers a point or a direction strictly separates the two, and never both.
 use Rattle.std.proofs.Common.{◌≡◌, sym, ap, ◌∙◌, subst, ℤ, pos, ◌+ℤ◌, ◌*ℤ◌, ◌↔◌, ◌≤ℤ◌, ◌<ℤ◌, List, [], ◌∷◌, Contains, ◌⊎◌, inl, inr, arith}
 use Rattle.std.proofs.lemmas.Int.{by_lt_z}
-use Rattle.range_plane.proofs.Vectors.{cross, dot, from, inward, cross_flip, cross_self, cramer, along, dot_from, dot_inward, dot_origin, dot_reverse, reverse_of, turn-from, turn_at, facing_is, positive_norm, ahead_within, ahead_along, right_of, left_of}
+use Rattle.range_plane.proofs.Vectors.{cross, dot, from, inward, cross_flip, cross_self, cramer, along, dot_from, dot_inward, dot_origin, dot_reverse, reverse_of, turn-from, turn_at, scalar_product_is, positive_norm, ahead_within, ahead_along, right_of, left_of}
 use Rattle.range_plane.specs.Covering.{IsOnSegment, IsInTriangle, Covers, advance}
 use Rattle.range_plane.specs.Laws.{ReachesEveryWay}
 use Rattle.range_plane.specs.Plane.{Position, turn}
@@ -21,7 +21,7 @@ segment_behind q a b d s ha hb =
     let u = from q a in
     let v = from q b in
     let flat : cross u v ≡ pos 0 = sym (turn_at q a b) ∙ s.straight in
-    let opposite : dot u v ≤ℤ pos 0 = subst (λ (z : ℤ). z ≤ℤ pos 0) (facing_is q a b) s.between in
+    let opposite : dot u v ≤ℤ pos 0 = subst (λ (z : ℤ). z ≤ℤ pos 0) (scalar_product_is q a b) s.between in
     omega (arith, linear, along u v d, ap (λ (z : ℤ). z *ℤ cross u d) flat, zero-*ℤ (cross u d), positive_product (dot u u) (dot d v) (positive_norm d u ha) hb, nonpos_product (dot d u) (dot u v) (omega (arith, linear)) opposite, product_comm (dot u v) (dot d u))
 
 triangle_behind : (q a b c d : Position) → IsInTriangle q a b c → pos 0 <ℤ dot d (from q a) → pos 0 <ℤ dot d (from q b) → pos 0 <ℤ dot d (from q c) → ⊥
@@ -64,7 +64,7 @@ wider S T q f (by_segment a b ma mb s) = by_segment a b (f a ma) (f b mb) s
 wider S T q f (by_triangle a b c ma mb mc t) = by_triangle a b c (f a ma) (f b mb) (f c mc) t
 
 pub segment_from : (q a b : Position) → cross (from q a) (from q b) ≡ pos 0 → dot (from q a) (from q b) ≤ℤ pos 0 → IsOnSegment q a b
-segment_from q a b e h = record { straight = turn_at q a b ∙ e; between = subst (λ (z : ℤ). z ≤ℤ pos 0) (sym (facing_is q a b)) h }
+segment_from q a b e h = record { straight = turn_at q a b ∙ e; between = subst (λ (z : ℤ). z ≤ℤ pos 0) (sym (scalar_product_is q a b)) h }
 
 pub triangle_from : (q a b c : Position) → pos 0 ≤ℤ cross (from q a) (from q b) → pos 0 ≤ℤ cross (from q b) (from q c) → pos 0 ≤ℤ cross (from q c) (from q a) → pos 0 <ℤ (cross (from q a) (from q b) +ℤ cross (from q b) (from q c) +ℤ cross (from q c) (from q a)) → IsInTriangle q a b c
 triangle_from q a b c h k l p =

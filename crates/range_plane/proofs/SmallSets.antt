@@ -1,13 +1,13 @@
 -- What no point, one point and two points cover.
 use Rattle.std.proofs.Common.{◌≡◌, sym, ◌∙◌, subst, pos, ◌-ℤ◌, ◌≤ℤ◌, ◌<ℤ◌, ◌↔◌, [], ◌∷◌, Contains, ◌⊎◌, inl, inr, arith}
-use Rattle.range_plane.specs.Covering.{facing, Covers, IsOnSegment, IsInTriangle}
+use Rattle.range_plane.specs.Covering.{scalar_product, Covers, IsOnSegment, IsInTriangle}
 use Rattle.range_plane.specs.Plane.{Position, turn}
 use Rattle.range_plane.specs.Covering.Covers.{by_segment, by_triangle}
 use Rattle.integers_and_lists.proofs.Integers.{linear, product_comm}
 use Rattle.integers_and_lists.proofs.Members.{here, there, nowhere, contained}
 use Rattle.range_plane.proofs.Extremes.{covers_member}
 use Rattle.range_plane.proofs.HalfPlanes.{turn_back}
-use Rattle.range_plane.proofs.Vectors.{from, facing_is, dot_origin, turn_self, turn_end, turn_swap, positive_apart}
+use Rattle.range_plane.proofs.Vectors.{from, scalar_product_is, dot_origin, turn_self, turn_end, turn_swap, positive_apart}
 use Rattle.range_plane.proofs.Without.{equal_or_apart}
 
 pub covers_none : (q : Position) → ¬ (Covers [] q)
@@ -15,7 +15,7 @@ covers_none q (by_segment a b ma mb s) = nowhere a ma
 covers_none q (by_triangle a b c ma mb mc t) = nowhere a ma
 
 only_itself : (q a : Position) → IsOnSegment q a a → q ≡ a
-only_itself q a s = elim (equal_or_apart q a) [ inl e ↦ e | inr n ↦ absurd (omega (arith, linear, positive_apart q a n, facing_is q a a, s.between)) ]
+only_itself q a s = elim (equal_or_apart q a) [ inl e ↦ e | inr n ↦ absurd (omega (arith, linear, positive_apart q a n, scalar_product_is q a a, s.between)) ]
 
 no_flat_triangle : (q a b c : Position) → (a ≡ b) ⊎ ((b ≡ c) ⊎ (a ≡ c)) → IsInTriangle q a b c → ⊥
 no_flat_triangle q a b c (inl e) t = let h : pos 0 <ℤ turn b b c = subst (λ z. pos 0 <ℤ turn z b c) e t.proper in omega (arith, linear, turn_swap b b c, turn_self b c)
@@ -35,18 +35,18 @@ covers_one a q = (to, λ e. subst (Covers (a ∷ [])) (sym e) (covers_member (a 
 one_of_two : (a b x : Position) → Contains (a ∷ b ∷ []) x → (x ≡ a) ⊎ (x ≡ b)
 one_of_two a b x m = elim (contained a (b ∷ []) x m) [ inl e ↦ inl e | inr k ↦ inr (one_of_one b x k) ]
 
-same_facing : (q a b : Position) → facing q a b ≡ facing q b a
-unfolding facing
-same_facing q a b = omega (arith, linear, product_comm (a.e -ℤ q.e) (b.e -ℤ q.e), product_comm (a.n -ℤ q.n) (b.n -ℤ q.n))
+same_scalar_product : (q a b : Position) → scalar_product q a b ≡ scalar_product q b a
+unfolding scalar_product
+same_scalar_product q a b = omega (arith, linear, product_comm (a.e -ℤ q.e) (b.e -ℤ q.e), product_comm (a.n -ℤ q.n) (b.n -ℤ q.n))
 
 turned_about : (q a b : Position) → IsOnSegment q b a → IsOnSegment q a b
 turned_about q a b s =
     let straight : turn b a q ≡ pos 0 = s.straight in
-    let between : facing q b a ≤ℤ pos 0 = s.between in
-    record { straight = omega (arith, linear, turn_back a b q); between = omega (arith, linear, same_facing q a b) }
+    let between : scalar_product q b a ≤ℤ pos 0 = s.between in
+    record { straight = omega (arith, linear, turn_back a b q); between = omega (arith, linear, same_scalar_product q a b) }
 
 at_first : (a b : Position) → IsOnSegment a a b
-at_first a b = record { straight = turn_self a b; between = omega (arith, linear, same_facing a a b, facing_is a b a, dot_origin a (from a b)) }
+at_first a b = record { straight = turn_self a b; between = omega (arith, linear, same_scalar_product a a b, scalar_product_is a b a, dot_origin a (from a b)) }
 
 pub covers_two : (a b q : Position) → Covers (a ∷ b ∷ []) q ↔ IsOnSegment q a b
 covers_two a b q = (to, λ s. by_segment a b (here a (b ∷ [])) (there a (b ∷ []) b (here b [])) s)

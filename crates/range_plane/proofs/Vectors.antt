@@ -2,7 +2,7 @@
 use Rattle.std.proofs.Common.{◌≡◌, ◌≢◌, refl, ap, ◌∙◌, ℤ, pos, ◌+ℤ◌, ◌-ℤ◌, ◌*ℤ◌, neg_ℤ, ◌≤ℤ◌, ◌<ℤ◌, [], ◌∷◌, arith}
 use Rattle.std.proofs.lemmas.Int.{by_lt_z}
 use lib.IntN.{zero-*ℤ}
-use Rattle.range_plane.specs.Covering.{facing}
+use Rattle.range_plane.specs.Covering.{scalar_product}
 use Rattle.range_plane.specs.Plane.{Position, turn}
 use Rattle.integers_and_lists.proofs.Integers.{linear, at_least_product, nonneg_product, nonneg_square, square_naught, positive_product, nonpos_nonpos, positive_factor, product_comm, neg_product}
 use Rattle.integers_and_lists.proofs.Ring.{Expr, var, num, ◌⊕◌, ◌⊖◌, ◌⊗◌, ring}
@@ -73,9 +73,9 @@ turn_at r p q =
     let a = var 0 in let a' = var 1 in let b = var 2 in let b' = var 3 in let c = var 4 in let c' = var 5 in
     ring (p.e ∷ p.n ∷ q.e ∷ q.n ∷ r.e ∷ r.n ∷ []) (cross_of (b ⊖ a) (b' ⊖ a') (c ⊖ a) (c' ⊖ a')) (cross_of (a ⊖ c) (a' ⊖ c') (b ⊖ c) (b' ⊖ c')) tt
 
-pub facing_is : (q a b : Position) → facing q a b ≡ dot (from q a) (from q b)
-unfolding facing dot from
-facing_is q a b = refl
+pub scalar_product_is : (q a b : Position) → scalar_product q a b ≡ dot (from q a) (from q b)
+unfolding scalar_product dot from
+scalar_product_is q a b = refl
 
 -- ---- signs
 pub nonneg_norm : (u : Position) → pos 0 ≤ℤ dot u u
@@ -190,9 +190,9 @@ pub turn-round : (c x y : Position) → turn c x y ≡ cross (from c x) (from c 
 unfolding turn cross from
 turn-round c x y = refl
 
-pub facing_round : (c x y : Position) → facing x c y ≡ dot (from c x) (from c x) -ℤ dot (from c x) (from c y)
-unfolding facing dot dot_of from
-facing_round c x y =
+pub scalar_product_round : (c x y : Position) → scalar_product x c y ≡ dot (from c x) (from c x) -ℤ dot (from c x) (from c y)
+unfolding scalar_product dot dot_of from
+scalar_product_round c x y =
     ring (c.e ∷ c.n ∷ x.e ∷ x.n ∷ y.e ∷ y.n ∷ []) (dot_of (var 0 ⊖ var 2) (var 1 ⊖ var 3) (var 4 ⊖ var 2) (var 5 ⊖ var 3)) (dot_of (var 2 ⊖ var 0) (var 3 ⊖ var 1) (var 2 ⊖ var 0) (var 3 ⊖ var 1) ⊖ dot_of (var 2 ⊖ var 0) (var 3 ⊖ var 1) (var 4 ⊖ var 0) (var 5 ⊖ var 1)) tt
 
 -- ---- the direction backwards

@@ -5,8 +5,8 @@ use Rattle.std.specs.Ordering.{int_eq}
 use Rattle.range_plane.specs.Plane.{Position, turn}
 
 -- the scalar product of the vectors from q to a and from q to b: at most 0 where q lies in the disc whose diameter is a b
-unfoldable pub facing : Position → Position → Position → ℤ
-facing q a b = (a.e -ℤ q.e) *ℤ (b.e -ℤ q.e) +ℤ (a.n -ℤ q.n) *ℤ (b.n -ℤ q.n)
+unfoldable pub scalar_product : Position → Position → Position → ℤ
+scalar_product q a b = (a.e -ℤ q.e) *ℤ (b.e -ℤ q.e) +ℤ (a.n -ℤ q.n) *ℤ (b.n -ℤ q.n)
 
 -- how far s lies past q in the direction d: positive ahead of q, negative behind it
 unfoldable pub advance : Position → Position → Position → ℤ
@@ -15,7 +15,7 @@ advance d q s = d.e *ℤ (s.e -ℤ q.e) +ℤ d.n *ℤ (s.n -ℤ q.n)
 -- q lies on the segment from a to b, its ends included; with a = b, q is a
 pub record IsOnSegment (q a b : Position) : Type 0 where
   pub straight : turn a b q ≡ pos 0
-  pub between : facing q a b ≤ℤ pos 0
+  pub between : scalar_product q a b ≤ℤ pos 0
 
 -- q lies in the triangle a b c, which goes counterclockwise, its edges and corners included
 pub record IsInTriangle (q a b c : Position) : Type 0 where
@@ -31,7 +31,7 @@ pub data Covers (S : List Position) (q : Position) : Type 0 where
 
 -- the same, as a test
 abbrev pub is_on_segment : Position → Position → Position → Bool
-is_on_segment q a b = int_eq (turn a b q) (pos 0) && int_le (facing q a b) (pos 0)
+is_on_segment q a b = int_eq (turn a b q) (pos 0) && int_le (scalar_product q a b) (pos 0)
 
 abbrev pub is_in_triangle : Position → Position → Position → Position → Bool
 is_in_triangle q a b c = int_lt (pos 0) (turn a b c) && int_le (pos 0) (turn a b q) && int_le (pos 0) (turn b c q) && int_le (pos 0) (turn c a q)

@@ -8,14 +8,14 @@ ghost use Rattle.range_plane.specs.Polygon.{IsLeast, IsPolygon, any_other, witho
 
 use crate::memory::OutOfMemory;
 use crate::order::comes_before;
-use crate::point::{Point, facing, turn};
+use crate::point::{Point, scalar_product, turn};
 use std::alloc::Allocator;
 
 // Whether `q` lies on the segment from `a` to `b`.
 fn is_on_segment(q: Point, a: Point, b: Point) -> bool
     ensures { result ≡ is_on_segment q a b }
 {
-    turn(a, b, q) == 0 && facing(q, a, b) <= 0
+    turn(a, b, q) == 0 && scalar_product(q, a, b) <= 0
 }
 
 // Whether `q` lies on the left of the edge from `a` to `b`, or in line with it.

@@ -2,7 +2,7 @@
 
 ghost use Rattle.std.specs.Int.RustNames.{unsigned_abs};
 ghost use Rattle.std.specs.Prelude.{◌≡◌, ◌≤◌, SomeIff};
-ghost use Rattle.range_plane.specs.Covering.{facing};
+ghost use Rattle.range_plane.specs.Covering.{scalar_product};
 ghost use Rattle.range_plane.specs.Plane.{IsCoordinate, position, turn, turn_limit};
 
 use std::marker::Model;
@@ -54,8 +54,8 @@ pub fn turn(a: Point, b: Point, c: Point) -> i64
 }
 
 // The scalar product of the vectors from `q` to `a` and from `q` to `b`.
-pub(crate) fn facing(q: Point, a: Point, b: Point) -> i64
-    ensures { result ≡ facing q a b }
+pub(crate) fn scalar_product(q: Point, a: Point, b: Point) -> i64
+    ensures { result ≡ scalar_product q a b }
 {
     (a.e - q.e) * (b.e - q.e) + (a.n - q.n) * (b.n - q.n)
 }
