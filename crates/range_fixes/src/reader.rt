@@ -189,7 +189,8 @@ impl<R: Read + Drop> FixReader<R> {
     /// A reader of a source, of which nothing is read yet. It takes no memory.
     #[tactic(auto, unfolding(crate::specs::Reading::reading))]
     pub fn new(alloc: Global, source: R) -> FixReader<R>
-        ensures count { (result.count ≡ 0) × (result.read ≡ 0) }
+        ensures count { result.count ≡ 0 }
+        ensures read { result.read ≡ 0 }
         ensures animal { result.animal ≡ None }
         ensures fault { result.fault ≡ None }
         ensures ended { result.ended ≡ false }
