@@ -127,11 +127,13 @@ fn help(rt: HostRuntime) {
         "1 to 64 [default: 4]",
         "1 to 8 [default: 2]",
         "Files to read, 64 at most",
-        "animal,second,easting,northing",
+        "animal,second,easting,northing and",
+        "animal,second,easting,northing,use each",
         "1 to 32 bytes",
         "0 to 1099511627776",
         "0 to 16777216",
-        "1 to 1048576 fixes",
+        "1 to 1048576 such lines",
+        "use       1, or 0 for",
         "(p*n + 99)/100",
     ];
     for words in [["--help"].as_slice(), &["-h"], &["--help", "--bogus"]] {
