@@ -1,11 +1,10 @@
 // Tests of lists of points.
 
+use crate::growths::{MANY_GROWTHS, is_last_run};
 use range_plane::{Columns, Point};
 use refusing::Refusing;
 use std::alloc::Allocator;
-
-// More growths than a run here makes.
-const MANY_GROWTHS: u32 = 100;
+use std::process::Abort;
 
 // Two columns of points take memory at least once each.
 const LEAST_GROWTHS: u32 = 2;
@@ -56,49 +55,58 @@ fn reserved_pushes(rt: HostRuntime) {
     assert!(rt; columns.len() == 0 && columns.spare() >= 3, "after clear");
 }
 
+// Pushes the points of the diagonal, each again where it is refused. How many were refused.
+fn push_each<A: Allocator + Copy>(rt: &impl Abort, alloc: A) -> u32 {
+    let mut columns = Columns::new(alloc);
+    let mut refusals = 0u32;
+    for i in 0..POINTS {
+        if columns.push(diagonal(i)).is_err() {
+            refusals = refusals.wrapping_add(1);
+            assert!(rt; is_diagonal(&columns, i), "after a refusal at {i}");
+            assert!(rt; columns.push(diagonal(i)).is_ok(), "again at {i}");
+        }
+    }
+    assert!(rt; is_diagonal(&columns, POINTS), "in the end");
+    refusals
+}
+
 #[test]
 fn push_is_refused_each_growth(rt: HostRuntime) {
     for number in 1..MANY_GROWTHS {
         let alloc = Refusing::new(rt.alloc(), number);
-        let mut columns = Columns::new(&alloc);
-        let mut refusals = 0u32;
-        for i in 0..POINTS {
-            if columns.push(diagonal(i)).is_err() {
-                refusals = refusals.wrapping_add(1);
-                assert!(rt; is_diagonal(&columns, i), "after growth {number} at {i}");
-                assert!(rt; columns.push(diagonal(i)).is_ok(), "again at {i}");
-            }
-        }
-        assert!(rt; is_diagonal(&columns, POINTS), "in the end");
-        assert_eq!(rt; alloc.has_refused(), refusals == 1, "at growth {number}");
-        if refusals == 0 {
-            assert!(rt; number > LEAST_GROWTHS, "growths");
+        let refusals = push_each(&rt, &alloc);
+        if is_last_run(&rt, &alloc, number, refusals, LEAST_GROWTHS) {
             return;
         }
     }
     assert!(rt; false, "no run without a refusal");
 }
 
+// Pushes the points of the diagonal where more and more room is made before, again where it is refused.
+// How often it was refused.
+fn reserve_each<A: Allocator + Copy>(rt: &impl Abort, alloc: A) -> u32 {
+    let mut columns = Columns::new(alloc);
+    let mut refusals = 0u32;
+    for i in 0..POINTS {
+        let room = 10 * usize::from(i) + 1;
+        if columns.reserve(room).is_err() {
+            refusals = refusals.wrapping_add(1);
+            assert!(rt; is_diagonal(&columns, i), "after a refusal at {i}");
+            assert!(rt; columns.reserve(room).is_ok(), "again at {i}");
+        }
+        assert!(rt; columns.spare() >= room, "room at {i}");
+        columns.push_reserved(diagonal(i));
+    }
+    assert!(rt; is_diagonal(&columns, POINTS), "in the end");
+    refusals
+}
+
 #[test]
 fn reserve_is_refused_each_growth(rt: HostRuntime) {
     for number in 1..MANY_GROWTHS {
         let alloc = Refusing::new(rt.alloc(), number);
-        let mut columns = Columns::new(&alloc);
-        let mut refusals = 0u32;
-        for i in 0..POINTS {
-            let room = 10 * usize::from(i) + 1;
-            if columns.reserve(room).is_err() {
-                refusals = refusals.wrapping_add(1);
-                assert!(rt; is_diagonal(&columns, i), "after growth {number} at {i}");
-                assert!(rt; columns.reserve(room).is_ok(), "again at {i}");
-            }
-            assert!(rt; columns.spare() >= room, "room at {i}");
-            columns.push_reserved(diagonal(i));
-        }
-        assert!(rt; is_diagonal(&columns, POINTS), "in the end");
-        assert_eq!(rt; alloc.has_refused(), refusals == 1, "at growth {number}");
-        if refusals == 0 {
-            assert!(rt; number > LEAST_GROWTHS, "growths");
+        let refusals = reserve_each(&rt, &alloc);
+        if is_last_run(&rt, &alloc, number, refusals, LEAST_GROWTHS) {
             return;
         }
     }

@@ -1,14 +1,12 @@
 // Tests of refused growths.
 
+use crate::growths::{MANY_GROWTHS, is_last_run};
 use crate::points::{HEXAGON, has_corners, hull_of, insert, plain_of, point, points_of};
 use range_hull::OnlineHull;
 use range_plane::{Point, Polygon};
 use refusing::Refusing;
 use std::alloc::{Allocator, Global};
 use std::process::Abort;
-
-// More growths than a run here makes.
-const MANY_GROWTHS: u32 = 100;
 
 // Either chain takes memory at least twice.
 const LEAST_GROWTHS: u32 = 4;
@@ -68,16 +66,27 @@ fn reserve_is_refused_each_growth(rt: HostRuntime) {
     for number in 1..MANY_GROWTHS {
         let alloc = Refusing::new(rt.alloc(), number);
         let refusals = reserve_twice(&rt, rt.alloc(), &alloc, &polygon);
-        assert!(rt;
-            alloc.has_refused() == (refusals == 1),
-            "at growth {number}"
-        );
-        if refusals == 0 {
-            assert!(rt; number > LEAST_GROWTHS, "growths");
+        if is_last_run(&rt, &alloc, number, refusals, LEAST_GROWTHS) {
             return;
         }
     }
     assert!(rt; false, "no run without a refusal");
+}
+
+// Makes the polygon of a hull, again where it is refused. How often it was refused.
+fn polygon_again<A: Allocator + Copy>(
+    rt: &impl Abort,
+    alloc: Global,
+    refusing: A,
+    hull: &OnlineHull,
+) -> u32 {
+    let polygon = hull.polygon(refusing);
+    let refusals = u32::from(polygon.is_err());
+    let polygon = polygon
+        .or_else(|_| hull.polygon(refusing))
+        .expect(rt, "again");
+    assert!(rt; has_corners(rt, alloc, hull, polygon.corners()), "corners");
+    refusals
 }
 
 #[test]
@@ -86,20 +95,8 @@ fn polygon_is_refused_each_growth(rt: HostRuntime) {
     let hull = hull_of(&rt, rt.alloc(), &points);
     for number in 1..MANY_GROWTHS {
         let alloc = Refusing::new(rt.alloc(), number);
-        let polygon = hull.polygon(&alloc);
-        assert!(rt;
-            polygon.is_err() == alloc.has_refused(),
-            "at growth {number}"
-        );
-        let polygon = polygon
-            .or_else(|_| hull.polygon(&alloc))
-            .expect(&rt, "again");
-        assert!(rt;
-            has_corners(&rt, rt.alloc(), &hull, polygon.corners()),
-            "after growth {number}"
-        );
-        if !alloc.has_refused() {
-            assert!(rt; number > 1, "growths");
+        let refusals = polygon_again(&rt, rt.alloc(), &alloc, &hull);
+        if is_last_run(&rt, &alloc, number, refusals, 1) {
             return;
         }
     }

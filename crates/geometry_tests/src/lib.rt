@@ -10,6 +10,8 @@ mod corners;
 #[cfg(test)]
 mod covering;
 #[cfg(test)]
+mod growths;
+#[cfg(test)]
 mod hull_growths;
 #[cfg(test)]
 mod hull_polygons;

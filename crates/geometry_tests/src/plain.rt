@@ -1,15 +1,13 @@
 // Tests of polygons by definition.
 
+use crate::growths::{MANY_GROWTHS, is_last_run};
 use crate::points::{HEXAGON, LATTICE, LIMITS, SEGMENT, SQUARE, plain_of, points_of};
 use range_plane::{Point, Polygon};
 use refusing::Refusing;
-use std::alloc::Global;
+use std::alloc::{Allocator, Global};
 use std::process::Abort;
 
-// More growths than a run here makes.
-const MANY_GROWTHS: u32 = 100;
-
-// The corners of the first 14 of these points, for which a list grows more than once.
+// The corners of the first 14 points of the lattice, for which a list grows more than once.
 const OCTAGON: [(i64, i64); 8] = [
     (1, 1),
     (5, 1),
@@ -176,27 +174,31 @@ fn agrees_with_gift_wrapping(rt: HostRuntime) {
     }
 }
 
+// Makes a polygon, again where it is refused. How often it was refused.
+fn plain_again<A: Allocator + Copy>(
+    rt: &impl Abort,
+    alloc: A,
+    points: &[Point],
+    corners: &[Point],
+) -> u32 {
+    assert!(rt; points.len() < 100);
+    let polygon = Polygon::plain(alloc, points);
+    let refusals = u32::from(polygon.is_err());
+    let polygon = polygon
+        .or_else(|_| Polygon::plain(alloc, points))
+        .expect(rt, "again");
+    assert!(rt; polygon.corners() == corners, "corners");
+    refusals
+}
+
 #[test]
 fn plain_is_refused_each_growth(rt: HostRuntime) {
     let points = points_of(&rt, rt.alloc(), &LATTICE[..14]);
     let corners = points_of(&rt, rt.alloc(), &OCTAGON);
-    assert!(rt; points.len() < 100);
     for number in 1..MANY_GROWTHS {
         let alloc = Refusing::new(rt.alloc(), number);
-        let polygon = Polygon::plain(&alloc, &points);
-        assert!(rt;
-            polygon.is_err() == alloc.has_refused(),
-            "at growth {number}"
-        );
-        let polygon = polygon
-            .or_else(|_| Polygon::plain(&alloc, &points))
-            .expect(&rt, "again");
-        assert!(rt;
-            polygon.corners() == corners.as_slice(),
-            "after growth {number}"
-        );
-        if !alloc.has_refused() {
-            assert!(rt; number > LEAST_GROWTHS, "growths");
+        let refusals = plain_again(&rt, &alloc, &points, &corners);
+        if is_last_run(&rt, &alloc, number, refusals, LEAST_GROWTHS) {
             return;
         }
     }

@@ -1,11 +1,12 @@
 // Tests of refused growths.
 
+use crate::growths::{MANY_GROWTHS, is_last_run};
 use crate::points::{RING, columns_of};
+use range_plane::Columns;
 use range_stats::{LevelFault, PercentRow, Ranking, levels, percent};
 use refusing::Refusing;
-
-// More growths than a run here makes.
-const MANY_GROWTHS: u32 = 100;
+use std::alloc::{Allocator, Global};
+use std::process::Abort;
 
 // A ranking takes memory twice, and a hull for each of its chains.
 const RANKING_GROWTHS: u32 = 2;
@@ -19,48 +20,75 @@ const HALF_OF_RING: PercentRow = PercentRow {
     area2: 40,
 };
 
+// Makes the row of half of the ring, again where it is refused. How often it was refused.
+fn percent_again<A: Allocator + Copy>(rt: &impl Abort, alloc: A, fixes: &Columns) -> u32 {
+    assert!(rt; fixes.len() < 100);
+    let row = percent(alloc, fixes, 50);
+    let refusals = u32::from(row.is_err());
+    let row = row
+        .or_else(|_| percent(alloc, fixes, 50))
+        .expect(rt, "again");
+    assert!(rt; row == HALF_OF_RING, "row");
+    refusals
+}
+
 #[test]
 fn percent_is_refused_each_growth(rt: HostRuntime) {
     let fixes = columns_of(&rt, rt.alloc(), &RING);
-    assert!(rt; fixes.len() < 100);
     for number in 1..MANY_GROWTHS {
         let alloc = Refusing::new(rt.alloc(), number);
-        let row = percent(&alloc, &fixes, 50);
-        assert!(rt; row.is_err() == alloc.has_refused(), "at growth {number}");
-        let row = row
-            .or_else(|_| percent(&alloc, &fixes, 50))
-            .expect(&rt, "again");
-        assert!(rt; row == HALF_OF_RING, "after growth {number}");
-        if !alloc.has_refused() {
-            assert!(rt; number > RANKING_GROWTHS + HULL_GROWTHS, "growths");
+        let refusals = percent_again(&rt, &alloc, &fixes);
+        if is_last_run(
+            &rt,
+            &alloc,
+            number,
+            refusals,
+            RANKING_GROWTHS + HULL_GROWTHS,
+        ) {
             return;
         }
     }
     assert!(rt; false, "no run without a refusal");
 }
 
+// Makes a ranking, again where it is refused. How often it was refused.
+fn ranking_again<A: Allocator + Copy>(
+    rt: &impl Abort,
+    alloc: Global,
+    refusing: A,
+    fixes: &Columns,
+) -> u32 {
+    assert!(rt; fixes.len() < 100);
+    let ranking = Ranking::new(refusing, fixes);
+    let refusals = u32::from(ranking.is_err());
+    let ranking = ranking
+        .or_else(|_| Ranking::new(refusing, fixes))
+        .expect(rt, "again");
+    let row = ranking.row(alloc, 50).expect(rt, "memory");
+    assert!(rt; row == HALF_OF_RING, "row");
+    refusals
+}
+
 #[test]
 fn ranking_is_refused_each_growth(rt: HostRuntime) {
     let fixes = columns_of(&rt, rt.alloc(), &RING);
-    assert!(rt; fixes.len() < 100);
     for number in 1..MANY_GROWTHS {
         let alloc = Refusing::new(rt.alloc(), number);
-        let ranking = Ranking::new(&alloc, &fixes);
-        assert!(rt;
-            ranking.is_err() == alloc.has_refused(),
-            "at growth {number}"
-        );
-        let ranking = ranking
-            .or_else(|_| Ranking::new(&alloc, &fixes))
-            .expect(&rt, "again");
-        let row = ranking.row(rt.alloc(), 50).expect(&rt, "memory");
-        assert!(rt; row == HALF_OF_RING, "after growth {number}");
-        if !alloc.has_refused() {
-            assert!(rt; number > RANKING_GROWTHS, "growths");
+        let refusals = ranking_again(&rt, rt.alloc(), &alloc, &fixes);
+        if is_last_run(&rt, &alloc, number, refusals, RANKING_GROWTHS) {
             return;
         }
     }
     assert!(rt; false, "no run without a refusal");
+}
+
+// Reads a row off a ranking, again where it is refused. How often it was refused.
+fn row_again<A: Allocator + Copy>(rt: &impl Abort, alloc: A, ranking: &Ranking) -> u32 {
+    let row = ranking.row(alloc, 50);
+    let refusals = u32::from(row.is_err());
+    let row = row.or_else(|_| ranking.row(alloc, 50)).expect(rt, "again");
+    assert!(rt; row == HALF_OF_RING, "row");
+    refusals
 }
 
 #[test]
@@ -70,40 +98,37 @@ fn row_is_refused_each_growth(rt: HostRuntime) {
     let ranking = Ranking::new(rt.alloc(), &fixes).expect(&rt, "memory");
     for number in 1..MANY_GROWTHS {
         let alloc = Refusing::new(rt.alloc(), number);
-        let row = ranking.row(&alloc, 50);
-        assert!(rt; row.is_err() == alloc.has_refused(), "at growth {number}");
-        let row = row
-            .or_else(|_| ranking.row(&alloc, 50))
-            .expect(&rt, "again");
-        assert!(rt; row == HALF_OF_RING, "after growth {number}");
-        if !alloc.has_refused() {
-            assert!(rt; number > HULL_GROWTHS, "growths");
+        let refusals = row_again(&rt, &alloc, &ranking);
+        if is_last_run(&rt, &alloc, number, refusals, HULL_GROWTHS) {
             return;
         }
     }
     assert!(rt; false, "no run without a refusal");
 }
 
+// Reads a list of levels, again where it is refused, which says so. How often it was refused.
+fn levels_again<A: Allocator + Copy>(rt: &impl Abort, alloc: A) -> u32 {
+    let found = levels(alloc, b"50,95,100");
+    let refusals = u32::from(found.is_err());
+    if refusals > 0 {
+        assert!(rt; found.err() == Some(LevelFault::OutOfMemory), "fault");
+        let again = levels(alloc, b"50,95,100").expect(rt, "again");
+        assert!(rt; again.as_slice() == [50, 95, 100].as_slice(), "again");
+    } else {
+        let found = found.expect(rt, "levels");
+        assert!(rt; found.as_slice() == [50, 95, 100].as_slice(), "levels");
+    }
+    refusals
+}
+
 #[test]
 fn levels_are_refused_each_growth(rt: HostRuntime) {
     for number in 1..MANY_GROWTHS {
         let alloc = Refusing::new(rt.alloc(), number);
-        let found = levels(&alloc, b"50,95,100");
-        if alloc.has_refused() {
-            assert!(rt;
-                found.err() == Some(LevelFault::OutOfMemory),
-                "at growth {number}"
-            );
-        } else {
-            assert!(rt; number > 1, "growths");
-            assert!(rt; found.expect(&rt, "levels").as_slice() == [50, 95, 100].as_slice());
+        let refusals = levels_again(&rt, &alloc);
+        if is_last_run(&rt, &alloc, number, refusals, 1) {
             return;
         }
-        let again = levels(&alloc, b"50,95,100").expect(&rt, "again");
-        assert!(rt;
-            again.as_slice() == [50, 95, 100].as_slice(),
-            "after growth {number}"
-        );
     }
     assert!(rt; false, "no run without a refusal");
 }
