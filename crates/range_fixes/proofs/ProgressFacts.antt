@@ -2,13 +2,12 @@
 use Rattle.std.proofs.Common.{◌≡◌, ◌+◌, ◌≤◌, ℕ, zero, suc, Bool, true, false, eqb, List, [], ◌∷◌, length, drop, Option, Some, None, refl, sym, ◌∙◌, ap, arith, rules, tests, length-drop, slice_get, add-one, IsSome}
 use Rattle.std.specs.Option.{option_map}
 use Rattle.range_plane.specs.declared.fix.Fix.{Fix}
-use Rattle.range_fixes.specs.declared.fault.ReadFault.{ReadFault}
 use Rattle.range_fixes.specs.declared.reader.Stage.TheVariants.{Going}
 use Rattle.range_fixes.specs.Field.{Record}
 use Rattle.range_fixes.specs.Previous.{Previous}
 use Rattle.range_fixes.specs.Progress.{Progress, Reads, is_unhurt}
 use Rattle.range_fixes.specs.Reader.{progress_by}
-use Rattle.range_fixes.specs.Reading.{Reading, no_more, then_fixes}
+use Rattle.range_fixes.specs.Reading.{Reading, then_fixes}
 use Rattle.range_fixes.specs.Steps.{Leads, rest_of}
 use Rattle.range_fixes.proofs.ReadingFacts.{animal-after}
 
@@ -60,10 +59,3 @@ fix-given (Some has_use) had read before count old (Some q) (Some records) (Some
     let some : eqb (count + 1) 0 ≡ false = search (rules, tests) in
     one-more (progress_by Going had before count old (Some records) s) (progress_by Going (Some has_use) read (count + 1) (Some q) (Some below) t) r (rest_of (Some has_use) read (count + 1) (Some q) below) fix
     h refl (sym leads) refl refl (rw some (sym (animal-after has_use read q below)))
-
--- no fix is ahead: the end, or a fault of the text
-pub stop-given : (had : Option Bool) (before count : ℕ) (old new : Option Previous) (left : Option (List Record)) (s : Bool) (fault : Option ReadFault) (r : Reading)
-    → Leads (option_map (rest_of had before count old) left) (Some (no_more new fault))
-    → Reads (progress_by Going had before count old left s) r → (length r.fixes ≡ count) × (r.fault ≡ fault)
-stop-given had before count old new None s fault r leads h = cc (h.ahead refl)
-stop-given had before count old new (Some records) s fault r leads h = at-stop (progress_by Going had before count old (Some records) s) r (no_more new fault) h refl (sym leads) refl

@@ -1,5 +1,5 @@
 -- What one record adds to a reading.
-use Rattle.std.proofs.Common.{◌≡◌, ◌≢◌, ◌+◌, ◌<◌, ◌≤◌, ℕ, Bool, true, false, cond, eqb, List, [], ◌∷◌, Option, Some, None, Result, Ok, Err, refl, ◌∙◌, ap, IfErr, IfOk, IfSome, IsTrue, rules, tests, arith, not, nat_lt, length, map, filter, suc}
+use Rattle.std.proofs.Common.{◌≡◌, ◌≢◌, ◌+◌, ◌<◌, ◌≤◌, ℕ, Bool, true, false, cond, eqb, List, [], ◌∷◌, Option, Some, None, Result, Ok, Err, refl, ◌∙◌, IfErr, IfOk, IfSome, IsTrue, rules, tests, not, nat_lt}
 use Rattle.std.specs.Option.{option_map}
 use Rattle.std.proofs.lemmas.Bool.{false≢true}
 use Rattle.std.specs.Str.{bytes_eq}
@@ -15,7 +15,7 @@ use Rattle.range_fixes.specs.Check.{animal_in, checked_in, checks_of, falls, fix
 use Rattle.range_fixes.specs.Field.{Record, first_field, is_name, is_number}
 use Rattle.range_fixes.specs.Previous.{Previous, then_previous}
 use Rattle.range_fixes.specs.Progress.{is_of_text}
-use Rattle.range_fixes.specs.Reading.{Passed, Reading, if_passes, no_more, none_passed, passed_after, fault_after, reading_by, then_fixes, then_passed}
+use Rattle.range_fixes.specs.Reading.{Passed, if_passes, no_more, none_passed, passed_after, reading_by, then_passed}
 use Rattle.range_fixes.specs.Records.{TakesRecord}
 use Rattle.range_fixes.specs.Reader.{IsWithin}
 use Rattle.range_fixes.specs.Steps.{Leads}
@@ -49,13 +49,6 @@ pub leads-end : (given : ℕ) (read : List Record → Passed) (left : Option (Li
     → Leads (option_map read left) (Some p) → Leads (option_map (λ records. reading_by given (read records)) left) (Some (reading_by given p))
 leads-end given read None p l = tt
 leads-end given read (Some records) p l = let same : p ≡ read records = cc in rw same refl
-
-pub leads-more : (given : ℕ) (read : List Record → Passed) (more : List Record → Passed) (then : List Record → Reading) (left after : Option (List Record))
-    → ((records : List Record) → reading_by given (more records) ≡ then records)
-    → Leads (option_map read left) (option_map more after) → Leads (option_map (λ records. reading_by given (read records)) left) (option_map then after)
-leads-more given read more then None after e l = tt
-leads-more given read more then (Some records) None e l = cc l
-leads-more given read more then (Some records) (Some below) e l = let same : read records ≡ more below = cc in rw (same, e below) refl
 
 pub at-end : (has_use : Bool) (read : ℕ) (previous : Option Previous) → passed_after has_use read previous [] ≡ none_passed previous None
 unfolding passed_after
@@ -92,35 +85,6 @@ animal-after has_use read previous (fields ∷ records) =
     by true checked more = refl
     by false (Err fault) more = refl
     by false (Ok one) more = more one.fix.second
-
-abbrev used_list : List Checked → List Fix
-used_list checked = map (λ one. one.fix) checked
-
--- a reading of these fixes
-abbrev with_fixes : Passed → List Fix → ℕ → Reading
-with_fixes p fixes count = record { animal = p.animal; fixes = fixes; fault = fault_after count p.fault }
-
--- a record that is used gives its fix
-pub one-used : (given : ℕ) (one : Checked) (p : Passed) → one.used ≡ true → reading_by given (then_passed one p) ≡ then_fixes one.fix (reading_by (given + 1) p)
-one-used given one p e = by one.used e
-  where
-    rest : List Checked
-    rest = filter (λ one. one.used) p.checked
-
-    by : (b : Bool) → b ≡ true → with_fixes p (used_list (cond b (one ∷ rest) rest)) (given + length (used_list (cond b (one ∷ rest) rest))) ≡ then_fixes one.fix (reading_by (given + 1) p)
-    by true e = ap (with_fixes p (used_list (one ∷ rest))) (let more : given + suc (length (used_list rest)) ≡ given + 1 + length (used_list rest) = omega arith in more)
-    by false e = cc e
-
--- and one that is not leaves the reading as it is
-pub one-unused : (given : ℕ) (one : Checked) (p : Passed) → one.used ≡ false → reading_by given (then_passed one p) ≡ reading_by given p
-one-unused given one p e = by one.used e
-  where
-    rest : List Checked
-    rest = filter (λ one. one.used) p.checked
-
-    by : (b : Bool) → b ≡ false → with_fixes p (used_list (cond b (one ∷ rest) rest)) (given + length (used_list (cond b (one ∷ rest) rest))) ≡ reading_by given p
-    by true e = cc e
-    by false e = refl
 
 pub later-end : (given : ℕ) (previous : Option Previous) → 0 < given → reading_by given (none_passed previous None) ≡ no_more previous None
 later-end given previous h =
