@@ -109,46 +109,8 @@ fn take_record<R: Read + Drop>(
     Ok(Some(one))
 }
 
-// Reads records up to the next that is used, and gives its fix, after so many fixes; `None` where there is
-// none.
-fn take_used<R: Read + Drop>(
-    alloc: Global,
-    records: &mut Records<R>,
-    has_use: bool,
-    read: &mut u32,
-    given: u32,
-    previous: &mut Option<Previous>,
-) -> Result<Option<Fix>, ReadFault>
-    requires going { records.old.stopped ≡ false }
-    requires limit { read.old ≤ fix_limit }
-    requires within { IfSome previous.old IsWithin }
-    ensures going { OnOk result (records.new.stopped ≡ false) }
-    ensures read { IfOk result (λ o. IfSome o (λ fix. (read.old < read.new) × (read.new ≤ fix_limit) × (fix.second ≤ second_limit))) }
-    ensures limit { (read.old ≤ read.new) × (read.new ≤ fix_limit + 1) }
-    ensures gives { Gives (option_map (rest_of (Some has_use) read.old given previous.old) records.old.left)
-        given result (Some has_use) read.new previous.new records.new.left }
-    ensures named { IfOk result (λ o. IfSome o (λ fix. IsSome previous.new)) }
-    ensures animal { KeepsAnimal previous.old previous.new }
-    ensures within { IfSome previous.new IsWithin }
-    ensures own { IfErr result (λ fault. fault ≢ ReadFault.Gone) }
-    ensures hurt { IfErr result (λ fault. is_of_text fault ≡ false → (records.new.stopped ≡ true) ⊎ ((fault ≡ ReadFault.OutOfMemory) × (previous.old ≡ None))) }
-    ensures end { result ≡ Ok None → 0 < given }
-{
-    loop {
-        let Some(one) = take_record(alloc, records, has_use, read, previous)? else {
-            return if given == 0 {
-                Err(ReadFault::NoFixes)
-            } else {
-                Ok(None)
-            };
-        };
-        if one.used {
-            return Ok(Some(one.fix));
-        }
-    }
-}
-
-// The same, and before the first record the header is read.
+// Reads records up to the next that is used, and before the first of them the header, and gives the fix,
+// which so many come before; `None` where there is none.
 fn take_next<R: Read + Drop>(
     alloc: Global,
     records: &mut Records<R>,
@@ -182,7 +144,18 @@ fn take_next<R: Read + Drop>(
             has_use
         }
     };
-    take_used(alloc, records, has_use, read, given, previous)
+    loop {
+        let Some(one) = take_record(alloc, records, has_use, read, previous)? else {
+            return if given == 0 {
+                Err(ReadFault::NoFixes)
+            } else {
+                Ok(None)
+            };
+        };
+        if one.used {
+            return Ok(Some(one.fix));
+        }
+    }
 }
 
 impl<R: Read + Drop> FixReader<R> {

@@ -3,13 +3,14 @@ use Rattle.std.specs.Option.{option_map}
 use Rattle.range_plane.specs.Fix.{fix_limit}
 use Rattle.range_fixes.specs.Reader.{IsWithin}
 use Rattle.range_fixes.specs.Steps.{KeepsAnimal, Leads, rest_of}
-use Rattle.range_fixes.proofs.reader.take_used.Given as goal
+use Rattle.range_fixes.proofs.reader.take_next.Given as goal
 
 abbrev pub invariant-loop-one : goal.invariant-loop-one
 invariant-loop-one g l = record {
   going : l.records.stopped ≡ false;
   below : (l.fn.read ≤ l.read) × (l.read ≤ fix_limit);
-  unused : Leads (option_map (rest_of (Some l.has_use) l.fn.read l.given l.fn.previous) l.fn.records.left) (option_map (rest_of (Some l.has_use) l.read l.given l.previous) l.records.left);
+  header : l.header ≡ Some l.has_use;
+  unused : Leads (option_map (rest_of l.fn.header l.fn.read l.given l.fn.previous) l.fn.records.left) (option_map (rest_of (Some l.has_use) l.read l.given l.previous) l.records.left);
   animal : KeepsAnimal l.fn.previous l.previous;
   within : IfSome l.previous IsWithin;
 }

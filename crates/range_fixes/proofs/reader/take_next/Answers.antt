@@ -1,14 +1,14 @@
 use Rattle.std.proofs.Common.{◌<◌, arith}
 use Rattle.std.proofs.lemmas.Result.{err_from_is_err_and}
 use Rattle.range_fixes.proofs.ReadingFacts.{leads-end, leads-far, later-end}
-use Rattle.range_fixes.proofs.reader.take_used.Goals as goal
+use Rattle.range_fixes.proofs.reader.take_next.Goals as goal
 
 pub returns-in_err-one-clause-limit : goal.returns-in_err-one-clause-limit
 returns-in_err-one-clause-limit g c = let limit = c.in_err-one.ensures.limit in (omega arith, omega arith)
 
 pub returns-in_err-one-clause-gives : goal.returns-in_err-one-clause-gives
 returns-in_err-one-clause-gives g c =
-    let p = err_from_is_err_and c.from_residual.result c.from_residual.ensures.1 in
+    let p = err_from_is_err_and c.from_residual-in_err-one.result c.from_residual-in_err-one.ensures.1 in
     rw (p.1, p.2) (λ text. leads-far _ _ _ c.loop-one.invariant.unused (leads-end c.args.given _ _ _ (c.in_err-one.ensures.takes text)))
 
 pub returns-then-given-eq0-clause-gives : goal.returns-then-given-eq0-clause-gives
