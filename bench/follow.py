@@ -16,9 +16,9 @@ WORKERS = (1, 2, 4, 8)
 RUNS = 5
 
 
-def proved_run(program, text):
+def proved_run(command, text):
     """Per track and number of workers, the milliseconds and the result."""
-    results, times = programs.output([program], text)
+    results, times = programs.output(command, text)
     found = {}
     for result, time in zip(results.splitlines(), times.splitlines(), strict=True):
         name, workers, result = result.split(",", 2)
@@ -51,7 +51,7 @@ def cell(runs, name, workers, plain):
 
 
 def main():
-    proved = programs.proved("follow_bench")
+    proved = programs.proved_part("follow")
     text = "".join(f"{e},{n}\n" for e, n in polygon.corners(CORNERS, margin=0))
     with tempfile.TemporaryDirectory() as folder:
         plain_program = programs.plain("follow_plain.rs", folder)

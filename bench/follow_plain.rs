@@ -1,5 +1,5 @@
-// The files of crates/follow_bench in plain Rust, read and made into tables one after the other on one
-// thread. Reads the points of the curve from standard input.
+// The files of the part `follow` of crates/benches in plain Rust, read and made into tables one after the
+// other on one thread. Reads the points of the curve from standard input.
 mod chains;
 mod tables;
 mod tracks;

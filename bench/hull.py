@@ -16,9 +16,9 @@ TRACKS = ("walk", "cloud", "spiral", "curve", "shuffled")
 RUNS = 5
 
 
-def proved_run(program, text):
+def proved_run(command, text):
     """Per track, the milliseconds, and the points, corners, area and turns."""
-    results, times = programs.output([program], text)
+    results, times = programs.output(command, text)
     found = {}
     for result, time in zip(results.splitlines(), times.splitlines(), strict=True):
         name, _, result = result.partition(",")
@@ -47,7 +47,7 @@ def one_run(proved, plain, text):
 
 
 def main():
-    proved = programs.proved("hull_bench")
+    proved = programs.proved_part("hull")
     text = "".join(f"{e},{n}\n" for e, n in polygon.corners(CORNERS, margin=0))
     with tempfile.TemporaryDirectory() as folder:
         plain = programs.plain("hull_plain.rs", folder)

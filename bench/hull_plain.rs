@@ -1,5 +1,6 @@
-// The inserts of crates/hull_bench in plain Rust, into the same two chains: sorted vectors, and trees. Reads
-// the points of the curve from standard input, and times the track and the kind of chains that are named.
+// The inserts of the part `hull` of crates/benches in plain Rust, into the same two chains: sorted vectors,
+// and trees. Reads the points of the curve from standard input, and times the track and the kind of chains
+// that are named.
 mod chains;
 mod tracks;
 

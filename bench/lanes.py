@@ -16,9 +16,9 @@ TRACKS = ("scattered", "walk")
 RUNS = 5
 
 
-def proved_run(program, text):
+def proved_run(command, text):
     """Per track, milliseconds of marks and of counts, and the count."""
-    counts, times = programs.output([program], text)
+    counts, times = programs.output(command, text)
     found = {}
     for count, time in zip(counts.splitlines(), times.splitlines(), strict=True):
         name, _, covered = count.split(",")
@@ -63,7 +63,7 @@ def compare(proved, plain, size):
 
 
 def main():
-    proved = programs.proved("lanes_bench")
+    proved = programs.proved_part("lanes")
     with tempfile.TemporaryDirectory() as folder:
         plain = programs.plain("lanes_plain.rs", folder)
         print("| Track | Corners | `mark_inside` | scan | search | ratio | `count_inside` | scan | search | ratio |")

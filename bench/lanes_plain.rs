@@ -1,5 +1,5 @@
-// The marks and counts of crates/lanes_bench in plain Rust, by a scan of the edges that ends early and by
-// binary search. Reads the corners from standard input, and times the track that is named.
+// The marks and counts of the part `lanes` of crates/benches in plain Rust, by a scan of the edges that ends
+// early and by binary search. Reads the corners from standard input, and times the track that is named.
 mod ranges;
 mod tracks;
 

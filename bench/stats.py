@@ -13,23 +13,23 @@ import programs
 RUNS = 5
 
 
-def run(program):
+def run(command):
     """The times of one run, in milliseconds, and the rows."""
-    rows, times = programs.output([program], "")
+    rows, times = programs.output(command, "")
     return [int(time) / 1000 for time in times.split()], rows
 
 
 def one_run(proved, plain):
     """The times of the proved program, of plain Rust by a full sort and by selection."""
     times, rows = run(proved)
-    plain_times, plain_rows = run(plain)
+    plain_times, plain_rows = run([plain])
     if rows != plain_rows:
         raise SystemExit(f"{rows}but plain Rust says\n{plain_rows}")
     return times + plain_times
 
 
 def main():
-    proved = programs.proved("stats_bench")
+    proved = programs.proved_part("percents")
     with tempfile.TemporaryDirectory() as folder:
         plain = programs.plain("stats_plain.rs", folder)
         runs = [one_run(proved, plain) for _ in range(RUNS)]

@@ -1,5 +1,5 @@
-// The percent polygons of crates/stats_bench in plain Rust: the points ranked by a full sort, or the kept
-// ones of each level selected, and their hull as two chains.
+// The percent polygons of the part `percents` of crates/benches in plain Rust: the points ranked by a full
+// sort, or the kept ones of each level selected, and their hull as two chains.
 mod chains;
 mod percents;
 mod tracks;

@@ -1,7 +1,4 @@
-//! Times percent polygons of 2^20 points of a walk, at three levels read off one ranking. Prints how many
-//! points each level keeps, and how many corners and which doubled area they have, and says on standard
-//! error how many microseconds the best of a few rounds took.
-#![tactic(auto)]
+// Percent polygons of 2^20 points.
 
 ghost use Rattle.std.specs.Prelude.{◌≤◌, length};
 ghost use Rattle.range_plane.specs.Fix.{fix_limit};
@@ -25,16 +22,19 @@ fn percents(alloc: Global, fixes: &Columns) -> Result<[PercentRow; 3], OutOfMemo
     ])
 }
 
-fn main(rt: HostRuntime) -> Result<(), anyhow::Error> {
+/// Times the percent polygons of a walk, at three levels read off one ranking. Prints how many points each level
+/// keeps, and how many corners and which doubled area they have, and says how many microseconds the best of a
+/// few rounds took.
+pub(crate) fn time_percents(rt: &HostRuntime) -> Result<(), anyhow::Error> {
     let fixes = columns_of(rt.alloc(), &walk(rt.alloc())?)?;
     if fixes.len() > FIX_LIMIT as usize {
         return Ok(());
     }
     let mut least = u128::MAX;
     for _ in 0..ROUNDS {
-        let start = Instant::now(&rt)?;
+        let start = Instant::now(rt)?;
         percents(rt.alloc(), &fixes)?;
-        least = least.min(start.elapsed(&rt)?.as_micros());
+        least = least.min(start.elapsed(rt)?.as_micros());
     }
     for row in percents(rt.alloc(), &fixes)? {
         let PercentRow {

@@ -1,9 +1,4 @@
-//! Times files that are followed by one worker and more: a file each of 2^20 fixes of a walk, a cloud and a
-//! spiral, one of the points that are read from standard input, an easting and a northing in each line, in
-//! their order and shuffled, and eight files of 131,072 fixes of the walk. All stand in memory. Prints how
-//! many fixes, corners and which doubled area the files have together in the end, and says on standard error
-//! how many microseconds each took.
-#![tactic(auto)]
+// Files in memory that are followed by one worker and more.
 
 use bench_tracks::{cloud, read_points, shuffle, spiral, walk};
 use itoa::Buffer;
@@ -12,7 +7,6 @@ use range_plan::Plan;
 use range_plane::Point;
 use range_pump::FreeGate;
 use std::alloc::{AllocError, Global};
-use std::io;
 use std::rt::Runtime;
 use std::sync::Wait;
 use std::thread::Threads;
@@ -122,15 +116,20 @@ fn time_files<R: Runtime + Wait + Threads + Sync>(
     Ok(())
 }
 
-fn main(rt: HostRuntime) -> Result<(), anyhow::Error> {
-    let alloc = rt.alloc();
-    let text = io::read_to_string(alloc, rt.reader())?;
-    let mut points = read_points(alloc, &text)?;
-    time_file(&rt, alloc, "walk", &walk(alloc)?)?;
-    time_file(&rt, alloc, "cloud", &cloud(alloc)?)?;
-    time_file(&rt, alloc, "spiral", &spiral(alloc)?)?;
-    time_file(&rt, alloc, "curve", &points)?;
+/// Times a file each of 2^20 fixes of a walk, a cloud and a spiral, one of the points that the text has, in their
+/// order and shuffled, and eight files of 131,072 fixes of the walk. Prints how many fixes, corners and which
+/// doubled area the files have together in the end, and says how many microseconds each took.
+pub(crate) fn time_follow<R: Runtime + Wait + Threads + Sync>(
+    rt: &R,
+    alloc: Global,
+    text: &str,
+) -> Result<(), anyhow::Error> {
+    let mut points = read_points(alloc, text)?;
+    time_file(rt, alloc, "walk", &walk(alloc)?)?;
+    time_file(rt, alloc, "cloud", &cloud(alloc)?)?;
+    time_file(rt, alloc, "spiral", &spiral(alloc)?)?;
+    time_file(rt, alloc, "curve", &points)?;
     shuffle(&mut points);
-    time_file(&rt, alloc, "shuffled", &points)?;
-    time_files(&rt, alloc, "files", &walk(alloc)?)
+    time_file(rt, alloc, "shuffled", &points)?;
+    time_files(rt, alloc, "files", &walk(alloc)?)
 }

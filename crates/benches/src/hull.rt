@@ -1,13 +1,8 @@
-//! Times inserts into an on-line hull: 2^20 points each of a walk, a cloud and a spiral, and the points that
-//! are read from standard input, an easting and a northing in each line, in their order and shuffled. Prints
-//! how many corners each hull has, its doubled area and its turns, and says on standard error how many
-//! microseconds the inserts took.
-#![tactic(auto)]
+// Inserts into an on-line hull.
 
 use bench_tracks::{cloud, read_points, shuffle, spiral, walk};
 use range_hull::OnlineHull;
 use range_plane::{FIX_LIMIT, Point};
-use std::io;
 use std::time::Instant;
 
 // Inserts the points, as far as there is room for them.
@@ -36,14 +31,15 @@ fn time_inserts(rt: &HostRuntime, name: &str, points: &[Point]) -> Result<(), an
     Ok(())
 }
 
-fn main(rt: HostRuntime) -> Result<(), anyhow::Error> {
-    let text = io::read_to_string(rt.alloc(), rt.reader())?;
-    let mut points = read_points(rt.alloc(), &text)?;
-    time_inserts(&rt, "walk", &walk(rt.alloc())?)?;
-    time_inserts(&rt, "cloud", &cloud(rt.alloc())?)?;
-    time_inserts(&rt, "spiral", &spiral(rt.alloc())?)?;
-    time_inserts(&rt, "curve", &points)?;
+/// Times the inserts of 2^20 points each of a walk, a cloud and a spiral, and of the points that the text has,
+/// in their order and shuffled. Prints how many corners each hull has, its doubled area and its turns, and says
+/// how many microseconds the inserts took.
+pub(crate) fn time_hull(rt: &HostRuntime, text: &str) -> Result<(), anyhow::Error> {
+    let mut points = read_points(rt.alloc(), text)?;
+    time_inserts(rt, "walk", &walk(rt.alloc())?)?;
+    time_inserts(rt, "cloud", &cloud(rt.alloc())?)?;
+    time_inserts(rt, "spiral", &spiral(rt.alloc())?)?;
+    time_inserts(rt, "curve", &points)?;
     shuffle(&mut points);
-    time_inserts(&rt, "shuffled", &points)?;
-    Ok(())
+    time_inserts(rt, "shuffled", &points)
 }

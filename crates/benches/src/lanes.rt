@@ -1,7 +1,4 @@
-//! Times the marks and the counts of 2^20 points, for the polygon whose corners are read from standard
-//! input, an easting and a northing in each line. Prints how many points it covers, and says on standard
-//! error how many microseconds the best of a few rounds took.
-#![tactic(auto)]
+// Marks and counts of 2^20 points.
 
 use bench_tracks::{cloud, columns_of, read_points, walk};
 use range_lanes::{count_inside, mark_inside};
@@ -49,13 +46,14 @@ fn time_track(
     Ok(())
 }
 
-fn main(rt: HostRuntime) -> Result<(), anyhow::Error> {
-    let text = io::read_to_string(rt.alloc(), rt.reader())?;
-    let corners = read_points(rt.alloc(), &text)?;
+/// Times the marks and the counts for the polygon whose corners the text has. Prints how many points it covers,
+/// and says how many microseconds the best of a few rounds took.
+pub(crate) fn time_lanes(rt: &HostRuntime, text: &str) -> Result<(), anyhow::Error> {
+    let corners = read_points(rt.alloc(), text)?;
     if are_corners(&corners) {
         let polygon = Polygon::of_corners(corners);
-        time_track(&rt, &polygon, "scattered", &cloud(rt.alloc())?)?;
-        time_track(&rt, &polygon, "walk", &walk(rt.alloc())?)?;
+        time_track(rt, &polygon, "scattered", &cloud(rt.alloc())?)?;
+        time_track(rt, &polygon, "walk", &walk(rt.alloc())?)?;
     } else {
         eprintln!(rt;
             "these are not the corners of a polygon, counterclockwise from the westernmost"
