@@ -45,8 +45,8 @@ fn spanning_edges(corners: &[Point], top: usize, q: Point) -> (usize, usize)
     (lower, upper)
 }
 
-// The place of the corner that comes last in order.
-pub(crate) fn top_of(corners: &[Point]) -> usize
+// The place of the easternmost corner, of two such the northern.
+pub(crate) fn easternmost(corners: &[Point]) -> usize
     requires { IsPolygon corners.now corners.now }
     ensures { IsTop corners.now result }
 {

@@ -6,7 +6,7 @@ ghost use Rattle.range_plane.specs.Fix.{fix_limit};
 ghost use Rattle.range_plane.specs.Polygon.{IsPolygon, area2};
 
 use crate::area::area2;
-use crate::edges::{covers, top_of};
+use crate::edges::{covers, easternmost};
 use crate::memory::OutOfMemory;
 use crate::plain::corners_of;
 use crate::point::Point;
@@ -52,7 +52,7 @@ impl<A: Allocator> Polygon<A> {
         requires { IsPolygon corners.items corners.items }
         ensures { result ≡ corners.items }
     {
-        let top = top_of(&corners);
+        let top = easternmost(&corners);
         Polygon { corners, top }
     }
 

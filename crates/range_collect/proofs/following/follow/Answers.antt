@@ -1,4 +1,4 @@
-use Rattle.std.proofs.Common.{◌≡◌, ℕ, ◌+◌, ◌<◌, ◌≤◌, List, Vec, length, map, min, ap, sym, ◌∙◌, subst, arith, vec_len}
+use Rattle.std.proofs.Common.{◌≡◌, ℕ, ◌+◌, ◌<◌, ◌≤◌, List, Vec, length, map, ap, sym, ◌∙◌, subst, arith, vec_len}
 use Rattle.std.proofs.lemmas.Option.{slice_get_within}
 use Rattle.range_plan.specs.Limits.{file_limit}
 use Rattle.range_collect.specs.Follow.{IsFollowed}
@@ -30,15 +30,15 @@ told g c =
     (dealt_map tell c.args.sources.items (map (λ (v : Vec _ _). v.items) lanes) c.in_ok-lanes.ensures.dealt)
 
 -- how many lanes there are
-lane_count : (g : given.Over) (c : In_ok-results g) → length (map (λ (lane : Vec _ _). map g.S.Read.remaining lane.items) c.in_ok-lanes.lanes.items) ≡ min c.len-count.result c.args.plan.workers
+lane_count : (g : given.Over) (c : In_ok-results g) → length (map (λ (lane : Vec _ _). map g.S.Read.remaining lane.items) c.in_ok-lanes.lanes.items) ≡ c.min.result
 lane_count g c =
     let lanes = c.in_ok-lanes.lanes in
-    map_length (λ (lane : Vec _ _). map g.S.Read.remaining lane.items) lanes.items ∙ (sym lanes.ok.0 ∙ (c.in_ok-lanes.ensures.count ∙ c.min.ensures))
+    map_length (λ (lane : Vec _ _). map g.S.Read.remaining lane.items) lanes.items ∙ (sym lanes.ok.0 ∙ c.in_ok-lanes.ensures.count)
 
 some_lanes : (g : given.Over) (c : In_ok-results g) → 0 < length (map (λ (lane : Vec _ _). map g.S.Read.remaining lane.items) c.in_ok-lanes.lanes.items)
 some_lanes g c =
     let count = lane_count g c in
-    omega (arith, count, c.len-count.ensures, c.requires.sources.0, c.args.plan.within.2.0)
+    omega (arith, count, c.min.ensures, c.len-count.ensures, c.requires.sources.0, c.args.plan.within.2.0)
 
 -- the list that was dealt to the results of the lines
 merged : (g : given.Over) (c : In_ok-results g) → (all : List (Followed _ g.A.Clone)) × (length all ≡ c.len-count.result) × Dealt all (map (λ (v : Vec _ _). v.items) c.in_ok-results.results.items)
@@ -82,5 +82,5 @@ returns-clause-lines g c = λ i j f f' in_i in_j same.
     let count : length all ≡ c.len-count.result = ap length is ∙ m.1 in
     let below_i : i < c.len-count.result = (let b = slice_get_within all i f in_i in omega (arith, b, count)) in
     let below_j : j < c.len-count.result = (let b = slice_get_within all j f' in_j in omega (arith, b, count)) in
-    let over = same_over i j c.len-count.result c.args.plan.workers (length lanes) (lane_count g at) below_i below_j same in
+    let over = same_over i j c.len-count.result c.args.plan.workers (length lanes) (lane_count g at ∙ c.min.ensures) below_i below_j same in
     same_line c.args.plan.block sources lanes results all dealt c.in_ok-results.ensures (some_lanes g at) i j f f' in_i in_j over

@@ -1,6 +1,9 @@
-use Rattle.std.proofs.Common.{◌∙◌}
+use Rattle.std.proofs.Common.{refl, ◌∙◌}
 use Rattle.range_run.proofs.Written.{writes_prefix, writes_report}
 use Rattle.range_run.proofs.running.run.Goals as goal
+
+pub returns-in-Err-clause-unwritten : goal.returns-in-Err-clause-unwritten
+returns-in-Err-clause-unwritten g c = λ _. refl
 
 pub returns-clause-report : goal.returns-clause-report
 returns-clause-report g c =

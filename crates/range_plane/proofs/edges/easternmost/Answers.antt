@@ -3,7 +3,7 @@ use Rattle.std.proofs.lemmas.List.{get_or_read}
 use Rattle.range_plane.specs.Plane.{Position, origin, IsAtMost}
 use Rattle.range_plane.specs.Edges.{at}
 use Rattle.range_plane.proofs.Tops.{rise, fall, top_between, top_of_few, second_not_before, last_itself}
-use Rattle.range_plane.proofs.edges.top_of.Goals as goal
+use Rattle.range_plane.proofs.edges.easternmost.Goals as goal
 
 pub loop-low-init : goal.loop-low-init
 loop-low-init c =

@@ -1,7 +1,7 @@
 use Rattle.std.proofs.Common.{ℕ, ◌-◌, ◌<◌, ◌≤◌, length}
 use Rattle.range_plane.specs.Plane.{IsAtMost}
 use Rattle.range_plane.specs.Edges.{at}
-use Rattle.range_plane.proofs.edges.top_of.Given as goal
+use Rattle.range_plane.proofs.edges.easternmost.Given as goal
 
 abbrev pub invariant-loop-low : goal.invariant-loop-low
 invariant-loop-low l = record {
