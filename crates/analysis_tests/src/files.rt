@@ -2,13 +2,13 @@
 
 ghost use Rattle.std.specs.Prelude.{◌≤◌, IfOk, length};
 
-use range_analysis::{AnalyseFault, Analysis, judge};
+use range_analysis::{AnalyseFault, judge};
 use range_collect::Followed;
 use range_estimator::Estimator;
-use range_fixes::ReadFault;
+use range_fixes::{Name, ReadFault};
 use range_line::{Feeder, open_line};
 use range_plane::{Fix, Point};
-use range_pump::Name;
+use range_tables::Analysis;
 use std::alloc::Global;
 use std::process::Abort;
 use std::sync::Wait;

@@ -1,12 +1,12 @@
 // The reports of analyses that are made by hand.
 
-use range_analysis::{Analysis, Animal, Animals, OverlapRow, Overlaps, Percents};
 use range_estimator::{Row, Rows};
+use range_fixes::Name;
 use range_lanes::Extent;
 use range_plane::{Point, Polygon};
-use range_pump::Name;
 use range_report::report;
 use range_stats::PercentRow;
+use range_tables::{Analysis, Animal, Animals, OverlapRow, Overlaps, Percents};
 use std::alloc::Global;
 use std::test::Fail;
 

@@ -1,8 +1,8 @@
 // Tests of the tables of animals.
 
 use crate::files::{File, judged};
-use range_analysis::{Analysis, Animal, OverlapRow};
 use range_stats::PercentRow;
+use range_tables::{Analysis, Animal, OverlapRow};
 use std::alloc::Global;
 use std::process::Abort;
 use std::sync::Wait;

@@ -2,10 +2,10 @@
 
 ghost use Rattle.std.specs.Prelude.{◌≡◌, false, [], IfOk};
 
-use range_fixes::ReadFault;
+use range_fixes::{Name, ReadFault};
 use range_line::{Body, Feeder, Message, Taker, open_line};
 use range_plane::Fix;
-use range_pump::{FreeGate, Gate, Name, Pumped, pump};
+use range_pump::{FreeGate, Gate, Pumped, pump};
 use std::alloc::Global;
 use std::io;
 use std::io::Read;

@@ -1,10 +1,7 @@
-pub mod Analyses
-pub mod Boxes
 pub mod HandedOn
 pub mod Kept
 pub mod Outcomes
-pub mod Pairs
 pub mod Positions
 pub mod Repeats
-pub mod Rows
+pub mod Tabled
 pub mod Tracking

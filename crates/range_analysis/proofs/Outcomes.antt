@@ -6,11 +6,11 @@ use Rattle.std.specs.declared.clone.Clone.{Ghosts}
 use Rattle.std.proofs.lemmas.Option.{none-some, same_Some}
 use Rattle.integers_and_lists.specs.Pairs.{PairedFrom}
 use Rattle.range_collect.specs.declared.followed.Followed.{Followed}
+use Rattle.range_tables.specs.declared.analysis.Analysis.{Analysis}
 use Rattle.range_analysis.proofs.Positions.{place_within}
 use Rattle.range_analysis.specs.Analysis.{HasNoAnalysis, IsAnalysis}
 use Rattle.range_analysis.specs.Entries.{entries_of, is_cut, lacks_memory, lost}
 use Rattle.range_analysis.specs.Sources.{Gives, HasNoAnalysisOf, IsAnalysisOf}
-use Rattle.range_analysis.specs.declared.analysis.Analysis.{Analysis}
 use Rattle.range_analysis.specs.declared.fault.AnalyseFault.{AnalyseFault}
 use Rattle.range_analysis.specs.declared.fault.AnalyseFault.TheVariants.{OutOfMemory, LineCut, File, SameAnimal}
 

@@ -9,7 +9,8 @@ use Rattle.std.proofs.lemmas.List.{get_or-map, get_or-take, length-map, take_mor
 use Rattle.std.proofs.lemmas.List.Folds.{list_any_at}
 use Rattle.std.proofs.lemmas.Option.{get_or_from_slice_get, slice_get_within}
 use Rattle.indexmap.specs.IndexSet.{insert_key}
-use Rattle.range_analysis.specs.Names.{name_at, DifferBefore}
+use Rattle.range_tables.specs.Names.{name_at}
+use Rattle.range_analysis.specs.Names.{DifferBefore}
 
 -- a name where it stands
 abbrev pub Key : Type 0

@@ -1,13 +1,14 @@
 -- Files that become tracks, one after the other.
-use Rattle.std.proofs.Common.{◌≡◌, ℕ, ◌+◌, ◌<◌, get_or, arith, List, [], ◌∷◌, ◌++◌, length, map, Some, None, refl, sym, ap, ◌∙◌}
+use Rattle.std.proofs.Common.{◌≡◌, ℕ, ◌+◌, ◌<◌, get_or, arith, List, [], ◌∷◌, ◌++◌, length, map, Some, refl, sym, ap, ◌∙◌}
 use Rattle.std.proofs.lemmas.List.{get_or-map, length-map}
 use Rattle.std.specs.declared.clone.Clone.{Ghosts}
 use Rattle.range_plane.specs.declared.fix.Fix.{Fix}
 use Rattle.range_collect.specs.declared.followed.Followed.{Followed}
+use Rattle.range_tables.specs.Names.{name_at}
+use Rattle.range_tables.specs.declared.track.Track.{Track}
 use Rattle.range_analysis.specs.Entries.{Entry, good, entries_of, entry_of, first_bad_from, names_of}
-use Rattle.range_analysis.specs.Names.{IsFirstRepeat, name_at}
+use Rattle.range_analysis.specs.Names.{IsFirstRepeat}
 use Rattle.range_analysis.specs.Tracks.{entries_in}
-use Rattle.range_analysis.specs.declared.track.Track.{Track}
 
 -- the entries of the tracks so far, and of the files that are left
 pub entries_moved : (tracks : List Track) (track : Track) (entry : Entry) (rest all : List Entry) → entry ≡ good track.name track.estimator.fixes
@@ -20,10 +21,6 @@ pub bad_behind : (number next : ℕ) (entry : Entry) (rest : List Entry) (name :
     → first_bad_from next rest ≡ first_bad_from number (entry ∷ rest)
 bad_behind number next entry rest name fixes is next_is = ap (λ n. first_bad_from n rest) next_is ∙ ap (λ e. first_bad_from number (e ∷ rest)) (sym is)
 
-pub tracks_are_good : (number : ℕ) (tracks : List Track) → first_bad_from number (entries_in tracks) ≡ None
-tracks_are_good number [] = refl
-tracks_are_good number (t ∷ tracks) = tracks_are_good (number + 1) tracks
-
 pub names_in : (tracks : List Track) → names_of (entries_in tracks) ≡ map (λ t. t.name) tracks
 names_in [] = refl
 names_in (t ∷ tracks) = ap (λ l. t.name ∷ l) (names_in tracks)
@@ -35,10 +32,13 @@ pub name_is : (tracks : List Track) (place : ℕ) (track : Track) → place < le
 name_is tracks place track within is =
     ap (λ t. t.name) is ∙ (sym (get_or-map (λ (t : Track). t.name) tracks place track [] within) ∙ ap (λ l. get_or l place []) (sym (names_in tracks)))
 
+pub entries_count : (tracks : List Track) → length (entries_in tracks) ≡ length tracks
+entries_count tracks = length-map tracks (λ t. good t.name t.estimator.fixes)
+
 -- there are as many tracks as files
 pub tracks_count : {A : Type 0} {clone : Ghosts A} (tracks : List Track) (followed : List (Followed A clone)) → entries_in tracks ≡ entries_of followed → length tracks ≡ length followed
 tracks_count tracks followed same =
-    omega (arith, ap length same, length-map tracks (λ t. good t.name t.estimator.fixes), length-map followed (λ f. entry_of f.read f.estimator.fixes))
+    omega (arith, ap length same, entries_count tracks, length-map followed (λ f. entry_of f.read f.estimator.fixes))
 
 pub repeat_within : (tracks : List Track) (first second : ℕ) → IsFirstRepeat (names_of (entries_in tracks)) (Some (first, second)) → (first < length tracks) × (second < length tracks)
 repeat_within tracks first second repeat =

@@ -1,5 +1,5 @@
 -- What each file gave: its animal and fixes, or why it cannot be read to its end.
-use Rattle.std.specs.Prelude.{ℕ, ◌+◌, List, [], ◌∷◌, map, Bool, ◌||◌, not, if◌then◌else◌, Option, Some, None, option_map, Ok, Err, true, false, slice_index_or}
+use Rattle.std.specs.Prelude.{ℕ, ◌+◌, List, [], ◌∷◌, map, Bool, ◌||◌, not, if◌then◌else◌, Option, Some, None, option_map, Ok, Err, true, false}
 use Rattle.std.specs.List.{list_any, position}
 use Rattle.std.specs.declared.clone.Clone.{Ghosts}
 use Rattle.range_plane.specs.Plane.{Position}
@@ -39,13 +39,10 @@ names_of [] = []
 names_of (good name fixes ∷ entries) = name ∷ names_of entries
 names_of (bad fault ∷ entries) = names_of entries
 
+-- the points of the file
 abbrev pub points_in : Entry → List Position
 points_in (good name fixes) = points_of fixes
 points_in (bad fault) = []
-
--- the points of the file at a place
-abbrev pub points_at : List Entry → ℕ → List Position
-points_at entries place = slice_index_or (map points_in entries) place []
 
 -- the reader wanted memory
 abbrev pub wants_memory : Read → Bool

@@ -1,8 +1,6 @@
 -- The first name that stands earlier too.
-use Rattle.std.specs.Prelude.{◌≡◌, ◌≢◌, ℕ, ◌<◌, List, [], length, Option, Some, None, slice_index_or}
-
-abbrev pub name_at : List (List ℕ) → ℕ → List ℕ
-name_at names place = slice_index_or names place []
+use Rattle.std.specs.Prelude.{◌≡◌, ◌≢◌, ℕ, ◌<◌, List, length, Option, Some, None}
+use Rattle.range_tables.specs.Names.{name_at}
 
 -- no two of the first n names are the same
 abbrev pub DifferBefore : List (List ℕ) → ℕ → Type 0

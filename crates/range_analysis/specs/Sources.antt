@@ -5,9 +5,9 @@ use Rattle.range_plane.specs.declared.fix.Fix.{Fix}
 use Rattle.range_fixes.specs.declared.fault.ReadFault.TheVariants as reads
 use Rattle.range_fixes.specs.Progress.{is_of_text}
 use Rattle.range_fixes.specs.Reading.{Reading, reading}
+use Rattle.range_tables.specs.declared.analysis.Analysis.{Analysis}
 use Rattle.range_analysis.specs.Analysis.{HasNoAnalysis, IsAnalysis}
 use Rattle.range_analysis.specs.Entries.{Entry, good, bad}
-use Rattle.range_analysis.specs.declared.analysis.Analysis.{Analysis}
 use Rattle.range_analysis.specs.declared.fault.AnalyseFault.{AnalyseFault}
 use Rattle.range_analysis.specs.declared.fault.AnalyseFault.TheVariants.{OutOfMemory, LineCut}
 

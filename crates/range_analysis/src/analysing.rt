@@ -5,13 +5,13 @@ ghost use Rattle.range_plan.specs.Limits.{file_limit};
 ghost use Rattle.range_stats.specs.Levels.{IsLevel};
 ghost use Rattle.range_analysis.specs.Sources.{HasNoAnalysisOf, IsAnalysisOf};
 
-use crate::analysis::Analysis;
 use crate::fault::AnalyseFault;
 use crate::judging::judge;
 use range_collect::follow;
 use range_line::{last_messages_come_next, streams_are_lawful};
 use range_plan::Plan;
 use range_pump::Gate;
+use range_tables::Analysis;
 use std::alloc::Global;
 use std::io::Read;
 use std::sync::Wait;

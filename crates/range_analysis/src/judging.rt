@@ -7,14 +7,12 @@ ghost use Rattle.range_analysis.specs.Analysis.{HasNoAnalysis, IsAnalysis};
 ghost use Rattle.range_analysis.specs.Entries.{bad, entries_of, entry_of, first_bad, good, lost};
 ghost use Rattle.range_analysis.specs.Tracks.{entries_in};
 
-use crate::analysis::Analysis;
 use crate::fault::AnalyseFault;
 use crate::losses::lost;
 use crate::names::first_repeat;
-use crate::tables::tabulate;
-use crate::track::Track;
 use range_collect::Followed;
 use range_fixes::ReadFault;
+use range_tables::{Analysis, Track, tabulate};
 use std::alloc::Global;
 use std::thread::Threads;
 

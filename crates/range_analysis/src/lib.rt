@@ -1,23 +1,12 @@
-//! The analysis of files that were followed: the tables of each animal, and how the animals' ranges overlap.
+//! The analysis of files that were followed: the tables of their animals, or why there are none.
 #![tactic(auto)]
 
 mod analysing;
-mod analysis;
-mod animal;
 mod fault;
 mod judging;
-mod lists;
 mod losses;
-mod measured;
-mod measuring;
 mod names;
-mod overlaps;
-mod tables;
-mod track;
 
 pub use analysing::analyse;
-pub use analysis::Analysis;
-pub use animal::{Animal, OverlapRow};
 pub use fault::AnalyseFault;
 pub use judging::judge;
-pub use lists::{Animals, Overlaps, Percents};

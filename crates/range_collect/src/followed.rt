@@ -3,9 +3,8 @@
 ghost use Rattle.range_collect.specs.Follow.{IsResult};
 
 use range_estimator::Estimator;
-use range_fixes::ReadFault;
+use range_fixes::{Name, ReadFault};
 use range_line::Feeder;
-use range_pump::Name;
 use std::alloc::{Allocator, Global};
 
 /// What was sent of a file, what its reader says of it, and what its estimator took.

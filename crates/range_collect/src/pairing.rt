@@ -9,10 +9,9 @@ ghost use Rattle.range_pump.specs.Pump.{Read};
 
 use crate::followed::Followed;
 use range_estimator::Estimator;
-use range_fixes::ReadFault;
+use range_fixes::{Name, ReadFault};
 use range_line::Feeder;
 use range_plane::OutOfMemory;
-use range_pump::Name;
 use std::alloc::Allocator;
 
 // The result of a file.

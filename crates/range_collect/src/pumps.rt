@@ -6,11 +6,11 @@ ghost use Rattle.range_line.specs.Lines.{FeederView};
 ghost use Rattle.range_collect.specs.Lanes.{IsNew};
 ghost use Rattle.range_pump.specs.Pump.{IsPumped, Read as ReadView};
 
-use range_fixes::ReadFault;
+use range_fixes::{Name, ReadFault};
 use range_line::Feeder;
 use range_plan::Plan;
 use range_plane::OutOfMemory;
-use range_pump::{Gate, Name, Pumped, pump};
+use range_pump::{Gate, Pumped, pump};
 use std::alloc::{Allocator, Global};
 use std::io::Read;
 use std::snapshot::Snapshot;

@@ -9,6 +9,7 @@
 mod checks;
 mod fault;
 mod law;
+mod name;
 mod number;
 mod previous;
 mod reader;
@@ -16,4 +17,5 @@ mod records;
 
 pub use fault::ReadFault;
 pub use law::reads_exactly;
+pub use name::Name;
 pub use reader::FixReader;

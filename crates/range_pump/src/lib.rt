@@ -3,9 +3,7 @@
 
 mod batch;
 mod gate;
-mod name;
 mod pumping;
 
 pub use gate::{FreeGate, Gate};
-pub use name::Name;
 pub use pumping::{Pumped, pump};

@@ -9,8 +9,7 @@ ghost use Rattle.range_pump.specs.Pump.{IsPumped};
 
 use crate::batch::read_block;
 use crate::gate::Gate;
-use crate::name::Name;
-use range_fixes::{FixReader, ReadFault};
+use range_fixes::{FixReader, Name, ReadFault};
 use range_line::Feeder;
 use range_plane::Fix;
 use std::alloc::{Allocator, Global};

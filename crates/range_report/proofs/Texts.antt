@@ -4,7 +4,7 @@ use Rattle.std.specs.Prelude.{IfOk}
 use Rattle.std.specs.List.{AllZip, flat_map}
 use Rattle.std.specs.declared.alloc.AllocError.{AllocError}
 use Rattle.std.specs.declared.result.Result.{Result}
-use Rattle.range_analysis.specs.declared.animal.Animal.{Animal}
+use Rattle.range_tables.specs.declared.animal.Animal.{Animal}
 use Rattle.range_report.specs.Report.{animal_text}
 
 abbrev pub IsTextOf : Animal → Vec ℕ Global → Type 0

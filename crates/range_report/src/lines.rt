@@ -2,15 +2,15 @@
 
 ghost use Rattle.std.specs.Prelude.{◌≡◌, ◌++◌, ◌<◌, All, OnOk, codes, length, map};
 ghost use Rattle.std.specs.List.{flat_map};
-ghost use Rattle.range_analysis.specs.Names.{name_at};
+ghost use Rattle.range_tables.specs.Names.{name_at};
 ghost use Rattle.range_report.specs.Report.{animal_line, box_line, corner_line, end_line, numbered, overlap_line, percent_line, point_text, row_line};
 
 use itoa::{Buffer, Integer};
-use range_analysis::{Animal, OverlapRow};
 use range_estimator::Row;
 use range_lanes::Extent;
 use range_plane::Point;
 use range_stats::PercentRow;
+use range_tables::{Animal, OverlapRow};
 use std::alloc::AllocError;
 
 // Appends a number.

@@ -7,8 +7,8 @@ ghost use Rattle.range_report.specs.Report.{animal_text, report_text};
 use crate::lines::{
     push_box, push_corners, push_end, push_head, push_overlaps, push_percents, push_rows,
 };
-use range_analysis::{Analysis, Animal};
 use range_plane::OutOfMemory;
+use range_tables::{Analysis, Animal};
 use rayon::prelude::*;
 use std::alloc::{AllocError, Global};
 use std::thread::Threads;

@@ -3,8 +3,8 @@ use Rattle.std.proofs.Common.{◌≡◌, ℕ, List, Option, subst}
 use Rattle.std.specs.Prelude.{Result, Err, OnErr, OnOk}
 use Rattle.std.specs.Io.KnownBytes.{Appends}
 use Rattle.std.proofs.lemmas.Result.{on_ok_weaker}
+use Rattle.range_tables.specs.declared.analysis.Analysis.{Analysis}
 use Rattle.range_analysis.specs.Sources.{IsAnalysisOf}
-use Rattle.range_analysis.specs.declared.analysis.Analysis.{Analysis}
 use Rattle.range_report.specs.Report.{report_text}
 use Rattle.range_run.specs.Output.{AppendsPrefix}
 use Rattle.range_run.specs.Run.{WritesPrefix, WritesReport}

@@ -1,8 +1,8 @@
 -- What a run writes, and why it ends without its report.
 use Rattle.std.specs.Prelude.{ℕ, ⊤, List, Option}
 use Rattle.std.specs.Io.KnownBytes.{Appends}
+use Rattle.range_tables.specs.declared.analysis.Analysis.{Analysis}
 use Rattle.range_analysis.specs.Sources.{HasNoAnalysisOf, IsAnalysisOf}
-use Rattle.range_analysis.specs.declared.analysis.Analysis.{Analysis}
 use Rattle.range_report.specs.Report.{report_text}
 use Rattle.range_run.specs.Output.{AppendsPrefix}
 use Rattle.range_run.specs.declared.fault.RunFault.{RunFault}

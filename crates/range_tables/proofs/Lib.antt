@@ -1,0 +1,4 @@
+pub mod Analyses
+pub mod Boxes
+pub mod Pairs
+pub mod Rows

@@ -1,0 +1,4 @@
+pub mod Names
+pub mod Overlaps
+pub mod Tables
+pub mod Tracks

@@ -1,0 +1,75 @@
+// The tables of animals, and the overlap of each two.
+
+ghost use Rattle.std.specs.Prelude.{◌≡◌, ◌≤◌, All, IfOk, length, map, vec_len};
+ghost use Rattle.std.specs.List.{AllZip};
+ghost use Rattle.range_plan.specs.Limits.{file_limit};
+ghost use Rattle.range_stats.specs.Levels.{IsLevel};
+ghost use Rattle.range_tables.specs.Tables.{IsOverlap, pairs};
+ghost use Rattle.range_tables.specs.Tracks.{IsAnimalOn, IsMeasuredOf, points_on};
+
+use crate::analysis::Analysis;
+use crate::lists::Animals;
+use crate::measured::Measured;
+use crate::measuring::measure;
+use crate::overlaps::overlaps;
+use crate::track::Track;
+use range_plane::OutOfMemory;
+use rayon::prelude::*;
+use std::alloc::Global;
+use std::thread::Threads;
+
+// What is known of each animal, in their order. Several are measured at once.
+fn measure_all<R: Threads + Sync>(
+    rt: &R,
+    alloc: Global,
+    tracks: Vec<Track>,
+    levels: &[u8],
+) -> Result<Vec<Measured>, OutOfMemory>
+    requires { All IsLevel levels.now }
+    ensures { IfOk result (λ measured. AllZip (IsMeasuredOf levels.now) tracks.items measured.items) }
+{
+    tracks
+        .into_par_iter()
+        .with_min_len(1)
+        .map(
+            |track: Track| -> Result<Measured, OutOfMemory>
+                requires { All IsLevel levels.now }
+                ensures { IfOk result (IsMeasuredOf levels.entry.now track) }
+            { measure(alloc, track, levels) },
+        )
+        .collect::<Result<Vec<Measured>, OutOfMemory>>(rt, alloc)?
+}
+
+// The animals, without their points.
+fn animals(alloc: Global, measured: Vec<Measured>) -> Result<Animals, OutOfMemory>
+    ensures { IfOk result (λ animals. animals ≡ map (λ m. m.animal) measured.items) }
+{
+    let mut animals = Vec::with_capacity(alloc, measured.len())?;
+    for one in measured {
+        animals.push(one.animal)?;
+    }
+    Ok(Animals::new(animals))
+}
+
+/// The analysis of 0 to [`FILE_LIMIT`](range_plan::FILE_LIMIT) animals: the tables of each, with a percent
+/// polygon at each of the levels, and their overlaps.
+///
+/// # Errors
+///
+/// `OutOfMemory` where a growth was refused.
+pub fn tabulate<R: Threads + Sync>(
+    rt: &R,
+    alloc: Global,
+    tracks: Vec<Track>,
+    levels: &[u8],
+) -> Result<Analysis, OutOfMemory>
+    requires files { vec_len tracks ≤ file_limit }
+    requires levels { All IsLevel levels.now }
+    ensures animals { IfOk result (λ a. AllZip (IsAnimalOn levels.now) tracks.items a.animals) }
+    ensures overlaps { IfOk result (λ a. AllZip (IsOverlap (points_on tracks.items)) (pairs (length tracks.items)) a.overlaps) }
+{
+    let measured = measure_all(rt, alloc, tracks, levels)?;
+    let overlaps = overlaps(rt, alloc, &measured)?;
+    let animals = animals(alloc, measured)?;
+    Ok(Analysis { animals, overlaps })
+}
