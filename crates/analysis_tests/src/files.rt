@@ -7,7 +7,7 @@ use range_collect::Followed;
 use range_estimator::Estimator;
 use range_fixes::{Name, ReadFault};
 use range_line::{Feeder, open_line};
-use range_plane::{Fix, Point};
+use range_plane::{Fix, Point, Scale};
 use range_tables::Analysis;
 use std::alloc::Global;
 use std::process::Abort;
@@ -88,5 +88,5 @@ pub(crate) fn judged<R: Wait + Threads + Sync + Abort>(
         levels.iter().all(|level| 1 <= *level && *level <= 100),
         "levels"
     );
-    Ok(judge(rt, alloc, all, levels))
+    Ok(judge(rt, alloc, all, levels, Scale::Metre))
 }

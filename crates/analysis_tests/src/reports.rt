@@ -3,7 +3,7 @@
 use range_estimator::{Row, Rows};
 use range_fixes::Name;
 use range_lanes::Extent;
-use range_plane::{Point, Polygon};
+use range_plane::{Point, Polygon, Scale};
 use range_report::report;
 use range_stats::PercentRow;
 use range_tables::{Analysis, Animal, Animals, OverlapRow, Overlaps, Percents};
@@ -108,8 +108,35 @@ fn reports_two_animals(rt: HostRuntime) -> Result<(), Fail> {
     let analysis = Analysis {
         animals: Animals::new(animals),
         overlaps: Overlaps::new(overlaps),
+        unit: Scale::Metre,
     };
     let text = report(&rt, alloc, &analysis).ok().ok_or("memory")?;
     assert_eq!(rt; text.as_slice(), REPORT);
+    Ok(())
+}
+
+// In decimetres the report begins with a line that says so, with and without animals.
+#[test]
+fn unit_line(rt: HostRuntime) -> Result<(), Fail> {
+    let alloc = rt.alloc();
+    let animals = vec![in alloc; segment(alloc)?, segment(alloc)?]?;
+    let overlaps = Vec::new(alloc);
+    let mut analysis = Analysis {
+        animals: Animals::new(animals),
+        overlaps: Overlaps::new(overlaps),
+        unit: Scale::Metre,
+    };
+    let metres = report(&rt, alloc, &analysis).ok().ok_or("memory")?;
+    analysis.unit = Scale::Decimetre;
+    let decimetres = report(&rt, alloc, &analysis).ok().ok_or("memory")?;
+    let lines = decimetres.as_slice().strip_prefix(b"unit,dm\n");
+    assert_eq!(rt; lines, Some(metres.as_slice()));
+    let none = Analysis {
+        animals: Animals::new(Vec::new(alloc)),
+        overlaps: Overlaps::new(Vec::new(alloc)),
+        unit: Scale::Decimetre,
+    };
+    let text = report(&rt, alloc, &none).ok().ok_or("memory")?;
+    assert_eq!(rt; text.as_slice(), b"unit,dm\nend,0\n".as_slice());
     Ok(())
 }

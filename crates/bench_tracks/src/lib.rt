@@ -1,13 +1,16 @@
 //! Points for the benches: the tracks of made-up animals, the same in each run.
 #![tactic(auto)]
 
-use range_plane::{COORDINATE_LIMIT, Columns, OutOfMemory, Point};
+use range_plane::{Columns, OutOfMemory, Point};
 use std::alloc::{AllocError, Global};
 
 /// How many points a track has: 2^20.
 pub const TRACK_POINTS: usize = 1 << 20;
 
-const MIDDLE: i64 = COORDINATE_LIMIT / 2;
+// The tracks lie in a square of this side, as far as files in metres go.
+const SIDE: i64 = 1 << 24;
+
+const MIDDLE: i64 = SIDE / 2;
 
 // How far the spiral begins from the middle, in metres: its end then is some 7,500 km from there.
 const SPIRAL_START: i64 = 2500;
@@ -40,7 +43,7 @@ pub fn cloud(alloc: Global) -> Result<Vec<Point>, AllocError> {
 // The coordinate after `last` of a walk.
 fn step(last: i64, seed: u64) -> i64 {
     let step = ((seed >> 53) as i64) - 1024;
-    last.wrapping_add(step).clamp(0, COORDINATE_LIMIT)
+    last.wrapping_add(step).clamp(0, SIDE)
 }
 
 /// Points each at most 1,024 metres from the one before, along each axis.

@@ -4,7 +4,7 @@ use bench_tracks::{cloud, read_points, shuffle, spiral, walk};
 use itoa::Buffer;
 use range_collect::{Followed, follow};
 use range_plan::Plan;
-use range_plane::Point;
+use range_plane::{Point, Scale};
 use range_pump::FreeGate;
 use std::alloc::{AllocError, Global};
 use std::rt::Runtime;
@@ -66,7 +66,7 @@ fn time_workers<R: Runtime + Wait + Threads + Sync>(
     files: &[Vec<u8>],
     workers: u32,
 ) -> Result<(), anyhow::Error> {
-    let Some(plan) = Plan::new(256, 4, workers) else {
+    let Some(plan) = Plan::new(256, 4, workers, Scale::Metre) else {
         return Ok(());
     };
     let mut sources = Vec::new(alloc);

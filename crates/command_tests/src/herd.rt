@@ -1,6 +1,7 @@
 // Five animals in every plan.
 
 use crate::options::options;
+use range_plane::Scale;
 use range_run::run;
 use std::alloc::Global;
 use std::process::Abort;
@@ -25,7 +26,7 @@ fn report_of<R: Wait + Threads + Sync + Abort>(
     alloc: Global,
     plan: (u32, u32, u32),
 ) -> Vec<u8> {
-    let options = options(rt, alloc, &[50, 95, 100], plan);
+    let options = options(rt, alloc, &[50, 95, 100], plan, Scale::Metre);
     let sources = Vec::from_slice(alloc, FILES.as_slice()).expect(rt, "memory");
     let mut out = Vec::new(alloc);
     let outcome = run(rt, alloc, sources, &options, &mut out);

@@ -65,6 +65,11 @@ fn words_and_files(rt: HostRuntime) {
             "a value is required for '--depth <N>' but none was supplied",
         ),
         (
+            &["--unit", "k\nm"],
+            2,
+            "invalid value 'k\\nm' for '--unit <UNIT>': k\\nm is neither m nor dm",
+        ),
+        (
             &["--percent", "50,x"],
             2,
             "part 2 of the levels is not a whole number from 1 to 100",

@@ -3,6 +3,7 @@
 use crate::options::options;
 use range_analysis::AnalyseFault;
 use range_fixes::ReadFault;
+use range_plane::Scale;
 use range_run::{RunFault, run, status};
 use std::alloc::Global;
 use std::io;
@@ -65,7 +66,18 @@ fn run_over<R: Wait + Threads + Sync + Abort, S: Read + Send + Drop, W: Write>(
     source: S,
     out: &mut W,
 ) -> Result<(), RunFault> {
-    let options = options(rt, alloc, &[50, 95, 100], (256, 4, 2));
+    run_in(rt, alloc, source, Scale::Metre, out)
+}
+
+// The same with coordinates in this unit.
+fn run_in<R: Wait + Threads + Sync + Abort, S: Read + Send + Drop, W: Write>(
+    rt: &R,
+    alloc: Global,
+    source: S,
+    unit: Scale,
+    out: &mut W,
+) -> Result<(), RunFault> {
+    let options = options(rt, alloc, &[50, 95, 100], (256, 4, 2), unit);
     let mut sources = Vec::new(alloc);
     if sources.push(source).is_err() {
         return Err(RunFault::OutOfMemory);
@@ -163,6 +175,76 @@ fn rows_and_corners(rt: HostRuntime) {
     ];
     for (text, report) in cases {
         expect_report(&rt, alloc, text, report);
+    }
+}
+
+// Reports in decimetres, which begin with a line that says so: of the square of above, each coordinate ten
+// times as great, and of the greatest square.
+#[test]
+fn decimetres(rt: HostRuntime) {
+    let alloc = rt.alloc();
+    let cases = [
+        (
+            b"animal,second,easting,northing\nA,0,0,0\nA,60,100,0\nA,120,100,100\nA,180,0,100\nA,240,50,50\n".as_slice(),
+            b"unit,dm\nanimal,A,fixes,5\nbox,A,0,0,100,100\nrow,A,1,0,1,0\nrow,A,2,60,2,0\nrow,A,3,120,3,10000\nrow,A,4,180,4,20000\nrow,A,5,240,4,20000\ncorner,A,1,0,0\ncorner,A,2,100,0\ncorner,A,3,100,100\ncorner,A,4,0,100\npercent,A,50,3,3,5000\npercent,A,95,5,4,20000\npercent,A,100,5,4,20000\nend,1\n".as_slice(),
+        ),
+        (
+            b"animal,second,easting,northing\nF,0,0,0\nF,1,134217728,0\nF,2,134217728,134217728\nF,1099511627776,0,134217728\n",
+            b"unit,dm\nanimal,F,fixes,4\nbox,F,0,0,134217728,134217728\nrow,F,1,0,1,0\nrow,F,2,1,2,0\nrow,F,3,2,3,18014398509481984\nrow,F,4,1099511627776,4,36028797018963968\ncorner,F,1,0,0\ncorner,F,2,134217728,0\ncorner,F,3,134217728,134217728\ncorner,F,4,0,134217728\npercent,F,50,2,2,0\npercent,F,95,4,4,36028797018963968\npercent,F,100,4,4,36028797018963968\nend,1\n",
+        ),
+    ];
+    for (text, report) in cases {
+        let mut out = Vec::new(alloc);
+        assert!(rt; run_in(&rt, alloc, text, Scale::Decimetre, &mut out) == Ok(()));
+        assert!(rt; out.as_slice() == report);
+    }
+}
+
+// Two animals in decimetres: the line stands once.
+#[test]
+fn two_files_in_decimetres(rt: HostRuntime) {
+    let alloc = rt.alloc();
+    let options = options(&rt, alloc, &[], (256, 4, 2), Scale::Decimetre);
+    let first = b"animal,second,easting,northing\nA,0,16777217,0\n".as_slice();
+    let second = b"animal,second,easting,northing\nB,0,16777217,0\n".as_slice();
+    let sources = vec![in alloc; first, second].expect(&rt, "memory");
+    let mut out = Vec::new(alloc);
+    assert!(rt; run(&rt, alloc, sources, &options, &mut out) == Ok(()));
+    let report =
+        b"unit,dm\nanimal,A,fixes,1\nbox,A,16777217,0,16777217,0\nrow,A,1,0,1,0\ncorner,A,1,16777217,0\nanimal,B,fixes,1\nbox,B,16777217,0,16777217,0\nrow,B,1,0,1,0\ncorner,B,1,16777217,0\noverlap,A,B,1,1\noverlap,B,A,1,1\nend,2\n";
+    assert!(rt; out.as_slice() == report.as_slice());
+}
+
+// Coordinates past the limit of the unit that is asked for.
+#[test]
+fn limits_of_units(rt: HostRuntime) {
+    let alloc = rt.alloc();
+    let (m, dm) = (Scale::Metre, Scale::Decimetre);
+    let (rec, field) = (1, 2);
+    let cases = [
+        (
+            b"animal,second,easting,northing\nA,0,16777217,0\n".as_slice(),
+            m,
+            true,
+        ),
+        (
+            b"animal,second,easting,northing\nA,0,16777217,0\n",
+            dm,
+            false,
+        ),
+        (
+            b"animal,second,easting,northing\nA,0,134217729,0\n",
+            dm,
+            true,
+        ),
+    ];
+    for (text, unit, is_refused) in cases {
+        let mut out = Vec::new(alloc);
+        let outcome = run_in(&rt, alloc, text, unit, &mut out);
+        let fault = ReadFault::TooLarge { rec, field, unit };
+        let refusal = RunFault::Analyse(AnalyseFault::File { file: 0, fault });
+        assert!(rt; outcome == if is_refused { Err(refusal) } else { Ok(()) });
+        assert!(rt; out.is_empty() == is_refused);
     }
 }
 
@@ -276,7 +358,7 @@ fn two_files(rt: HostRuntime) {
     ];
     for (files, expected) in cases {
         for plan in [(256, 4, 2), (1, 1, 8)] {
-            let options = options(&rt, alloc, &[100, 50], plan);
+            let options = options(&rt, alloc, &[100, 50], plan, Scale::Metre);
             let sources = vec![in alloc; files[0], files[1]].expect(&rt, "memory");
             let mut out = Vec::new(alloc);
             let outcome = run(&rt, alloc, sources, &options, &mut out);

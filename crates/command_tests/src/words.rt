@@ -1,12 +1,13 @@
 // What words say, and which are refused.
 
 use crate::line::read;
+use range_plane::Scale;
 use range_stats::LevelFault;
 use range_words::WordFault;
 use std::alloc::Global;
 use std::process::Abort;
 
-// Words say this: so many files, these levels, and this block, depth and workers.
+// Words say this: so many files, these levels, and this block, depth and workers; the unit is the metre.
 fn expect<R: Abort>(rt: &R, alloc: Global, words: &[&str], said: (usize, &[u8], (u32, u32, u32))) {
     let (files, levels, plan) = said;
     let read = read(rt, alloc, words).expect(rt, "words");
@@ -14,6 +15,7 @@ fn expect<R: Abort>(rt: &R, alloc: Global, words: &[&str], said: (usize, &[u8], 
     assert!(rt; read.files.len() == files);
     assert!(rt; read.options.levels.as_slice() == levels);
     assert!(rt; (found.block, found.depth, found.workers) == plan);
+    assert!(rt; found.unit == Scale::Metre);
 }
 
 #[test]
@@ -49,6 +51,20 @@ fn words_that_are_read(rt: HostRuntime) {
 }
 
 #[test]
+fn units(rt: HostRuntime) {
+    let alloc = rt.alloc();
+    let cases = [
+        (["--unit", "m"].as_slice(), Scale::Metre),
+        (&["--unit=dm", "x.csv"], Scale::Decimetre),
+        (&["x.csv", "--unit", "dm", "--block", "1"], Scale::Decimetre),
+    ];
+    for (words, unit) in cases {
+        let read = read(&rt, alloc, words).expect(&rt, "words");
+        assert!(rt; read.options.plan.unit == unit, "{words:?}");
+    }
+}
+
+#[test]
 fn paths_are_kept(rt: HostRuntime) {
     let alloc = rt.alloc();
     let read = read(&rt, alloc, &["b.csv", "a b.csv", "b.csv"]).expect(&rt, "words");
@@ -72,6 +88,13 @@ fn bad_words(rt: HostRuntime) {
         &["--workers", "0"],
         &["--workers", "9"],
         &["--percent"],
+        &["--unit"],
+        &["--unit", "km"],
+        &["--unit", "DM"],
+        &["--unit", ""],
+        &["--unit=d"],
+        &["--unit", "m", "--unit", "m"],
+        &["--unit", "km", "--percent", "0"],
         &["--version"],
         &["--bogus", "--help"],
     ];
@@ -121,7 +144,8 @@ fn sixty_four_files(rt: HostRuntime) {
 fn help(rt: HostRuntime) {
     let alloc = rt.alloc();
     let parts = [
-        "Usage: homerange [--percent LIST] [--block N] [--depth N] [--workers N] [FILE ...]\n",
+        "Usage: homerange [--percent LIST] [--unit UNIT] [--block N] [--depth N] [--workers N] [FILE ...]\n",
+        "m for metres, dm for decimetres [default: m]",
         "1 to 8 whole numbers from 1 to 100 [default: 50,95,100]",
         "1 to 1024 [default: 256]",
         "1 to 64 [default: 4]",
@@ -131,7 +155,9 @@ fn help(rt: HostRuntime) {
         "animal,second,easting,northing,use each",
         "1 to 32 bytes",
         "0 to 1099511627776",
-        "0 to 16777216",
+        "metres from 0 to 16777216,",
+        "decimetres from 0 to 134217728\n",
+        "unit,dm ",
         "1 to 1048576 such lines",
         "use       1, or 0 for",
         "(p*n + 99)/100",

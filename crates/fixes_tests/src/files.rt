@@ -1,13 +1,13 @@
 // What the reader answers to files, whole, cut, hostile and failing.
 
 use range_fixes::{FixReader, ReadFault};
-use range_plane::{FIX_LIMIT, Fix};
+use range_plane::{FIX_LIMIT, Fix, Scale};
 use std::alloc::Global;
 use std::io;
 use std::io::Read;
 use std::process::Abort;
 
-const HEADER: &[u8] = b"animal,second,easting,northing\n";
+pub(crate) const HEADER: &[u8] = b"animal,second,easting,northing\n";
 
 const FILE_A: &[u8] =
     b"animal,second,easting,northing\nA,0,0,0\nA,60,10,0\nA,120,10,10\nA,180,0,10\nA,240,5,5\n";
@@ -53,9 +53,25 @@ fn has_ended<R: Read + Drop>(
     reader.next() == *end && reader.count() == count && has_name_of_fixes(reader)
 }
 
-// Reads a source to its end.
+// A number past its limit in a file in metres.
+pub(crate) fn too_large(rec: u32, field: u32) -> ReadFault {
+    let unit = Scale::Metre;
+    ReadFault::TooLarge { rec, field, unit }
+}
+
+// Reads a source in metres to its end.
 pub(crate) fn outcome(rt: &impl Abort, alloc: Global, source: Pieces<'_>) -> Outcome {
-    let mut reader = FixReader::new(alloc, source);
+    outcome_in(rt, alloc, source, Scale::Metre)
+}
+
+// Reads a source in this unit to its end.
+pub(crate) fn outcome_in(
+    rt: &impl Abort,
+    alloc: Global,
+    source: Pieces<'_>,
+    unit: Scale,
+) -> Outcome {
+    let mut reader = FixReader::new(alloc, source, unit);
     let mut last = None;
     for _ in 0..u64::MAX {
         let answer = reader.next();
@@ -177,15 +193,9 @@ fn bad_fields(rt: HostRuntime) {
         (b"A,0,\"1\"\"0\",0", number),
         (b"A,-1,0,0", ReadFault::NotNumber { rec: 1, field: 1 }),
         (b"A,0,0,1.5", ReadFault::NotNumber { rec: 1, field: 3 }),
-        (
-            b"A,1099511627777,0,0",
-            ReadFault::TooLarge { rec: 1, field: 1 },
-        ),
-        (b"A,0,16777217,0", ReadFault::TooLarge { rec: 1, field: 2 }),
-        (
-            b"A,0,0,18446744073709551616",
-            ReadFault::TooLarge { rec: 1, field: 3 },
-        ),
+        (b"A,1099511627777,0,0", too_large(1, 1)),
+        (b"A,0,16777217,0", too_large(1, 2)),
+        (b"A,0,0,18446744073709551616", too_large(1, 3)),
     ];
     for (records, fault) in cases {
         expect_records(&rt, alloc, records, (0, None, Some(fault)));
@@ -210,17 +220,9 @@ fn order_of_checks(rt: HostRuntime) {
             0,
             ReadFault::NotNumber { rec: 1, field: 2 },
         ),
-        (
-            b"A,0,99999999,x",
-            0,
-            ReadFault::TooLarge { rec: 1, field: 2 },
-        ),
+        (b"A,0,99999999,x", 0, too_large(1, 2)),
         (b"A,60,0,0\nB,x,0,0", 1, ReadFault::OtherAnimal { rec: 2 }),
-        (
-            b"A,60,0,0\nA,59,0,16777217",
-            1,
-            ReadFault::TooLarge { rec: 2, field: 3 },
-        ),
+        (b"A,60,0,0\nA,59,0,16777217", 1, too_large(2, 3)),
         (b"A,60,0,0\nA,59,0,0", 1, ReadFault::SecondFalls { rec: 2 }),
         (
             b"A,60,0,0\nA,60,0,0\nA,59,0,0\n",
@@ -282,7 +284,7 @@ fn cut_files(rt: HostRuntime) {
 #[test]
 fn long_numbers(rt: HostRuntime) {
     let alloc = rt.alloc();
-    let large = ReadFault::TooLarge { rec: 1, field: 2 };
+    let large = too_large(1, 2);
     let cases = [
         (b'0', 1000, (1, Some((7, 0)), None)),
         (b'9', 400, (0, None, Some(large))),
@@ -341,7 +343,7 @@ fn failing_source(rt: HostRuntime) {
 
 #[test]
 fn names(rt: HostRuntime) {
-    let mut reader = FixReader::new(rt.alloc(), FILE_A);
+    let mut reader = FixReader::new(rt.alloc(), FILE_A, Scale::Metre);
     assert!(rt; reader.name().is_none() && reader.count() == 0);
     assert!(rt; reader.next().is_ok());
     assert!(rt; reader.name() == Some(b"A".as_slice()) && reader.count() == 1);
@@ -381,12 +383,20 @@ fn texts(rt: HostRuntime) {
             "record 1: northing is not a whole number in digits alone",
         ),
         (
-            ReadFault::TooLarge { rec: 1, field: 2 },
-            "record 1: easting is past its limit 16777216",
+            too_large(1, 2),
+            "record 1: easting is past its limit of 16777216 metres",
         ),
         (
-            ReadFault::TooLarge { rec: 1, field: 1 },
-            "record 1: second is past its limit 1099511627776",
+            ReadFault::TooLarge {
+                rec: 4,
+                field: 3,
+                unit: Scale::Decimetre,
+            },
+            "record 4: northing is past its limit of 134217728 decimetres",
+        ),
+        (
+            too_large(1, 1),
+            "record 1: second is past its limit of 1099511627776",
         ),
         (
             ReadFault::SecondFalls { rec: 3 },

@@ -1,8 +1,10 @@
-//! Tests of the reader of fixes: whole, cut, hostile and failing files, records that are left out, and the
-//! texts of faults.
+//! Tests of the reader of fixes: whole, cut, hostile and failing files, records that are left out, both
+//! units, and the texts of faults.
 #![tactic(auto)]
 
 #[cfg(test)]
 mod files;
+#[cfg(test)]
+mod units;
 #[cfg(test)]
 mod use_column;

@@ -1,7 +1,8 @@
 // What the reader answers to files that say of each record whether its fix is used.
 
-use crate::files::{Outcome, Pieces, expect, outcome};
+use crate::files::{Outcome, Pieces, expect, outcome, too_large};
 use range_fixes::{FixReader, ReadFault};
+use range_plane::Scale;
 use std::alloc::Global;
 use std::io;
 use std::io::Read;
@@ -52,7 +53,6 @@ fn faults(rt: HostRuntime) {
     let wanted = 5;
     let wrong = |rec, found| ReadFault::WrongFieldCount { rec, found, wanted };
     let number = |rec, field| ReadFault::NotNumber { rec, field };
-    let large = |rec, field| ReadFault::TooLarge { rec, field };
     let cases = [
         (b"A,0,0,0,2".as_slice(), 0, bad(1)),
         (b"A,0,0,0,", 0, bad(1)),
@@ -66,8 +66,8 @@ fn faults(rt: HostRuntime) {
         (b"A,0,0,0,0\nA,0,0,0\n", 0, wrong(2, 4)),
         (b"A,0,x,0,0", 0, number(1, 2)),
         (b"A,0,x,0,2", 0, number(1, 2)),
-        (b"A,0,16777217,0,0", 0, large(1, 2)),
-        (b"A,1099511627777,0,0,0", 0, large(1, 1)),
+        (b"A,0,16777217,0,0", 0, too_large(1, 2)),
+        (b"A,1099511627777,0,0,0", 0, too_large(1, 1)),
         (b",0,0,0,0", 0, ReadFault::BadName { rec: 1 }),
         (
             b"A,60,0,0,0\nA,59,0,0,1\n",
@@ -174,7 +174,7 @@ fn most_records(rt: HostRuntime) {
         (1_048_576, unused, Some(ReadFault::TooManyFixes)),
     ] {
         let text = first.as_slice();
-        let mut reader = FixReader::new(rt.alloc(), Repeated { text, again, left });
+        let mut reader = FixReader::new(rt.alloc(), Repeated { text, again, left }, Scale::Metre);
         assert!(rt; reader.next().is_ok() && reader.count() == 1);
         assert!(rt; reader.next().err() == fault && reader.count() == 1);
     }

@@ -5,7 +5,7 @@ use range_collect::{Followed, follow};
 use range_estimator::Row;
 use range_fixes::ReadFault;
 use range_plan::Plan;
-use range_plane::{Point, Polygon};
+use range_plane::{Point, Polygon, Scale};
 use range_pump::Gate;
 use std::alloc::Global;
 use std::io::Read;
@@ -14,7 +14,7 @@ use std::sync::Wait;
 use std::thread::Threads;
 
 pub(crate) fn plan(rt: &impl Abort, block: u32, depth: u32, workers: u32) -> Plan {
-    Plan::new(block, depth, workers).expect(rt, "a plan")
+    Plan::new(block, depth, workers, Scale::Metre).expect(rt, "a plan")
 }
 
 // Follows sources side by side, and gives a result for each.

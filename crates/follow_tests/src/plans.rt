@@ -6,7 +6,7 @@ use crate::sources::Repeated;
 use range_collect::Followed;
 use range_fixes::ReadFault;
 use range_plan::Plan;
-use range_plane::FIX_LIMIT;
+use range_plane::{FIX_LIMIT, Scale};
 use range_pump::FreeGate;
 use std::alloc::Global;
 use std::io::Read;
@@ -151,8 +151,11 @@ fn too_many_fixes(rt: HostRuntime) {
 #[test]
 fn plans(rt: HostRuntime) {
     for (block, depth, workers) in [(1, 1, 1), (1024, 64, 8), (256, 4, 2)] {
-        let plan = plan(&rt, block, depth, workers);
-        assert!(rt; plan.block == block && plan.depth == depth && plan.workers == workers);
+        for unit in [Scale::Metre, Scale::Decimetre] {
+            let plan = Plan::new(block, depth, workers, unit).expect(&rt, "a plan");
+            assert!(rt; plan.block == block && plan.depth == depth);
+            assert!(rt; plan.workers == workers && plan.unit == unit);
+        }
     }
     for (block, depth, workers) in [
         (0, 1, 1),
@@ -162,6 +165,6 @@ fn plans(rt: HostRuntime) {
         (1, 65, 1),
         (256, 4, 9),
     ] {
-        assert!(rt; Plan::new(block, depth, workers).is_none());
+        assert!(rt; Plan::new(block, depth, workers, Scale::Metre).is_none());
     }
 }

@@ -1,6 +1,9 @@
 // Tests of worked lists of points, whose polygons were made by hand.
 
-use crate::points::{HEXAGON, LIMITS, has_corners, hull_of, insert, parabola, point, points_of};
+use crate::points::{
+    DECIMETRE_LIMITS, HEXAGON, METRE_LIMITS, has_corners, hull_of, insert, parabola, point,
+    points_of,
+};
 use range_hull::OnlineHull;
 use range_plane::{FIX_LIMIT, Point};
 use std::alloc::Global;
@@ -38,14 +41,26 @@ fn rows(rt: HostRuntime) {
     expect_rows(
         &rt,
         alloc,
-        &LIMITS,
+        &METRE_LIMITS,
         &[
             (1, 0),
             (2, 0),
             (3, 281_474_976_710_656),
             (4, 562_949_953_421_312),
         ],
-        &LIMITS,
+        &METRE_LIMITS,
+    );
+    expect_rows(
+        &rt,
+        alloc,
+        &DECIMETRE_LIMITS,
+        &[
+            (1, 0),
+            (2, 0),
+            (3, 18_014_398_509_481_984),
+            (4, 36_028_797_018_963_968),
+        ],
+        &DECIMETRE_LIMITS,
     );
     expect_rows(
         &rt,

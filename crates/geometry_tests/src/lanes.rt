@@ -1,6 +1,6 @@
 // Tests of marks, counts, boxes and sums.
 
-use crate::points::{columns_of, parabola, plain_of, point, points_of};
+use crate::points::{DECIMETRE_LIMITS, columns_of, parabola, plain_of, point, points_of};
 use range_lanes::{Extent, count_inside, extremes, mark_inside, sums};
 use range_plane::{COORDINATE_LIMIT, Columns, Polygon};
 use std::alloc::Global;
@@ -125,6 +125,41 @@ fn marks_at_the_limits(rt: HostRuntime) {
         max_n: FAR,
     };
     assert_eq!(rt; extremes(&cols), Some(extent));
+}
+
+// So many points, in turn the corners of the greatest square in decimetres.
+fn far_corners(rt: &impl Abort, alloc: Global, points: u8) -> Columns {
+    let mut cols = Columns::new(alloc);
+    for place in DECIMETRE_LIMITS.iter().cycle().take(usize::from(points)) {
+        cols.push(point(rt, *place)).expect(rt, "memory");
+    }
+    cols
+}
+
+// The square covers each of its corners, and three of them all but the fourth.
+#[test]
+fn corners_at_the_limits(rt: HostRuntime) {
+    let alloc = rt.alloc();
+    let square = polygon(&rt, alloc, &DECIMETRE_LIMITS);
+    let triangle = polygon(&rt, alloc, &DECIMETRE_LIMITS[..3]);
+    for points in 0..41u8 {
+        let cols = far_corners(&rt, alloc, points);
+        assert!(rt; cols.len() == usize::from(points));
+        let inside = marks(&rt, alloc, &square, &cols);
+        assert!(rt; inside.iter().all(|mark| *mark), "{points}");
+        let inside = marks(&rt, alloc, &triangle, &cols);
+        for (i, mark) in inside.iter().enumerate() {
+            assert!(rt; *mark == (i % 4 != 3), "{points} {i}");
+        }
+    }
+    let mut places = Vec::new(alloc);
+    for _ in 0..9 {
+        places
+            .extend_from_slice(&DECIMETRE_LIMITS)
+            .expect(&rt, "memory");
+        places.push((1, 1)).expect(&rt, "memory");
+    }
+    assert_eq!(rt; count_inside(&square, &columns_of(&rt, alloc, &places)), 45);
 }
 
 // Whether so many corners `(i, i * i)` cover a point: not below the parabola, nor above the line from first to last.

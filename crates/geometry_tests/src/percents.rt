@@ -142,7 +142,8 @@ fn scattered_near(rt: HostRuntime) {
     );
 }
 
-// All at one corner of the plane but the first, which is as far from their mean as any can be.
+// All at one corner of the plane but the first, which is as far from their mean as any can be: the square of
+// their number times that distance is nearly 2^95.
 #[test]
 fn at_the_limits(rt: HostRuntime) {
     let mut fixes = Columns::new(rt.alloc());

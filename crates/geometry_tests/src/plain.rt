@@ -1,7 +1,9 @@
 // Tests of polygons by definition.
 
 use crate::growths::{MANY_GROWTHS, is_last_run};
-use crate::points::{HEXAGON, LATTICE, LIMITS, SEGMENT, SQUARE, plain_of, points_of};
+use crate::points::{
+    DECIMETRE_LIMITS, HEXAGON, LATTICE, METRE_LIMITS, SEGMENT, SQUARE, plain_of, points_of,
+};
 use range_plane::{Point, Polygon};
 use refusing::Refusing;
 use std::alloc::{Allocator, Global};
@@ -60,9 +62,14 @@ fn rows(rt: HostRuntime) {
         ),
         (&SEGMENT, &[1, 2, 2], &[0, 0, 0]),
         (
-            &LIMITS,
+            &METRE_LIMITS,
             &[1, 2, 3, 4],
             &[0, 0, 281_474_976_710_656, 562_949_953_421_312],
+        ),
+        (
+            &DECIMETRE_LIMITS,
+            &[1, 2, 3, 4],
+            &[0, 0, 18_014_398_509_481_984, 36_028_797_018_963_968],
         ),
         (&[(7, 7), (7, 7), (7, 7)], &[1, 1, 1], &[0, 0, 0]),
         (

@@ -9,11 +9,19 @@ pub(crate) const SQUARE: [(i64, i64); 5] = [(0, 0), (10, 0), (10, 10), (0, 10), 
 
 pub(crate) const SEGMENT: [(i64, i64); 3] = [(5, 5), (10, 5), (20, 5)];
 
-pub(crate) const LIMITS: [(i64, i64); 4] = [
+// The greatest square in metres, and in decimetres.
+pub(crate) const METRE_LIMITS: [(i64, i64); 4] = [
     (0, 0),
     (16_777_216, 0),
     (16_777_216, 16_777_216),
     (0, 16_777_216),
+];
+
+pub(crate) const DECIMETRE_LIMITS: [(i64, i64); 4] = [
+    (0, 0),
+    (134_217_728, 0),
+    (134_217_728, 134_217_728),
+    (0, 134_217_728),
 ];
 
 // Six points, the last of which takes the corner away that the third is until then.
@@ -76,7 +84,7 @@ pub(crate) fn next(seed: u64) -> u64 {
         .wrapping_add(1442695040888963407)
 }
 
-// 250 points anywhere in a square of `mask` metres, one less than a power of two.
+// 250 points anywhere in a square of this side, one less than a power of two.
 pub(crate) fn scattered(rt: &impl Abort, alloc: Global, mask: u32) -> Columns {
     let mut columns = Columns::new(alloc);
     let mut seed = 1;

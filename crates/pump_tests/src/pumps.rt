@@ -4,7 +4,7 @@ ghost use Rattle.std.specs.Prelude.{◌≡◌, false, [], IfOk};
 
 use range_fixes::{Name, ReadFault};
 use range_line::{Body, Feeder, Message, Taker, open_line};
-use range_plane::Fix;
+use range_plane::{Fix, Scale};
 use range_pump::{FreeGate, Gate, Pumped, pump};
 use std::alloc::Global;
 use std::io;
@@ -126,6 +126,14 @@ fn is_block(taken: &Option<Message>, place: usize, count: usize) -> bool {
     }
 }
 
+// Whether this is a block of one fix with this easting.
+fn is_at(body: &Body, easting: i64) -> bool {
+    match body {
+        Body::Block(block) => matches!(block.as_slice(), [fix] if fix.at.e == easting),
+        Body::Mark => false,
+    }
+}
+
 // Whether this is the mark after so many fixes.
 fn is_mark(taken: &Option<Message>, place: u64) -> bool {
     match taken {
@@ -140,7 +148,7 @@ fn is_mark(taken: &Option<Message>, place: u64) -> bool {
 fn whole_file(rt: HostRuntime) -> Result<(), Fail> {
     let (feeder, mut taker) = open_one(rt.alloc())?;
     let gate = Expecting::new(&[0, 2, 4, 5]);
-    let pumped = pump(&rt, rt.alloc(), FILE_A, feeder, &gate, 2);
+    let pumped = pump(&rt, rt.alloc(), FILE_A, feeder, &gate, 2, Scale::Metre);
     assert!(rt; is_name(&pumped.read, b"A"), "the name");
     assert!(rt; pumped.feeder.closed(), "the end");
     assert!(rt; pumped.feeder.sent_fixes() == 5, "fixes");
@@ -157,7 +165,7 @@ fn whole_file(rt: HostRuntime) -> Result<(), Fail> {
 fn full_blocks(rt: HostRuntime) -> Result<(), Fail> {
     let (feeder, mut taker) = open_one(rt.alloc())?;
     let gate = Expecting::new(&[0, 5]);
-    let pumped = pump(&rt, rt.alloc(), FILE_A, feeder, &gate, 5);
+    let pumped = pump(&rt, rt.alloc(), FILE_A, feeder, &gate, 5, Scale::Metre);
     assert!(rt; is_name(&pumped.read, b"A"), "the name");
     assert!(rt; gate.is_met(), "calls");
     assert!(rt; is_block(&taker.take(&rt), 0, 5), "the block");
@@ -169,7 +177,7 @@ fn full_blocks(rt: HostRuntime) -> Result<(), Fail> {
 fn cut_record(rt: HostRuntime) -> Result<(), Fail> {
     let (feeder, mut taker) = open_one(rt.alloc())?;
     let text = FILE_A.strip_suffix(b",5\n").ok_or("no suffix")?;
-    let pumped = pump(&rt, rt.alloc(), text, feeder, &FreeGate, 2);
+    let pumped = pump(&rt, rt.alloc(), text, feeder, &FreeGate, 2, Scale::Metre);
     let fault = ReadFault::WrongFieldCount {
         rec: 5,
         found: 3,
@@ -182,11 +190,32 @@ fn cut_record(rt: HostRuntime) -> Result<(), Fail> {
     Ok(())
 }
 
+// A fix past the limit of metres is sent in decimetres.
+#[test]
+fn units(rt: HostRuntime) -> Result<(), Fail> {
+    let text = b"animal,second,easting,northing\nA,0,16777217,0\n".as_slice();
+    let (feeder, mut taker) = open_one(rt.alloc())?;
+    let unit = Scale::Metre;
+    let pumped = pump(&rt, rt.alloc(), text, feeder, &FreeGate, 2, unit);
+    let (rec, field) = (1, 2);
+    let fault = ReadFault::TooLarge { rec, field, unit };
+    assert!(rt; ends(&pumped, 0, true, fault), "metres");
+    assert!(rt; is_mark(&taker.take(&rt), 0), "the mark");
+    let (feeder, mut taker) = open_one(rt.alloc())?;
+    let unit = Scale::Decimetre;
+    let pumped = pump(&rt, rt.alloc(), text, feeder, &FreeGate, 2, unit);
+    assert!(rt; is_name(&pumped.read, b"A"), "decimetres");
+    let block = taker.take(&rt).ok_or("no block")?;
+    assert!(rt; is_at(&block.body, 16_777_217), "the block");
+    assert!(rt; is_mark(&taker.take(&rt), 1), "the mark");
+    Ok(())
+}
+
 #[test]
 fn header_alone(rt: HostRuntime) -> Result<(), Fail> {
     let (feeder, mut taker) = open_one(rt.alloc())?;
     let gate = Expecting::new(&[0]);
-    let pumped = pump(&rt, rt.alloc(), HEADER, feeder, &gate, 2);
+    let pumped = pump(&rt, rt.alloc(), HEADER, feeder, &gate, 2, Scale::Metre);
     assert!(rt; ends(&pumped, 0, true, ReadFault::NoFixes), "the fault");
     assert!(rt; gate.is_met(), "calls");
     assert!(rt; is_mark(&taker.take(&rt), 0), "the mark");
@@ -198,12 +227,12 @@ fn taker_gone(rt: HostRuntime) -> Result<(), Fail> {
     let (feeder, taker) = open_one(rt.alloc())?;
     drop(taker);
     let gate = Expecting::new(&[0]);
-    let pumped = pump(&rt, rt.alloc(), FILE_A, feeder, &gate, 2);
+    let pumped = pump(&rt, rt.alloc(), FILE_A, feeder, &gate, 2, Scale::Metre);
     assert!(rt; ends(&pumped, 0, false, ReadFault::Gone), "a block");
     assert!(rt; gate.is_met(), "nothing more");
     let (feeder, taker) = open_one(rt.alloc())?;
     drop(taker);
-    let pumped = pump(&rt, rt.alloc(), HEADER, feeder, &FreeGate, 2);
+    let pumped = pump(&rt, rt.alloc(), HEADER, feeder, &FreeGate, 2, Scale::Metre);
     assert!(rt;
         ends(&pumped, 0, false, ReadFault::NoFixes),
         "the mark alone"
@@ -220,7 +249,7 @@ fn failing_sources(rt: HostRuntime) -> Result<(), Fail> {
             text: FILE_A,
             reads,
         };
-        let pumped = pump(&rt, rt.alloc(), source, feeder, &FreeGate, 2);
+        let pumped = pump(&rt, rt.alloc(), source, feeder, &FreeGate, 2, Scale::Metre);
         assert!(rt;
             ends(&pumped, fixes, true, ReadFault::Read),
             "after {reads} reads"

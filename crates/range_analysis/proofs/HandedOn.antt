@@ -7,7 +7,7 @@ use Rattle.range_plane.specs.declared.fix.Fix.{Fix}
 use Rattle.range_fixes.specs.declared.fault.ReadFault.{ReadFault}
 use Rattle.range_fixes.specs.declared.fault.ReadFault.TheVariants as reads
 use Rattle.range_fixes.specs.Progress.{is_of_text}
-use Rattle.range_fixes.specs.Reading.{reading}
+use Rattle.range_fixes.specs.Reading.{Reading}
 use Rattle.range_line.specs.Laws.{LastMessagesComeNext, StreamsAreLawful}
 use Rattle.range_plan.specs.Limits.{block_limit}
 use Rattle.range_line.specs.Lines.{FeederView}
@@ -30,17 +30,17 @@ sent_whole streams next feeder all size read some small sent closed lawful =
     let few : length all ≤ fix_limit = omega (arith, mark.place, mark.room) in
     ap (λ l. fixes l feeder.file) whole ∙ (streams feeder.file all size some small few).1
 
-told_whole : (source : Option (List ℕ)) (all taken : List Fix) (name : List ℕ) → IfSome source (λ bytes. IsReadAs (reading bytes) all (Ok name)) → taken ≡ all
-    → IfSome source (λ bytes. IsWhole (reading bytes) name taken)
+told_whole : (source : Option Reading) (all taken : List Fix) (name : List ℕ) → IfSome source (λ r. IsReadAs r all (Ok name)) → taken ≡ all
+    → IfSome source (λ r. IsWhole r name taken)
 told_whole None all taken name told same = tt
-told_whole (Some bytes) all taken name told same =
+told_whole (Some r) all taken name told same =
     let end = told.name name refl in
     record { animal = end.0; all = end.1 ∙ sym same; to_end = end.2 }
 
-told_fault : (source : Option (List ℕ)) (all : List Fix) (fault : ReadFault) → IfSome source (λ bytes. IsReadAs (reading bytes) all (Err fault))
-    → IfSome source (λ bytes. is_of_text fault ≡ true → (reading bytes).fault ≡ Some fault)
+told_fault : (source : Option Reading) (all : List Fix) (fault : ReadFault) → IfSome source (λ r. IsReadAs r all (Err fault))
+    → IfSome source (λ r. is_of_text fault ≡ true → r.fault ≡ Some fault)
 told_fault None all fault told = tt
-told_fault (Some bytes) all fault told = λ text. (told.fault fault refl text).1
+told_fault (Some r) all fault told = λ text. (told.fault fault refl text).1
 
 -- a reader that did not want memory has another fault
 other_fault : (fault : ReadFault) → wants_memory (Err fault) ≡ false → fault ≢ reads.OutOfMemory
@@ -48,7 +48,7 @@ other_fault fault none = λ e. cc (none, e)
 
 module _ (streams : StreamsAreLawful) (next : LastMessagesComeNext) (size : ℕ) (some : 1 ≤ size) (small : size ≤ block_limit) where
   -- one file
-  file_given : (source : Option (List ℕ)) (number : ℕ) (feeder : FeederView) (read : Read) (e : Estimation) (mark : Bool) → IsFollowed source number size feeder read e mark
+  file_given : (source : Option Reading) (number : ℕ) (feeder : FeederView) (read : Read) (e : Estimation) (mark : Bool) → IsFollowed source number size feeder read e mark
       → IsResult feeder read e mark → mark ≡ true → e.stopped ≡ false → wants_memory read ≡ false → Gives source (entry_of read e.fixes)
   file_given source number feeder (Ok name) e mark f result marked running fed =
       let lawful = subst (λ n. IsLawful feeder.sent n) (sym f.file) f.lawful in
@@ -60,7 +60,7 @@ module _ (streams : StreamsAreLawful) (next : LastMessagesComeNext) (size : ℕ)
       (other_fault fault fed, kept, told_fault source f.pumped.fixes fault f.pumped.told)
 
   -- all files, the first of them having this number
-  pub files_given : {A : Type 0} {clone : Ghosts A} (number : ℕ) (sources : List (Option (List ℕ))) (followed : List (Followed A clone))
+  pub files_given : {A : Type 0} {clone : Ghosts A} (number : ℕ) (sources : List (Option Reading)) (followed : List (Followed A clone))
       → PairedFrom (λ file source f. IsFollowed source file size f.feeder f.read f.estimator f.marked) number sources followed → lost followed ≡ None
       → AllZip Gives sources (entries_of followed)
   files_given number [] [] paired none = tt

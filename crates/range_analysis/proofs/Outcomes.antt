@@ -6,6 +6,8 @@ use Rattle.std.specs.declared.clone.Clone.{Ghosts}
 use Rattle.std.proofs.lemmas.Option.{none-some, same_Some}
 use Rattle.integers_and_lists.specs.Pairs.{PairedFrom}
 use Rattle.range_collect.specs.declared.followed.Followed.{Followed}
+use Rattle.range_plane.specs.declared.scale.Scale.{Scale}
+use Rattle.range_fixes.specs.Reading.{Reading}
 use Rattle.range_tables.specs.declared.analysis.Analysis.{Analysis}
 use Rattle.range_analysis.proofs.Positions.{place_within}
 use Rattle.range_analysis.specs.Analysis.{HasNoAnalysis, IsAnalysis}
@@ -21,13 +23,13 @@ same_count R number [] (y ∷ ys) paired = absurd paired
 same_count R number (x ∷ xs) [] paired = absurd paired
 same_count R number (x ∷ xs) (y ∷ ys) paired = ap suc (same_count R (number + 1) xs ys paired.1)
 
-lost_by : (sources : List (Option (List ℕ))) (b : Bool) (cut : Option ℕ) (fault : AnalyseFault) → ((file : ℕ) → cut ≡ Some file → file < length sources)
+lost_by : (sources : List (Option Reading)) (b : Bool) (cut : Option ℕ) (fault : AnalyseFault) → ((file : ℕ) → cut ≡ Some file → file < length sources)
     → (if b then Some OutOfMemory else option_map LineCut cut) ≡ Some fault → HasNoAnalysisOf sources fault
 lost_by sources true cut fault within is = subst (HasNoAnalysisOf sources) (same_Some OutOfMemory fault is) tt
 lost_by sources false (Some file) fault within is = subst (HasNoAnalysisOf sources) (same_Some (LineCut file) fault is) (within file refl)
 lost_by sources false None fault within is = absurd (none-some fault is)
 
-module _ {A : Type 0} {clone : Ghosts A} (sources : List (Option (List ℕ))) (followed : List (Followed A clone)) (count : length followed ≡ length sources) where
+module _ {A : Type 0} {clone : Ghosts A} (sources : List (Option Reading)) (followed : List (Followed A clone)) (count : length followed ≡ length sources) where
   lost_is_none : (fault : AnalyseFault) → lost followed ≡ Some fault → HasNoAnalysisOf sources fault
   lost_is_none fault is =
       lost_by sources (list_any lacks_memory followed) (position is_cut followed) fault (λ file at. let within = place_within is_cut followed file at in omega (arith, count, within)) is
@@ -39,14 +41,14 @@ module _ {A : Type 0} {clone : Ghosts A} (sources : List (Option (List ℕ))) (f
   none_of_entries (SameAnimal first second) given none = (entries_of followed, given, none)
 
   -- what judging the files says of the sources
-  pub outcome : (levels : List ℕ) (why : Option AnalyseFault) (result : Result Analysis AnalyseFault) → lost followed ≡ why
+  pub outcome : (levels : List ℕ) (unit : Scale) (why : Option AnalyseFault) (result : Result Analysis AnalyseFault) → lost followed ≡ why
       → ((fault : AnalyseFault) → lost followed ≡ Some fault → result ≡ Err fault)
-      → (lost followed ≡ None → MatchResult result (IsAnalysis (entries_of followed) levels) (HasNoAnalysis (entries_of followed)))
+      → (lost followed ≡ None → MatchResult result (IsAnalysis (entries_of followed) levels unit) (HasNoAnalysis (entries_of followed)))
       → (lost followed ≡ None → AllZip Gives sources (entries_of followed))
-      → IfOk result (IsAnalysisOf sources levels) × IfErr result (HasNoAnalysisOf sources)
-  outcome levels None (Ok analysis) is refused judged given = ((entries_of followed, given is, judged is), tt)
-  outcome levels None (Err fault) is refused judged given = (tt, none_of_entries fault (given is) (judged is))
-  outcome levels (Some why) (Ok analysis) is refused judged given = (let no = refused why is in cc)
-  outcome levels (Some why) (Err fault) is refused judged given =
+      → IfOk result (IsAnalysisOf sources levels unit) × IfErr result (HasNoAnalysisOf sources)
+  outcome levels unit None (Ok analysis) is refused judged given = ((entries_of followed, given is, judged is), tt)
+  outcome levels unit None (Err fault) is refused judged given = (tt, none_of_entries fault (given is) (judged is))
+  outcome levels unit (Some why) (Ok analysis) is refused judged given = (let no = refused why is in cc)
+  outcome levels unit (Some why) (Err fault) is refused judged given =
       let same : fault ≡ why = (let e = refused why is in cc) in
       (tt, subst (HasNoAnalysisOf sources) (sym same) (lost_is_none why is))

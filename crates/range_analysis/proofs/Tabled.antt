@@ -3,6 +3,7 @@ use Rattle.std.proofs.Common.{◌≡◌, ℕ, List, [], ◌∷◌, length, map, 
 use Rattle.std.specs.List.{AllZip}
 use Rattle.range_plane.specs.Plane.{Position}
 use Rattle.range_plane.specs.Row.{points_of}
+use Rattle.range_plane.specs.declared.scale.Scale.{Scale}
 use Rattle.range_tables.specs.Tables.{IsOverlap, pairs}
 use Rattle.range_tables.specs.Tracks.{IsAnimalOn, points_on}
 use Rattle.range_tables.specs.declared.analysis.Analysis.{Analysis}
@@ -24,11 +25,12 @@ points_are : (tracks : List Track) → map points_in (entries_in tracks) ≡ poi
 points_are [] = refl
 points_are (t ∷ tracks) = ap (λ (l : List (List Position)). points_of t.estimator.fixes ∷ l) (points_are tracks)
 
-pub tabled : (levels : List ℕ) (tracks : List Track) (entries : List Entry) (analysis : Analysis) → entries_in tracks ≡ entries → first_bad entries ≡ None → IsFirstRepeat (names_of (entries_in tracks)) None
-    → AllZip (IsAnimalOn levels) tracks analysis.animals → AllZip (IsOverlap (points_on tracks)) (pairs (length tracks)) analysis.overlaps → IsAnalysis entries levels analysis
-tabled levels tracks entries analysis same good differ animals overlaps = record {
+pub tabled : (levels : List ℕ) (unit : Scale) (tracks : List Track) (entries : List Entry) (analysis : Analysis) → entries_in tracks ≡ entries → first_bad entries ≡ None → IsFirstRepeat (names_of (entries_in tracks)) None
+    → AllZip (IsAnimalOn levels) tracks analysis.animals → AllZip (IsOverlap (points_on tracks)) (pairs (length tracks)) analysis.overlaps → analysis.unit ≡ unit → IsAnalysis entries levels unit analysis
+tabled levels unit tracks entries analysis same good differ animals overlaps in_unit = record {
   whole = good;
   differ = rw same at differ;
   animals = rw same at (animals_of levels tracks analysis.animals animals);
   overlaps = rw (sym same, points_are tracks, entries_count tracks) overlaps;
+  same_unit = in_unit;
 }

@@ -1,6 +1,7 @@
 -- The analysis of what files gave, or why they have none.
 use Rattle.std.specs.Prelude.{◌≡◌, ℕ, ⊤, List, length, map, Some, None}
 use Rattle.std.specs.List.{AllZip}
+use Rattle.range_plane.specs.declared.scale.Scale.{Scale}
 use Rattle.range_tables.specs.Tables.{IsAnimal, IsOverlap, pairs}
 use Rattle.range_tables.specs.declared.analysis.Analysis.{Analysis}
 use Rattle.range_tables.specs.declared.animal.Animal.{Animal}
@@ -15,11 +16,12 @@ IsAnimalOf levels (good name fixes) animal = IsAnimal levels name fixes animal
 IsAnimalOf levels (bad fault) animal = ⊥
 
 -- all files could be read to their ends, their animals differ, and the tables are those of the files
-pub record IsAnalysis (entries : List Entry) (levels : List ℕ) (analysis : Analysis) : Type 0 where
+pub record IsAnalysis (entries : List Entry) (levels : List ℕ) (unit : Scale) (analysis : Analysis) : Type 0 where
   pub whole : first_bad entries ≡ None
   pub differ : IsFirstRepeat (names_of entries) None
   pub animals : AllZip (IsAnimalOf levels) entries analysis.animals
   pub overlaps : AllZip (IsOverlap (map points_in entries)) (pairs (length entries)) analysis.overlaps
+  pub same_unit : analysis.unit ≡ unit
 
 -- the fault of the first file that has one, else the first animal that stands in an earlier file; want of memory may come in between
 abbrev pub HasNoAnalysis : List Entry → AnalyseFault → Type 0

@@ -1,10 +1,11 @@
--- What the sources of files come to, where they tell their bytes.
+-- What the sources of files come to, by their readings where they tell their bytes.
 use Rattle.std.specs.Prelude.{◌≡◌, ◌≢◌, ◌<◌, ℕ, ⊤, List, length, Option, Some, None, IfSome, true}
 use Rattle.std.specs.List.{AllZip}
 use Rattle.range_plane.specs.declared.fix.Fix.{Fix}
+use Rattle.range_plane.specs.declared.scale.Scale.{Scale}
 use Rattle.range_fixes.specs.declared.fault.ReadFault.TheVariants as reads
 use Rattle.range_fixes.specs.Progress.{is_of_text}
-use Rattle.range_fixes.specs.Reading.{Reading, reading}
+use Rattle.range_fixes.specs.Reading.{Reading}
 use Rattle.range_tables.specs.declared.analysis.Analysis.{Analysis}
 use Rattle.range_analysis.specs.Analysis.{HasNoAnalysis, IsAnalysis}
 use Rattle.range_analysis.specs.Entries.{Entry, good, bad}
@@ -17,18 +18,18 @@ pub record IsWhole (r : Reading) (name : List ℕ) (fixes : List Fix) : Type 0 w
   pub all : r.fixes ≡ fixes
   pub to_end : r.fault ≡ None
 
--- the source gives this: an animal and at least one fix, or a fault; where it tells its bytes, they say the same, but for a read that failed
-abbrev pub Gives : Option (List ℕ) → Entry → Type 0
-Gives source (good name fixes) = (0 < length fixes) × IfSome source (λ bytes. IsWhole (reading bytes) name fixes)
+-- the source gives this: an animal and at least one fix, or a fault; where it tells its bytes, its reading says the same, but for a read that failed
+abbrev pub Gives : Option Reading → Entry → Type 0
+Gives source (good name fixes) = (0 < length fixes) × IfSome source (λ r. IsWhole r name fixes)
 Gives source (bad fault) =
-    (fault ≢ reads.OutOfMemory) × (fault ≢ reads.Gone) × IfSome source (λ bytes. is_of_text fault ≡ true → (reading bytes).fault ≡ Some fault)
+    (fault ≢ reads.OutOfMemory) × (fault ≢ reads.Gone) × IfSome source (λ r. is_of_text fault ≡ true → r.fault ≡ Some fault)
 
--- the analysis of what the sources give
-abbrev pub IsAnalysisOf : List (Option (List ℕ)) → List ℕ → Analysis → Type 0
-IsAnalysisOf sources levels analysis = (entries : List Entry) × AllZip Gives sources entries × IsAnalysis entries levels analysis
+-- the analysis of what the sources give in this unit
+abbrev pub IsAnalysisOf : List (Option Reading) → List ℕ → Scale → Analysis → Type 0
+IsAnalysisOf sources levels unit analysis = (entries : List Entry) × AllZip Gives sources entries × IsAnalysis entries levels unit analysis
 
 -- why the sources have no analysis
-abbrev pub HasNoAnalysisOf : List (Option (List ℕ)) → AnalyseFault → Type 0
+abbrev pub HasNoAnalysisOf : List (Option Reading) → AnalyseFault → Type 0
 HasNoAnalysisOf sources OutOfMemory = ⊤
 HasNoAnalysisOf sources (LineCut file) = file < length sources
 HasNoAnalysisOf sources fault = (entries : List Entry) × AllZip Gives sources entries × HasNoAnalysis entries fault

@@ -1,6 +1,7 @@
 // From the sources to their analysis.
 
 ghost use Rattle.std.specs.Prelude.{◌≤◌, All, IfErr, IfOk, map, vec_len};
+ghost use Rattle.range_fixes.specs.Reading.{reading_from};
 ghost use Rattle.range_plan.specs.Limits.{file_limit};
 ghost use Rattle.range_stats.specs.Levels.{IsLevel};
 ghost use Rattle.range_analysis.specs.Sources.{HasNoAnalysisOf, IsAnalysisOf};
@@ -34,11 +35,11 @@ pub fn analyse<R: Wait + Threads + Sync, S: Read + Send + Drop, G: Gate>(
 ) -> Result<Analysis, AnalyseFault>
     requires sources { (1 ≤ vec_len sources) × (vec_len sources ≤ file_limit) }
     requires levels { All IsLevel levels.now }
-    ensures analysis { IfOk result (IsAnalysisOf (map S.remaining sources.items) levels.now) }
-    ensures fault { IfErr result (HasNoAnalysisOf (map S.remaining sources.items)) }
+    ensures analysis { IfOk result (IsAnalysisOf (map (reading_from S.remaining plan.unit) sources.items) levels.now plan.unit) }
+    ensures fault { IfErr result (HasNoAnalysisOf (map (reading_from S.remaining plan.unit) sources.items)) }
 {
     streams_are_lawful();
     last_messages_come_next();
     let followed = follow(rt, alloc, alloc, sources, gate, plan)?;
-    judge(rt, alloc, followed, levels)
+    judge(rt, alloc, followed, levels, plan.unit)
 }

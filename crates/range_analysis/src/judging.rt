@@ -12,6 +12,7 @@ use crate::losses::lost;
 use crate::names::first_repeat;
 use range_collect::Followed;
 use range_fixes::ReadFault;
+use range_plane::Scale;
 use range_tables::{Analysis, Track, tabulate};
 use std::alloc::Global;
 use std::thread::Threads;
@@ -54,7 +55,7 @@ fn tracks(alloc: Global, followed: Vec<Followed>) -> Result<Vec<Track>, AnalyseF
 }
 
 /// The analysis of 1 to [`FILE_LIMIT`](range_plan::FILE_LIMIT) files that were followed, with a percent
-/// polygon of each animal at each of the levels.
+/// polygon of each animal at each of the levels. The unit is that of the files' coordinates.
 ///
 /// # Errors
 ///
@@ -66,12 +67,13 @@ pub fn judge<R: Threads + Sync>(
     alloc: Global,
     followed: Vec<Followed>,
     levels: &[u8],
+    unit: Scale,
 ) -> Result<Analysis, AnalyseFault>
     requires files { (1 ≤ vec_len followed) × (vec_len followed ≤ file_limit) }
     requires levels { All IsLevel levels.now }
     ensures lost { (fault : AnalyseFault) → lost followed.items ≡ Some fault → result ≡ Err fault }
     ensures judged { lost followed.items ≡ None → MatchResult result
-        (IsAnalysis (entries_of followed.items) levels.now)
+        (IsAnalysis (entries_of followed.items) levels.now unit)
         (HasNoAnalysis (entries_of followed.items)) }
 {
     if let Some(fault) = lost(&followed) {
@@ -84,5 +86,5 @@ pub fn judge<R: Threads + Sync>(
             second: second as u32,
         });
     }
-    Ok(tabulate(rt, alloc, tracks, levels)?)
+    Ok(tabulate(rt, alloc, tracks, levels, unit)?)
 }

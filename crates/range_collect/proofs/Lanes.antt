@@ -5,6 +5,9 @@ use Rattle.std.proofs.lemmas.List.FromFn.{length-map-range_with_len}
 use Rattle.std.proofs.lemmas.Option.{same_Some, slice_get_within}
 use Rattle.std.specs.List.{range_with_len}
 use Rattle.range_plane.specs.declared.fix.Fix.{Fix}
+use Rattle.range_plane.specs.declared.scale.Scale.{Scale}
+use Rattle.range_plan.specs.declared.plan.Plan.{Plan}
+use Rattle.range_fixes.specs.Reading.{Reading}
 use Rattle.range_line.specs.declared.message.Message.{Message}
 use Rattle.range_line.specs.Lines.{ended_feeder, files_from, new_feeder, AreOfLine, FeederView, Line, TakerView}
 use Rattle.range_line.specs.Messages.{block, block_count, joined, of_file, stream, IsLawful}
@@ -15,41 +18,41 @@ use Rattle.range_pump.specs.Pump.{IsPumped, IsPumpedFrom, Read}
 use Rattle.integers_and_lists.proofs.Places.{all_of, map_length, mapped, mapped_from, of_all, range_at, same_places, there_is, Threes, Twos}
 
 -- ---- what the pumps gave
-module _ {S H : Type 0} (tell : S → Option (List ℕ)) (source : H → S) (feeder : H → FeederView) (block : H → ℕ) where
+module _ {S H : Type 0} (tell : Scale → S → Option Reading) (source : H → S) (feeder : H → FeederView) (plan : H → Plan) where
   -- by their handles, which are in the order of the sources and the feeders
-  pub pumped_at : (line : Line) (first step n size : ℕ) (handles : List H) (sources : List S) (feeders back : List FeederView) (reads : List Read)
-      → map source handles ≡ sources → map feeder handles ≡ feeders → feeders ≡ map (new_feeder line) (files_from first step n) → All (λ h. block h ≡ size) handles
-      → length back ≡ length handles → Threes (λ h f r. IsPumped (tell (source h)) (block h) (feeder h) f r) handles back reads
-      → (place : ℕ) (bytes : Option (List ℕ)) (f : FeederView) (r : Read) → slice_get (map tell sources) place ≡ Some bytes → slice_get back place ≡ Some f → slice_get reads place ≡ Some r
-      → IsPumped bytes size (new_feeder line (first + place * step)) f r
-  pumped_at line first step n size handles sources feeders back reads of_sources of_feeders fresh sizes count pumped place bytes f r in_sources in_back in_reads =
+  pub pumped_at : (line : Line) (first step n : ℕ) (p : Plan) (handles : List H) (sources : List S) (feeders back : List FeederView) (reads : List Read)
+      → map source handles ≡ sources → map feeder handles ≡ feeders → feeders ≡ map (new_feeder line) (files_from first step n) → All (λ h. plan h ≡ p) handles
+      → length back ≡ length handles → Threes (λ h f r. IsPumped (tell (plan h).unit (source h)) (plan h).block (feeder h) f r) handles back reads
+      → (place : ℕ) (told : Option Reading) (f : FeederView) (r : Read) → slice_get (map (tell p.unit) sources) place ≡ Some told → slice_get back place ≡ Some f → slice_get reads place ≡ Some r
+      → IsPumped told p.block (new_feeder line (first + place * step)) f r
+  pumped_at line first step n p handles sources feeders back reads of_sources of_feeders fresh plans count pumped place told f r in_sources in_back in_reads =
       let below : place < length handles = (let within = slice_get_within back place f in_back in omega (arith, within, count)) in
       let h = there_is handles place below in
-      let one = pumped place h.0 f r h.1 in_back in_reads in
-      let told : tell (source h.0) ≡ bytes = same_Some (tell (source h.0)) bytes
-      (sym (ap (λ (l : List S). slice_get (map tell l) place) (sym of_sources) ∙ mapped tell (map source handles) place (source h.0) (mapped source handles place h.0 h.1)) ∙ in_sources) in
+      let plan_is : plan h.0 ≡ p = of_all (λ (h : H). plan h ≡ p) handles place h.0 plans h.1 in
+      let one = rw plan_is at (pumped place h.0 f r h.1 in_back in_reads) in
+      let says : tell p.unit (source h.0) ≡ told = same_Some (tell p.unit (source h.0)) told
+      (sym (ap (λ (l : List S). slice_get (map (tell p.unit) l) place) (sym of_sources) ∙ mapped (tell p.unit) (map source handles) place (source h.0) (mapped source handles place h.0 h.1)) ∙ in_sources) in
       let at : slice_get (map (new_feeder line) (files_from first step n)) place ≡ Some (feeder h.0) =
       subst (λ (l : List FeederView). slice_get l place ≡ Some (feeder h.0)) (of_feeders ∙ fresh) (mapped feeder handles place h.0 h.1) in
       let file = mapped_from (new_feeder line) (files_from first step n) place (feeder h.0) at in
       let number = (range_at (λ (j : ℕ). first + j * step) n place file.0 file.1).1 in
       let new : feeder h.0 ≡ new_feeder line (first + place * step) = sym file.2 ∙ ap (new_feeder line) number in
-      let size_is : block h.0 ≡ size = of_all (λ (h : H). block h ≡ size) handles place h.0 sizes h.1 in
-      rw (← told, ← new, ← size_is) one
+      rw (← says, ← new) one
 
 -- what is known of the ends of the file at a place
-pumped_of : (first step size : ℕ) (sources : List (Option (List ℕ))) (feeders : List FeederView) (reads : List Read) (worker : TakerView) → IsLane first step size sources feeders reads worker
-    → (place : ℕ) (f : FeederView) → slice_get feeders place ≡ Some f → (bytes : Option (List ℕ)) × (r : Read) × IsPumped bytes size (new_feeder worker.line (first + place * step)) f r
+pumped_of : (first step size : ℕ) (sources : List (Option Reading)) (feeders : List FeederView) (reads : List Read) (worker : TakerView) → IsLane first step size sources feeders reads worker
+    → (place : ℕ) (f : FeederView) → slice_get feeders place ≡ Some f → (told : Option Reading) × (r : Read) × IsPumped told size (new_feeder worker.line (first + place * step)) f r
 pumped_of first step size sources feeders reads worker lane place f is =
     let within = slice_get_within feeders place f is in
     let source = there_is sources place (let count = lane.counts.0 in omega (arith, within, count)) in
     let read = there_is reads place (let count = lane.counts.0 in let same = lane.counts.1 in omega (arith, within, count, same)) in
     (source.0, read.0, lane.pumped place source.0 f read.0 source.1 is read.1)
 
-pub lane_line : (first step size : ℕ) (sources : List (Option (List ℕ))) (feeders : List FeederView) (reads : List Read) (worker : TakerView) → IsLane first step size sources feeders reads worker → AreOfLine feeders worker.line
+pub lane_line : (first step size : ℕ) (sources : List (Option Reading)) (feeders : List FeederView) (reads : List Read) (worker : TakerView) → IsLane first step size sources feeders reads worker → AreOfLine feeders worker.line
 lane_line first step size sources feeders reads worker lane =
     all_of (λ (f : FeederView). f.line ≡ worker.line) feeders (λ place f is. (pumped_of first step size sources feeders reads worker lane place f is).2.line)
 
-pub lane_files : (first step size : ℕ) (sources : List (Option (List ℕ))) (feeders : List FeederView) (reads : List Read) (worker : TakerView) → IsLane first step size sources feeders reads worker
+pub lane_files : (first step size : ℕ) (sources : List (Option Reading)) (feeders : List FeederView) (reads : List Read) (worker : TakerView) → IsLane first step size sources feeders reads worker
     → map (λ (f : FeederView). f.file) feeders ≡ worker.files
 lane_files first step size sources feeders reads worker lane =
     let files : List ℕ = files_from first step (length sources) in
@@ -87,8 +90,8 @@ some_streamed file all size some_size some =
     some_sent file all size (block_count all size) _ counted some_size some
 
 -- ending a feeder changes nothing of what it sent
-pumped_ended : (bytes : Option (List ℕ)) (size : ℕ) (f : FeederView) (r : Read) → IsPumpedFrom bytes size f r → IsPumpedFrom bytes size (ended_feeder f) r
-pumped_ended bytes size f r p = record {
+pumped_ended : (told : Option Reading) (size : ℕ) (f : FeederView) (r : Read) → IsPumpedFrom told size f r → IsPumpedFrom told size (ended_feeder f) r
+pumped_ended told size f r p = record {
   fixes = p.fixes;
   sent = record { closed = p.sent.closed; unmarked = p.sent.unmarked; gone = p.sent.gone };
   some = p.some;
@@ -99,8 +102,8 @@ open_or_closed : (b : Bool) → (b ≡ true) ⊎ (b ≡ false)
 open_or_closed true = inl refl
 open_or_closed false = inr refl
 
-result_of : (bytes : Option (List ℕ)) (size : ℕ) (f : FeederView) (r : Read) (e : Estimation) → 1 ≤ size → IsPumpedFrom bytes size f r → Holds e (joined f.sent) → IsResult f r e f.closed
-result_of bytes size f r e some p holds = record {
+result_of : (told : Option Reading) (size : ℕ) (f : FeederView) (r : Read) (e : Estimation) → 1 ≤ size → IsPumpedFrom told size f r → Holds e (joined f.sent) → IsResult f r e f.closed
+result_of told size f r e some p holds = record {
   marked = λ closed. closed;
   gone = λ gone. elim (open_or_closed f.closed) as (λ _. f.closed ≡ false) [ inl closed ↦ absurd ((p.sent.closed closed).1 gone) | inr open' ↦ open' ];
   some = λ ok closed running.
@@ -110,7 +113,7 @@ result_of bytes size f r e some p holds = record {
 }
 
 -- the ends of the files of a line may be paired
-pub lane_results : (first step size : ℕ) (sources : List (Option (List ℕ))) (feeders ended : List FeederView) (reads : List Read) (worker : TakerView) (es : List Estimation) → 1 ≤ size
+pub lane_results : (first step size : ℕ) (sources : List (Option Reading)) (feeders ended : List FeederView) (reads : List Read) (worker : TakerView) (es : List Estimation) → 1 ≤ size
     → IsLane first step size sources feeders reads worker → ended ≡ map ended_feeder feeders → Twos (λ (f : FeederView) e. Holds e (joined f.sent)) ended es
     → Threes (λ (f : FeederView) r e. IsResult f r e f.closed) ended reads es
 lane_results first step size sources feeders ended reads worker es some lane are holds place f r e in_feeders in_reads in_es =
@@ -120,15 +123,15 @@ lane_results first step size sources feeders ended reads worker es some lane are
     let pumped = lane.pumped place source.0 before.0 r source.1 before.1 in_reads in
     result_of source.0 size f r e some (subst (λ (f : FeederView). IsPumpedFrom source.0 size f r) before.2 (pumped_ended source.0 size before.0 r pumped.pumped)) (holds place f e in_feeders in_es)
 
-followed_of : (bytes : Option (List ℕ)) (number size : ℕ) (line : Line) (before f : FeederView) (r : Read) (e : Estimation) (mark : Bool) → IsPumped bytes size (new_feeder line number) before r → ended_feeder before ≡ f
-    → IsSeen f e mark → Holds e (joined f.sent) → IsFollowed bytes number size f r e mark
-followed_of bytes number size line before f r e mark p same seen holds =
+followed_of : (told : Option Reading) (number size : ℕ) (line : Line) (before f : FeederView) (r : Read) (e : Estimation) (mark : Bool) → IsPumped told size (new_feeder line number) before r → ended_feeder before ≡ f
+    → IsSeen f e mark → Holds e (joined f.sent) → IsFollowed told number size f r e mark
+followed_of told number size line before f r e mark p same seen holds =
     let file : f.file ≡ number = sym (ap (λ (x : FeederView). x.file) same) ∙ p.file in
     let own : of_file f.sent number ≡ f.sent = ap (of_file f.sent) (sym file) ∙ seen.own in
     record {
       file = file;
       ended = sym (ap (λ (x : FeederView). x.ended) same);
-      pumped = subst (λ (x : FeederView). IsPumpedFrom bytes size x r) same (pumped_ended bytes size before r p.pumped);
+      pumped = subst (λ (x : FeederView). IsPumpedFrom told size x r) same (pumped_ended told size before r p.pumped);
       lawful = subst (λ (n : ℕ). IsLawful f.sent n) file seen.lawful;
       holds = subst (λ (ms : List Message). Holds e (joined ms)) (sym own) holds;
       estimate = seen.estimate;
@@ -137,18 +140,18 @@ followed_of bytes number size line before f r e mark p same seen holds =
 
 module _ {F : Type 0} (feeder : F → FeederView) (read : F → Read) (estimator : F → Estimation) (marked : F → Bool) where
   -- the results that were paired, by the lists that they were made of
-  pub lane_followed : (first step size : ℕ) (sources : List (Option (List ℕ))) (feeders ended : List FeederView) (reads : List Read) (worker : TakerView) (es : List Estimation) (results : List F)
+  pub lane_followed : (first step size : ℕ) (sources : List (Option Reading)) (feeders ended : List FeederView) (reads : List Read) (worker : TakerView) (es : List Estimation) (results : List F)
       → IsLane first step size sources feeders reads worker → ended ≡ map ended_feeder feeders → Twos (λ (f : FeederView) e. Holds e (joined f.sent)) ended es
       → map feeder results ≡ ended → map read results ≡ reads → map estimator results ≡ es → All (λ x. IsSeen (feeder x) (estimator x) (marked x)) results
-      → (place : ℕ) (bytes : Option (List ℕ)) (x : F) → slice_get sources place ≡ Some bytes → slice_get results place ≡ Some x
-      → IsFollowed bytes (first + place * step) size (feeder x) (read x) (estimator x) (marked x)
-  lane_followed first step size sources feeders ended reads worker es results lane are holds of_feeders of_reads of_es seen place bytes x in_sources in_results =
+      → (place : ℕ) (told : Option Reading) (x : F) → slice_get sources place ≡ Some told → slice_get results place ≡ Some x
+      → IsFollowed told (first + place * step) size (feeder x) (read x) (estimator x) (marked x)
+  lane_followed first step size sources feeders ended reads worker es results lane are holds of_feeders of_reads of_es seen place told x in_sources in_results =
       let in_ended : slice_get ended place ≡ Some (feeder x) = subst (λ (l : List FeederView). slice_get l place ≡ Some (feeder x)) of_feeders (mapped feeder results place x in_results) in
       let in_reads : slice_get reads place ≡ Some (read x) = subst (λ (l : List Read). slice_get l place ≡ Some (read x)) of_reads (mapped read results place x in_results) in
       let in_es : slice_get es place ≡ Some (estimator x) = subst (λ (l : List Estimation). slice_get l place ≡ Some (estimator x)) of_es (mapped estimator results place x in_results) in
       let before = mapped_from ended_feeder feeders place (feeder x) (subst (λ (l : List FeederView). slice_get l place ≡ Some (feeder x)) are in_ended) in
-      let pumped = lane.pumped place bytes before.0 (read x) in_sources before.1 in_reads in
-      followed_of bytes (first + place * step) size worker.line before.0 (feeder x) (read x) (estimator x) (marked x) pumped before.2
+      let pumped = lane.pumped place told before.0 (read x) in_sources before.1 in_reads in
+      followed_of told (first + place * step) size worker.line before.0 (feeder x) (read x) (estimator x) (marked x) pumped before.2
       (of_all (λ (x : F). IsSeen (feeder x) (estimator x) (marked x)) results place x seen in_results) (holds place (feeder x) (estimator x) in_ended in_es)
 
   pub lane_of_line : (line : Line) (feeders ended : List FeederView) (results : List F) → AreOfLine feeders line → ended ≡ map ended_feeder feeders → map feeder results ≡ ended → All (λ x. (feeder x).line ≡ line) results

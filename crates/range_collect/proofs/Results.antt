@@ -3,6 +3,7 @@ use Rattle.std.proofs.Common.{◌≡◌, ℕ, zero, suc, ◌+◌, ◌*◌, ◌/�
 use Rattle.std.proofs.Math.Nat.{mod-add-div', mod-eq_of_lt, mod-lt}
 use Rattle.std.proofs.lemmas.Option.{same_Some, slice_get_within}
 use Rattle.std.specs.declared.clone.Clone.{Ghosts}
+use Rattle.range_fixes.specs.Reading.{Reading}
 use Rattle.range_collect.specs.Follow.{IsFollowed}
 use Rattle.range_collect.specs.Lanes.{AreLanesFollowed, Dealt, IsLaneFollowed}
 use Rattle.range_collect.specs.declared.followed.Followed.{Followed}
@@ -47,12 +48,12 @@ same_over i j n workers w is below_i below_j same =
     ]
 
 -- ---- one line's results, by other words
-pub same_lane : {A : Type 0} {clone : Ghosts A} (first step block place w size : ℕ) (told sources : List (Option (List ℕ))) (results followed : List (Followed A clone))
+pub same_lane : {A : Type 0} {clone : Ghosts A} (first step block place w size : ℕ) (told sources : List (Option Reading)) (results followed : List (Followed A clone))
     → first ≡ place → step ≡ w → block ≡ size → told ≡ sources → results ≡ followed → IsLaneFollowed first step block told results → IsLaneFollowed place w size sources followed
 same_lane first step block place w size told sources results followed e1 e2 e3 e4 e5 is = rw (← e1, ← e2, ← e3, ← e4, ← e5) is
 
 -- ---- the results of all lines
-module _ {A : Type 0} {clone : Ghosts A} (size : ℕ) (sources : List (Option (List ℕ))) (lanes : List (List (Option (List ℕ)))) (results : List (List (Followed A clone))) where
+module _ {A : Type 0} {clone : Ghosts A} (size : ℕ) (sources : List (Option Reading)) (lanes : List (List (Option Reading))) (results : List (List (Followed A clone))) where
   pub lanes_alike : AreLanesFollowed size lanes results → map length results ≡ map length lanes
   lanes_alike are = same_places (map length results) (map length lanes) (map_length length results ∙ (are.count ∙ sym (map_length length lanes))) (λ place x y in_results in_lanes.
       let r = mapped_from length results place x in_results in
@@ -60,7 +61,7 @@ module _ {A : Type 0} {clone : Ghosts A} (size : ℕ) (sources : List (Option (L
       sym r.2 ∙ ((are.each place l.0 r.0 l.1 r.1).count ∙ l.2))
 
   pub file_followed : (all : List (Followed A clone)) → Dealt sources lanes → Dealt all results → AreLanesFollowed size lanes results → 0 < length lanes
-      → (place : ℕ) (source : Option (List ℕ)) (f : Followed A clone) → slice_get sources place ≡ Some source → slice_get all place ≡ Some f
+      → (place : ℕ) (source : Option Reading) (f : Followed A clone) → slice_get sources place ≡ Some source → slice_get all place ≡ Some f
       → IsFollowed source place size f.feeder f.read f.estimator f.marked
   file_followed all dealt merged are some place source f in_sources in_all =
       let w : ℕ = length lanes in

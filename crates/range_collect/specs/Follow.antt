@@ -3,6 +3,7 @@ use Rattle.std.specs.Prelude.{◌≡◌, ℕ, ◌<◌, List, length, Option, Boo
 use mathlib.Core.List.{IsPrefix}
 use Rattle.range_plane.specs.declared.fix.Fix.{Fix}
 use Rattle.range_fixes.specs.declared.fault.ReadFault.TheVariants.{Gone}
+use Rattle.range_fixes.specs.Reading.{Reading}
 use Rattle.range_line.specs.Lines.{FeederView}
 use Rattle.range_line.specs.Messages.{IsLawful, fixes}
 use Rattle.range_estimator.specs.Estimation.{Estimation, IsEstimate}
@@ -13,8 +14,8 @@ pub record Holds (e : Estimation) (sent : List Fix) : Type 0 where
   pub prefix : IsPrefix e.fixes sent
   pub whole : e.stopped ≡ false → e.fixes ≡ sent
 
--- the file with this number, of which the source tells these bytes where it does, was followed in blocks of this size
-pub record IsFollowed (source : Option (List ℕ)) (number size : ℕ) (feeder : FeederView) (read : Read) (e : Estimation) (mark : Bool) : Type 0 where
+-- the file with this number, of which this is the reading where its source tells its bytes, was followed in blocks of this size
+pub record IsFollowed (source : Option Reading) (number size : ℕ) (feeder : FeederView) (read : Read) (e : Estimation) (mark : Bool) : Type 0 where
   pub file : feeder.file ≡ number
   pub ended : feeder.ended ≡ true
   pub pumped : IsPumpedFrom source size feeder read

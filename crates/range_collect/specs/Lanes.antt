@@ -2,6 +2,7 @@
 use Rattle.std.specs.Prelude.{◌≡◌, ℕ, ◌+◌, ◌*◌, ◌<◌, ◌≤◌, List, [], ◌∷◌, ◌++◌, length, slice_get, Some, Option, Bool, false, All}
 use Rattle.std.specs.declared.clone.Clone.{Ghosts}
 use Rattle.range_plan.specs.Limits.{file_limit}
+use Rattle.range_fixes.specs.Reading.{Reading}
 use Rattle.range_line.specs.Lines.{files_from, new_feeder, FeederView, Line, TakerView}
 use Rattle.range_line.specs.Messages.{of_file, IsLawful}
 use Rattle.range_estimator.specs.Estimation.{Estimation, IsEstimate}
@@ -25,24 +26,24 @@ pub record IsSeen (feeder : FeederView) (e : Estimation) (mark : Bool) : Type 0 
   pub estimate : IsEstimate e.fixes e.rows e.corners
 
 -- the pumps of a line have returned, and its worker has nothing more to take
-pub record IsLane (first step size : ℕ) (sources : List (Option (List ℕ))) (feeders : List FeederView) (reads : List Read) (worker : TakerView) : Type 0 where
+pub record IsLane (first step size : ℕ) (sources : List (Option Reading)) (feeders : List FeederView) (reads : List Read) (worker : TakerView) : Type 0 where
   pub counts : (length feeders ≡ length sources) × (length reads ≡ length sources)
   pub files : worker.files ≡ files_from first step (length sources)
-  pub pumped : (place : ℕ) (source : Option (List ℕ)) (f : FeederView) (r : Read) → slice_get sources place ≡ Some source → slice_get feeders place ≡ Some f
+  pub pumped : (place : ℕ) (source : Option Reading) (f : FeederView) (r : Read) → slice_get sources place ≡ Some source → slice_get feeders place ≡ Some f
       → slice_get reads place ≡ Some r → IsPumped source size (new_feeder worker.line (first + place * step)) f r
 
 -- the files of a line were followed
-pub record IsLaneFollowed {A : Type 0} {clone : Ghosts A} (first step size : ℕ) (sources : List (Option (List ℕ))) (results : List (Followed A clone)) : Type 0 where
+pub record IsLaneFollowed {A : Type 0} {clone : Ghosts A} (first step size : ℕ) (sources : List (Option Reading)) (results : List (Followed A clone)) : Type 0 where
   pub line : Line
   pub of_line : All (λ f. f.feeder.line ≡ line) results
   pub count : length results ≡ length sources
-  pub followed : (place : ℕ) (source : Option (List ℕ)) (f : Followed A clone) → slice_get sources place ≡ Some source → slice_get results place ≡ Some f
+  pub followed : (place : ℕ) (source : Option Reading) (f : Followed A clone) → slice_get sources place ≡ Some source → slice_get results place ≡ Some f
       → IsFollowed source (first + place * step) size f.feeder f.read f.estimator f.marked
 
 -- the files of all lines were followed, the line at a place having the file of this number first
-pub record AreLanesFollowed {A : Type 0} {clone : Ghosts A} (size : ℕ) (lanes : List (List (Option (List ℕ)))) (results : List (List (Followed A clone))) : Type 0 where
+pub record AreLanesFollowed {A : Type 0} {clone : Ghosts A} (size : ℕ) (lanes : List (List (Option Reading))) (results : List (List (Followed A clone))) : Type 0 where
   pub count : length results ≡ length lanes
-  pub each : (place : ℕ) (sources : List (Option (List ℕ))) (followed : List (Followed A clone)) → slice_get lanes place ≡ Some sources → slice_get results place ≡ Some followed
+  pub each : (place : ℕ) (sources : List (Option Reading)) (followed : List (Followed A clone)) → slice_get lanes place ≡ Some sources → slice_get results place ≡ Some followed
       → IsLaneFollowed place (length lanes) size sources followed
 
 -- the first member heads the first lane, and the others are dealt from the second lane on, the first one coming last

@@ -1,6 +1,7 @@
 // A line with its pumps and its worker.
 
 ghost use Rattle.std.specs.Prelude.{◌≡◌, ◌≤◌, map, IfOk, vec_len};
+ghost use Rattle.range_fixes.specs.Reading.{reading_from};
 ghost use Rattle.range_plan.specs.Limits.{file_limit};
 ghost use Rattle.range_collect.specs.Lanes.{IsLane};
 
@@ -47,7 +48,7 @@ fn run_lane<
     plan: Plan,
 ) -> Result<Lane<A>, OutOfMemory>
     requires { (1 ≤ vec_len sources) × (vec_len sources ≤ file_limit) }
-    ensures { IfOk result (λ lane. IsLane numbers.first numbers.step plan.block (map S.remaining sources.items) lane.feeders.items lane.reads.items lane.worker) }
+    ensures { IfOk result (λ lane. IsLane numbers.first numbers.step plan.block (map (reading_from S.remaining plan.unit) sources.items) lane.feeders.items lane.reads.items lane.worker) }
 {
     let count = sources.len();
     let (feeders, taker) = open_line(
@@ -101,14 +102,14 @@ pub(crate) fn read_lane<
     plan: Plan,
 ) -> Result<Lane<A>, OutOfMemory>
     requires { (1 ≤ vec_len sources) × (vec_len sources ≤ file_limit) }
-    ensures { IfOk result (λ lane. IsLane numbers.first numbers.step plan.block (map S.remaining sources.items) lane.feeders.items lane.reads.items lane.worker) }
+    ensures { IfOk result (λ lane. IsLane numbers.first numbers.step plan.block (map (reading_from S.remaining plan.unit) sources.items) lane.feeders.items lane.reads.items lane.worker) }
 {
     thread::scope(
         thread::scope_env(),
         rt,
         move |scope| -> Result<Lane<A>, OutOfMemory>
             requires { (1 ≤ vec_len sources) × (vec_len sources ≤ file_limit) }
-            ensures { IfOk result (λ lane. IsLane numbers.first numbers.step plan.block (map S.remaining sources.items) lane.feeders.items lane.reads.items lane.worker) }
+            ensures { IfOk result (λ lane. IsLane numbers.first numbers.step plan.block (map (reading_from S.remaining plan.unit) sources.items) lane.feeders.items lane.reads.items lane.worker) }
         { run_lane(rt, scope, alloc, global, sources, gate, numbers, plan) },
     )
 }

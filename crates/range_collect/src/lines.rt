@@ -1,6 +1,7 @@
 // The lines, each in a thread of its own.
 
 ghost use Rattle.std.specs.Prelude.{◌≡◌, ℕ, ◌≤◌, [], false, All, IfOk, OnOk, Some, map, slice_get, vec_len, vec_capacity};
+ghost use Rattle.range_fixes.specs.Reading.{reading_from};
 ghost use Rattle.range_plan.specs.Limits.{file_limit};
 ghost use Rattle.range_collect.specs.Lanes.{AreLanesFollowed, IsLaneFollowed};
 
@@ -25,14 +26,15 @@ type Results<A> = Result<Vec<Followed<A>, A>, OutOfMemory>;
 struct LineOf<S: Drop, A: Allocator> {
     sources: Snapshot<Vec<S, A>>,
     numbers: Numbers,
-    block: u32,
+    plan: Plan,
 }
 
 impl<S: Read + Drop, A: Allocator + Clone + Copy> Promise<Results<A>> for LineOf<S, A> {
     ghost use Rattle.std.specs.Prelude.{IfOk, map};
+    ghost use Rattle.range_fixes.specs.Reading.{reading_from};
     ghost use Rattle.range_collect.specs.Lanes.{IsLaneFollowed};
 
-    ghost kept_by = { λ p r. IfOk r (λ all. IsLaneFollowed p.numbers.first p.numbers.step p.block (map S.remaining p.sources.value.items) all.items) };
+    ghost kept_by = { λ p r. IfOk r (λ all. IsLaneFollowed p.numbers.first p.numbers.step p.plan.block (map (reading_from S.remaining p.plan.unit) p.sources.value.items) all.items) };
 }
 
 type LineHandle<S, A> = PromisedHandle<Results<A>, LineOf<S, A>>;
@@ -53,7 +55,7 @@ fn follow_lane<
     plan: Plan,
 ) -> Results<A>
     requires { (1 ≤ vec_len sources) × (vec_len sources ≤ file_limit) }
-    ensures { IfOk result (λ all. IsLaneFollowed numbers.first numbers.step plan.block (map S.remaining sources.items) all.items) }
+    ensures { IfOk result (λ all. IsLaneFollowed numbers.first numbers.step plan.block (map (reading_from S.remaining plan.unit) sources.items) all.items) }
 {
     let Lane {
         feeders,
@@ -84,18 +86,18 @@ fn start_line<
     plan: Plan,
 ) -> Result<LineHandle<S, A>, OutOfMemory>
     requires some { (1 ≤ vec_len sources) × (vec_len sources ≤ file_limit) }
-    ensures { IfOk result (λ h. (h.promise.sources.value ≡ sources) × (h.promise.numbers ≡ numbers) × (h.promise.block ≡ plan.block)) }
+    ensures { IfOk result (λ h. (h.promise.sources.value ≡ sources) × (h.promise.numbers ≡ numbers) × (h.promise.plan ≡ plan)) }
 {
     let promise = LineOf {
         sources: Snapshot::of(&sources),
         numbers,
-        block: plan.block,
+        plan,
     };
     match scope.spawn_with(
         promise,
         move || -> Results<A>
             requires { (1 ≤ vec_len sources) × (vec_len sources ≤ file_limit) }
-            ensures { IfOk result (λ all. IsLaneFollowed numbers.first numbers.step plan.block (map S.remaining sources.items) all.items) }
+            ensures { IfOk result (λ all. IsLaneFollowed numbers.first numbers.step plan.block (map (reading_from S.remaining plan.unit) sources.items) all.items) }
         { follow_lane(rt, alloc, global, sources, gate, numbers, plan) },
     ) {
         Ok(handle) => Ok(handle),
@@ -126,7 +128,7 @@ fn start_lines<
     requires room { (handles.old.items ≡ []) × (vec_len lanes ≤ vec_capacity handles.old) }
     ensures sources { OnOk result (map (λ h. h.promise.sources.value) handles.new.items ≡ lanes.items) }
     ensures numbers { (place : ℕ) (h : _) → slice_get handles.new.items place ≡ Some h
-        → (h.promise.numbers.first ≡ place) × (h.promise.numbers.step ≡ vec_len lanes) × (h.promise.block ≡ plan.block) }
+        → (h.promise.numbers.first ≡ place) × (h.promise.numbers.step ≡ vec_len lanes) × (h.promise.plan ≡ plan) }
     ensures few { vec_len handles.new ≤ vec_len lanes }
 {
     let step = lanes.len() as u32;
@@ -149,7 +151,7 @@ fn join_lines<R: Threads, S: Read + Drop, A: Allocator + Clone + Copy>(
     requires room { (all.items ≡ []) × (vec_len handles ≤ vec_capacity all) }
     ensures count { IfOk result (λ all. vec_len all ≡ vec_len handles) }
     ensures followed { IfOk result (λ all. (place : ℕ) (h r : _) → slice_get handles.items place ≡ Some h → slice_get all.items place ≡ Some r
-        → IsLaneFollowed h.promise.numbers.first h.promise.numbers.step h.promise.block (map S.remaining h.promise.sources.value.items) r.items) }
+        → IsLaneFollowed h.promise.numbers.first h.promise.numbers.step h.promise.plan.block (map (reading_from S.remaining h.promise.plan.unit) h.promise.sources.value.items) r.items) }
 {
     let mut refused = false;
     for handle in handles {
@@ -180,7 +182,7 @@ fn run_lines<
 ) -> Result<Vec<Vec<Followed<A>, A>, A>, OutOfMemory>
     requires lanes { vec_len lanes ≤ file_limit }
     requires sources { All (λ lane. (1 ≤ vec_len lane) × (vec_len lane ≤ file_limit)) lanes.items }
-    ensures { IfOk result (λ all. AreLanesFollowed plan.block (map (λ lane. map S.remaining lane.items) lanes.items) (map (λ r. r.items) all.items)) }
+    ensures { IfOk result (λ all. AreLanesFollowed plan.block (map (λ lane. map (reading_from S.remaining plan.unit) lane.items) lanes.items) (map (λ r. r.items) all.items)) }
 {
     let mut handles = Vec::with_capacity(alloc, lanes.len())?;
     let results = Vec::with_capacity(alloc, lanes.len())?;
@@ -207,14 +209,14 @@ pub(crate) fn follow_lanes<
 ) -> Result<Vec<Vec<Followed<A>, A>, A>, OutOfMemory>
     requires lanes { vec_len lanes ≤ file_limit }
     requires sources { All (λ lane. (1 ≤ vec_len lane) × (vec_len lane ≤ file_limit)) lanes.items }
-    ensures { IfOk result (λ all. AreLanesFollowed plan.block (map (λ lane. map S.remaining lane.items) lanes.items) (map (λ r. r.items) all.items)) }
+    ensures { IfOk result (λ all. AreLanesFollowed plan.block (map (λ lane. map (reading_from S.remaining plan.unit) lane.items) lanes.items) (map (λ r. r.items) all.items)) }
 {
     thread::scope(
         thread::scope_env(),
         rt,
         move |scope| -> Result<Vec<Vec<Followed<A>, A>, A>, OutOfMemory>
             requires { (vec_len lanes ≤ file_limit) × All (λ lane. (1 ≤ vec_len lane) × (vec_len lane ≤ file_limit)) lanes.items }
-            ensures { IfOk result (λ all. AreLanesFollowed plan.block (map (λ lane. map S.remaining lane.items) lanes.items) (map (λ r. r.items) all.items)) }
+            ensures { IfOk result (λ all. AreLanesFollowed plan.block (map (λ lane. map (reading_from S.remaining plan.unit) lane.items) lanes.items) (map (λ r. r.items) all.items)) }
         { run_lines(rt, scope, alloc, global, lanes, gate, plan) },
     )
 }

@@ -1,6 +1,7 @@
 // The pumps of a line, each in a thread of its own.
 
 ghost use Rattle.std.specs.Prelude.{◌≡◌, ℕ, ◌≤◌, [], All, IfOk, OnOk, Some, map, slice_get, vec_len, vec_capacity};
+ghost use Rattle.range_fixes.specs.Reading.{reading_from};
 ghost use Rattle.range_plan.specs.Limits.{block_limit};
 ghost use Rattle.range_line.specs.Lines.{FeederView};
 ghost use Rattle.range_collect.specs.Lanes.{IsNew};
@@ -22,13 +23,14 @@ use std::thread::{Promise, PromisedHandle, Scope, Threads};
 pub(crate) struct PumpOf<S: Drop, A: Allocator + Clone> {
     source: Snapshot<S>,
     feeder: Snapshot<Feeder<A>>,
-    block: u32,
+    plan: Plan,
 }
 
 impl<S: Read + Drop, A: Allocator + Clone> Promise<Pumped<A>> for PumpOf<S, A> {
+    ghost use Rattle.range_fixes.specs.Reading.{reading_from};
     ghost use Rattle.range_pump.specs.Pump.{IsPumped};
 
-    ghost kept_by = { λ p r. IsPumped (S.remaining p.source.value) p.block p.feeder.value r.feeder r.read };
+    ghost kept_by = { λ p r. IsPumped (reading_from S.remaining p.plan.unit p.source.value) p.plan.block p.feeder.value r.feeder r.read };
 }
 
 pub(crate) type PumpHandle<S, A> = PromisedHandle<Pumped<A>, PumpOf<S, A>>;
@@ -51,20 +53,20 @@ fn start_pump<
     plan: Plan,
 ) -> Result<PumpHandle<S, A>, OutOfMemory>
     requires fresh { IsNew feeder }
-    ensures { IfOk result (λ h. (h.promise.source.value ≡ source) × (h.promise.feeder.value ≡ feeder) × (h.promise.block ≡ plan.block)) }
+    ensures { IfOk result (λ h. (h.promise.source.value ≡ source) × (h.promise.feeder.value ≡ feeder) × (h.promise.plan ≡ plan)) }
 {
-    let block = plan.block;
+    let (block, unit) = (plan.block, plan.unit);
     let promise = PumpOf {
         source: Snapshot::of(&source),
         feeder: Snapshot::of(&feeder),
-        block,
+        plan,
     };
     match scope.spawn_with(
         promise,
         move || -> Pumped<A>
             requires { (1 ≤ block) × (block ≤ block_limit) × IsNew feeder }
-            ensures { IsPumped (S.remaining source) block feeder result.feeder result.read }
-        { pump(rt, global, source, feeder, gate, block) },
+            ensures { IsPumped (reading_from S.remaining unit source) block feeder result.feeder result.read }
+        { pump(rt, global, source, feeder, gate, block, unit) },
     ) {
         Ok(handle) => Ok(handle),
         Err(_) => Err(OutOfMemory),
@@ -95,7 +97,7 @@ pub(crate) fn start_pumps<
     requires room { (handles.old.items ≡ []) × (vec_len sources ≤ vec_capacity handles.old) }
     ensures sources { OnOk result (map (λ h. h.promise.source.value) handles.new.items ≡ sources.items) }
     ensures feeders { OnOk result (map (λ h. h.promise.feeder.value) handles.new.items ≡ feeders.items) }
-    ensures blocks { All (λ h. h.promise.block ≡ plan.block) handles.new.items }
+    ensures plans { All (λ h. h.promise.plan ≡ plan) handles.new.items }
     ensures few { vec_len handles.new ≤ vec_len sources }
 {
     let mut feeders = feeders.into_iter();
@@ -121,7 +123,7 @@ pub(crate) fn join_pumps<R: Threads, S: Read + Drop, A: Allocator + Clone>(
     ensures counts { (vec_len feeders.new ≡ vec_len handles) × (vec_len reads.new ≡ vec_len handles) }
     ensures pumped { (place : ℕ) (h : _) (f : FeederView) (r : ReadView) → slice_get handles.items place ≡ Some h
         → slice_get feeders.new.items place ≡ Some f → slice_get reads.new.items place ≡ Some r
-        → IsPumped (S.remaining h.promise.source.value) h.promise.block h.promise.feeder.value f r }
+        → IsPumped (reading_from S.remaining h.promise.plan.unit h.promise.source.value) h.promise.plan.block h.promise.feeder.value f r }
 {
     for handle in handles {
         let Pumped { feeder, read } = handle.join(rt);

@@ -3,6 +3,7 @@ use Rattle.std.proofs.Common.{◌≡◌, ◌+◌, ◌<◌, ◌≤◌, ◌⊎◌,
 use Rattle.std.specs.Option.{option_map}
 use Rattle.std.proofs.lemmas.Bool.{cases_lt}
 use Rattle.range_plane.specs.Fix.{fix_limit}
+use Rattle.range_plane.specs.declared.scale.Scale.{Scale}
 use Rattle.range_fixes.specs.declared.checks.Checked.{Checked}
 use Rattle.range_fixes.specs.declared.fault.ReadFault.{ReadFault}
 use Rattle.range_fixes.specs.declared.fault.ReadFault.TheVariants.{TooManyFixes}
@@ -29,10 +30,10 @@ one-named None fields one checked records = refl
 one-named (Some previous) fields one checked records = refl
 
 -- no record passes before one that ends them
-stops : (has_use : Bool) (read : ℕ) (previous : Option Previous) (fields : Record) (records : List Record) (fault : ReadFault) → read ≤ fix_limit
-    → (read ≡ fix_limit → fault ≡ TooManyFixes) → (read < fix_limit → checked_in has_use (read + 1) previous fields ≡ Err fault)
-    → IsExact has_use read previous (fields ∷ records) (none_passed previous (Some fault))
-stops has_use read previous fields records fault limit many first = record {
+stops : (unit : Scale) (has_use : Bool) (read : ℕ) (previous : Option Previous) (fields : Record) (records : List Record) (fault : ReadFault) → read ≤ fix_limit
+    → (read ≡ fix_limit → fault ≡ TooManyFixes) → (read < fix_limit → checked_in unit has_use (read + 1) previous fields ≡ Err fault)
+    → IsExact unit has_use read previous (fields ∷ records) (none_passed previous (Some fault))
+stops unit has_use read previous fields records fault limit many first = record {
   within = omega arith;
   limit = omega arith;
   animal = none-named previous (fields ∷ records);
@@ -43,10 +44,10 @@ stops has_use read previous fields records fault limit many first = record {
 }
 
 -- one record that passes, before others that are exact
-goes-on : (has_use : Bool) (read : ℕ) (previous : Option Previous) (fields : Record) (records : List Record) (one : Checked) (p : Passed) → read < fix_limit
-    → checked_in has_use (read + 1) previous fields ≡ Ok one
-    → IsExact has_use (read + 1) (Some (then_previous previous (first_field fields) one.fix.second)) records p → IsExact has_use read previous (fields ∷ records) (then_passed one p)
-goes-on has_use read previous fields records one p below passed h =
+goes-on : (unit : Scale) (has_use : Bool) (read : ℕ) (previous : Option Previous) (fields : Record) (records : List Record) (one : Checked) (p : Passed) → read < fix_limit
+    → checked_in unit has_use (read + 1) previous fields ≡ Ok one
+    → IsExact unit has_use (read + 1) (Some (then_previous previous (first_field fields) one.fix.second)) records p → IsExact unit has_use read previous (fields ∷ records) (then_passed one p)
+goes-on unit has_use read previous fields records one p below passed h =
     let sum : (n : ℕ) → read + suc n ≡ read + 1 + n = λ n. omega arith in
     let number : (k : ℕ) → read + suc k + 1 ≡ read + 1 + k + 1 = λ k. omega arith in
     record {
@@ -59,13 +60,13 @@ goes-on has_use read previous fields records one p below passed h =
       first = λ l b. rw (number (length p.checked)) (h.first (omega arith) (omega arith));
     }
   where
-    at : (k : ℕ) (x : Checked) → slice_get (one ∷ p.checked) k ≡ Some x → check_at has_use read previous (fields ∷ records) (one ∷ p.checked) k ≡ Ok x
+    at : (k : ℕ) (x : Checked) → slice_get (one ∷ p.checked) k ≡ Some x → check_at unit has_use read previous (fields ∷ records) (one ∷ p.checked) k ≡ Ok x
     at zero x e = let n : read + 0 + 1 ≡ read + 1 = omega arith in let same : one ≡ x = cc e in rw (n, passed, same) refl
     at (suc k) x e = let n : read + suc k + 1 ≡ read + 1 + k + 1 = omega arith in rw n (h.passes k x e)
 
 -- no record is left
-ends : (has_use : Bool) (read : ℕ) (previous : Option Previous) → read ≤ fix_limit → IsExact has_use read previous [] (passed_after has_use read previous [])
-ends has_use read previous limit = rw (at-end has_use read previous) (record {
+ends : (unit : Scale) (has_use : Bool) (read : ℕ) (previous : Option Previous) → read ≤ fix_limit → IsExact unit has_use read previous [] (passed_after unit has_use read previous [])
+ends unit has_use read previous limit = rw (at-end unit has_use read previous) (record {
   within = omega arith;
   limit = omega arith;
   animal = none-named previous [];
@@ -76,34 +77,34 @@ ends has_use read previous limit = rw (at-end has_use read previous) (record {
 })
 
 -- the record at the limit
-at-limit : (has_use : Bool) (read : ℕ) (previous : Option Previous) (fields : Record) (records : List Record) → read ≡ fix_limit
-    → IsExact has_use read previous (fields ∷ records) (passed_after has_use read previous (fields ∷ records))
-at-limit has_use read previous fields records e =
-    rw (e, too-many has_use previous fields records) (stops has_use fix_limit previous fields records TooManyFixes (omega arith) (λ _. refl) (λ h. absurd (omega arith)))
+at-limit : (unit : Scale) (has_use : Bool) (read : ℕ) (previous : Option Previous) (fields : Record) (records : List Record) → read ≡ fix_limit
+    → IsExact unit has_use read previous (fields ∷ records) (passed_after unit has_use read previous (fields ∷ records))
+at-limit unit has_use read previous fields records e =
+    rw (e, too-many unit has_use previous fields records) (stops unit has_use fix_limit previous fields records TooManyFixes (omega arith) (λ _. refl) (λ h. absurd (omega arith)))
 
 -- a record below the limit
-below-limit : (has_use : Bool) (read : ℕ) (previous : Option Previous) (fields : Record) (records : List Record) (checked : Result Checked ReadFault) → read < fix_limit
-    → checked_in has_use (read + 1) previous fields ≡ checked
-    → ((next : Option Previous) → IsExact has_use (read + 1) next records (passed_after has_use (read + 1) next records))
-    → IsExact has_use read previous (fields ∷ records) (passed_after has_use read previous (fields ∷ records))
-below-limit has_use read previous fields records (Ok one) below e more =
-    rw (one-passes has_use read previous fields one records below e) (goes-on has_use read previous fields records one _ below e (more (Some (then_previous previous (first_field fields) one.fix.second))))
-below-limit has_use read previous fields records (Err fault) below e more =
-    rw (one-fails has_use read previous fields fault records below e) (stops has_use read previous fields records fault (omega arith) (λ same. absurd (omega arith)) (λ _. e))
+below-limit : (unit : Scale) (has_use : Bool) (read : ℕ) (previous : Option Previous) (fields : Record) (records : List Record) (checked : Result Checked ReadFault) → read < fix_limit
+    → checked_in unit has_use (read + 1) previous fields ≡ checked
+    → ((next : Option Previous) → IsExact unit has_use (read + 1) next records (passed_after unit has_use (read + 1) next records))
+    → IsExact unit has_use read previous (fields ∷ records) (passed_after unit has_use read previous (fields ∷ records))
+below-limit unit has_use read previous fields records (Ok one) below e more =
+    rw (one-passes unit has_use read previous fields one records below e) (goes-on unit has_use read previous fields records one _ below e (more (Some (then_previous previous (first_field fields) one.fix.second))))
+below-limit unit has_use read previous fields records (Err fault) below e more =
+    rw (one-fails unit has_use read previous fields fault records below e) (stops unit has_use read previous fields records fault (omega arith) (λ same. absurd (omega arith)) (λ _. e))
 
-exact : (has_use : Bool) (read : ℕ) (previous : Option Previous) (records : List Record) → read ≤ fix_limit → IsExact has_use read previous records (passed_after has_use read previous records)
-exact has_use read previous [] limit = ends has_use read previous limit
-exact has_use read previous (fields ∷ records) limit = by (cases_lt read fix_limit) (λ next below. exact has_use (read + 1) next records (omega arith))
+exact : (unit : Scale) (has_use : Bool) (read : ℕ) (previous : Option Previous) (records : List Record) → read ≤ fix_limit → IsExact unit has_use read previous records (passed_after unit has_use read previous records)
+exact unit has_use read previous [] limit = ends unit has_use read previous limit
+exact unit has_use read previous (fields ∷ records) limit = by (cases_lt read fix_limit) (λ next below. exact unit has_use (read + 1) next records (omega arith))
   where
-    by : (read < fix_limit) ⊎ (fix_limit ≤ read) → ((next : Option Previous) → read < fix_limit → IsExact has_use (read + 1) next records (passed_after has_use (read + 1) next records))
-        → IsExact has_use read previous (fields ∷ records) (passed_after has_use read previous (fields ∷ records))
-    by (inl below) more = below-limit has_use read previous fields records _ below refl (λ next. more next below)
-    by (inr past) more = at-limit has_use read previous fields records (omega arith)
+    by : (read < fix_limit) ⊎ (fix_limit ≤ read) → ((next : Option Previous) → read < fix_limit → IsExact unit has_use (read + 1) next records (passed_after unit has_use (read + 1) next records))
+        → IsExact unit has_use read previous (fields ∷ records) (passed_after unit has_use read previous (fields ∷ records))
+    by (inl below) more = below-limit unit has_use read previous fields records _ below refl (λ next. more next below)
+    by (inr past) more = at-limit unit has_use read previous fields records (omega arith)
 
-below-header : (header : Option Bool) (records : List Record) → IsExactBelow header records (reading_below header records)
-below-header None records = refl
-below-header (Some has_use) records = (passed_after has_use 0 None records, exact has_use 0 None records (omega arith), refl)
+below-header : (unit : Scale) (header : Option Bool) (records : List Record) → IsExactBelow unit header records (reading_below unit header records)
+below-header unit None records = refl
+below-header unit (Some has_use) records = (passed_after unit has_use 0 None records, exact unit has_use 0 None records (omega arith), refl)
 
 pub reads-exactly : ReadsExactly
-reads-exactly [] = refl
-reads-exactly (header ∷ records) = below-header (header_of header) records
+reads-exactly unit [] = refl
+reads-exactly unit (header ∷ records) = below-header unit (header_of header) records

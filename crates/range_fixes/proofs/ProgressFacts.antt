@@ -2,6 +2,7 @@
 use Rattle.std.proofs.Common.{◌≡◌, ◌+◌, ◌≤◌, ℕ, zero, suc, Bool, true, false, eqb, List, [], ◌∷◌, length, drop, Option, Some, None, refl, sym, ◌∙◌, ap, arith, rules, tests, length-drop, slice_get, add-one, IsSome}
 use Rattle.std.specs.Option.{option_map}
 use Rattle.range_plane.specs.declared.fix.Fix.{Fix}
+use Rattle.range_plane.specs.declared.scale.Scale.{Scale}
 use Rattle.range_fixes.specs.declared.reader.Stage.TheVariants.{Going}
 use Rattle.range_fixes.specs.Field.{Record}
 use Rattle.range_fixes.specs.Previous.{Previous}
@@ -47,15 +48,15 @@ one-more p q r m fix h unhurt e f count animal =
     (record { count = rw (count, add-one) d.2; animal = rw some (animal ∙ sym named); ahead = λ _. rw (count, add-one, d.1, named, fault) f }, d.0)
 
 -- a fix that was given is the next of the reading
-pub fix-given : (header had : Option Bool) (read before count : ℕ) (old new : Option Previous) (left after : Option (List Record)) (s t : Bool) (fix : Fix) (r : Reading)
-    → Leads (option_map (rest_of had before count old) left) (option_map (λ records. then_fixes fix (rest_of header read (count + 1) new records)) after) → IsSome header → IsSome new
-    → Reads (progress_by Going had before count old left s) r
-    → Reads (progress_by Going header read (count + 1) new after t) r × (slice_get r.fixes count ≡ Some fix)
-fix-given None had read before count old new left after s t fix r leads headed named h = cc headed
-fix-given (Some has_use) had read before count old None left after s t fix r leads headed named h = cc named
-fix-given (Some has_use) had read before count old (Some q) None after s t fix r leads headed named h = cc (h.ahead refl)
-fix-given (Some has_use) had read before count old (Some q) (Some records) None s t fix r leads headed named h = cc leads
-fix-given (Some has_use) had read before count old (Some q) (Some records) (Some below) s t fix r leads headed named h =
+pub fix-given : (unit : Scale) (header had : Option Bool) (read before count : ℕ) (old new : Option Previous) (left after : Option (List Record)) (s t : Bool) (fix : Fix) (r : Reading)
+    → Leads (option_map (rest_of unit had before count old) left) (option_map (λ records. then_fixes fix (rest_of unit header read (count + 1) new records)) after) → IsSome header → IsSome new
+    → Reads (progress_by unit Going had before count old left s) r
+    → Reads (progress_by unit Going header read (count + 1) new after t) r × (slice_get r.fixes count ≡ Some fix)
+fix-given unit None had read before count old new left after s t fix r leads headed named h = cc headed
+fix-given unit (Some has_use) had read before count old None left after s t fix r leads headed named h = cc named
+fix-given unit (Some has_use) had read before count old (Some q) None after s t fix r leads headed named h = cc (h.ahead refl)
+fix-given unit (Some has_use) had read before count old (Some q) (Some records) None s t fix r leads headed named h = cc leads
+fix-given unit (Some has_use) had read before count old (Some q) (Some records) (Some below) s t fix r leads headed named h =
     let some : eqb (count + 1) 0 ≡ false = search (rules, tests) in
-    one-more (progress_by Going had before count old (Some records) s) (progress_by Going (Some has_use) read (count + 1) (Some q) (Some below) t) r (rest_of (Some has_use) read (count + 1) (Some q) below) fix
-    h refl (sym leads) refl refl (rw some (sym (animal-after has_use read q below)))
+    one-more (progress_by unit Going had before count old (Some records) s) (progress_by unit Going (Some has_use) read (count + 1) (Some q) (Some below) t) r (rest_of unit (Some has_use) read (count + 1) (Some q) below) fix
+    h refl (sym leads) refl refl (rw some (sym (animal-after unit has_use read q below)))

@@ -6,7 +6,8 @@ use Rattle.std.specs.Str.{bytes_eq}
 use Rattle.std.specs.Str.Parse.{digits_value}
 use Rattle.std.specs.Prelude.{codes}
 use Rattle.range_plane.specs.Fix.{fix_limit, second_limit}
-use Rattle.range_plane.specs.Plane.{coordinate_limit}
+use Rattle.range_plane.specs.Scale.{limit}
+use Rattle.range_plane.specs.declared.scale.Scale.{Scale}
 use Rattle.range_plane.specs.declared.fix.Fix.{Fix}
 use Rattle.range_fixes.specs.declared.checks.Checked.{Checked}
 use Rattle.range_fixes.specs.declared.fault.ReadFault.{ReadFault}
@@ -50,38 +51,38 @@ pub leads-end : (given : ℕ) (read : List Record → Passed) (left : Option (Li
 leads-end given read None p l = tt
 leads-end given read (Some records) p l = let same : p ≡ read records = cc in rw same refl
 
-pub at-end : (has_use : Bool) (read : ℕ) (previous : Option Previous) → passed_after has_use read previous [] ≡ none_passed previous None
+pub at-end : (unit : Scale) (has_use : Bool) (read : ℕ) (previous : Option Previous) → passed_after unit has_use read previous [] ≡ none_passed previous None
 unfolding passed_after
-at-end has_use read previous = refl
+at-end unit has_use read previous = refl
 
-pub too-many : (has_use : Bool) (previous : Option Previous) (fields : Record) (records : List Record) → passed_after has_use fix_limit previous (fields ∷ records) ≡ none_passed previous (Some TooManyFixes)
+pub too-many : (unit : Scale) (has_use : Bool) (previous : Option Previous) (fields : Record) (records : List Record) → passed_after unit has_use fix_limit previous (fields ∷ records) ≡ none_passed previous (Some TooManyFixes)
 unfolding passed_after
-too-many has_use previous fields records = refl
+too-many unit has_use previous fields records = refl
 
-pub one-passes : (has_use : Bool) (read : ℕ) (previous : Option Previous) (fields : Record) (one : Checked) (records : List Record) → read < fix_limit → checked_in has_use (read + 1) previous fields ≡ Ok one
-    → passed_after has_use read previous (fields ∷ records) ≡ then_passed one (passed_after has_use (read + 1) (Some (then_previous previous (first_field fields) one.fix.second)) records)
+pub one-passes : (unit : Scale) (has_use : Bool) (read : ℕ) (previous : Option Previous) (fields : Record) (one : Checked) (records : List Record) → read < fix_limit → checked_in unit has_use (read + 1) previous fields ≡ Ok one
+    → passed_after unit has_use read previous (fields ∷ records) ≡ then_passed one (passed_after unit has_use (read + 1) (Some (then_previous previous (first_field fields) one.fix.second)) records)
 unfolding passed_after
-one-passes has_use read previous fields one records h e =
+one-passes unit has_use read previous fields one records h e =
     let below : eqb read fix_limit ≡ false = search (rules, tests) in
     rw (below, e) refl
 
-pub one-fails : (has_use : Bool) (read : ℕ) (previous : Option Previous) (fields : Record) (fault : ReadFault) (records : List Record) → read < fix_limit → checked_in has_use (read + 1) previous fields ≡ Err fault
-    → passed_after has_use read previous (fields ∷ records) ≡ none_passed previous (Some fault)
+pub one-fails : (unit : Scale) (has_use : Bool) (read : ℕ) (previous : Option Previous) (fields : Record) (fault : ReadFault) (records : List Record) → read < fix_limit → checked_in unit has_use (read + 1) previous fields ≡ Err fault
+    → passed_after unit has_use read previous (fields ∷ records) ≡ none_passed previous (Some fault)
 unfolding passed_after
-one-fails has_use read previous fields fault records h e =
+one-fails unit has_use read previous fields fault records h e =
     let below : eqb read fix_limit ≡ false = search (rules, tests) in
     rw (below, e) refl
 
 -- the animal of records is that of the record before
-pub animal-after : (has_use : Bool) (read : ℕ) (previous : Previous) (records : List Record) → (passed_after has_use read (Some previous) records).animal ≡ Some previous.animal
+pub animal-after : (unit : Scale) (has_use : Bool) (read : ℕ) (previous : Previous) (records : List Record) → (passed_after unit has_use read (Some previous) records).animal ≡ Some previous.animal
 unfolding passed_after
-animal-after has_use read previous [] = refl
-animal-after has_use read previous (fields ∷ records) =
-    by (eqb read fix_limit) (checked_in has_use (read + 1) (Some previous) fields) (λ second. animal-after has_use (read + 1) (record previous { second = second }) records)
+animal-after unit has_use read previous [] = refl
+animal-after unit has_use read previous (fields ∷ records) =
+    by (eqb read fix_limit) (checked_in unit has_use (read + 1) (Some previous) fields) (λ second. animal-after unit has_use (read + 1) (record previous { second = second }) records)
   where
     by : (b : Bool) (checked : Result Checked ReadFault)
-        → ((second : ℕ) → (passed_after has_use (read + 1) (Some (record previous { second = second })) records).animal ≡ Some previous.animal)
-        → (cond b (none_passed (Some previous) (Some TooManyFixes)) (if_passes (Some previous) checked (λ one. passed_after has_use (read + 1) (Some (record previous { second = one.fix.second })) records))).animal ≡ Some previous.animal
+        → ((second : ℕ) → (passed_after unit has_use (read + 1) (Some (record previous { second = second })) records).animal ≡ Some previous.animal)
+        → (cond b (none_passed (Some previous) (Some TooManyFixes)) (if_passes (Some previous) checked (λ one. passed_after unit has_use (read + 1) (Some (record previous { second = one.fix.second })) records))).animal ≡ Some previous.animal
     by true checked more = refl
     by false (Err fault) more = refl
     by false (Ok one) more = more one.fix.second
@@ -107,26 +108,26 @@ own-animal : (rec : ℕ) (previous : Option Previous) (name : List ℕ) → IsOw
 own-animal rec previous name =
     own-cond (not (is_name name)) (Err (BadName rec)) _ refl (own-cond (is_other previous name) (Err (OtherAnimal rec)) _ refl tt)
 
-own-number : (rec field limit : ℕ) (bytes : List ℕ) → IsOwn (number_in rec field limit bytes)
-own-number rec field limit bytes =
-    own-cond (not (is_number bytes)) (Err (NotNumber rec field)) _ refl (own-cond (nat_lt limit (digits_value 10 bytes)) (Err (TooLarge rec field)) _ refl tt)
+own-number : (unit : Scale) (rec field most : ℕ) (bytes : List ℕ) → IsOwn (number_in unit rec field most bytes)
+own-number unit rec field most bytes =
+    own-cond (not (is_number bytes)) (Err (NotNumber rec field)) _ refl (own-cond (nat_lt most (digits_value 10 bytes)) (Err (TooLarge rec field unit)) _ refl tt)
 
-own-fix : (rec : ℕ) (previous : Option Previous) (a b c d : List ℕ) → IsOwn (fix_in rec previous a b c d)
-own-fix rec previous a b c d =
-    own-bind _ _ (own-animal rec previous a) (λ _. own-bind _ _ (own-number rec 1 _ b) (λ s. own-bind _ _ (own-number rec 2 _ c) (λ e. own-bind _ _ (own-number rec 3 _ d) (λ n. own-cond (falls previous s) (Err (SecondFalls rec)) _ refl tt))))
+own-fix : (unit : Scale) (rec : ℕ) (previous : Option Previous) (a b c d : List ℕ) → IsOwn (fix_in unit rec previous a b c d)
+own-fix unit rec previous a b c d =
+    own-bind _ _ (own-animal rec previous a) (λ _. own-bind _ _ (own-number unit rec 1 _ b) (λ s. own-bind _ _ (own-number unit rec 2 _ c) (λ e. own-bind _ _ (own-number unit rec 3 _ d) (λ n. own-cond (falls previous s) (Err (SecondFalls rec)) _ refl tt))))
 
 own-used : (rec : ℕ) (bytes : List ℕ) → IsOwn (used_in rec bytes)
 own-used rec bytes = own-cond (bytes_eq bytes (codes "1")) (Ok true) _ tt (own-cond (bytes_eq bytes (codes "0")) (Ok false) (Err (BadUse rec)) tt refl)
 
-own-checks : (rec : ℕ) (previous : Option Previous) (a b c d e : List ℕ) → IsOwn (checks_of rec previous a b c d e)
-own-checks rec previous a b c d e = own-bind _ _ (own-fix rec previous a b c d) (λ fix. own-bind _ _ (own-used rec e) (λ used. tt))
+own-checks : (unit : Scale) (rec : ℕ) (previous : Option Previous) (a b c d e : List ℕ) → IsOwn (checks_of unit rec previous a b c d e)
+own-checks unit rec previous a b c d e = own-bind _ _ (own-fix unit rec previous a b c d) (λ fix. own-bind _ _ (own-used rec e) (λ used. tt))
 
-own-checked : (has_use : Bool) (rec : ℕ) (previous : Option Previous) (fields : Record) → IsOwn (checked_in has_use rec previous fields)
-own-checked has_use rec previous = checked-cases has_use rec previous (λ fields. IsOwn) (λ a b c d e more. own-checks rec previous a b c d e) (λ fields. refl)
+own-checked : (unit : Scale) (has_use : Bool) (rec : ℕ) (previous : Option Previous) (fields : Record) → IsOwn (checked_in unit has_use rec previous fields)
+own-checked unit has_use rec previous = checked-cases unit has_use rec previous (λ fields. IsOwn) (λ a b c d e more. own-checks unit rec previous a b c d e) (λ fields. refl)
 
 -- a fault of a record is one of the text
-pub text-fault : (has_use : Bool) (rec : ℕ) (previous : Option Previous) (fields : Record) (fault : ReadFault) → checked_in has_use rec previous fields ≡ Err fault → is_of_text fault ≡ true
-text-fault has_use rec previous fields fault e = let own = own-checked has_use rec previous fields in rw e at own
+pub text-fault : (unit : Scale) (has_use : Bool) (rec : ℕ) (previous : Option Previous) (fields : Record) (fault : ReadFault) → checked_in unit has_use rec previous fields ≡ Err fault → is_of_text fault ≡ true
+text-fault unit has_use rec previous fields fault e = let own = own-checked unit has_use rec previous fields in rw e at own
 
 pub not-gone : (fault : ReadFault) → is_of_text fault ≡ true → fault ≢ Gone
 not-gone fault own = λ gone. false≢true (rw gone at own)
@@ -144,32 +145,32 @@ name-within : (rec : ℕ) (previous : Option Previous) (name : List ℕ) → IfO
 name-within rec previous name =
     ok-cond _ (not (is_name name)) (Err (BadName rec)) _ (λ _. tt) (λ e. ok-cond _ (is_other previous name) (Err (OtherAnimal rec)) (Ok tt) (λ _. tt) (λ _. search (rules, tests)))
 
-number-within : (rec field limit : ℕ) (bytes : List ℕ) → IfOk (number_in rec field limit bytes) (λ n. n ≤ limit)
-number-within rec field limit bytes =
+number-within : (unit : Scale) (rec field most : ℕ) (bytes : List ℕ) → IfOk (number_in unit rec field most bytes) (λ n. n ≤ most)
+number-within unit rec field most bytes =
     ok-cond _ (not (is_number bytes)) (Err (NotNumber rec field)) _ (λ _. tt)
-    (λ _. ok-cond _ (nat_lt limit (digits_value 10 bytes)) (Err (TooLarge rec field)) (Ok (digits_value 10 bytes)) (λ _. tt) (λ e. search (rules, tests)))
+    (λ _. ok-cond _ (nat_lt most (digits_value 10 bytes)) (Err (TooLarge rec field unit)) (Ok (digits_value 10 bytes)) (λ _. tt) (λ e. search (rules, tests)))
 
 -- what is within its limits in a record of this name
 abbrev IsFixWithin : List ℕ → Fix → Type 0
 IsFixWithin name fix = (fix.second ≤ second_limit) × IsTrue (is_name name)
 
-fix-within : (rec : ℕ) (previous : Option Previous) (a b c d : List ℕ) → IfOk (fix_in rec previous a b c d) (IsFixWithin a)
-fix-within rec previous a b c d =
-    ok-bind _ (animal_in rec previous a) _ (λ u named. ok-bind _ (number_in rec 1 second_limit b) _ (λ s counted. ok-bind _ (number_in rec 2 coordinate_limit c) _ (λ e _. ok-bind _ (number_in rec 3 coordinate_limit d) _ (λ n _.
+fix-within : (unit : Scale) (rec : ℕ) (previous : Option Previous) (a b c d : List ℕ) → IfOk (fix_in unit rec previous a b c d) (IsFixWithin a)
+fix-within unit rec previous a b c d =
+    ok-bind _ (animal_in rec previous a) _ (λ u named. ok-bind _ (number_in unit rec 1 second_limit b) _ (λ s counted. ok-bind _ (number_in unit rec 2 (limit unit) c) _ (λ e _. ok-bind _ (number_in unit rec 3 (limit unit) d) _ (λ n _.
     ok-cond _ (falls previous s) (Err (SecondFalls rec)) _ (λ _. tt) (λ _.
     let name = name-within rec previous a in
-    let second = number-within rec 1 second_limit b in
+    let second = number-within unit rec 1 second_limit b in
     (rw counted at second, rw named at name))))))
 
-checks-within : (rec : ℕ) (previous : Option Previous) (a b c d e : List ℕ) → IfOk (checks_of rec previous a b c d e) (λ one. IsFixWithin a one.fix)
-checks-within rec previous a b c d e =
-    ok-bind _ (fix_in rec previous a b c d) _ (λ fix passed. ok-bind _ (used_in rec e) _ (λ used _. let within = fix-within rec previous a b c d in rw passed at within))
+checks-within : (unit : Scale) (rec : ℕ) (previous : Option Previous) (a b c d e : List ℕ) → IfOk (checks_of unit rec previous a b c d e) (λ one. IsFixWithin a one.fix)
+checks-within unit rec previous a b c d e =
+    ok-bind _ (fix_in unit rec previous a b c d) _ (λ fix passed. ok-bind _ (used_in rec e) _ (λ used _. let within = fix-within unit rec previous a b c d in rw passed at within))
 
 -- a record that passes is within the limits of names and seconds
-pub passed-within : (has_use : Bool) (rec : ℕ) (previous : Option Previous) (fields : Record) (one : Checked) → checked_in has_use rec previous fields ≡ Ok one
+pub passed-within : (unit : Scale) (has_use : Bool) (rec : ℕ) (previous : Option Previous) (fields : Record) (one : Checked) → checked_in unit has_use rec previous fields ≡ Ok one
     → (one.fix.second ≤ second_limit) × IsTrue (is_name (first_field fields))
-passed-within has_use rec previous fields one e =
-    let within = checked-cases has_use rec previous (λ fields checked. IfOk checked (λ one. IsFixWithin (first_field fields) one.fix)) (λ a b c d e more. checks-within rec previous a b c d e) (λ fields. tt) fields in
+passed-within unit has_use rec previous fields one e =
+    let within = checked-cases unit has_use rec previous (λ fields checked. IfOk checked (λ one. IsFixWithin (first_field fields) one.fix)) (λ a b c d e more. checks-within unit rec previous a b c d e) (λ fields. tt) fields in
     rw e at within
 
 -- and so is what it leaves as the record before

@@ -3,8 +3,10 @@ use Rattle.std.specs.Prelude.{◌≡◌, ℕ, Bool, true, false, List, [], ◌�
 use Rattle.std.specs.Str.{bytes_eq}
 use Rattle.std.specs.Str.Parse.{digits_value}
 use Rattle.range_plane.specs.Fix.{second_limit}
-use Rattle.range_plane.specs.Plane.{coordinate_limit, position}
+use Rattle.range_plane.specs.Plane.{position}
+use Rattle.range_plane.specs.Scale.{limit}
 use Rattle.range_plane.specs.declared.fix.Fix.{Fix}
+use Rattle.range_plane.specs.declared.scale.Scale.{Scale}
 use Rattle.range_fixes.specs.declared.checks.Checked.{Checked}
 use Rattle.range_fixes.specs.declared.fault.ReadFault.{ReadFault}
 use Rattle.range_fixes.specs.declared.fault.ReadFault.TheVariants.{WrongFieldCount, BadName, OtherAnimal, NotNumber, TooLarge, SecondFalls, BadUse}
@@ -33,38 +35,38 @@ animal_in rec previous name =
     else if is_other previous name then Err (OtherAnimal rec)
     else Ok tt
 
--- the number in a field of record number rec
-abbrev pub number_in : ℕ → ℕ → ℕ → List ℕ → Result ℕ ReadFault
-number_in rec field limit bytes =
+-- the number in a field of record number rec, at most so great
+abbrev pub number_in : Scale → ℕ → ℕ → ℕ → List ℕ → Result ℕ ReadFault
+number_in unit rec field most bytes =
     if not (is_number bytes) then Err (NotNumber rec field)
-    else if nat_lt limit (digits_value 10 bytes) then Err (TooLarge rec field)
+    else if nat_lt most (digits_value 10 bytes) then Err (TooLarge rec field unit)
     else Ok (digits_value 10 bytes)
 
 -- whether the fix of record number rec is used, by the field that says so
 abbrev pub used_in : ℕ → List ℕ → Result Bool ReadFault
 used_in rec bytes = if bytes_eq bytes (codes "1") then Ok true else if bytes_eq bytes (codes "0") then Ok false else Err (BadUse rec)
 
--- the fix of record number rec, or the first fault of its first four fields
-abbrev pub fix_in : ℕ → Option Previous → List ℕ → List ℕ → List ℕ → List ℕ → Result Fix ReadFault
-fix_in rec previous name second easting northing = do
+-- the fix of record number rec in this unit, or the first fault of its first four fields
+abbrev pub fix_in : Scale → ℕ → Option Previous → List ℕ → List ℕ → List ℕ → List ℕ → Result Fix ReadFault
+fix_in unit rec previous name second easting northing = do
   _ ← animal_in rec previous name
-  s ← number_in rec 1 second_limit second
-  e ← number_in rec 2 coordinate_limit easting
-  n ← number_in rec 3 coordinate_limit northing
+  s ← number_in unit rec 1 second_limit second
+  e ← number_in unit rec 2 (limit unit) easting
+  n ← number_in unit rec 3 (limit unit) northing
   if falls previous s then Err (SecondFalls rec) else Ok (record { second = s; at = position (pos e) (pos n) })
 
 -- the checks of record number rec, in their order
-abbrev pub checks_of : ℕ → Option Previous → List ℕ → List ℕ → List ℕ → List ℕ → List ℕ → Result Checked ReadFault
-checks_of rec previous name second easting northing used = do
-  fix ← fix_in rec previous name second easting northing
+abbrev pub checks_of : Scale → ℕ → Option Previous → List ℕ → List ℕ → List ℕ → List ℕ → List ℕ → Result Checked ReadFault
+checks_of unit rec previous name second easting northing used = do
+  fix ← fix_in unit rec previous name second easting northing
   is_used ← used_in rec used
   Ok (record { fix = fix; used = is_used })
 
 -- what record number rec comes to below a header that has the column `use` or not, or the first fault of the record; one that has no field `use` is used
-unfoldable pub checked_in : Bool → ℕ → Option Previous → Record → Result Checked ReadFault
-checked_in false rec previous (name ∷ second ∷ easting ∷ northing ∷ []) = checks_of rec previous name second easting northing (codes "1")
-checked_in true rec previous (name ∷ second ∷ easting ∷ northing ∷ used ∷ []) = checks_of rec previous name second easting northing used
-checked_in has_use rec previous fields = Err (WrongFieldCount rec (length fields) (width has_use))
+unfoldable pub checked_in : Scale → Bool → ℕ → Option Previous → Record → Result Checked ReadFault
+checked_in unit false rec previous (name ∷ second ∷ easting ∷ northing ∷ []) = checks_of unit rec previous name second easting northing (codes "1")
+checked_in unit true rec previous (name ∷ second ∷ easting ∷ northing ∷ used ∷ []) = checks_of unit rec previous name second easting northing used
+checked_in unit has_use rec previous fields = Err (WrongFieldCount rec (length fields) (width has_use))
 
 -- a record split into fields below such a header
 abbrev pub IsSplit : Bool → Record → List ℕ → List ℕ → List ℕ → List ℕ → List ℕ → Type 0

@@ -1,6 +1,7 @@
 -- A reader of fixes, by its progress.
 use Rattle.std.specs.Prelude.{◌≡◌, ◌≢◌, ⊤, ◌≤◌, ◌<◌, ◌+◌, ℕ, Bool, true, false, List, Option, Some, None, IfSome, IsSome, IsTrue, option_map, ◌==◌, if◌then◌else◌}
 use Rattle.range_plane.specs.Fix.{fix_limit, second_limit}
+use Rattle.range_plane.specs.declared.scale.Scale.{Scale}
 use Rattle.range_fixes.specs.declared.fault.ReadFault.{ReadFault}
 use Rattle.range_fixes.specs.declared.fault.ReadFault.TheVariants.{Gone}
 use Rattle.range_fixes.specs.declared.reader.Stage.{Stage}
@@ -12,10 +13,10 @@ use Rattle.range_fixes.specs.Progress.{Progress}
 use Rattle.range_fixes.specs.Reading.{Reading, no_more}
 use Rattle.range_fixes.specs.Steps.{rest_of}
 
-abbrev pub ahead_of : Stage → Option Bool → ℕ → ℕ → Option Previous → Option (List Record) → Option Reading
-ahead_of Going header read count previous left = option_map (rest_of header read count previous) left
-ahead_of Ended header read count previous left = Some (no_more previous None)
-ahead_of (Failed fault) header read count previous left = Some (no_more previous (Some fault))
+abbrev pub ahead_of : Scale → Stage → Option Bool → ℕ → ℕ → Option Previous → Option (List Record) → Option Reading
+ahead_of unit Going header read count previous left = option_map (rest_of unit header read count previous) left
+ahead_of unit Ended header read count previous left = Some (no_more previous None)
+ahead_of unit (Failed fault) header read count previous left = Some (no_more previous (Some fault))
 
 abbrev pub fault_of : Stage → Option ReadFault
 fault_of Going = None
@@ -28,19 +29,19 @@ has_ended Ended = true
 has_ended (Failed fault) = false
 
 -- the progress of a reader, by its parts
-abbrev pub progress_by : Stage → Option Bool → ℕ → ℕ → Option Previous → Option (List Record) → Bool → Progress
-progress_by stage header read count previous left stopped = record {
+abbrev pub progress_by : Scale → Stage → Option Bool → ℕ → ℕ → Option Previous → Option (List Record) → Bool → Progress
+progress_by unit stage header read count previous left stopped = record {
   count = count;
   animal = if count == 0 then None else option_map (λ p. p.animal) previous;
   read = read;
   fault = fault_of stage;
   ended = has_ended stage;
   stopped = stopped;
-  ahead = ahead_of stage header read count previous left;
+  ahead = ahead_of unit stage header read count previous left;
 }
 
 abbrev pub progress_of : {R : Type 0} → Inside R → Progress
-progress_of a = progress_by a.stage a.header a.read a.count a.previous a.records.left a.records.stopped
+progress_of a = progress_by a.unit a.stage a.header a.read a.count a.previous a.records.left a.records.stopped
 
 -- nothing was read below a header that was not read
 abbrev pub HeaderFits : Option Bool → ℕ → ℕ → Option Previous → Type 0

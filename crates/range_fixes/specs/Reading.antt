@@ -3,6 +3,7 @@ use Rattle.std.specs.Prelude.{ℕ, ◌+◌, Bool, List, [], ◌∷◌, filter, l
 use Rattle.csv.specs.Reading.{default_config, records, strip_bom}
 use Rattle.range_plane.specs.Fix.{fix_limit}
 use Rattle.range_plane.specs.declared.fix.Fix.{Fix}
+use Rattle.range_plane.specs.declared.scale.Scale.{Scale}
 use Rattle.range_fixes.specs.declared.fault.ReadFault.{ReadFault}
 use Rattle.range_fixes.specs.declared.fault.ReadFault.TheVariants.{NoHeader, BadHeader, NoFixes, TooManyFixes}
 use Rattle.range_fixes.specs.declared.checks.Checked.{Checked}
@@ -31,13 +32,13 @@ abbrev pub if_passes : Option Previous → Result Checked ReadFault → (Checked
 if_passes previous (Err fault) more = none_passed previous (Some fault)
 if_passes previous (Ok one) more = then_passed one (more one)
 
--- what these records come to, which so many records come before
-unfoldable pub passed_after : Bool → ℕ → Option Previous → List Record → Passed
-passed_after has_use read previous [] = none_passed previous None
-passed_after has_use read previous (fields ∷ records) =
+-- what these records come to in this unit, which so many records come before
+unfoldable pub passed_after : Scale → Bool → ℕ → Option Previous → List Record → Passed
+passed_after unit has_use read previous [] = none_passed previous None
+passed_after unit has_use read previous (fields ∷ records) =
     if read == fix_limit then none_passed previous (Some TooManyFixes)
-    else if_passes previous (checked_in has_use (read + 1) previous fields)
-    (λ one. passed_after has_use (read + 1) (Some (then_previous previous (first_field fields) one.fix.second)) records)
+    else if_passes previous (checked_in unit has_use (read + 1) previous fields)
+    (λ one. passed_after unit has_use (read + 1) (Some (then_previous previous (first_field fields) one.fix.second)) records)
 
 -- the fixes of the records that are used
 abbrev pub used_fixes : List Checked → List Fix
@@ -72,15 +73,19 @@ reading_by given p = record {
 }
 
 -- what the records below a header say
-abbrev pub reading_below : Option Bool → List Record → Reading
-reading_below None records = no_more None (Some BadHeader)
-reading_below (Some has_use) records = reading_by 0 (passed_after has_use 0 None records)
+abbrev pub reading_below : Scale → Option Bool → List Record → Reading
+reading_below unit None records = no_more None (Some BadHeader)
+reading_below unit (Some has_use) records = reading_by 0 (passed_after unit has_use 0 None records)
 
 -- a header, and the records below it
-abbrev pub reading_of : List Record → Reading
-reading_of [] = no_more None (Some NoHeader)
-reading_of (header ∷ records) = reading_below (header_of header) records
+abbrev pub reading_of : Scale → List Record → Reading
+reading_of unit [] = no_more None (Some NoHeader)
+reading_of unit (header ∷ records) = reading_below unit (header_of header) records
 
--- the bytes of a file
-unfoldable pub reading : List ℕ → Reading
-reading bytes = reading_of (records default_config (strip_bom bytes))
+-- the bytes of a file whose coordinates are in this unit
+unfoldable pub reading : Scale → List ℕ → Reading
+reading unit bytes = reading_of unit (records default_config (strip_bom bytes))
+
+-- what a source says, where it tells its bytes
+abbrev pub reading_from : {S : Type 0} → (S → Option (List ℕ)) → Scale → S → Option Reading
+reading_from remaining unit source = option_map (reading unit) (remaining source)

@@ -9,7 +9,7 @@ use crate::fault::ReadFault;
 use crate::number::{capped_value, is_number};
 use crate::previous::Previous;
 use csv::ByteRecord;
-use range_plane::{COORDINATE_LIMIT, Fix, Point, SECOND_LIMIT};
+use range_plane::{Fix, Point, SECOND_LIMIT, Scale};
 
 // How many fields the header and each record have, without the column `use` and with it.
 pub(crate) const FIELD_COUNT: usize = 4;
@@ -126,17 +126,17 @@ fn check_animal(name: &[u8], rec: u32, previous: Option<&Previous>) -> Result<()
     Ok(())
 }
 
-// The number of a field.
-fn number_in(bytes: &[u8], rec: u32, field: u32, limit: u64) -> Result<u64, ReadFault>
+// The number of a field, which may be as great as the limit.
+fn number_in(bytes: &[u8], unit: Scale, rec: u32, field: u32, limit: u64) -> Result<u64, ReadFault>
     requires { limit < 2 ^ 60 }
-    ensures { result ≡ number_in rec field limit bytes.now }
+    ensures { result ≡ number_in unit rec field limit bytes.now }
 {
     if !is_number(bytes) {
         return Err(ReadFault::NotNumber { rec, field });
     }
     let value = capped_value(bytes, limit);
     if value > limit {
-        return Err(ReadFault::TooLarge { rec, field });
+        return Err(ReadFault::TooLarge { rec, field, unit });
     }
     Ok(value)
 }
@@ -151,15 +151,21 @@ fn falls(second: u64, previous: Option<&Previous>) -> bool
     }
 }
 
-// The fix of a record, which is held against the one before it.
-fn fix_in(fields: Fields<'_>, rec: u32, previous: Option<&Previous>) -> Result<Fix, ReadFault>
-    ensures { result ≡ fix_in rec (option_map (λ p. p.now) previous.entry)
+// The fix of a record in this unit, which is held against the one before it.
+fn fix_in(
+    fields: Fields<'_>,
+    unit: Scale,
+    rec: u32,
+    previous: Option<&Previous>,
+) -> Result<Fix, ReadFault>
+    ensures { result ≡ fix_in unit rec (option_map (λ p. p.now) previous.entry)
         fields.entry.name.now fields.entry.second.now fields.entry.easting.now fields.entry.northing.now }
 {
+    let limit = unit.limit() as u64;
     check_animal(fields.name, rec, previous)?;
-    let second = number_in(fields.second, rec, 1, SECOND_LIMIT)?;
-    let easting = number_in(fields.easting, rec, 2, COORDINATE_LIMIT as u64)?;
-    let northing = number_in(fields.northing, rec, 3, COORDINATE_LIMIT as u64)?;
+    let second = number_in(fields.second, unit, rec, 1, SECOND_LIMIT)?;
+    let easting = number_in(fields.easting, unit, rec, 2, limit)?;
+    let northing = number_in(fields.northing, unit, rec, 3, limit)?;
     if falls(second, previous) {
         return Err(ReadFault::SecondFalls { rec });
     }
@@ -183,18 +189,19 @@ fn used_in(field: &[u8], rec: u32) -> Result<bool, ReadFault>
 // What a record comes to, which is held against the one before it.
 pub(crate) fn checked_in(
     row: &ByteRecord,
+    unit: Scale,
     has_use: bool,
     rec: u32,
     previous: Option<&Previous>,
 ) -> Result<Checked, ReadFault>
-    ensures { result ≡ checked_in has_use rec (option_map (λ p. p.now) previous.entry) (fields_of row.now) }
+    ensures { result ≡ checked_in unit has_use rec (option_map (λ p. p.now) previous.entry) (fields_of row.now) }
 {
     let Some(fields) = fields_in(row, has_use) else {
         let found = row.len() as u64;
         let wanted = width(has_use) as u32;
         return Err(ReadFault::WrongFieldCount { rec, found, wanted });
     };
-    let fix = fix_in(fields, rec, previous)?;
+    let fix = fix_in(fields, unit, rec, previous)?;
     let used = used_in(fields.used, rec)?;
     Ok(Checked { fix, used })
 }

@@ -1,6 +1,6 @@
 // Why a file cannot be read to its end.
 
-use range_plane::{COORDINATE_LIMIT, FIX_LIMIT, SECOND_LIMIT};
+use range_plane::{FIX_LIMIT, SECOND_LIMIT, Scale};
 use std::error::Error;
 use std::fmt;
 
@@ -24,8 +24,8 @@ pub enum ReadFault {
     OtherAnimal { rec: u32 },
     /// The field is not a number.
     NotNumber { rec: u32, field: u32 },
-    /// The field is a number past its limit.
-    TooLarge { rec: u32, field: u32 },
+    /// The field is a number past its limit, which for eastings and northings is that of the unit.
+    TooLarge { rec: u32, field: u32, unit: Scale },
     /// The record's second is less than that of the record before.
     SecondFalls { rec: u32 },
     /// There is a record after as many as a file may have.
@@ -51,14 +51,6 @@ fn field_name(field: u32) -> &'static str {
         1 => "second",
         2 => "easting",
         _ => "northing",
-    }
-}
-
-// The greatest number that a field may be.
-fn field_limit(field: u32) -> u64 {
-    match field {
-        1 => SECOND_LIMIT,
-        _ => COORDINATE_LIMIT as u64,
     }
 }
 
@@ -111,12 +103,15 @@ impl fmt::Display for ReadFault {
                     field_name(field)
                 )
             }
-            ReadFault::TooLarge { field, .. } => {
+            ReadFault::TooLarge { field: 1, .. } => {
+                write!(f, "second is past its limit of {SECOND_LIMIT}")
+            }
+            ReadFault::TooLarge { field, unit, .. } => {
+                let limit = unit.limit();
                 write!(
                     f,
-                    "{} is past its limit {}",
-                    field_name(field),
-                    field_limit(field)
+                    "{} is past its limit of {limit} {unit}",
+                    field_name(field)
                 )
             }
             ReadFault::SecondFalls { .. } => write!(f, "second is less than in the record before"),

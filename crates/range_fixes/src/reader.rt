@@ -4,7 +4,7 @@ ghost use Rattle.std.specs.Prelude.{◌≡◌, ◌≢◌, ◌⊎◌, ◌+◌, �
 ghost use Rattle.range_plane.specs.Fix.{fix_limit, second_limit};
 ghost use Rattle.range_fixes.specs.Field.{is_name};
 ghost use Rattle.range_fixes.specs.Progress.{Answers, IsHurt, Moves, Reads, is_of_text};
-ghost use Rattle.range_fixes.specs.Reading.{Reading, no_more, passed_after, reading, reading_of};
+ghost use Rattle.range_fixes.specs.Reading.{Reading, no_more, passed_after, reading_from, reading_of};
 ghost use Rattle.range_fixes.specs.Reader.{HeaderFits, IsWithin};
 ghost use Rattle.range_fixes.specs.Steps.{Gives, KeepsAnimal, Leads, Takes, rest_of};
 
@@ -12,7 +12,7 @@ use crate::checks::{Checked, checked_in, header_of, name_of};
 use crate::fault::ReadFault;
 use crate::previous::{Previous, note};
 use crate::records::Records;
-use range_plane::{FIX_LIMIT, Fix};
+use range_plane::{FIX_LIMIT, Fix, Scale};
 use std::alloc::Global;
 use std::io::Read;
 use std::marker::Model;
@@ -33,6 +33,8 @@ enum Stage {
 pub struct FixReader<R: Read + Drop> {
     alloc: Global,
     records: Records<R>,
+    // The unit of the coordinates.
+    unit: Scale,
     stage: Stage,
     // Whether the header has the column `use`, once it was read.
     header: Option<bool>,
@@ -59,10 +61,10 @@ impl<R: Read + Drop> Model for FixReader<R> {
 fn take_header<R: Read + Drop>(records: &mut Records<R>) -> Result<bool, ReadFault>
     requires { records.old.stopped ≡ false }
     ensures going { OnOk result (records.new.stopped ≡ false) }
-    ensures header { IfOk result (λ has_use. Leads (option_map reading_of records.old.left)
-        (option_map (rest_of (Some has_use) 0 0 None) records.new.left)) }
-    ensures fault { IfErr result (λ fault. is_of_text fault ≡ true
-        → Leads (option_map reading_of records.old.left) (Some (no_more None (Some fault)))) }
+    ensures header { IfOk result (λ has_use. (unit : Scale) → Leads (option_map (reading_of unit) records.old.left)
+        (option_map (rest_of unit (Some has_use) 0 0 None) records.new.left)) }
+    ensures fault { IfErr result (λ fault. (unit : Scale) → is_of_text fault ≡ true
+        → Leads (option_map (reading_of unit) records.old.left) (Some (no_more None (Some fault)))) }
     ensures own { IfErr result (λ fault. fault ≢ ReadFault.Gone) }
     ensures hurt { IfErr result (λ fault. is_of_text fault ≡ false → records.new.stopped ≡ true) }
 {
@@ -79,6 +81,7 @@ fn take_header<R: Read + Drop>(records: &mut Records<R>) -> Result<bool, ReadFau
 fn take_record<R: Read + Drop>(
     alloc: Global,
     records: &mut Records<R>,
+    unit: Scale,
     has_use: bool,
     read: &mut u32,
     previous: &mut Option<Previous>,
@@ -89,8 +92,8 @@ fn take_record<R: Read + Drop>(
     ensures going { OnOk result (records.new.stopped ≡ false) }
     ensures read { IfOk result (λ o. MatchOption o (read.new ≡ read.old) (λ one. (read.new ≡ read.old + 1) × (read.new ≤ fix_limit) × (one.fix.second ≤ second_limit))) }
     ensures limit { (read.old ≤ read.new) × (read.new ≤ fix_limit + 1) }
-    ensures takes { Takes (option_map (passed_after has_use read.old previous.old) records.old.left)
-        has_use read.old result previous.new records.new.left }
+    ensures takes { Takes (option_map (passed_after unit has_use read.old previous.old) records.old.left)
+        unit has_use read.old result previous.new records.new.left }
     ensures named { IfOk result (λ o. IfSome o (λ one. IsSome previous.new)) }
     ensures animal { KeepsAnimal previous.old previous.new }
     ensures within { IfSome previous.new IsWithin }
@@ -104,7 +107,7 @@ fn take_record<R: Read + Drop>(
     if *read > FIX_LIMIT {
         return Err(ReadFault::TooManyFixes);
     }
-    let one = checked_in(records.current(), has_use, *read, previous.as_ref())?;
+    let one = checked_in(records.current(), unit, has_use, *read, previous.as_ref())?;
     note(alloc, previous, name_of(records.current()), one.fix.second)?;
     Ok(Some(one))
 }
@@ -114,6 +117,7 @@ fn take_record<R: Read + Drop>(
 fn take_next<R: Read + Drop>(
     alloc: Global,
     records: &mut Records<R>,
+    unit: Scale,
     header: &mut Option<bool>,
     read: &mut u32,
     given: u32,
@@ -126,8 +130,8 @@ fn take_next<R: Read + Drop>(
     ensures going { OnOk result (records.new.stopped ≡ false) }
     ensures read { IfOk result (λ o. IfSome o (λ fix. (read.old < read.new) × (read.new ≤ fix_limit) × (fix.second ≤ second_limit))) }
     ensures limit { (read.old ≤ read.new) × (read.new ≤ fix_limit + 1) }
-    ensures gives { Gives (option_map (rest_of header.old read.old given previous.old) records.old.left)
-        given result header.new read.new previous.new records.new.left }
+    ensures gives { Gives (option_map (rest_of unit header.old read.old given previous.old) records.old.left)
+        unit given result header.new read.new previous.new records.new.left }
     ensures header { HeaderFits header.new read.new given previous.new }
     ensures named { IfOk result (λ o. IfSome o (λ fix. IsSome header.new × IsSome previous.new)) }
     ensures animal { KeepsAnimal previous.old previous.new }
@@ -145,7 +149,7 @@ fn take_next<R: Read + Drop>(
         }
     };
     loop {
-        let Some(one) = take_record(alloc, records, has_use, read, previous)? else {
+        let Some(one) = take_record(alloc, records, unit, has_use, read, previous)? else {
             return if given == 0 {
                 Err(ReadFault::NoFixes)
             } else {
@@ -159,20 +163,21 @@ fn take_next<R: Read + Drop>(
 }
 
 impl<R: Read + Drop> FixReader<R> {
-    /// A reader of a source, of which nothing is read yet. It takes no memory.
+    /// A reader of a source with coordinates in this unit, of which nothing is read yet. It takes no memory.
     #[tactic(auto, unfolding(crate::specs::Reading::reading))]
-    pub fn new(alloc: Global, source: R) -> FixReader<R>
+    pub fn new(alloc: Global, source: R, unit: Scale) -> FixReader<R>
         ensures count { result.count ≡ 0 }
         ensures read { result.read ≡ 0 }
         ensures animal { result.animal ≡ None }
         ensures fault { result.fault ≡ None }
         ensures ended { result.ended ≡ false }
         ensures unhurt { result.stopped ≡ false }
-        ensures reads { IfSome (R.remaining source) (λ bytes. Reads result (reading bytes)) }
+        ensures reads { IfSome (reading_from R.remaining unit source) (Reads result) }
     {
         FixReader {
             alloc,
             records: Records::new(alloc, source),
+            unit,
             stage: Stage::Going,
             header: None,
             read: 0,
@@ -205,6 +210,7 @@ impl<R: Read + Drop> FixReader<R> {
         match take_next(
             self.alloc,
             &mut self.records,
+            self.unit,
             &mut self.header,
             &mut self.read,
             self.count,

@@ -7,3 +7,4 @@ pub mod Order
 pub mod Plane
 pub mod Polygon
 pub mod Row
+pub mod Scale

@@ -2,7 +2,7 @@
 use Rattle.std.specs.Prelude.{ℕ, ◌*◌, ℤ, pos, ◌+ℤ◌, ◌*ℤ◌}
 use Rattle.range_plane.specs.Plane.{Position, coordinate_limit}
 
--- what one metre of easting counts for in a rank: more than any northing
+-- what one step of easting counts for in a rank: more than any northing
 abbrev pub rank_base : ℕ
 rank_base = 2 * coordinate_limit
 

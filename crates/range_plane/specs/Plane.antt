@@ -14,7 +14,7 @@ origin = position (pos 0) (pos 0)
 
 -- the greatest easting and northing of a point
 abbrev pub coordinate_limit : ℕ
-coordinate_limit = 16777216
+coordinate_limit = 134217728
 
 -- the greatest size of a product of two differences of coordinates
 abbrev pub product_limit : ℕ

@@ -12,9 +12,9 @@ use std::marker::Model;
 /// points reads each column straight through. `reserve` and `push` alone take memory.
 #[derive(Drop)]
 pub struct Columns<A: Allocator = Global> {
-    // The easting of each point, in whole metres.
+    // The easting of each point.
     eastings: Vec<i64, A>,
-    // The northing of each point, in whole metres.
+    // The northing of each point.
     northings: Vec<i64, A>,
 }
 
@@ -84,7 +84,7 @@ impl<A: Allocator> Columns<A> {
         }
     }
 
-    /// The easting of each point, in whole metres.
+    /// The easting of each point.
     #[tactic(auto, using(crate::proofs::Zipped::eastings_of_zipped))]
     pub fn eastings(&self) -> &[i64]
         ensures value { result.now ≡ map (λ p. p.e) self.now.points }
@@ -93,7 +93,7 @@ impl<A: Allocator> Columns<A> {
         self.eastings.as_slice()
     }
 
-    /// The northing of each point, in whole metres.
+    /// The northing of each point.
     #[tactic(auto, using(crate::proofs::Zipped::northings_of_zipped))]
     pub fn northings(&self) -> &[i64]
         ensures value { result.now ≡ map (λ p. p.n) self.now.points }

@@ -1,5 +1,5 @@
 //! The plane: points and lists of them, minimum convex polygons, fixes and want of memory, the words
-//! that every other crate speaks.
+//! that every other crate speaks. Coordinates are whole numbers of one unit, the metre or the decimetre.
 #![tactic(auto)]
 
 mod area;
@@ -13,6 +13,7 @@ mod order;
 mod plain;
 mod point;
 mod polygon;
+mod scale;
 
 pub use columns::Columns;
 pub use convex::are_corners;
@@ -28,3 +29,4 @@ pub use memory::OutOfMemory;
 pub use order::rank;
 pub use point::{COORDINATE_LIMIT, Point, turn};
 pub use polygon::Polygon;
+pub use scale::Scale;

@@ -7,7 +7,7 @@ ghost use Rattle.range_plane.specs.Plane.{IsAtMost, IsBefore, IsWithinLimits};
 
 use crate::point::{COORDINATE_LIMIT, Point};
 
-// What one metre of easting counts for in a rank: more than any northing.
+// What one step of easting counts for in a rank: more than any northing.
 const RANK_BASE: i64 = 2 * COORDINATE_LIMIT;
 
 /// The place of `p` in the order by easting, then by northing, as a number: points in rising order of it

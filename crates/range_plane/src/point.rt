@@ -7,10 +7,10 @@ ghost use Rattle.range_plane.specs.Plane.{IsCoordinate, position, turn, turn_lim
 
 use std::marker::Model;
 
-/// The greatest easting and northing of a point, in metres: 2^24. UTM northings fit.
-pub const COORDINATE_LIMIT: i64 = 16_777_216;
+/// The greatest easting and northing of a point, in any unit: 2^27.
+pub const COORDINATE_LIMIT: i64 = 134_217_728;
 
-/// A point by its easting `e` and its northing `n`, in whole metres, each from 0 to
+/// A point by its easting `e` and its northing `n`, whole numbers of one unit, each from 0 to
 /// [`COORDINATE_LIMIT`].
 #[derive(Clone, Copy, PartialEq, Eq, Debug)]
 pub struct Point {
@@ -44,7 +44,7 @@ impl Point {
     }
 }
 
-/// Twice the signed area of the triangle `a`, `b`, `c`, in square metres: positive where the three go
+/// Twice the signed area of the triangle `a`, `b`, `c`, in squares of the unit: positive where the three go
 /// counterclockwise, 0 where they are collinear.
 pub fn turn(a: Point, b: Point, c: Point) -> i64
     ensures value { result ≡ turn a b c }

@@ -64,7 +64,7 @@ impl<A: Allocator> Polygon<A> {
         self.corners.as_slice()
     }
 
-    /// The doubled area within the polygon, in square metres: 0 below three corners.
+    /// The doubled area within the polygon, in squares of the unit: 0 below three corners.
     pub fn area2(&self) -> u128
         ensures { pos result ≡ area2 self.now }
     {

@@ -8,7 +8,7 @@ use Rattle.range_plane.specs.declared.Fix.{Fix}
 use Rattle.range_fixes.specs.declared.fault.ReadFault.{ReadFault}
 use Rattle.range_fixes.specs.declared.fault.ReadFault.TheVariants.{Gone, OutOfMemory}
 use Rattle.range_fixes.specs.Progress.{Progress, Reads, is_of_text}
-use Rattle.range_fixes.specs.Reading.{Reading, reading}
+use Rattle.range_fixes.specs.Reading.{Reading}
 use Rattle.range_line.specs.declared.message.Message.{Message}
 use Rattle.range_line.specs.Lines.{FeederView, after_send}
 use Rattle.range_line.specs.Messages.{block_count, block_of, blocks, fixes_in, joined, message, the_mark}
@@ -22,7 +22,7 @@ pub record GaveFirst (p : Progress) (fixes : List Fix) (r : Reading) : Type 0 wh
   pub first : fixes ≡ take p.count r.fixes
 
 -- `count` full blocks were sent, of all fixes that the reader gave
-pub record IsUnderWay (source : Option (List ℕ)) (size : ℕ) (before : FeederView) (p : Progress) (f : FeederView) (count : ℕ) : Type 0 where
+pub record IsUnderWay (source : Option Reading) (size : ℕ) (before : FeederView) (p : Progress) (f : FeederView) (count : ℕ) : Type 0 where
   pub line : f.line ≡ before.line
   pub file : f.file ≡ before.file
   pub unmarked : f.closed ≡ false
@@ -30,10 +30,10 @@ pub record IsUnderWay (source : Option (List ℕ)) (size : ℕ) (before : Feeder
   pub counted : p.count ≡ length (joined f.sent)
   pub full : length (joined f.sent) ≡ count * size
   pub sent : f.sent ≡ blocks f.file (joined f.sent) size count
-  pub told : IfSome source (λ bytes. GaveFirst p (joined f.sent) (reading bytes))
+  pub told : IfSome source (GaveFirst p (joined f.sent))
 
 -- and then the reader gave the fixes of a block more
-pub record HasRead (source : Option (List ℕ)) (size : ℕ) (before : FeederView) (p : Progress) (f : FeederView) (count : ℕ) (fixes : List Fix) (q : Progress) : Type 0 where
+pub record HasRead (source : Option Reading) (size : ℕ) (before : FeederView) (p : Progress) (f : FeederView) (count : ℕ) (fixes : List Fix) (q : Progress) : Type 0 where
   pub width : 1 ≤ size
   pub way : IsUnderWay source size before p f count
   pub gives : GivesNext p fixes q
@@ -72,8 +72,8 @@ cut f size count (x ∷ xs) some full sent small =
     }
 
 -- before the first block
-pub way_none : (source : Option (List ℕ)) (size : ℕ) (f : FeederView) (p : Progress) → (f.closed ≡ false) × (f.ended ≡ false) × (f.sent ≡ []) → p.count ≡ 0
-    → IfSome source (λ bytes. Reads p (reading bytes)) → IsUnderWay source size f p f 0
+pub way_none : (source : Option Reading) (size : ℕ) (f : FeederView) (p : Progress) → (f.closed ≡ false) × (f.ended ≡ false) × (f.sent ≡ []) → p.count ≡ 0
+    → IfSome source (Reads p) → IsUnderWay source size f p f 0
 way_none source size f p new none reads =
     let empty : joined f.sent ≡ [] = ap joined new.2 in
     record {
@@ -87,24 +87,24 @@ way_none source size f p new none reads =
       told = told source reads;
     }
   where
-    told : (known : Option (List ℕ)) → IfSome known (λ bytes. Reads p (reading bytes)) → IfSome known (λ bytes. GaveFirst p (joined f.sent) (reading bytes))
+    told : (known : Option Reading) → IfSome known (Reads p) → IfSome known (GaveFirst p (joined f.sent))
     told None reads = tt
-    told (Some bytes) reads = record { reads = reads; first = ap joined new.2 ∙ ap (λ n. take n (reading bytes).fixes) (sym none) }
+    told (Some r) reads = record { reads = reads; first = ap joined new.2 ∙ ap (λ n. take n r.fixes) (sym none) }
 
 -- all that was read is the first of the reading
-told_more : {source : Option (List ℕ)} {size : ℕ} {before : FeederView} {p : Progress} {f : FeederView} {count : ℕ} {fixes : List Fix} {q : Progress}
-    → HasRead source size before p f count fixes q → IfSome source (λ bytes. GaveFirst q (joined f.sent ++ fixes) (reading bytes))
+told_more : {source : Option Reading} {size : ℕ} {before : FeederView} {p : Progress} {f : FeederView} {count : ℕ} {fixes : List Fix} {q : Progress}
+    → HasRead source size before p f count fixes q → IfSome source (GaveFirst q (joined f.sent ++ fixes))
 told_more {source} {size} {before} {p} {f} {count} {fixes} {q} read = told source read.way.told
   where
-    told : (known : Option (List ℕ)) → IfSome known (λ bytes. GaveFirst p (joined f.sent) (reading bytes)) → IfSome known (λ bytes. GaveFirst q (joined f.sent ++ fixes) (reading bytes))
+    told : (known : Option Reading) → IfSome known (GaveFirst p (joined f.sent)) → IfSome known (GaveFirst q (joined f.sent ++ fixes))
     told None so_far = tt
-    told (Some bytes) so_far = record {
-      reads = read.gives.reads (reading bytes) so_far.reads;
-      first = ap (λ l. l ++ fixes) so_far.first ∙ sym (read.gives.next (reading bytes) so_far.reads);
+    told (Some r) so_far = record {
+      reads = read.gives.reads r so_far.reads;
+      first = ap (λ l. l ++ fixes) so_far.first ∙ sym (read.gives.next r so_far.reads);
     }
 
 -- a full block more
-pub way_more : {source : Option (List ℕ)} {size : ℕ} {before : FeederView} {p : Progress} {f : FeederView} {count : ℕ} {fixes : List Fix} {q : Progress} (g : FeederView)
+pub way_more : {source : Option Reading} {size : ℕ} {before : FeederView} {p : Progress} {f : FeederView} {count : ℕ} {fixes : List Fix} {q : Progress} (g : FeederView)
     → HasRead source size before p f count fixes q → length fixes ≡ size → g ≡ after_block f fixes → IsUnderWay source size before q g (count + 1)
 way_more {source} {size} {before} {p} {f} {count} {fixes} {q} g read full after =
     let way = read.way in
@@ -133,7 +133,7 @@ all_first : (p : Progress) (fixes : List Fix) (r : Reading) → GaveFirst p fixe
 all_first p fixes r gave ends = sym (take_all p.count r.fixes (omega (arith, ends))) ∙ sym gave.first
 
 -- the last block is handed back
-pub fed_gone : {source : Option (List ℕ)} {size : ℕ} {before : FeederView} {p : Progress} {f : FeederView} {count : ℕ} {fixes : List Fix} {q : Progress} (g : FeederView)
+pub fed_gone : {source : Option Reading} {size : ℕ} {before : FeederView} {p : Progress} {f : FeederView} {count : ℕ} {fixes : List Fix} {q : Progress} (g : FeederView)
     → HasRead source size before p f count fixes q → 1 ≤ length fixes → g ≡ f → IsFed source size before g (Err Gone)
 fed_gone {source} {size} {before} {p} {f} {count} {fixes} {q} g read some same =
     let way = read.way in
@@ -160,14 +160,14 @@ fed_gone {source} {size} {before} {p} {f} {count} {fixes} {q} g read some same =
       whole = λ own. absurd (own refl);
     }
   where
-    told : (known : Option (List ℕ)) → IfSome known (λ bytes. GaveFirst q (joined f.sent ++ fixes) (reading bytes)) → IfSome known (λ bytes. IsReadAs (reading bytes) (joined f.sent ++ fixes) (Err Gone))
+    told : (known : Option Reading) → IfSome known (GaveFirst q (joined f.sent ++ fixes)) → IfSome known (λ r. IsReadAs r (joined f.sent ++ fixes) (Err Gone))
     told None gave = tt
-    told (Some bytes) gave = record { prefix = is_prefix q (joined f.sent ++ fixes) (reading bytes) gave; name = λ name e. cc; fault = λ fault e text. cc }
+    told (Some r) gave = record { prefix = is_prefix q (joined f.sent ++ fixes) r gave; name = λ name e. cc; fault = λ fault e text. cc }
 
 -- all blocks are sent, whatever ended them
-fed : {source : Option (List ℕ)} {size : ℕ} {before : FeederView} {p : Progress} {f : FeederView} {count : ℕ} {fixes : List Fix} {q : Progress} (g : FeederView) (said : Read)
+fed : {source : Option Reading} {size : ℕ} {before : FeederView} {p : Progress} {f : FeederView} {count : ℕ} {fixes : List Fix} {q : Progress} (g : FeederView) (said : Read)
     → HasRead source size before p f count fixes q → g ≡ after_block f fixes → said ≢ Err Gone → (IsOk said → 0 < q.count)
-    → ((bytes : List ℕ) → Reads p (reading bytes) → GaveFirst q (joined f.sent ++ fixes) (reading bytes) → IsReadAs (reading bytes) (joined f.sent ++ fixes) said) → IsFed source size before g said
+    → ((r : Reading) → Reads p r → GaveFirst q (joined f.sent ++ fixes) r → IsReadAs r (joined f.sent ++ fixes) said) → IsFed source size before g said
 fed {source} {size} {before} {p} {f} {count} {fixes} {q} g said read after own given as_read =
     let way = read.way in
     let c = cut f size count fixes read.width way.full way.sent read.small in
@@ -193,16 +193,15 @@ fed {source} {size} {before} {p} {f} {count} {fixes} {q} g said read after own g
       whole = λ o. c.whole;
     }
   where
-    told : (known : Option (List ℕ)) → IfSome known (λ bytes. GaveFirst p (joined f.sent) (reading bytes)) → IfSome known (λ bytes. GaveFirst q (joined f.sent ++ fixes) (reading bytes))
-        → IfSome known (λ bytes. IsReadAs (reading bytes) (joined f.sent ++ fixes) said)
+    told : (known : Option Reading) → IfSome known (GaveFirst p (joined f.sent)) → IfSome known (GaveFirst q (joined f.sent ++ fixes))
+        → IfSome known (λ r. IsReadAs r (joined f.sent ++ fixes) said)
     told None before_it gave = tt
-    told (Some bytes) before_it gave = as_read bytes before_it.reads gave
+    told (Some r) before_it gave = as_read r before_it.reads gave
 
 -- the reader failed, or memory was wanting
-pub fed_fault : {source : Option (List ℕ)} {size : ℕ} {before : FeederView} {p : Progress} {f : FeederView} {count : ℕ} {fixes : List Fix} {q : Progress} (g : FeederView) (fault : ReadFault)
+pub fed_fault : {source : Option Reading} {size : ℕ} {before : FeederView} {p : Progress} {f : FeederView} {count : ℕ} {fixes : List Fix} {q : Progress} (g : FeederView) (fault : ReadFault)
     → HasRead source size before p f count fixes q → g ≡ after_block f fixes → fault ≢ Gone → (is_of_text fault ≡ true → EndsAfter p q.count (Some fault)) → IsFed source size before g (Err fault)
-fed_fault {source} {size} {before} {p} {f} {count} {fixes} {q} g fault read after own ends = fed g (Err fault) read after (λ e. own (cc)) (λ ok. cc) (λ bytes reads gave.
-    let r = reading bytes in
+fed_fault {source} {size} {before} {p} {f} {count} {fixes} {q} g fault read after own ends = fed g (Err fault) read after (λ e. own (cc)) (λ ok. cc) (λ r reads gave.
     record {
       prefix = is_prefix q (joined f.sent ++ fixes) r gave;
       name = λ name e. cc;
@@ -213,11 +212,10 @@ fed_fault {source} {size} {before} {p} {f} {count} {fixes} {q} g fault read afte
     })
 
 -- the reader's end, with the name or want of memory for it
-pub fed_end : {source : Option (List ℕ)} {size : ℕ} {before : FeederView} {p : Progress} {f : FeederView} {count : ℕ} {fixes : List Fix} {q : Progress} (g : FeederView) (said : Read)
+pub fed_end : {source : Option Reading} {size : ℕ} {before : FeederView} {p : Progress} {f : FeederView} {count : ℕ} {fixes : List Fix} {q : Progress} (g : FeederView) (said : Read)
     → HasRead source size before p f count fixes q → g ≡ after_block f fixes → 0 < q.count → EndsAfter p q.count None
     → IfOk said (λ name. q.animal ≡ Some name) → IfErr said (λ fault. fault ≡ OutOfMemory) → IsFed source size before g said
-fed_end {source} {size} {before} {p} {f} {count} {fixes} {q} g (Ok name) read after given ends named refused = fed g (Ok name) read after (λ e. cc) (λ ok. given) (λ bytes reads gave.
-    let r = reading bytes in
+fed_end {source} {size} {before} {p} {f} {count} {fixes} {q} g (Ok name) read after given ends named refused = fed g (Ok name) read after (λ e. cc) (λ ok. given) (λ r reads gave.
     let later : eqb q.count 0 ≡ false = search (rules, tests) in
     let animal = rw later at gave.reads.animal in
     let end = ends r reads in
@@ -229,7 +227,7 @@ fed_end {source} {size} {before} {p} {f} {count} {fixes} {q} g (Ok name) read af
 fed_end g (Err fault) read after given ends named refused = fed_fault g fault read after (λ e. cc) (λ text. absurd (cc (ap is_of_text refused)))
 
 -- the mark, where all blocks were sent
-closed : (source : Option (List ℕ)) (size : ℕ) (before f : FeederView) (read : Read) → IsFed source size before f read → read ≢ Err Gone → IsPumped source size before (after_send f the_mark) read
+closed : (source : Option Reading) (size : ℕ) (before f : FeederView) (read : Read) → IsFed source size before f read → read ≢ Err Gone → IsPumped source size before (after_send f the_mark) read
 closed source size before f read fed own =
     let p = fed.pumped in
     let all = p.pumped.fixes in
@@ -249,7 +247,7 @@ closed source size before f read fed own =
       };
     }
 
-pub pumped : (source : Option (List ℕ)) (size : ℕ) (before f g : FeederView) (read : Read) (sent : Bool) → IsFed source size before f read → read ≢ Err Gone
+pub pumped : (source : Option Reading) (size : ℕ) (before f g : FeederView) (read : Read) (sent : Bool) → IsFed source size before f read → read ≢ Err Gone
     → MatchBool sent (g ≡ after_send f the_mark) (g ≡ f) → IsPumped source size before g read
 pumped source size before f g read true fed own is = subst (λ (v : FeederView). IsPumped source size before v read) (sym is) (closed source size before f read fed own)
 pumped source size before f g read false fed own is = subst (λ (v : FeederView). IsPumped source size before v read) (sym is) fed.pumped

@@ -25,7 +25,7 @@ after_block f [] = f
 after_block f (fix ∷ fixes) = after_send f (block_of (fix ∷ fixes))
 
 -- a feeder that was not given the mark yet, and what is said of its file; its blocks joined are the fixes, but for a block that was handed back
-pub record IsFed (source : Option (List ℕ)) (size : ℕ) (before after : FeederView) (read : Read) : Type 0 where
+pub record IsFed (source : Option Reading) (size : ℕ) (before after : FeederView) (read : Read) : Type 0 where
   pub pumped : IsPumped source size before after read
   pub unmarked : after.closed ≡ false
   pub whole : read ≢ Err Gone → joined after.sent ≡ pumped.pumped.fixes

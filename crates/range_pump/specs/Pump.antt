@@ -5,7 +5,7 @@ use Rattle.range_plane.specs.declared.fix.Fix.{Fix}
 use Rattle.range_fixes.specs.declared.fault.ReadFault.{ReadFault}
 use Rattle.range_fixes.specs.declared.fault.ReadFault.TheVariants.{Gone}
 use Rattle.range_fixes.specs.Progress.{is_of_text}
-use Rattle.range_fixes.specs.Reading.{Reading, reading}
+use Rattle.range_fixes.specs.Reading.{Reading}
 use Rattle.range_line.specs.Lines.{FeederView}
 use Rattle.range_line.specs.Messages.{blocks, block_count, stream}
 
@@ -25,16 +25,16 @@ pub record IsReadAs (r : Reading) (fixes : List Fix) (read : Read) : Type 0 wher
   pub name : (name : List ℕ) → read ≡ Ok name → (r.animal ≡ Some name) × (r.fixes ≡ fixes) × (r.fault ≡ None)
   pub fault : (fault : ReadFault) → read ≡ Err fault → is_of_text fault ≡ true → (r.fixes ≡ fixes) × (r.fault ≡ Some fault)
 
--- a feeder and what is said of its file, of which the source tells these bytes where it does
-pub record IsPumpedFrom (source : Option (List ℕ)) (size : ℕ) (feeder : FeederView) (read : Read) : Type 0 where
+-- a feeder and what is said of its file, of which this is the reading where its source tells its bytes
+pub record IsPumpedFrom (source : Option Reading) (size : ℕ) (feeder : FeederView) (read : Read) : Type 0 where
   -- the fixes that were read, of which the last may not have been sent
   pub fixes : List Fix
   pub sent : IsSent feeder fixes size read
   pub some : IsOk read → 0 < length fixes
-  pub told : IfSome source (λ bytes. IsReadAs (reading bytes) fixes read)
+  pub told : IfSome source (λ r. IsReadAs r fixes read)
 
 -- the same of a feeder that comes back with its line and file, of a line that has not ended
-pub record IsPumped (source : Option (List ℕ)) (size : ℕ) (before after : FeederView) (read : Read) : Type 0 where
+pub record IsPumped (source : Option Reading) (size : ℕ) (before after : FeederView) (read : Read) : Type 0 where
   pub line : after.line ≡ before.line
   pub file : after.file ≡ before.file
   pub live : after.ended ≡ false

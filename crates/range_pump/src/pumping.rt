@@ -3,6 +3,7 @@
 ghost use Rattle.std.specs.Prelude.{◌≡◌, ◌≢◌, ◌+◌, ◌<◌, ◌≤◌, [], false, length, Err, Some, IfErr, IfOk, MatchBool, OnOk};
 ghost use Rattle.range_plane.specs.Fix.{fix_limit};
 ghost use Rattle.range_plan.specs.Limits.{block_limit};
+ghost use Rattle.range_fixes.specs.Reading.{reading_from};
 ghost use Rattle.range_line.specs.Messages.{joined};
 ghost use Rattle.range_pump.specs.Feeding.{after_block, IsFed};
 ghost use Rattle.range_pump.specs.Pump.{IsPumped};
@@ -11,7 +12,7 @@ use crate::batch::read_block;
 use crate::gate::Gate;
 use range_fixes::{FixReader, Name, ReadFault};
 use range_line::Feeder;
-use range_plane::Fix;
+use range_plane::{Fix, Scale};
 use std::alloc::{Allocator, Global};
 use std::io::Read;
 use std::sync::Wait;
@@ -68,12 +69,13 @@ fn send_fixes<R: Wait, S: Read + Drop, A: Allocator + Clone, G: Gate>(
     feeder: &mut Feeder<A>,
     gate: &G,
     block: u32,
+    unit: Scale,
 ) -> Result<Name, ReadFault>
     requires block { (1 ≤ block) × (block ≤ block_limit) }
     requires feeder { (feeder.old.closed ≡ false) × (feeder.old.ended ≡ false) × (feeder.old.sent ≡ []) }
-    ensures { IsFed (S.remaining source) block feeder.old feeder.new result }
+    ensures { IsFed (reading_from S.remaining unit source) block feeder.old feeder.new result }
 {
-    let mut reader = FixReader::new(alloc, source);
+    let mut reader = FixReader::new(alloc, source, unit);
     loop {
         let (fixes, more) = read_block(alloc, &mut reader, block);
         send_block(rt, feeder, gate, fixes)?;
@@ -90,7 +92,7 @@ fn is_gone(read: &Result<Name, ReadFault>) -> bool
     matches!(read, Err(ReadFault::Gone))
 }
 
-/// Reads a source and sends its fixes in blocks of `block` fixes, from 1 to
+/// Reads a source with coordinates in this unit and sends its fixes in blocks of `block` fixes, from 1 to
 /// [`BLOCK_LIMIT`](range_plan::BLOCK_LIMIT), of which the last may have fewer, and then the mark. Takes
 /// memory for the reading, for each block and for the name, and waits while the line is full.
 ///
@@ -104,12 +106,13 @@ pub fn pump<R: Wait, S: Read + Drop, A: Allocator + Clone, G: Gate>(
     mut feeder: Feeder<A>,
     gate: &G,
     block: u32,
+    unit: Scale,
 ) -> Pumped<A>
     requires block { (1 ≤ block) × (block ≤ block_limit) }
     requires feeder { (feeder.closed ≡ false) × (feeder.ended ≡ false) × (feeder.sent ≡ []) }
-    ensures { IsPumped (S.remaining source) block feeder result.feeder result.read }
+    ensures { IsPumped (reading_from S.remaining unit source) block feeder result.feeder result.read }
 {
-    let read = send_fixes(rt, alloc, source, &mut feeder, gate, block);
+    let read = send_fixes(rt, alloc, source, &mut feeder, gate, block, unit);
     if !is_gone(&read) {
         gate.before_send(feeder.file(), feeder.sent_fixes());
         feeder.close(rt);

@@ -1,22 +1,30 @@
--- The texts of animals that several threads wrote.
-use Rattle.std.proofs.Common.{◌≡◌, ◌++◌, ℕ, List, [], ◌∷◌, Ok, Err, Vec, Global, refl, ap₂}
-use Rattle.std.specs.Prelude.{IfOk}
+-- The texts of animals that several threads wrote, each behind the head of the report.
+use Rattle.std.proofs.Common.{◌≡◌, ◌++◌, ℕ, List, [], ◌∷◌, Vec, Global, drop, length, map, refl, sym, ap, ap₂, ◌∙◌, append_assoc}
+use Rattle.std.proofs.lemmas.List.{append-nil}
+use Rattle.std.proofs.Math.Seq.{drop-append_seam}
 use Rattle.std.specs.List.{AllZip, flat_map}
-use Rattle.std.specs.declared.alloc.AllocError.{AllocError}
-use Rattle.std.specs.declared.result.Result.{Result}
 use Rattle.range_tables.specs.declared.animal.Animal.{Animal}
+use Rattle.range_report.specs.Parts.{IsPartOf, joined}
 use Rattle.range_report.specs.Report.{animal_text}
 
-abbrev pub IsTextOf : Animal → Vec ℕ Global → Type 0
-IsTextOf animal text = text.items ≡ animal_text animal
+abbrev pub Text : Type 0
+Text = Vec ℕ Global
 
-joined : (animals : List Animal) (texts : List (Vec ℕ Global)) → AllZip IsTextOf animals texts → flat_map (λ text. text.items) texts ≡ flat_map animal_text animals
-joined [] [] each = refl
-joined [] (t ∷ texts) each = absurd each
-joined (a ∷ animals) [] each = absurd each
-joined (a ∷ animals) (t ∷ texts) each = ap₂ (λ one rest. one ++ rest) each.0 (joined animals texts each.1)
+abbrev pub IsText : List ℕ → Animal → Text → Type 0
+IsText head animal text = IsPartOf head animal text.items
 
-pub texts_joined : (animals : List Animal) (all : Result (Vec (Vec ℕ Global) Global) AllocError) → IfOk all (λ texts. AllZip IsTextOf animals texts.items)
-    → IfOk all (λ texts. flat_map (λ text. text.items) texts.items ≡ flat_map animal_text animals)
-texts_joined animals (Ok texts) each = joined animals texts.items each
-texts_joined animals (Err fault) each = tt
+-- behind the first of them
+others : (head : List ℕ) (animals : List Animal) (texts : List Text) → AllZip (IsText head) animals texts
+    → flat_map (drop (length head)) (map (λ (text : Text). text.items) texts) ≡ flat_map animal_text animals
+others head [] [] each = refl
+others head [] (t ∷ texts) each = absurd each
+others head (a ∷ animals) [] each = absurd each
+others head (a ∷ animals) (t ∷ texts) each = ap₂ (λ one rest. one ++ rest) (ap (drop (length head)) each.0 ∙ drop-append_seam head (animal_text a)) (others head animals texts each.1)
+
+pub texts_joined : (head : List ℕ) (animals : List Animal) (texts : List Text) → AllZip (IsText head) animals texts
+    → joined head (map (λ (text : Text). text.items) texts) ≡ head ++ flat_map animal_text animals
+texts_joined head [] [] each = sym (append-nil head)
+texts_joined head [] (t ∷ texts) each = absurd each
+texts_joined head (a ∷ animals) [] each = absurd each
+texts_joined head (a ∷ animals) (t ∷ texts) each =
+    ap₂ (λ one rest. one ++ rest) each.0 (others head animals texts each.1) ∙ append_assoc head (animal_text a) (flat_map animal_text animals)

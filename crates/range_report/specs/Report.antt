@@ -3,6 +3,8 @@ use Rattle.std.specs.Prelude.{◌++◌, ◌+◌, ℕ, ℤ, List, [], ◌∷◌, 
 use Rattle.std.specs.Fmt.{signed_decimal}
 use Rattle.std.specs.List.{flat_map}
 use Rattle.range_plane.specs.Plane.{Position}
+use Rattle.range_plane.specs.declared.scale.Scale.{Scale}
+use Rattle.range_plane.specs.declared.scale.Scale.TheVariants.{Metre, Decimetre}
 use Rattle.range_lanes.specs.declared.extent.Extent.{Extent}
 use Rattle.range_stats.specs.declared.percents.PercentRow.{PercentRow}
 use Rattle.range_estimator.specs.declared.row.Row.{Row}
@@ -10,6 +12,11 @@ use Rattle.range_tables.specs.Names.{name_at}
 use Rattle.range_tables.specs.declared.animal.Animal.{Animal}
 use Rattle.range_tables.specs.declared.animal.OverlapRow.{OverlapRow}
 use Rattle.range_tables.specs.declared.analysis.Analysis.{Analysis}
+
+-- the first line, which a report in metres does not have
+abbrev pub unit_line : Scale → List ℕ
+unit_line Metre = []
+unit_line Decimetre = codes "unit,dm\n"
 
 abbrev pub animal_line : List ℕ → ℕ → List ℕ
 animal_line name count = codes "animal," ++ name ++ codes ",fixes," ++ decimal count ++ codes "\n"
@@ -66,6 +73,6 @@ animal_text animal =
 -- the report of an analysis
 unfoldable pub report_text : Analysis → List ℕ
 report_text analysis =
-    flat_map animal_text analysis.animals
+    unit_line analysis.unit ++ flat_map animal_text analysis.animals
     ++ flat_map (overlap_line (map (λ animal. animal.name) analysis.animals)) analysis.overlaps
     ++ end_line (length analysis.animals)

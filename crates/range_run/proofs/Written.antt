@@ -4,20 +4,22 @@ use Rattle.std.specs.Prelude.{Result, Err, OnErr, OnOk}
 use Rattle.std.specs.Io.KnownBytes.{Appends}
 use Rattle.std.proofs.lemmas.Result.{on_ok_weaker}
 use Rattle.range_tables.specs.declared.analysis.Analysis.{Analysis}
+use Rattle.range_plane.specs.declared.scale.Scale.{Scale}
+use Rattle.range_fixes.specs.Reading.{Reading}
 use Rattle.range_analysis.specs.Sources.{IsAnalysisOf}
 use Rattle.range_report.specs.Report.{report_text}
 use Rattle.range_run.specs.Output.{AppendsPrefix}
 use Rattle.range_run.specs.Run.{WritesPrefix, WritesReport}
 
-pub writes_report : {T E : Type 0} (sources : List (Option (List ℕ))) (levels given text : List ℕ) (old new : Option (List ℕ)) (analysis : Analysis) (r : Result T E)
-    → given ≡ levels → text ≡ report_text analysis → IsAnalysisOf sources given analysis → OnOk r (Appends old new text) → OnOk r (WritesReport sources levels old new)
-writes_report sources levels given text old new analysis r same is analysed written =
-    let of_levels = subst (λ l. IsAnalysisOf sources l analysis) same analysed in
+pub writes_report : {T E : Type 0} (sources : List (Option Reading)) (levels given text : List ℕ) (unit : Scale) (old new : Option (List ℕ)) (analysis : Analysis) (r : Result T E)
+    → given ≡ levels → text ≡ report_text analysis → IsAnalysisOf sources given unit analysis → OnOk r (Appends old new text) → OnOk r (WritesReport sources levels unit old new)
+writes_report sources levels given text unit old new analysis r same is analysed written =
+    let of_levels = subst (λ l. IsAnalysisOf sources l unit analysis) same analysed in
     on_ok_weaker r (λ bytes. (analysis, of_levels, subst (λ t. Appends old new t) is bytes)) written
 
-pub writes_prefix : {T E : Type 0} (sources : List (Option (List ℕ))) (levels given text : List ℕ) (old new : Option (List ℕ)) (analysis : Analysis) (r : Result T E) (fault : E)
-    → given ≡ levels → text ≡ report_text analysis → IsAnalysisOf sources given analysis → OnErr r (AppendsPrefix old new text) → r ≡ Err fault → WritesPrefix sources levels old new
-writes_prefix sources levels given text old new analysis r fault same is analysed written failed =
-    let of_levels = subst (λ l. IsAnalysisOf sources l analysis) same analysed in
+pub writes_prefix : {T E : Type 0} (sources : List (Option Reading)) (levels given text : List ℕ) (unit : Scale) (old new : Option (List ℕ)) (analysis : Analysis) (r : Result T E) (fault : E)
+    → given ≡ levels → text ≡ report_text analysis → IsAnalysisOf sources given unit analysis → OnErr r (AppendsPrefix old new text) → r ≡ Err fault → WritesPrefix sources levels unit old new
+writes_prefix sources levels given text unit old new analysis r fault same is analysed written failed =
+    let of_levels = subst (λ l. IsAnalysisOf sources l unit analysis) same analysed in
     let prefix = subst (λ s. OnErr s (AppendsPrefix old new text)) failed written in
     (analysis, of_levels, subst (λ t. AppendsPrefix old new t) is prefix)

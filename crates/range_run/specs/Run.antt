@@ -2,6 +2,8 @@
 use Rattle.std.specs.Prelude.{ℕ, ⊤, List, Option}
 use Rattle.std.specs.Io.KnownBytes.{Appends}
 use Rattle.range_tables.specs.declared.analysis.Analysis.{Analysis}
+use Rattle.range_plane.specs.declared.scale.Scale.{Scale}
+use Rattle.range_fixes.specs.Reading.{Reading}
 use Rattle.range_analysis.specs.Sources.{HasNoAnalysisOf, IsAnalysisOf}
 use Rattle.range_report.specs.Report.{report_text}
 use Rattle.range_run.specs.Output.{AppendsPrefix}
@@ -9,14 +11,14 @@ use Rattle.range_run.specs.declared.fault.RunFault.{RunFault}
 use Rattle.range_run.specs.declared.fault.RunFault.TheVariants as runs
 
 -- the report of an analysis of the sources was written, and nothing else
-abbrev pub WritesReport : List (Option (List ℕ)) → List ℕ → Option (List ℕ) → Option (List ℕ) → Type 0
-WritesReport sources levels old new = (analysis : Analysis) × IsAnalysisOf sources levels analysis × Appends old new (report_text analysis)
+abbrev pub WritesReport : List (Option Reading) → List ℕ → Scale → Option (List ℕ) → Option (List ℕ) → Type 0
+WritesReport sources levels unit old new = (analysis : Analysis) × IsAnalysisOf sources levels unit analysis × Appends old new (report_text analysis)
 
 -- a prefix of it was
-abbrev pub WritesPrefix : List (Option (List ℕ)) → List ℕ → Option (List ℕ) → Option (List ℕ) → Type 0
-WritesPrefix sources levels old new = (analysis : Analysis) × IsAnalysisOf sources levels analysis × AppendsPrefix old new (report_text analysis)
+abbrev pub WritesPrefix : List (Option Reading) → List ℕ → Scale → Option (List ℕ) → Option (List ℕ) → Type 0
+WritesPrefix sources levels unit old new = (analysis : Analysis) × IsAnalysisOf sources levels unit analysis × AppendsPrefix old new (report_text analysis)
 
 -- a run over the sources may end with this fault
-abbrev pub Explains : List (Option (List ℕ)) → RunFault → Type 0
+abbrev pub Explains : List (Option Reading) → RunFault → Type 0
 Explains sources (runs.Analyse fault) = HasNoAnalysisOf sources fault
 Explains sources fault = ⊤

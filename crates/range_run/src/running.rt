@@ -1,6 +1,7 @@
 // One run: from the sources to the report.
 
 ghost use Rattle.std.specs.Prelude.{◌≡◌, ◌≢◌, ◌≤◌, All, Err, IfErr, OnOk, map, vec_len};
+ghost use Rattle.range_fixes.specs.Reading.{reading_from};
 ghost use Rattle.range_plan.specs.Limits.{file_limit};
 ghost use Rattle.range_stats.specs.Levels.{IsLevel};
 ghost use Rattle.range_run.specs.Run.{Explains, WritesPrefix, WritesReport};
@@ -27,12 +28,12 @@ pub fn run<R: Wait + Threads + Sync, S: Read + Send + Drop, W: Write>(
 ) -> Result<(), RunFault>
     requires sources { (1 ≤ vec_len sources) × (vec_len sources ≤ file_limit) }
     requires levels { All IsLevel options.now.levels.items }
-    ensures report { OnOk result (WritesReport (map S.remaining sources.items) options.now.levels.items
+    ensures report { OnOk result (WritesReport (map (reading_from S.remaining options.now.plan.unit) sources.items) options.now.levels.items options.now.plan.unit
         (W.contents out.old) (W.contents out.new)) }
-    ensures prefix { result ≡ Err RunFault.Write → WritesPrefix (map S.remaining sources.items) options.now.levels.items
+    ensures prefix { result ≡ Err RunFault.Write → WritesPrefix (map (reading_from S.remaining options.now.plan.unit) sources.items) options.now.levels.items options.now.plan.unit
         (W.contents out.old) (W.contents out.new) }
     ensures unwritten { IfErr result (λ fault. fault ≢ RunFault.Write → out.new ≡ out.old) }
-    ensures fault { IfErr result (Explains (map S.remaining sources.items)) }
+    ensures fault { IfErr result (Explains (map (reading_from S.remaining options.now.plan.unit) sources.items)) }
 {
     let levels = options.levels.as_slice();
     let analysis = match analyse(rt, alloc, sources, &FreeGate, options.plan, levels) {

@@ -13,7 +13,7 @@ use crate::measured::Measured;
 use crate::measuring::measure;
 use crate::overlaps::overlaps;
 use crate::track::Track;
-use range_plane::OutOfMemory;
+use range_plane::{OutOfMemory, Scale};
 use rayon::prelude::*;
 use std::alloc::Global;
 use std::thread::Threads;
@@ -51,8 +51,8 @@ fn animals(alloc: Global, measured: Vec<Measured>) -> Result<Animals, OutOfMemor
     Ok(Animals::new(animals))
 }
 
-/// The analysis of 0 to [`FILE_LIMIT`](range_plan::FILE_LIMIT) animals: the tables of each, with a percent
-/// polygon at each of the levels, and their overlaps.
+/// The analysis of 0 to [`FILE_LIMIT`](range_plan::FILE_LIMIT) animals, with coordinates in this unit: the
+/// tables of each, with a percent polygon at each of the levels, and their overlaps.
 ///
 /// # Errors
 ///
@@ -62,14 +62,20 @@ pub fn tabulate<R: Threads + Sync>(
     alloc: Global,
     tracks: Vec<Track>,
     levels: &[u8],
+    unit: Scale,
 ) -> Result<Analysis, OutOfMemory>
     requires files { vec_len tracks ≤ file_limit }
     requires levels { All IsLevel levels.now }
     ensures animals { IfOk result (λ a. AllZip (IsAnimalOn levels.now) tracks.items a.animals) }
     ensures overlaps { IfOk result (λ a. AllZip (IsOverlap (points_on tracks.items)) (pairs (length tracks.items)) a.overlaps) }
+    ensures unit { IfOk result (λ a. a.unit ≡ unit) }
 {
     let measured = measure_all(rt, alloc, tracks, levels)?;
     let overlaps = overlaps(rt, alloc, &measured)?;
     let animals = animals(alloc, measured)?;
-    Ok(Analysis { animals, overlaps })
+    Ok(Analysis {
+        animals,
+        overlaps,
+        unit,
+    })
 }

@@ -22,7 +22,7 @@ use Rattle.range_words.proofs.Entries.{AreNumbers, number_found, number_parser}
 rules_are : (c : Command) → app_of c ≡ homerange → map rule_of (args_of c) ≡ homerange.top.rules
 rules_are c is = ap (λ (a : App). a.top.rules) is
 
-arg_count : (c : Command) → app_of c ≡ homerange → length (args_of c) ≡ 5
+arg_count : (c : Command) → app_of c ≡ homerange → length (args_of c) ≡ 6
 arg_count c is = sym (length-map (args_of c) rule_of) ∙ ap length (rules_are c is)
 
 rule_at : (c : Command) → app_of c ≡ homerange → (k : ℕ) (d : Arg) → k < length (args_of c) → rule_of (get_or (args_of c) k d) ≡ get_or homerange.top.rules k (rule_of d)
@@ -39,7 +39,7 @@ id_at : (c : Command) → app_of c ≡ homerange → (k : ℕ) (d : Arg) → k <
 id_at c is k d within = ap (λ (r : Rule). r.id) (rule_at c is k d within)
 
 abbrev IsAt : List ℕ → ℕ → Type 0
-IsAt name k = (j : ℕ) (r : Rule) → j < 5 → bytes_eq (get_or homerange.top.rules j r).id name ≡ true → j ≡ k
+IsAt name k = (j : ℕ) (r : Rule) → j < 6 → bytes_eq (get_or homerange.top.rules j r).id name ≡ true → j ≡ k
 
 block_at : IsAt (codes "block") 1
 block_at zero r lt e = cc
@@ -47,7 +47,8 @@ block_at (suc zero) r lt e = refl
 block_at (suc (suc zero)) r lt e = cc
 block_at (suc (suc (suc zero))) r lt e = cc
 block_at (suc (suc (suc (suc zero)))) r lt e = cc
-block_at (suc (suc (suc (suc (suc k))))) r lt e = absurd (omega arith)
+block_at (suc (suc (suc (suc (suc zero))))) r lt e = cc
+block_at (suc (suc (suc (suc (suc (suc k)))))) r lt e = absurd (omega arith)
 
 depth_at : IsAt (codes "depth") 2
 depth_at zero r lt e = cc
@@ -55,7 +56,8 @@ depth_at (suc zero) r lt e = cc
 depth_at (suc (suc zero)) r lt e = refl
 depth_at (suc (suc (suc zero))) r lt e = cc
 depth_at (suc (suc (suc (suc zero)))) r lt e = cc
-depth_at (suc (suc (suc (suc (suc k))))) r lt e = absurd (omega arith)
+depth_at (suc (suc (suc (suc (suc zero))))) r lt e = cc
+depth_at (suc (suc (suc (suc (suc (suc k)))))) r lt e = absurd (omega arith)
 
 workers_at : IsAt (codes "workers") 3
 workers_at zero r lt e = cc
@@ -63,11 +65,12 @@ workers_at (suc zero) r lt e = cc
 workers_at (suc (suc zero)) r lt e = cc
 workers_at (suc (suc (suc zero))) r lt e = refl
 workers_at (suc (suc (suc (suc zero)))) r lt e = cc
-workers_at (suc (suc (suc (suc (suc k))))) r lt e = absurd (omega arith)
+workers_at (suc (suc (suc (suc (suc zero))))) r lt e = cc
+workers_at (suc (suc (suc (suc (suc (suc k)))))) r lt e = absurd (omega arith)
 
 -- an option of the program that is a number: its place, which no other has with its name, and its rule
 record IsNumber (name : List ℕ) (k limit : ℕ) : Type 0 where
-  few : k < 5
+  few : k < 6
   sole : IsAt name k
   rule : (r : Rule) → ((get_or homerange.top.rules k r).id ≡ name) × ((get_or homerange.top.rules k r).parser ≡ Some (number_parser limit))
   named : bytes_eq name [] ≡ false

@@ -54,6 +54,6 @@ refusal_is k kinds rows OutOfMemory among speaks = tt
 refusal_is k kinds rows (Help text) (inl e) speaks = cc
 refusal_is k kinds rows (Help text) (inr among) speaks = subst (λ (x : ErrorKind). IsAmong x kinds) speaks among
 refusal_is k kinds rows (BadWords text) (inl e) speaks = absurd (speaks.1 e)
-refusal_is k kinds rows (BadWords text) (inr among) speaks = (k, among, speaks.0)
+refusal_is k kinds rows (BadWords text) (inr among) speaks = inl (k, among, speaks.0)
 refusal_is k kinds rows TooManyFiles among speaks = absurd speaks
 refusal_is k kinds rows (BadLevels fault) among speaks = absurd speaks

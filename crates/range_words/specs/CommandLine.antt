@@ -1,11 +1,14 @@
 -- The command line: which words the program knows, and what `clap` finds in the words that are given.
-use Rattle.std.specs.Prelude.{◌≡◌, ℕ, pos, List, [], codes, Some, unwrap_or}
+use Rattle.std.specs.Prelude.{◌≡◌, ℕ, pos, List, [], codes, Option, Some, None, unwrap_or, if◌then◌else◌}
 use Rattle.std.specs.Option.{option_map_or}
+use Rattle.std.specs.Str.{bytes_eq}
 use Rattle.std.specs.Str.Parse.{digits_value, without_leading_plus}
 use Rattle.clap.specs.Words.{App, IsSignedIn, Row, Rule, Text, all_of, first_of, found_of, matches_of, new_app, new_rule, one_of, one_text, with_rule}
 use Rattle.clap.specs.declared.builder.ArgAction.TheVariants.{Append}
 use Rattle.clap.specs.declared.builder.ValueParser.TheVariants as value_parser
 use Rattle.clap.specs.declared.ArgMatches.{ArgMatches}
+use Rattle.range_plane.specs.declared.scale.Scale.{Scale}
+use Rattle.range_plane.specs.declared.scale.Scale.TheVariants.{Metre, Decimetre}
 use Rattle.range_plan.specs.Limits.{block_limit, depth_limit, worker_limit}
 
 -- an option with one value
@@ -26,7 +29,8 @@ homerange =
     let block = with_rule percent (number_rule (codes "block") block_limit) in
     let depth = with_rule block (number_rule (codes "depth") depth_limit) in
     let workers = with_rule depth (number_rule (codes "workers") worker_limit) in
-    with_rule workers files_rule
+    let unit = with_rule workers (option_rule (codes "unit")) in
+    with_rule unit files_rule
 
 -- what `clap` finds
 abbrev pub found_in : List Text → List Row
@@ -38,6 +42,14 @@ files_in rows = unwrap_or (all_of (codes "FILE") rows) []
 -- the text of the levels, or what stands for it
 abbrev pub levels_in : List Row → Text
 levels_in rows = unwrap_or (first_of (codes "percent") rows) (codes "50,95,100")
+
+-- the unit that a text stands for
+abbrev pub unit_of : Text → Option Scale
+unit_of text = if bytes_eq text (codes "m") then Some Metre else if bytes_eq text (codes "dm") then Some Decimetre else None
+
+-- the unit, if the text that the words give for it stands for one; metres where they give none
+abbrev pub unit_in : List Row → Option Scale
+unit_in rows = unit_of (unwrap_or (first_of (codes "unit") rows) (codes "m"))
 
 -- the number of an option, or what stands for it
 abbrev pub number_in : Text → ℕ → List Row → ℕ

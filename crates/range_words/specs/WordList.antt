@@ -1,12 +1,12 @@
 -- What the program makes of its words, and why it refuses them.
-use Rattle.std.specs.Prelude.{◌≡◌, ◌≢◌, ◌≤◌, ◌<◌, ⊤, All, List, [], length, map, codes, Some, string_bytes}
+use Rattle.std.specs.Prelude.{◌≡◌, ◌≢◌, ◌≤◌, ◌<◌, ◌⊎◌, ⊤, All, List, [], length, map, codes, Some, None, string_bytes}
 use Rattle.clap.specs.Words.{IsAmong, Kinds, Row, Text, fault_of}
 use Rattle.clap.specs.declared.error.ErrorKind.{ErrorKind}
 use Rattle.clap.specs.declared.error.ErrorKind.TheVariants as kind
 use Rattle.range_plan.specs.Limits.{file_limit}
 use Rattle.range_stats.specs.Levels.{IsLevel, IsRefusedFor, level_count_limit, level_in, parts}
 use Rattle.range_stats.specs.declared.level.LevelFault.TheVariants as level_fault
-use Rattle.range_words.specs.CommandLine.{files_in, found_in, homerange, levels_in, number_in}
+use Rattle.range_words.specs.CommandLine.{files_in, found_in, homerange, levels_in, number_in, unit_in}
 use Rattle.range_words.specs.declared.words.Words.{Words}
 use Rattle.range_words.specs.declared.words.WordFault.{WordFault}
 use Rattle.range_words.specs.declared.words.WordFault.TheVariants.{OutOfMemory, Help, BadWords, TooManyFiles, BadLevels}
@@ -21,6 +21,7 @@ pub record AreFrom (rows : List Row) (words : Words) : Type 0 where
   pub block : words.options.plan.block ≡ number_in (codes "block") 256 rows
   pub depth : words.options.plan.depth ≡ number_in (codes "depth") 4 rows
   pub workers : words.options.plan.workers ≡ number_in (codes "workers") 2 rows
+  pub unit : unit_in rows ≡ Some words.options.plan.unit
 
 abbrev pub AreWordsOf : List Text → Words → Type 0
 AreWordsOf words read = AreFrom (found_in words) read
@@ -29,7 +30,7 @@ AreWordsOf words read = AreFrom (found_in words) read
 abbrev pub IsRefusal : Kinds → List Row → WordFault → Type 0
 IsRefusal kinds rows OutOfMemory = ⊤
 IsRefusal kinds rows (Help text) = IsAmong kind.DisplayHelp kinds
-IsRefusal kinds rows (BadWords text) = (k : ErrorKind) × IsAmong k kinds × (k ≢ kind.DisplayHelp)
+IsRefusal kinds rows (BadWords text) = ((k : ErrorKind) × IsAmong k kinds × (k ≢ kind.DisplayHelp)) ⊎ ((kinds ≡ []) × (unit_in rows ≡ None))
 IsRefusal kinds rows TooManyFiles = (kinds ≡ []) × (file_limit < length (files_in rows))
 IsRefusal kinds rows (BadLevels fault) =
     (kinds ≡ []) × IsRefusedFor fault (parts (levels_in rows)) × (fault ≢ level_fault.OutOfMemory)

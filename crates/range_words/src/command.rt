@@ -10,14 +10,14 @@ use clap::{Arg, ArgAction, ArgMatches, Command, Error, value_parser};
 use range_plan::{BLOCK_LIMIT, DEPTH_LIMIT, WORKER_LIMIT};
 use std::alloc::{AllocError, Global};
 
-// The option of the levels.
-fn percent_option<'a>(alloc: Global, help: &'a str) -> Arg<'a>
-    ensures rule { rule_of result ≡ option_rule (codes "percent") }
+// An option whose value is any text.
+fn text_option<'a>(alloc: Global, name: &'a str, value: &'a str, help: &'a str) -> Arg<'a>
+    ensures rule { rule_of result ≡ option_rule name.entry.now }
     ensures local { result.global ≡ false }
 {
-    Arg::new(alloc, "percent")
-        .long("percent")
-        .value_name("LIST")
+    Arg::new(alloc, name)
+        .long(name)
+        .value_name(value)
         .help(help)
 }
 
@@ -59,10 +59,11 @@ fn command<'a>(alloc: Global, texts: &'a HelpTexts) -> Result<Command<'a>, Alloc
     ensures { IfOk result (λ c. app_of c ≡ homerange) }
 {
     program(alloc, texts.after.as_str())
-        .arg(percent_option(alloc, texts.percent.as_str()))?
+        .arg(text_option(alloc, "percent", "LIST", texts.percent.as_str()))?
         .arg(number_option(alloc, "block", BLOCK_LIMIT, texts.block.as_str()))?
         .arg(number_option(alloc, "depth", DEPTH_LIMIT, texts.depth.as_str()))?
         .arg(number_option(alloc, "workers", WORKER_LIMIT, texts.workers.as_str()))?
+        .arg(text_option(alloc, "unit", "UNIT", texts.unit.as_str()))?
         .arg(files_argument(alloc, texts.files.as_str()))
 }
 

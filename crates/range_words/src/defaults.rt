@@ -3,6 +3,9 @@
 /// The levels.
 pub(crate) const DEFAULT_LEVELS: &str = "50,95,100";
 
+/// The unit of coordinates.
+pub(crate) const DEFAULT_UNIT: &str = "m";
+
 /// How many fixes a block has at most.
 pub(crate) const DEFAULT_BLOCK: u32 = 256;
 

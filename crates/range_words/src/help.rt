@@ -1,8 +1,10 @@
 // The texts of the program's help. Limits and defaults stand in them by their names.
 
-use crate::defaults::{DEFAULT_BLOCK, DEFAULT_DEPTH, DEFAULT_LEVELS, DEFAULT_WORKERS};
+use crate::defaults::{
+    DEFAULT_BLOCK, DEFAULT_DEPTH, DEFAULT_LEVELS, DEFAULT_UNIT, DEFAULT_WORKERS,
+};
 use range_plan::{BLOCK_LIMIT, DEPTH_LIMIT, FILE_LIMIT, WORKER_LIMIT};
-use range_plane::{COORDINATE_LIMIT, FIX_LIMIT, SECOND_LIMIT};
+use range_plane::{FIX_LIMIT, SECOND_LIMIT, Scale};
 use range_stats::{LEVEL_COUNT_LIMIT, LEVEL_LIMIT};
 use std::alloc::{AllocError, Global};
 
@@ -11,7 +13,7 @@ pub(crate) const ABOUT: &str =
 The report goes to standard output.";
 
 pub(crate) const USAGE: &str =
-    "homerange [--percent LIST] [--block N] [--depth N] [--workers N] [FILE ...]";
+    "homerange [--percent LIST] [--unit UNIT] [--block N] [--depth N] [--workers N] [FILE ...]";
 
 /// The texts that tell limits or defaults.
 #[derive(Drop)]
@@ -20,6 +22,7 @@ pub(crate) struct HelpTexts {
     pub(crate) block: String,
     pub(crate) depth: String,
     pub(crate) workers: String,
+    pub(crate) unit: String,
     pub(crate) files: String,
     pub(crate) after: String,
 }
@@ -47,6 +50,9 @@ pub(crate) fn help_texts(alloc: Global) -> Result<HelpTexts, AllocError> {
         WORKER_LIMIT,
         DEFAULT_WORKERS,
     )?;
+    let unit = format!(in alloc;
+        "Unit of all coordinates: m for metres, dm for decimetres [default: {DEFAULT_UNIT}]"
+    )?;
     let files = format!(in alloc;
         "Files to read, {FILE_LIMIT} at most, one animal in each; with none, standard input"
     )?;
@@ -56,6 +62,7 @@ pub(crate) fn help_texts(alloc: Global) -> Result<HelpTexts, AllocError> {
         block,
         depth,
         workers,
+        unit,
         files,
         after,
     })
@@ -68,6 +75,7 @@ fn number_help(alloc: Global, what: &str, limit: u32, default: u32) -> Result<St
 
 // What stands behind the options.
 fn after_help(alloc: Global) -> Result<String, AllocError> {
+    let (metres, decimetres) = (Scale::Metre.limit(), Scale::Decimetre.limit());
     format!(in alloc;
         "Block, depth and workers change the time taken, and not the report.
 
@@ -78,7 +86,8 @@ Files:
     animal    the animal's name, the same in the whole file and in no other file of the run:
               1 to 32 bytes, with no comma, double quote or control character
     second    when it was there: a whole second from 0 to {SECOND_LIMIT}, which never falls
-    easting   where it was, such as a UTM easting: whole metres from 0 to {COORDINATE_LIMIT}
+    easting   where it was, such as a UTM easting: whole metres from 0 to {metres}, or
+              with --unit dm whole decimetres from 0 to {decimetres}
     northing  likewise; the fixes of a run have to be of one zone
     use       1, or 0 for a fix that is left out; at least one has to be used
 
@@ -87,6 +96,7 @@ Files:
 }
 
 const REPORT_HELP: &str = "Report:
+  unit,dm                                the first line, with --unit dm alone
   animal,NAME,fixes,N                    an animal, and how many fixes it has
   box,NAME,minE,minN,maxE,maxN           the least and the greatest easting and northing
   row,NAME,n,second,corners,area2        the range of the first n fixes, for each n: the second of
@@ -98,7 +108,8 @@ const REPORT_HELP: &str = "Report:
                                          included, and how many fixes A has
   end,ANIMALS                            the last line: how many animals there are
   The lines of each animal come together, in the order of the files, and then the overlaps.
-  area2 is twice the area in square metres: divide it by 2, or by 20000 for hectares.
+  area2 is twice the area in square metres: divide it by 2, or by 20000 for hectares. With
+  --unit dm it is twice the area in square decimetres: divide it by 2000000 for hectares.
 
 Percent polygons:
   Of n fixes level p keeps the (p*n + 99)/100 nearest to the mean of all fixes, division cutting

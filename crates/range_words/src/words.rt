@@ -1,17 +1,20 @@
 // What the words of the command line say.
 
-ghost use Rattle.std.specs.Prelude.{◌≡◌, ◌≤◌, [], IfErr, IfOk, codes, length, map, string_bytes};
-ghost use Rattle.clap.specs.Words.{found_of, kind_of, rows_of};
+ghost use Rattle.std.specs.Prelude.{◌≡◌, ◌≤◌, [], IfErr, IfOk, Some, codes, length, map, string_bytes, unwrap_or};
+ghost use Rattle.clap.specs.Words.{first_of, found_of, kind_of, rows_of};
 ghost use Rattle.range_plan.specs.Limits.{block_limit, depth_limit, file_limit, worker_limit};
-ghost use Rattle.range_words.specs.CommandLine.{HasNumber, files_in, levels_in, number_in};
+ghost use Rattle.range_words.specs.CommandLine.{HasNumber, files_in, number_in, unit_in};
 ghost use Rattle.range_words.specs.WordList.{AreFrom, AreWordsOf, IsRefusal, IsRefusalOf, SpeaksFor};
 
 use crate::command::found;
-use crate::defaults::{DEFAULT_BLOCK, DEFAULT_DEPTH, DEFAULT_LEVELS, DEFAULT_WORKERS};
+use crate::defaults::{
+    DEFAULT_BLOCK, DEFAULT_DEPTH, DEFAULT_LEVELS, DEFAULT_UNIT, DEFAULT_WORKERS,
+};
 use crate::help::{HelpTexts, help_texts};
 use clap::error::ErrorKind;
 use clap::{ArgMatches, Error};
 use range_plan::{BLOCK_LIMIT, DEPTH_LIMIT, FILE_LIMIT, Options, Plan, WORKER_LIMIT};
+use range_plane::Scale;
 use range_stats::{LEVEL_COUNT_LIMIT, LEVEL_LIMIT, LevelFault, levels};
 use std::alloc::{AllocError, Global};
 use thiserror::Error as ErrorText;
@@ -33,8 +36,8 @@ pub enum WordFault {
     /// Help was asked for. This is its text.
     #[error("{0}")]
     Help(String),
-    /// The words are not the program's: an option that it does not have, or has not in this form, or a
-    /// number outside its range. This is what `clap` says of them, in several lines.
+    /// The words are not the program's: an option that it does not have, or has not in this form, a number
+    /// outside its range, or another unit than `m` and `dm`. This says so in several lines, as `clap` does.
     #[error("{0}")]
     BadWords(String),
     /// There are more files than [`FILE_LIMIT`].
@@ -76,8 +79,12 @@ fn words_in(alloc: Global, matches: &ArgMatches) -> Result<Words, WordFault>
     ensures ok { IfOk result (AreFrom (rows_of (found_of matches.now))) }
     ensures err { IfErr result (IsRefusal [] (rows_of (found_of matches.now))) }
 {
+    let unit = unit_of(alloc, matches)?;
     let files = files_of(alloc, matches)?;
-    let levels = match levels(alloc, level_text(matches).as_bytes()) {
+    let levels = match levels(
+        alloc,
+        text_of(matches, "percent", DEFAULT_LEVELS).as_bytes(),
+    ) {
         Ok(levels) => levels,
         Err(LevelFault::OutOfMemory) => return Err(WordFault::OutOfMemory),
         Err(fault) => return Err(WordFault::BadLevels(fault)),
@@ -86,6 +93,7 @@ fn words_in(alloc: Global, matches: &ArgMatches) -> Result<Words, WordFault>
         block: number_of(matches, "block", BLOCK_LIMIT, DEFAULT_BLOCK),
         depth: number_of(matches, "depth", DEPTH_LIMIT, DEFAULT_DEPTH),
         workers: number_of(matches, "workers", WORKER_LIMIT, DEFAULT_WORKERS),
+        unit,
     };
     let options = Options { levels, plan };
     Ok(Words { files, options })
@@ -134,11 +142,31 @@ fn copied(alloc: Global, texts: &[&str]) -> Result<Vec<String>, AllocError>
     Ok(copies)
 }
 
-// The text of the levels.
-fn level_text<'a>(matches: &ArgMatches<'a>) -> &'a str
-    ensures { result.now ≡ levels_in (rows_of (found_of matches.now)) }
+// The text of an option, or what stands for it.
+fn text_of<'a>(matches: &ArgMatches<'a>, name: &str, default: &'a str) -> &'a str
+    ensures { result.now ≡ unwrap_or (first_of name.now (rows_of (found_of matches.now))) default.now }
 {
-    matches.get_str("percent").unwrap_or(DEFAULT_LEVELS)
+    matches.get_str(name).unwrap_or(default)
+}
+
+// The unit.
+fn unit_of(alloc: Global, matches: &ArgMatches) -> Result<Scale, WordFault>
+    ensures unit { IfOk result (λ unit. unit_in (rows_of (found_of matches.now)) ≡ Some unit) }
+    ensures err { IfErr result (IsRefusal [] (rows_of (found_of matches.now))) }
+{
+    let text = text_of(matches, "unit", DEFAULT_UNIT);
+    if text == "m" {
+        return Ok(Scale::Metre);
+    }
+    if text == "dm" {
+        return Ok(Scale::Decimetre);
+    }
+    match format!(in alloc;
+        "error: invalid value '{text}' for '--unit <UNIT>': {text} is neither m nor dm\n\nFor more information, try '--help'.\n"
+    ) {
+        Ok(text) => Err(WordFault::BadWords(text)),
+        Err(_) => Err(WordFault::OutOfMemory),
+    }
 }
 
 // The number of an option, or what stands for it.

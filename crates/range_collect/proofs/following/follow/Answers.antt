@@ -1,5 +1,6 @@
 use Rattle.std.proofs.Common.{◌≡◌, ℕ, ◌+◌, ◌<◌, ◌≤◌, List, Vec, length, map, ap, sym, ◌∙◌, subst, arith, vec_len}
 use Rattle.std.proofs.lemmas.Option.{slice_get_within}
+use Rattle.range_fixes.specs.Reading.{reading_from}
 use Rattle.range_plan.specs.Limits.{file_limit}
 use Rattle.range_collect.specs.Follow.{IsFollowed}
 use Rattle.range_collect.specs.Lanes.{Dealt}
@@ -22,20 +23,20 @@ follow_lanes-requires-clause-sources g c = λ κs live.
     (omega (arith, lane.ok.0, sizes.0), omega (arith, lane.ok.0, sizes.1, sources.ok.0, c.requires.sources)))
 
 -- what the sources tell was dealt to the lanes
-told : (g : given.Over) (c : In_ok-results g) → Dealt (map g.S.Read.remaining c.args.sources.items) (map (λ (lane : Vec _ _). map g.S.Read.remaining lane.items) c.in_ok-lanes.lanes.items)
+told : (g : given.Over) (c : In_ok-results g) → Dealt (map (reading_from g.S.Read.remaining c.args.plan.unit) c.args.sources.items) (map (λ (lane : Vec _ _). map (reading_from g.S.Read.remaining c.args.plan.unit) lane.items) c.in_ok-lanes.lanes.items)
 told g c =
-    let tell = g.S.Read.remaining in
+    let tell = reading_from g.S.Read.remaining c.args.plan.unit in
     let lanes = c.in_ok-lanes.lanes.items in
     subst (λ l. Dealt (map tell c.args.sources.items) l) (map_map (map tell) (λ (v : Vec _ _). v.items) lanes)
     (dealt_map tell c.args.sources.items (map (λ (v : Vec _ _). v.items) lanes) c.in_ok-lanes.ensures.dealt)
 
 -- how many lanes there are
-lane_count : (g : given.Over) (c : In_ok-results g) → length (map (λ (lane : Vec _ _). map g.S.Read.remaining lane.items) c.in_ok-lanes.lanes.items) ≡ c.min.result
+lane_count : (g : given.Over) (c : In_ok-results g) → length (map (λ (lane : Vec _ _). map (reading_from g.S.Read.remaining c.args.plan.unit) lane.items) c.in_ok-lanes.lanes.items) ≡ c.min.result
 lane_count g c =
     let lanes = c.in_ok-lanes.lanes in
-    map_length (λ (lane : Vec _ _). map g.S.Read.remaining lane.items) lanes.items ∙ (sym lanes.ok.0 ∙ c.in_ok-lanes.ensures.count)
+    map_length (λ (lane : Vec _ _). map (reading_from g.S.Read.remaining c.args.plan.unit) lane.items) lanes.items ∙ (sym lanes.ok.0 ∙ c.in_ok-lanes.ensures.count)
 
-some_lanes : (g : given.Over) (c : In_ok-results g) → 0 < length (map (λ (lane : Vec _ _). map g.S.Read.remaining lane.items) c.in_ok-lanes.lanes.items)
+some_lanes : (g : given.Over) (c : In_ok-results g) → 0 < length (map (λ (lane : Vec _ _). map (reading_from g.S.Read.remaining c.args.plan.unit) lane.items) c.in_ok-lanes.lanes.items)
 some_lanes g c =
     let count = lane_count g c in
     omega (arith, count, c.min.ensures, c.len-count.ensures, c.requires.sources.0, c.args.plan.within.2.0)
@@ -43,7 +44,7 @@ some_lanes g c =
 -- the list that was dealt to the results of the lines
 merged : (g : given.Over) (c : In_ok-results g) → (all : List (Followed _ g.A.Clone)) × (length all ≡ c.len-count.result) × Dealt all (map (λ (v : Vec _ _). v.items) c.in_ok-results.results.items)
 merged g c =
-    let tell = g.S.Read.remaining in
+    let tell = reading_from g.S.Read.remaining c.args.plan.unit in
     let sources = map tell c.args.sources.items in
     let lanes = map (λ (lane : Vec _ _). map tell lane.items) c.in_ok-lanes.lanes.items in
     let results = map (λ (v : Vec _ _). v.items) c.in_ok-results.results.items in
@@ -56,7 +57,7 @@ merge-requires g c = merged g c
 pub returns-clause-followed : goal.returns-clause-followed
 returns-clause-followed g c =
     let at = (goal.at.returns-clause-followed g c).In_ok-results in
-    let tell = g.S.Read.remaining in
+    let tell = reading_from g.S.Read.remaining c.args.plan.unit in
     let sources = map tell c.args.sources.items in
     let lanes = map (λ (lane : Vec _ _). map tell lane.items) c.in_ok-lanes.lanes.items in
     let results = map (λ (v : Vec _ _). v.items) c.in_ok-results.results.items in
@@ -72,8 +73,8 @@ returns-clause-followed g c =
 pub returns-clause-lines : goal.returns-clause-lines
 returns-clause-lines g c = λ i j f f' in_i in_j same.
     let at = (goal.at.returns-clause-lines g c).In_ok-results in
-    let sources = map g.S.Read.remaining c.args.sources.items in
-    let lanes = map (λ (lane : Vec _ _). map g.S.Read.remaining lane.items) c.in_ok-lanes.lanes.items in
+    let sources = map (reading_from g.S.Read.remaining c.args.plan.unit) c.args.sources.items in
+    let lanes = map (λ (lane : Vec _ _). map (reading_from g.S.Read.remaining c.args.plan.unit) lane.items) c.in_ok-lanes.lanes.items in
     let results = map (λ (v : Vec _ _). v.items) c.in_ok-results.results.items in
     let all = c.in_ok-all.all.items in
     let m = merged g at in

@@ -1,6 +1,7 @@
 use Rattle.std.proofs.Common.{◌≡◌, ℕ, ◌+◌, ◌*◌, length, map, ap, sym, ◌∙◌, arith, refl}
 use Rattle.std.proofs.lemmas.List.Elements.{All-map}
 use Rattle.std.proofs.lemmas.List.FromFn.{length-map-range_with_len}
+use Rattle.range_fixes.specs.Reading.{reading_from}
 use Rattle.range_line.specs.Lines.{files_from, new_feeder, Line, TakerView}
 use Rattle.range_collect.specs.Lanes.{IsNew}
 use Rattle.range_collect.proofs.Lanes.{pumped_at}
@@ -24,14 +25,14 @@ pub returns : goal.returns
 returns g c =
     let n = c.args.numbers in
     let count : ℕ = c.len-count.result in
-    let bytes = map g.S.Read.remaining c.args.sources.items in
+    let bytes = map (reading_from g.S.Read.remaining c.args.plan.unit) c.args.sources.items in
     let worker : TakerView = c.work-worker.result in
     let handles = c.start_pumps-started.new.handles.items in
     let started = c.in_default.ensures in
     let joined = c.join_pumps-2.ensures in
     let back = c.join_pumps-2.new.feeders in
     let reads = c.join_pumps-2.new.reads in
-    let told = map_length g.S.Read.remaining c.args.sources.items in
+    let told = map_length (reading_from g.S.Read.remaining c.args.plan.unit) c.args.sources.items in
     let made = map_length (λ h. h.promise.source.value) handles in
     let same = ap length started.sources in
     let taker = c.in_ok-worker.ensures ∙ c.in_ok-feeders.ensures.taker in
@@ -42,8 +43,8 @@ returns g c =
         omega (arith, told, made, same, joined.counts.1, reads.ok.0, c.start_pumps-started.new.handles.ok.0),
       );
       files = c.work-worker.ensures.line.1 ∙ (ap (λ (t : TakerView). t.files) taker ∙ ap (files_from n.first n.step) (omega (arith, told, c.len-count.ensures, c.args.sources.ok.0)));
-      pumped = pumped_at g.S.Read.remaining (λ h. h.promise.source.value) (λ h. h.promise.feeder.value) (λ h. h.promise.block) worker.line n.first n.step count c.args.plan.block
+      pumped = pumped_at (reading_from g.S.Read.remaining) (λ h. h.promise.source.value) (λ h. h.promise.feeder.value) (λ h. h.promise.plan) worker.line n.first n.step count c.args.plan
           handles c.args.sources.items c.in_ok-feeders.feeders.items back.items reads.items started.sources started.feeders
           (c.in_ok-feeders.ensures.feeders ∙ ap (λ (l : Line). map (new_feeder l) (files_from n.first n.step count)) (sym line))
-          started.blocks (omega (arith, joined.counts.0, back.ok.0, c.start_pumps-started.new.handles.ok.0)) joined.pumped;
+          started.plans (omega (arith, joined.counts.0, back.ok.0, c.start_pumps-started.new.handles.ok.0)) joined.pumped;
     }

@@ -1,4 +1,5 @@
 use Rattle.std.proofs.Common.{length, map, ap, arith}
+use Rattle.range_fixes.specs.Reading.{reading_from}
 use Rattle.range_line.specs.Lines.{ended_feeder}
 use Rattle.range_collect.specs.declared.followed.Followed.{Followed}
 use Rattle.range_collect.proofs.Lanes.{lane_files, lane_followed, lane_line, lane_of_line, lane_results}
@@ -42,6 +43,6 @@ returns g c =
       of_line = lane_of_line (λ (f : Followed _ _). f.feeder) (λ f. f.read) (λ f. f.estimator) (λ f. f.marked) lane.worker.line lane.feeders.items d.result.0.items results (lane_line _ _ _ _ _ _ _ is) d.ensures.feeders p.feeders;
       count = omega (arith, told, made, is.counts.1);
       followed = lane_followed (λ (f : Followed _ _). f.feeder) (λ f. f.read) (λ f. f.estimator) (λ f. f.marked) c.args.numbers.first c.args.numbers.step c.args.plan.block
-          (map g.S.Read.remaining c.args.sources.items) lane.feeders.items d.result.0.items lane.reads.items lane.worker d.result.1.items results
+          (map (reading_from g.S.Read.remaining c.args.plan.unit) c.args.sources.items) lane.feeders.items d.result.0.items lane.reads.items lane.worker d.result.1.items results
           is d.ensures.feeders d.ensures.holds p.feeders p.reads p.estimators p.seen;
     }

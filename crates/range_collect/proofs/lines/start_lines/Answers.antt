@@ -24,7 +24,7 @@ loop-sources-preserved g c =
       numbers = rw items (λ place v is. elim (before_or_last hs v h place is) [
         | inl before ↦ inv.numbers place v before
         | inr last ↦ (let place_is : c.loop-sources.first ≡ place = (let at = last.0 in omega (arith, at, inv.first, c.loop-sources.handles.ok.0)) in
-            subst (λ x. (x.promise.numbers.first ≡ place) × (x.promise.numbers.step ≡ vec_len c.args.lanes) × (x.promise.block ≡ c.args.plan.block)) last.1
+            subst (λ x. (x.promise.numbers.first ≡ place) × (x.promise.numbers.step ≡ vec_len c.args.lanes) × (x.promise.plan ≡ c.args.plan)) last.1
             (ap (λ (n : Numbers). n.first) made.1 ∙ place_is, ap (λ (n : Numbers). n.step) made.1 ∙ inv.step, made.2))
       ]);
       sizes = All-rest (λ (lane : Vec _ _). (1 ≤ vec_len lane) × (vec_len lane ≤ file_limit)) _ _ _ source inv.sizes;

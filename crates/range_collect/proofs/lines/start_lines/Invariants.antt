@@ -7,7 +7,7 @@ abbrev pub invariant-loop-sources : goal.invariant-loop-sources
 invariant-loop-sources g l = record {
   sources : map (λ h. h.promise.sources.value) l.handles.items ++ into_iter_items l.sources-iterator ≡ l.fn.lanes.items;
   numbers : (place : ℕ) (h : _) → slice_get l.handles.items place ≡ Some h
-      → (h.promise.numbers.first ≡ place) × (h.promise.numbers.step ≡ vec_len l.fn.lanes) × (h.promise.block ≡ l.fn.plan.block);
+      → (h.promise.numbers.first ≡ place) × (h.promise.numbers.step ≡ vec_len l.fn.lanes) × (h.promise.plan ≡ l.fn.plan);
   sizes : All (λ lane. (1 ≤ vec_len lane) × (vec_len lane ≤ file_limit)) (into_iter_items l.sources-iterator);
   first : l.first ≡ vec_len l.handles;
   step : l.step ≡ vec_len l.fn.lanes;

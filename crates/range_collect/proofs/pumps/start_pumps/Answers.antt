@@ -23,7 +23,7 @@ loop-source-preserved g c =
     record {
       sources = rw items (moved _ hs h c.in-Some.source _ _ _ inv.sources source made.0);
       feeders = rw items (moved _ hs h c.in-Some-next.feeder _ _ _ inv.feeders feeder made.1);
-      blocks = rw items (All-push (λ h. h.promise.block ≡ c.args.plan.block) hs h inv.blocks made.2);
+      plans = rw items (All-push (λ h. h.promise.plan ≡ c.args.plan) hs h inv.plans made.2);
       fresh = All-rest IsNew _ _ _ feeder inv.fresh;
       same = omega (arith, sources, feeders, inv.same);
       room = omega (arith, inv.room, c.push_reserved.ensures.capacity);

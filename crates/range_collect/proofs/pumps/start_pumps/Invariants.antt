@@ -7,7 +7,7 @@ abbrev pub invariant-loop-source : goal.invariant-loop-source
 invariant-loop-source g l = record {
   sources : map (λ h. h.promise.source.value) l.handles.items ++ into_iter_items l.source-iterator ≡ l.fn.sources.items;
   feeders : map (λ h. h.promise.feeder.value) l.handles.items ++ into_iter_items l.feeders ≡ l.fn.feeders.items;
-  blocks : All (λ h. h.promise.block ≡ l.fn.plan.block) l.handles.items;
+  plans : All (λ h. h.promise.plan ≡ l.fn.plan) l.handles.items;
   fresh : All IsNew (into_iter_items l.feeders);
   same : length (into_iter_items l.source-iterator) ≡ length (into_iter_items l.feeders);
   room : vec_len l.fn.sources ≤ vec_capacity l.handles;

@@ -1,7 +1,8 @@
-use Rattle.std.proofs.Common.{◌<◌, arith}
+use Rattle.std.proofs.Common.{◌<◌, arith, rules}
 use Rattle.std.proofs.lemmas.Result.{err_from_is_err_and}
 use Rattle.range_fixes.proofs.ReadingFacts.{leads-end, leads-far, later-end}
 use Rattle.range_fixes.proofs.reader.take_next.Goals as goal
+use Rattle.range_fixes.proofs.reader.take_next.Goals.{in-Some, in-None+in_ok-has_use-in-None}
 
 pub returns-in_err-one-clause-limit : goal.returns-in_err-one-clause-limit
 returns-in_err-one-clause-limit g c = let limit = c.in_err-one.ensures.limit in (omega arith, omega arith)
@@ -22,3 +23,15 @@ returns-else-given-eq0-clause-gives g c =
     let some : 0 < c.args.given = omega arith in
     let end = leads-end c.args.given _ _ _ none in
     leads-far _ _ _ c.loop-one.invariant.unused (rw (later-end c.args.given c.take_record.new.previous some) at end)
+
+pub returns-in_err-has_use-in-None-clause-gives : goal.returns-in_err-has_use-in-None-clause-gives
+returns-in_err-has_use-in-None-clause-gives g c =
+    let p = err_from_is_err_and c.from_residual.result c.from_residual.ensures.1 in
+    let fits = rw c.in-None.is at c.requires.header in
+    rw (p.1, p.2, c.in-None.is, fits.2) (c.in_err-has_use-in-None.ensures.fault c.args.unit)
+
+pub loop-one-init : goal.loop-one-init
+loop-one-init g c = elim c.match-header.branch [
+  | in-Some w ↦ search rules
+  | in-None+in_ok-has_use-in-None w ↦ let leads = w.in_ok-has_use-in-None.ensures.header c.args.unit in search rules
+]

@@ -1,7 +1,7 @@
 use Rattle.std.proofs.Common.{◌∙◌}
 use Rattle.rayon.proofs.ToStd.{slice-AllZip}
 use Rattle.integers_and_lists.proofs.Gathered.{IsResultOf, gathered}
-use Rattle.range_report.proofs.Texts.{IsTextOf, texts_joined}
+use Rattle.range_report.proofs.Texts.{IsText}
 use Rattle.range_report.proofs.writing.animal_texts.Goals as goal
 
 pub returns : goal.returns
@@ -9,5 +9,5 @@ returns g c =
     let animals = c.args.animals.now in
     let results = c.in_ok-collect.ensures in
     let chain = rw (c.map.ensures.base, c.map.ensures.f, c.with_min_len.ensures.base) at results.1 in
-    let each = slice-AllZip chain.0 animals (chain.1 ∙ c.par_iter.ensures) (IsResultOf IsTextOf) results.0 chain.2 in
-    texts_joined animals c.in_ok-collect.field-0 (gathered IsTextOf animals results.0 c.in_ok-collect.field-0 each results.2)
+    let each = slice-AllZip chain.0 animals (chain.1 ∙ c.par_iter.ensures) (IsResultOf (IsText c.args.head.now)) results.0 chain.2 in
+    gathered (IsText c.args.head.now) animals results.0 c.in_ok-collect.field-0 each results.2

@@ -12,4 +12,5 @@ returns-clause-ok c =
       block = c.number_of.ensures.value;
       depth = c.number_of-2.ensures.value;
       workers = c.number_of-3.ensures.value;
+      unit = c.in_ok-unit.ensures.unit;
     }

@@ -23,7 +23,7 @@ returns-in-Ok-Some-clause-reads g c = λ r h.
     let i = c.self.inside in
     let gives = rw c.in-Ok-Some.field-0-is at c.in-Ok-Some.ensures.gives in
     let named = rw c.in-Ok-Some.field-0-is at c.in-Ok-Some.ensures.named in
-    let given = fix-given c.take_next.new.header i.header c.take_next.new.read i.read i.count i.previous c.take_next.new.previous i.records.left c.take_next.new.records.left i.records.stopped c.take_next.new.records.stopped c.in-Ok-Some.fix r gives named.0 named.1 (rw (← c.self.view_is, c.in-Going.is) at h) in
+    let given = fix-given i.unit c.take_next.new.header i.header c.take_next.new.read i.read i.count i.previous c.take_next.new.previous i.records.left c.take_next.new.records.left i.records.stopped c.take_next.new.records.stopped c.in-Ok-Some.fix r gives named.0 named.1 (rw (← c.self.view_is, c.in-Going.is) at h) in
     rw c.in-Going.is given.0
 
 pub returns-in-Ok-Some-clause-text : goal.returns-in-Ok-Some-clause-text
@@ -31,5 +31,5 @@ returns-in-Ok-Some-clause-text g c = λ r h.
     let i = c.self.inside in
     let gives = rw c.in-Ok-Some.field-0-is at c.in-Ok-Some.ensures.gives in
     let named = rw c.in-Ok-Some.field-0-is at c.in-Ok-Some.ensures.named in
-    let given = fix-given c.take_next.new.header i.header c.take_next.new.read i.read i.count i.previous c.take_next.new.previous i.records.left c.take_next.new.records.left i.records.stopped c.take_next.new.records.stopped c.in-Ok-Some.fix r gives named.0 named.1 (rw (← c.self.view_is, c.in-Going.is) at h) in
+    let given = fix-given i.unit c.take_next.new.header i.header c.take_next.new.read i.read i.count i.previous c.take_next.new.previous i.records.left c.take_next.new.records.left i.records.stopped c.take_next.new.records.stopped c.in-Ok-Some.fix r gives named.0 named.1 (rw (← c.self.view_is, c.in-Going.is) at h) in
     rw (← c.self.view_is) given.1

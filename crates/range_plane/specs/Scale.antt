@@ -1,0 +1,10 @@
+-- The units in which coordinates are counted.
+use Rattle.std.specs.Prelude.{ℕ}
+use Rattle.range_plane.specs.Plane.{coordinate_limit}
+use Rattle.range_plane.specs.declared.scale.Scale.{Scale}
+use Rattle.range_plane.specs.declared.scale.Scale.TheVariants.{Metre, Decimetre}
+
+-- the greatest easting and northing of a fix that is read from a file
+abbrev pub limit : Scale → ℕ
+limit Metre = 16777216
+limit Decimetre = coordinate_limit

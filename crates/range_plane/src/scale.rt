@@ -1,0 +1,38 @@
+// The units in which coordinates are counted.
+
+ghost use Rattle.std.specs.Prelude.{◌≡◌, pos};
+ghost use Rattle.range_plane.specs.Plane.{IsCoordinate};
+ghost use Rattle.range_plane.specs.Scale.{limit};
+
+use crate::point::COORDINATE_LIMIT;
+use std::fmt;
+
+/// The unit in which the eastings and northings of a run are counted.
+#[derive(Clone, Copy, PartialEq, Eq, Debug)]
+pub enum Scale {
+    Metre,
+    Decimetre,
+}
+
+impl Scale {
+    /// The greatest easting and northing of a fix that is read from a file: 2^24 metres, or
+    /// [`COORDINATE_LIMIT`] decimetres. UTM northings, at most 10,000 km, fit.
+    pub fn limit(self) -> i64
+        ensures value { result ≡ pos (limit self) }
+        ensures within { IsCoordinate result }
+    {
+        match self {
+            Scale::Metre => 16_777_216,
+            Scale::Decimetre => COORDINATE_LIMIT,
+        }
+    }
+}
+
+impl fmt::Display for Scale {
+    fn fmt<W: fmt::Write>(&self, f: &mut fmt::Formatter<W>) -> fmt::Result {
+        match *self {
+            Scale::Metre => write!(f, "metres"),
+            Scale::Decimetre => write!(f, "decimetres"),
+        }
+    }
+}
