@@ -7,6 +7,6 @@ pub struct Row {
     pub second: u64,
     /// How many corners the polygon of the fixes up to it has.
     pub corners: u32,
-    /// The doubled area within that polygon, in square metres.
+    /// The doubled area within that polygon, in squares of the unit.
     pub area2: u128,
 }

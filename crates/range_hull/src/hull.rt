@@ -142,7 +142,7 @@ impl<A: Allocator> OnlineHull<A> {
         (self.lower.len() + between) as u32
     }
 
-    /// The doubled area within the polygon, in square metres: 0 below three corners.
+    /// The doubled area within the polygon, in squares of the unit: 0 below three corners.
     pub fn area2(&self) -> u128
         ensures { pos result ≡ area2 self.now.corners }
     {

@@ -9,8 +9,7 @@ use crate::lanes::Lanes;
 use range_plane::Columns;
 use std::alloc::Allocator;
 
-/// The box of some points: the least and the greatest of their eastings and of their northings, in
-/// whole metres.
+/// The box of some points: the least and the greatest of their eastings and of their northings.
 #[derive(Clone, Copy, PartialEq, Eq, Debug)]
 pub struct Extent {
     pub min_e: i64,

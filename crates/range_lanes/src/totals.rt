@@ -9,7 +9,7 @@ use crate::lanes::Lanes;
 use range_plane::Columns;
 use std::alloc::Allocator;
 
-/// The sum of the eastings and the sum of the northings, in metres.
+/// The sum of the eastings and the sum of the northings.
 pub fn sums<A: Allocator>(cols: &Columns<A>) -> (u64, u64)
     requires { length cols.now.points ≤ fix_limit }
     ensures eastings { pos result.0 ≡ total (map (λ p. p.e) cols.now.points) }

@@ -9,7 +9,7 @@ use range_plane::{Columns, OutOfMemory};
 use std::alloc::Allocator;
 
 /// A percent polygon: its level, how many points it keeps, and how many corners and which doubled area, in
-/// square metres, their minimum convex polygon has.
+/// squares of the unit, their minimum convex polygon has.
 #[derive(Clone, Copy, PartialEq, Eq, Debug)]
 pub struct PercentRow {
     pub level: u8,
