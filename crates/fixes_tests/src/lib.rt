@@ -5,6 +5,8 @@
 #[cfg(test)]
 mod files;
 #[cfg(test)]
+mod texts;
+#[cfg(test)]
 mod units;
 #[cfg(test)]
 mod use_column;
