@@ -1,4 +1,5 @@
-use Rattle.std.proofs.Common.{◌≡◌, ◌-◌, length, take, drop, arith, sym, length-drop}
+use Rattle.std.proofs.Common.{rules, ◌≡◌, ◌-◌, length, take, drop, arith, sym, length-drop}
+use Rattle.std.proofs.lemmas.Grind.{common_steps}
 use Rattle.std.proofs.KnownBytes.{Appends-trans}
 use Rattle.std.proofs.Math.Seq.{take-add, take-length}
 use Rattle.range_run.proofs.output.write_text.Goals as goal
@@ -13,3 +14,12 @@ loop-at-preserved g c =
     let bytes = rw whole at c.in-Ok.ensures.bytes in
     let bound = rw whole at c.in-Ok.ensures.bound in
     (omega (arith, length-drop at text, bound), rw (take-add at c.in-Ok.n text) (Appends-trans _ _ _ _ _ inv.1 bytes))
+
+pub returns-clause-whole : goal.returns-clause-whole
+returns-clause-whole g c = grind (arith, common_steps)
+
+pub returns-clause-fault : goal.returns-clause-fault
+returns-clause-fault g c = search rules
+
+pub returns-in-Ok-eq0-clause-whole : goal.returns-in-Ok-eq0-clause-whole
+returns-in-Ok-eq0-clause-whole g c = search rules
