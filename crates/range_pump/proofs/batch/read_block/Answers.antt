@@ -1,4 +1,4 @@
-use Rattle.std.proofs.Common.{arith}
+use Rattle.std.proofs.Common.{arith, rules}
 use Rattle.range_pump.proofs.Readings.{gives_more}
 use Rattle.range_pump.proofs.batch.read_block.Goals as goal
 
@@ -13,3 +13,9 @@ loop-number-preserved g c =
       room = omega (arith, inv.room, c.push_reserved.ensures.capacity);
       limit = c.next.ensures.limit;
     }
+
+pub returns-in-Err-clause-fixes : goal.returns-in-Err-clause-fixes
+returns-in-Err-clause-fixes g c = search rules
+
+pub returns-in-Err-clause-end : goal.returns-in-Err-clause-end
+returns-in-Err-clause-end g c = search rules

@@ -1,4 +1,5 @@
 use Rattle.std.proofs.Common.{◌≡◌, ◌∙◌, ◌+◌, Ok, Err, ap, arith, rules}
+use Rattle.range_fixes.specs.Reading.{reading_from}
 use Rattle.range_pump.proofs.Feedings.{fed_end, fed_fault, fed_gone, way_more, way_none}
 use Rattle.range_pump.proofs.pumping.send_fixes.Goals as goal
 
@@ -8,7 +9,7 @@ loop-reader-init g c =
     record {
       limit = omega (arith, new.count);
       count = 0;
-      way = way_none _ c.args.block c.args.feeder.now c.new-reader.result c.requires.feeder new.count new.reads;
+      way = way_none (reading_from {S = g.row.S.Denot} g.S.Read.remaining c.args.unit c.args.source) c.args.block c.args.feeder.now c.new-reader.result c.requires.feeder new.count new.reads;
     }
 
 pub loop-reader-preserved : goal.loop-reader-preserved
