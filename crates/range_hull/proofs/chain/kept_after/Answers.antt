@@ -28,3 +28,6 @@ loop-kept-preserved c =
       (λ h. omega (arith, linear, gained, value, after-step side L c.args.p k within, i.5 h)),
       (λ z. absurd (omega (arith, z, i.0))),
     )
+
+pub returns-after-loop-kept-clause-bends : goal.returns-after-loop-kept-clause-bends
+returns-after-loop-kept-clause-bends c = λ h. absurd (omega arith)

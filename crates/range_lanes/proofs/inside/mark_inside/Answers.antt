@@ -7,3 +7,6 @@ pub loop-i-preserved : goal.loop-i-preserved
 loop-i-preserved g c =
     let point = sym (get_or_from_slice_get c.args.cols.now.points c.loop-i.i c.at.result c.at.result c.at.ensures) in
     grind (arith, common_steps)
+
+pub returns : goal.returns
+returns g c = grind (arith, common_steps)

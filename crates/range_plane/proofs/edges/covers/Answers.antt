@@ -1,4 +1,4 @@
-use Rattle.std.proofs.Common.{◌≡◌, sym, ◌<◌, length, subst, arith}
+use Rattle.std.proofs.Common.{◌≡◌, sym, ◌<◌, length, subst, arith, rules}
 use Rattle.std.specs.Bool.{OnFalse, OnTrue}
 use Rattle.std.proofs.lemmas.Bool.{eqb-false, eqb-true}
 use Rattle.std.proofs.lemmas.List.{get_or_read}
@@ -31,3 +31,6 @@ returns-then-not-comes_before-2 c =
     (subst (λ (x : Position). IsAtMost x c.args.q) e c.if-not-comes_before-2.ensures.no)
     (subst (λ (x : Position). OnTrue greater.result (IsBefore x c.args.q)) e greater.ensures.yes)
     (subst (λ (x : Position). OnFalse greater.result (IsAtMost c.args.q x)) e greater.ensures.no)
+
+pub is_left_of_both-requires-clause-first : goal.is_left_of_both-requires-clause-first
+is_left_of_both-requires-clause-first c = search rules

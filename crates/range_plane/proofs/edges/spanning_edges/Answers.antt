@@ -1,5 +1,6 @@
 use Rattle.std.proofs.Common.{◌≡◌, subst, ℕ, ◌+◌, ◌/◌, ◌<◌, length, arith}
 use Rattle.std.specs.Bool.{OnFalse, OnTrue}
+use Rattle.std.proofs.lemmas.Grind.{common_steps}
 use Rattle.std.proofs.lemmas.List.{get_or_read}
 use Rattle.range_plane.specs.Edges.{at}
 use Rattle.range_plane.specs.Plane.{Position, origin, IsAtMost, IsBefore}
@@ -8,6 +9,9 @@ use Rattle.range_plane.proofs.Searching.{around, halved}
 use Rattle.range_plane.proofs.Spanning.{before_through, through_before}
 use Rattle.range_plane.proofs.Tops.{falls_from_top, rises_to_top}
 use Rattle.range_plane.proofs.edges.spanning_edges.Goals as goal
+
+pub loop-lower_size-init : goal.loop-lower_size-init
+loop-lower_size-init c = grind (arith, common_steps)
 
 pub loop-lower_size-preserved : goal.loop-lower_size-preserved
 loop-lower_size-preserved c =

@@ -1,4 +1,4 @@
-use Rattle.std.proofs.Common.{◌≡◌, Bool, true, false, count_by, refl, sym, ◌∙◌}
+use Rattle.std.proofs.Common.{◌≡◌, Bool, true, false, count_by, refl, rules, sym, ◌∙◌}
 use Rattle.std.specs.Prelude.{IsTrue, ◌↔◌}
 use Rattle.range_plane.specs.Covering.{is_covered}
 use Rattle.range_plane.specs.Plane.{Position}
@@ -9,6 +9,9 @@ same_test true true P h k = refl
 same_test true false P h k = sym (k.1 (h.0 refl))
 same_test false true P h k = h.1 (k.0 refl)
 same_test false false P h k = refl
+
+pub returns-clause-corners : goal.returns-clause-corners
+returns-clause-corners g c = search rules
 
 pub returns-clause-set : goal.returns-clause-set
 returns-clause-set g c = λ S polygon.

@@ -1,7 +1,10 @@
-use Rattle.std.proofs.Common.{◌∷◌, subst, sym}
+use Rattle.std.proofs.Common.{◌∷◌, ◌+◌, ap, subst, sym}
 use Rattle.range_plane.specs.Polygon.{IsPolygon}
 use Rattle.range_hull.specs.Hull.{Hull}
 use Rattle.range_hull.proofs.hull.OnlineHull.skip.Goals as goal
+
+pub returns-clause-counted : goal.returns-clause-counted
+returns-clause-counted g c = ap (λ (h : Hull). record h { skipped = h.skipped + 1 }) c.self.view_is
 
 pub returns-clause-set : goal.returns-clause-set
 returns-clause-set g c = λ S polygon.
