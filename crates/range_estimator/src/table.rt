@@ -106,9 +106,10 @@ impl<A: Allocator> Table<A> {
         corners_cover_the_set();
         self.columns.push_reserved(fix.at);
         add_point(&mut self.hull, fix.at, covered);
+        let corners = self.hull.corner_count();
         self.rows.push_reserved(Row {
             second: fix.second,
-            corners: self.hull.corner_count(),
+            corners,
             area2: self.hull.area2(),
         });
     }

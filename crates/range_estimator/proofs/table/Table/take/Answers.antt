@@ -17,14 +17,14 @@ estimate : (g : given.Over) (c : goal.After-push_reserved-2 g) → IsEstimate (f
 estimate g c =
     rw (c.push_reserved-2.ensures.items, c.push_reserved.ensures.points)
     (estimate_pushed c.covering_is_reaching.ensures c.covering_members_are_corners.ensures c.corners_cover_the_set.ensures c.self.inside.rows.items c.self.inside.columns.points _ c.args.fix.at c.self.inside.hull.corners c.add_point.new.hull.corners
-    c.self.invariant.count c.self.invariant.estimate c.add_point.ensures.set (sym c.corner_count.ensures) (sym c.area2.ensures))
+    c.self.invariant.count c.self.invariant.estimate c.add_point.ensures.set (sym c.corner_count-corners.ensures) (sym c.area2.ensures))
 
 pub returns-clause-estimate : goal.returns-clause-estimate
 returns-clause-estimate g c = estimate g c
 
 pub invariant_of-self : goal.invariant_of-self
 invariant_of-self g c =
-    let row : Row = record { second = c.args.fix.second; corners = c.corner_count.result; area2 = c.area2.result } in
+    let row : Row = record { second = c.args.fix.second; corners = c.corner_count-corners.result; area2 = c.area2.result } in
     let more = length_push c.self.inside.rows.items row in record {
       count = rw (c.push_reserved-2.ensures.items, c.push_reserved.ensures.points) (omega (arith, c.self.invariant.count, more, length_push c.self.inside.columns.points c.args.fix.at));
       counted = rw c.push_reserved-2.ensures.items (omega (arith, c.self.invariant.counted, c.add_point.ensures.points, more));
