@@ -35,3 +35,15 @@ loop-one-init g c = elim c.match-header.branch [
   | in-Some w ↦ search rules
   | in-None+in_ok-has_use-in-None w ↦ let leads = w.in_ok-has_use-in-None.ensures.header c.args.unit in search rules
 ]
+
+pub returns-then-given-eq0-clause-end : goal.returns-then-given-eq0-clause-end
+returns-then-given-eq0-clause-end g c = search rules
+
+pub loop-one-smaller : goal.loop-one-smaller
+loop-one-smaller g c = search rules
+
+pub loop-one-preserved : goal.loop-one-preserved
+loop-one-preserved g c = search rules
+
+pub returns-then-one-clause-gives : goal.returns-then-one-clause-gives
+returns-then-one-clause-gives g c = search rules

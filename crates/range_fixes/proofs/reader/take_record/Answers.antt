@@ -1,4 +1,4 @@
-use Rattle.std.proofs.Common.{◌≡◌, ◌<◌, ◌∙◌, refl, sym, arith}
+use Rattle.std.proofs.Common.{◌≡◌, ◌<◌, ◌∙◌, refl, sym, arith, rules}
 use Rattle.std.proofs.lemmas.Bool.{false≢true}
 use Rattle.std.proofs.lemmas.Result.{err_from_is_err_and}
 use Rattle.range_plane.specs.Fix.{fix_limit}
@@ -53,3 +53,6 @@ returns-clause-within g c =
     let passed = rw (c.current.ensures, c.as_ref.ensures.value) at c.in_ok-one.ensures in
     let noted = rw (c.name_of.ensures, c.current-2.ensures) at c.in_ok-note.ensures.ok in
     rw noted (then-within _ _ _ c.requires.within (passed-within _ _ _ _ _ _ (sym passed)))
+
+pub returns-clause-named : goal.returns-clause-named
+returns-clause-named g c = search rules

@@ -1,4 +1,4 @@
-use Rattle.std.proofs.Common.{◌≡◌, ℕ, List, ap, sym, ◌∙◌, subst}
+use Rattle.std.proofs.Common.{◌≡◌, ℕ, List, ap, sym, ◌∙◌, subst, rules}
 use Rattle.std.specs.Prelude.{All, Contains, IfSome, IfNone}
 use Rattle.crossbeam_channel.specs.Claims.{view}
 use Rattle.crossbeam_channel.specs.Ends.{receives_on}
@@ -85,3 +85,9 @@ returns-clause-files g c =
     let r = c.try_recv_as in
     let files = ap (λ (v : PassView). v.files) c.compare.ensures.pass.0 ∙ received_files _ p r.new.pass r.result r.ensures.rule ∙ ap (λ (v : PassView). v.files) c.end_all.ensures.transcripts ∙ ap (λ (t : TakerView). t.files) c.taker.view_is in
     subst (λ (x : List FeederView × List ℕ). AreForFiles x.0 x.1) (λ i. (sym c.end_all.ensures.feeders i, sym files i)) (ended_for_files c.args.feeders.items c.args.taker.files c.requires.files)
+
+pub returns-clause-feeders : goal.returns-clause-feeders
+returns-clause-feeders g c = search rules
+
+pub returns-clause-taker : goal.returns-clause-taker
+returns-clause-taker g c = search rules

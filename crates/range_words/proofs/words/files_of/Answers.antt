@@ -1,5 +1,6 @@
 use Rattle.std.proofs.Common.{◌∙◌, ℕ, List, codes, length, map, ap, arith, refl, Global}
 use Rattle.std.specs.Prelude.{string_bytes}
+use Rattle.std.proofs.lemmas.Grind.{common_steps}
 use Rattle.std.proofs.lemmas.List.{length-map}
 use Rattle.std.specs.Borrow.{Bor}
 use Rattle.clap.specs.Words.{found_of}
@@ -25,3 +26,6 @@ pub returns-in-Ok-clause-files : goal.returns-in-Ok-clause-files
 returns-in-Ok-clause-files c =
     let f = found_of c.args.matches.now in
     c.in-Ok.ensures ∙ some_texts c.get_strs.result c.in-Some.paths _ (c.get_strs.ensures ∙ raw_values-rows f (codes "FILE")) c.in-Some.is
+
+pub returns-in-Ok-clause-few : goal.returns-in-Ok-clause-few
+returns-in-Ok-clause-few c = grind (arith, common_steps)

@@ -14,3 +14,6 @@ returns-clause-ok c =
       workers = c.number_of-3.ensures.value;
       unit = c.in_ok-unit.ensures.unit;
     }
+
+pub returns-in-Err-OutOfMemory-clause-err : goal.returns-in-Err-OutOfMemory-clause-err
+returns-in-Err-OutOfMemory-clause-err c = search rules

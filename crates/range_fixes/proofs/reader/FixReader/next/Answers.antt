@@ -1,4 +1,4 @@
-use Rattle.std.proofs.Common.{◌≡◌, Some, None, true, refl}
+use Rattle.std.proofs.Common.{◌≡◌, Some, None, true, refl, rules}
 use Rattle.range_fixes.specs.Progress.{is_unhurt}
 use Rattle.range_fixes.specs.Reading.{no_more}
 use Rattle.range_fixes.proofs.ProgressFacts.{at-stop, fix-given}
@@ -33,3 +33,24 @@ returns-in-Ok-Some-clause-text g c = λ r h.
     let named = rw c.in-Ok-Some.field-0-is at c.in-Ok-Some.ensures.named in
     let given = fix-given i.unit c.take_next.new.header i.header c.take_next.new.read i.read i.count i.previous c.take_next.new.previous i.records.left c.take_next.new.records.left i.records.stopped c.take_next.new.records.stopped c.in-Ok-Some.fix r gives named.0 named.1 (rw (← c.self.view_is, c.in-Going.is) at h) in
     rw (← c.self.view_is) given.1
+
+pub invariant_of-self : goal.invariant_of-self
+invariant_of-self g c = search rules
+
+pub returns-in-Ok-Some-clause-moves : goal.returns-in-Ok-Some-clause-moves
+returns-in-Ok-Some-clause-moves g c = search rules
+
+pub returns-in-Ok-Some-clause-limit : goal.returns-in-Ok-Some-clause-limit
+returns-in-Ok-Some-clause-limit g c = search rules
+
+pub returns-in-Ok-Some-clause-records : goal.returns-in-Ok-Some-clause-records
+returns-in-Ok-Some-clause-records g c = search rules
+
+pub invariant_of-self-in-Ok-None : goal.invariant_of-self-in-Ok-None
+invariant_of-self-in-Ok-None g c = search rules
+
+pub returns-in-Ok-None-clause-moves : goal.returns-in-Ok-None-clause-moves
+returns-in-Ok-None-clause-moves g c = search rules
+
+pub returns-in-Ok-None-clause-reads : goal.returns-in-Ok-None-clause-reads
+returns-in-Ok-None-clause-reads g c = search rules

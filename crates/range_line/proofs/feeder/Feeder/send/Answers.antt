@@ -1,4 +1,4 @@
-use Rattle.std.proofs.Common.{◌≡◌, ◌+◌, ◌∙◌, Bool, ℕ, length, ap, sym, subst, arith}
+use Rattle.std.proofs.Common.{◌≡◌, ◌+◌, ◌∙◌, Bool, ℕ, length, ap, sym, subst, arith, rules}
 use Rattle.crossbeam_channel.specs.Ends.{sends_on, ruled_capacity}
 use Rattle.range_line.specs.Lines.{FeederView}
 use Rattle.range_line.specs.Passes.{IsFeeding}
@@ -18,3 +18,12 @@ invariant_of-self g c =
     let open_ = ap (λ (x : FeederView). x.closed) c.self.view_is ∙ c.requires.live.0 in
     let count : s.sent_fixes + length c.new.result ≡ s.sent_fixes + c.len-count.result = omega (arith, ap length c.new.ensures, c.len-count.ensures) in
     (c.in-Ok.ensures.channel.0, subst (λ (t : Bool × ℕ). IsFeeding c.send_as.new.pass (ruled_capacity (sends_on s.sender)) s.file t.0 t.1) (λ i. (sym open_ i, count i)) (pushed s.pass _ s.file s.closed s.sent_fixes _ _ _ next c.send_as.new.pass c.in-Ok.ensures.rule))
+
+pub returns-in-Ok-clause-sent : goal.returns-in-Ok-clause-sent
+returns-in-Ok-clause-sent g c = search rules
+
+pub invariant_of-self-in-Err : goal.invariant_of-self-in-Err
+invariant_of-self-in-Err g c = search rules
+
+pub returns-in-Err-clause-sent : goal.returns-in-Err-clause-sent
+returns-in-Err-clause-sent g c = search rules

@@ -1,4 +1,4 @@
-use Rattle.std.proofs.Common.{ap}
+use Rattle.std.proofs.Common.{ap, rules}
 use Rattle.range_line.specs.Lines.{TakerView}
 use Rattle.range_line.proofs.Passes.{pops, learns, received, received_of_line}
 use Rattle.range_line.proofs.taker.Taker.take.Goals as goal
@@ -13,3 +13,6 @@ pub returns-clause-of_line : goal.returns-clause-of_line
 returns-clause-of_line g c =
     let files = ap (λ (t : TakerView). t.files) c.self.view_is in
     rw (c.ok.ensures.value, ← files) (received_of_line _ c.self.inside.pass c.recv_as.new.pass c.recv_as.result c.recv_as.ensures.rule)
+
+pub returns-clause-taken : goal.returns-clause-taken
+returns-clause-taken g c = search rules
