@@ -41,3 +41,6 @@ loop-followed-preserved c =
       entries = rw push.items (entries_moved tracks.items c.in-Ok.track entry rest _ c.in-Ok.ensures (ap (λ l. entries_in tracks.items ++ l) (sym entries) ∙ inv.entries));
       bad = bad_behind (vec_len tracks) _ entry rest _ _ c.in-Ok.ensures push.len ∙ (ap (first_bad_from (vec_len tracks)) (sym entries) ∙ inv.bad);
     }
+
+pub returns-in-Err-clause-fault : goal.returns-in-Err-clause-fault
+returns-in-Err-clause-fault c = search rules

@@ -1,5 +1,6 @@
-use Rattle.std.proofs.Common.{◌++◌, ◌∷◌, [], map, length, arith, sym, ap, ◌∙◌, append_assoc}
-use Rattle.std.proofs.lemmas.List.{length_push}
+use Rattle.std.proofs.Common.{◌≡◌, ◌++◌, ◌∷◌, [], false, Some, map, length, slice_get, arith, rules, sym, ap, ◌∙◌, subst, append_assoc}
+use Rattle.std.proofs.lemmas.List.{append-nil, length_push, nil_from_length}
+use Rattle.std.specs.Vec.Iter.{into_iter_items}
 use Rattle.range_fixes.specs.Reading.{reading_from}
 use Rattle.range_collect.specs.Lanes.{IsLaneFollowed}
 use Rattle.integers_and_lists.proofs.Places.{twos_pushed}
@@ -22,4 +23,16 @@ loop-handle-preserved-in-Ok g c =
             rw a.items (twos_pushed (λ h r. IsLaneFollowed h.promise.numbers.first h.promise.numbers.step h.promise.plan.block (map (reading_from g.S.Read.remaining h.promise.plan.unit) h.promise.sources.value.items) r.items)
                 j.0 c.loop-handle.all.items h c.in-Ok.results j.2 j.3 c.in-Ok.ensures),
           );
+    }
+
+pub returns-else-refused : goal.returns-else-refused
+returns-else-refused g c =
+    let fine : c.loop-handle.refused ≡ false = search rules in
+    let j = c.loop-handle.invariant.joined fine in
+    let none : length (into_iter_items c.loop-handle.handle-iterator) ≡ 0 = search rules in
+    let done = j.1 ∙ (ap (λ l. j.0 ++ l) (nil_from_length _ none) ∙ append-nil j.0) in
+    let count = ap length done in
+    record {
+      count = omega (arith, count, j.2, c.args.handles.ok.0, c.loop-handle.all.ok.0);
+      followed = λ place h r in_handles. j.3 place h r (subst (λ l. slice_get l place ≡ Some h) done in_handles);
     }

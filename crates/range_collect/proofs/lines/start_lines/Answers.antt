@@ -1,9 +1,26 @@
-use Rattle.std.proofs.Common.{◌≡◌, ◌≤◌, All, length, arith, ap, ◌∙◌, subst, vec_len, inl, inr, Vec}
+use Rattle.std.proofs.Common.{◌≡◌, ◌≤◌, All, length, arith, refl, ap, ◌∙◌, subst, vec_len, inl, inr, Vec}
 use Rattle.std.proofs.lemmas.List.Elements.{All-head, All-rest}
+use Rattle.std.proofs.lemmas.Option.{slice_get_within}
 use Rattle.range_plan.specs.Limits.{file_limit}
 use Rattle.range_collect.specs.declared.numbers.Numbers.{Numbers}
 use Rattle.integers_and_lists.proofs.Places.{before_or_last, moved}
 use Rattle.range_collect.proofs.lines.start_lines.Goals as goal
+
+pub loop-sources-init : goal.loop-sources-init
+loop-sources-init g c =
+    let all = c.into_iter-sources-iterator.ensures.into_iter_gives.0 in
+    let none = c.requires.room.0 in
+    let count = ap length all in
+    let zero = ap length none in
+    record {
+      sources = rw (none, all) refl;
+      numbers = λ place h is. let within = slice_get_within _ place h is in absurd (omega (arith, within, zero));
+      sizes = rw all c.requires.sources;
+      first = omega (arith, zero, c.args.handles.now.ok.0);
+      step = omega (arith, c.args.lanes.ok.0);
+      room = c.requires.room.1;
+      count = omega (arith, count, zero, c.args.handles.now.ok.0, c.args.lanes.ok.0);
+    }
 
 pub start_line-requires-clause-some : goal.start_line-requires-clause-some
 start_line-requires-clause-some g c = λ κs live.

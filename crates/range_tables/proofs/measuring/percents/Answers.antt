@@ -1,5 +1,6 @@
-use Rattle.std.proofs.Common.{◌+◌, ◌<◌, ◌++◌, ◌∷◌, [], ℕ, List, length, get_or, take}
+use Rattle.std.proofs.Common.{◌+◌, ◌<◌, ◌++◌, ◌∷◌, [], ℕ, List, length, get_or, take, arith}
 use Rattle.std.specs.List.{AllZip}
+use Rattle.std.proofs.lemmas.Grind.{common_steps}
 use Rattle.std.proofs.lemmas.List.{take_more}
 use Rattle.std.proofs.lemmas.Slice.Zip.{all_zipped_more}
 use Rattle.range_plane.specs.Plane.{Position}
@@ -17,3 +18,6 @@ pub loop-level-preserved : goal.loop-level-preserved
 loop-level-preserved c =
     rw c.in_ok-push.ensures.items
     (row_more c.args.fixes.now.points c.args.levels.now c.loop-level.rows.items c.loop-level.level-index c.in_ok-row.row c.loop-level-test.true c.loop-level.invariant (c.in_ok-row.ensures.row c.args.fixes.now.points c.in_ok-ranking.ensures))
+
+pub returns : goal.returns
+returns c = grind (arith, common_steps)

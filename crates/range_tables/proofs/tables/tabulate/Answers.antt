@@ -1,4 +1,4 @@
-use Rattle.std.proofs.Common.{◌≡◌, ap, ◌∙◌, length, map, arith}
+use Rattle.std.proofs.Common.{◌≡◌, refl, ap, ◌∙◌, length, map, arith}
 use Rattle.std.proofs.lemmas.List.{length-map}
 use Rattle.std.proofs.lemmas.Slice.Zip.{AllZip-long}
 use Rattle.range_tables.specs.Overlaps.{fixes_in, row_of}
@@ -32,3 +32,6 @@ returns-clause-overlaps g c =
     let rows : c.in_ok-overlaps.overlaps ≡ map (row_of (fixes_in measured)) (pairs (length measured)) = rw c.deref.ensures.value at c.in_ok-overlaps.ensures in
     let same = AllZip-long (IsMeasuredOf c.args.levels.now) tracks measured each in
     rw (rows, same) (overlaps_of c.args.levels.now tracks measured (length tracks) each)
+
+pub returns-clause-unit : goal.returns-clause-unit
+returns-clause-unit g c = refl
