@@ -128,13 +128,17 @@ fn bad_levels(rt: HostRuntime) {
     }
 }
 
+// One file more is refused, and before levels that are bad.
 #[test]
 fn sixty_four_files(rt: HostRuntime) {
     let alloc = rt.alloc();
-    let mut words = vec![in alloc; "x"; 65].expect(&rt, "memory");
-    let refused = read(&rt, alloc, words.as_slice());
-    assert!(rt; matches!(&refused, Err(WordFault::TooManyFiles)));
-    let _ = words.pop();
+    for levels in ["--percent=50", "--percent=0"] {
+        let mut words = vec![in alloc; "x"; 65].expect(&rt, "memory");
+        words.push(levels).expect(&rt, "memory");
+        let refused = read(&rt, alloc, words.as_slice());
+        assert!(rt; matches!(&refused, Err(WordFault::TooManyFiles)));
+    }
+    let words = vec![in alloc; "x"; 64].expect(&rt, "memory");
     let read = read(&rt, alloc, words.as_slice()).expect(&rt, "words");
     assert!(rt; read.files.len() == 64);
 }

@@ -1,5 +1,5 @@
 -- What the program makes of its words, and why it refuses them.
-use Rattle.std.specs.Prelude.{◌≡◌, ◌≢◌, ◌≤◌, ◌<◌, ◌⊎◌, ⊤, All, List, [], length, map, codes, Some, None, string_bytes}
+use Rattle.std.specs.Prelude.{◌≡◌, ◌≢◌, ◌≤◌, ◌<◌, ◌⊎◌, ⊤, All, IsSome, List, [], length, map, codes, Some, None, string_bytes}
 use Rattle.clap.specs.Words.{IsAmong, Kinds, Row, Text, fault_of}
 use Rattle.clap.specs.declared.error.ErrorKind.{ErrorKind}
 use Rattle.clap.specs.declared.error.ErrorKind.TheVariants as kind
@@ -23,17 +23,25 @@ pub record AreFrom (rows : List Row) (words : Words) : Type 0 where
   pub workers : words.options.plan.workers ≡ number_in (codes "workers") 2 rows
   pub unit : unit_in rows ≡ Some words.options.plan.unit
 
+-- `clap` refuses none of the words, and they say this
 abbrev pub AreWordsOf : List Text → Words → Type 0
-AreWordsOf words read = AreFrom (found_in words) read
+AreWordsOf words read = (fault_of homerange words ≡ []) × AreFrom (found_in words) read
 
--- why words are refused, where `clap` refuses them by these kinds, or else finds these rows
+-- why the files are refused
+abbrev pub IsFilesRefusal : List Row → WordFault → Type 0
+IsFilesRefusal rows OutOfMemory = ⊤
+IsFilesRefusal rows TooManyFiles = file_limit < length (files_in rows)
+IsFilesRefusal rows fault = ⊥
+
+-- why words are refused, where `clap` refuses them by these kinds, or else finds these rows: by `clap`, then for
+-- the unit, then for the files, and last for the levels
 abbrev pub IsRefusal : Kinds → List Row → WordFault → Type 0
 IsRefusal kinds rows OutOfMemory = ⊤
 IsRefusal kinds rows (Help text) = IsAmong kind.DisplayHelp kinds
 IsRefusal kinds rows (BadWords text) = ((k : ErrorKind) × IsAmong k kinds × (k ≢ kind.DisplayHelp)) ⊎ ((kinds ≡ []) × (unit_in rows ≡ None))
-IsRefusal kinds rows TooManyFiles = (kinds ≡ []) × (file_limit < length (files_in rows))
+IsRefusal kinds rows TooManyFiles = (kinds ≡ []) × IsSome (unit_in rows) × (file_limit < length (files_in rows))
 IsRefusal kinds rows (BadLevels fault) =
-    (kinds ≡ []) × IsRefusedFor fault (parts (levels_in rows)) × (fault ≢ level_fault.OutOfMemory)
+    (kinds ≡ []) × IsSome (unit_in rows) × (length (files_in rows) ≤ file_limit) × IsRefusedFor fault (parts (levels_in rows)) × (fault ≢ level_fault.OutOfMemory)
 
 abbrev pub IsRefusalOf : List Text → WordFault → Type 0
 IsRefusalOf words fault = IsRefusal (fault_of homerange words) (found_in words) fault

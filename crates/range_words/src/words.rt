@@ -4,7 +4,7 @@ ghost use Rattle.std.specs.Prelude.{◌≡◌, ◌≤◌, [], IfErr, IfOk, Some,
 ghost use Rattle.clap.specs.Words.{first_of, found_of, kind_of, rows_of};
 ghost use Rattle.range_plan.specs.Limits.{block_limit, depth_limit, file_limit, worker_limit};
 ghost use Rattle.range_words.specs.CommandLine.{HasNumber, files_in, number_in, unit_in};
-ghost use Rattle.range_words.specs.WordList.{AreFrom, AreWordsOf, IsRefusal, IsRefusalOf, SpeaksFor};
+ghost use Rattle.range_words.specs.WordList.{AreFrom, AreWordsOf, IsFilesRefusal, IsRefusal, IsRefusalOf, SpeaksFor};
 
 use crate::command::found;
 use crate::defaults::{
@@ -117,7 +117,7 @@ fn refusal(alloc: Global, error: &Error) -> WordFault
 fn files_of(alloc: Global, matches: &ArgMatches) -> Result<Vec<String>, WordFault>
     ensures files { IfOk result (λ files. map string_bytes files.items ≡ files_in (rows_of (found_of matches.now))) }
     ensures few { IfOk result (λ files. length files.items ≤ file_limit) }
-    ensures err { IfErr result (IsRefusal [] (rows_of (found_of matches.now))) }
+    ensures err { IfErr result (IsFilesRefusal (rows_of (found_of matches.now))) }
 {
     let Some(paths) = matches.get_strs("FILE") else {
         return Ok(Vec::new(alloc));

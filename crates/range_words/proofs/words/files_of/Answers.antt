@@ -1,4 +1,4 @@
-use Rattle.std.proofs.Common.{◌∙◌, ℕ, List, codes, length, map, ap, arith, refl, Global}
+use Rattle.std.proofs.Common.{◌∙◌, ℕ, List, codes, length, map, ap, arith, Global}
 use Rattle.std.specs.Prelude.{string_bytes}
 use Rattle.std.proofs.lemmas.Grind.{common_steps}
 use Rattle.std.proofs.lemmas.List.{length-map}
@@ -20,7 +20,7 @@ returns-then-paths-clause-err c =
     let files = c.in-Some.paths in
     let texts = some_texts c.get_strs.result files _ (c.get_strs.ensures ∙ raw_values-rows f (codes "FILE")) c.in-Some.is in
     let same = length-map files.now (λ (v : Bor (List ℕ)). v.now) in
-    (refl, omega (arith, ap length texts))
+    omega (arith, ap length texts)
 
 pub returns-in-Ok-clause-files : goal.returns-in-Ok-clause-files
 returns-in-Ok-clause-files c =

@@ -1,0 +1,135 @@
+"""Refuses each growth and each start of a thread in turn, of the program `growths` and of `homerange`.
+
+A run of N growths is made N times, the k-th with its k-th growth refused, by `refuse.c`, which is preloaded. How
+threads meet decides which growth is the k-th, so a sweep ends at a k that no growth of its run reaches. Each
+line of `growths` has to be as with ample memory, or to say that its call wanted memory and what that may leave.
+`homerange` has to end with status 3 and its one line, nothing written, or as with ample memory. Prints what was
+swept and how often each answer came, and stops at an answer that is neither. Needs `rt` and `cc`.
+"""
+
+import collections
+import pathlib
+import re
+import struct
+import subprocess
+import tempfile
+
+TOP = pathlib.Path(__file__).resolve().parent.parent
+FILE_A = "animal,second,easting,northing\nA,0,0,0\nA,60,10,0\nA,120,10,10\nA,180,0,10\nA,240,5,5\n"
+FILE_B = "animal,second,easting,northing\nB,0,5,5\nB,60,10,5\nB,120,20,5\n"
+SIZES = (5, 3)
+TURNS = 50
+MEMORY = "homerange: out of memory\n"
+STOPPED = "an estimator stopped"
+FOLLOWED = re.compile("follow (whole|memory) ")
+WANTS = re.compile("next [0-5] memory true (true|false)|(pump|follow|judge|report|analyse) memory|pump memory [0-5] true")
+COMMANDS = (
+    "a.csv",
+    "a.csv b.csv",
+    "--block 1 --depth 1 --workers 8 a.csv b.csv",
+    "--percent 50 --unit dm a.csv",
+    "--block 0",
+    "--percent 0 a.csv",
+    "--unit ft a.csv",
+    "--help",
+    "bad.csv",
+    "a.csv a.csv",
+    "missing.csv",
+)
+
+
+def built(crate):
+    """The program of a crate, built by `rt`, which runs it once."""
+    folder = TOP / "crates" / crate
+    subprocess.run(["rt", "run"], cwd=folder, stdin=subprocess.DEVNULL, capture_output=True, check=True)
+    return str(folder / "out" / crate)
+
+
+def run(command, folder, refused):
+    """Status, output, standard error and growths of a run with this growth refused, or none for 0."""
+    count = folder / "count"
+    environment = {"LD_PRELOAD": f"{folder}/refuse.so", "REFUSE_AT": str(refused), "REFUSE_COUNT": str(count)}
+    done = subprocess.run(
+        command, cwd=folder, env=environment, stdin=subprocess.DEVNULL, capture_output=True, text=True, timeout=60
+    )
+    return done.returncode, done.stdout, done.stderr, struct.unpack("<q", count.read_bytes()[:8])[0]
+
+
+def sweep(command, folder, answer_of):
+    """How often each answer came while each growth was refused in turn, and how many growths that were."""
+    ample = run(command, folder, 0)
+    answers, refused = collections.Counter(), 0
+    while True:
+        refused += 1
+        found = run(command, folder, refused)
+        if found[3] < refused:
+            return answers, refused - 1
+        answer = answer_of(found[:3], ample[:3])
+        if answer is None:
+            raise SystemExit(f"{' '.join(command)}: growth {refused} refused: {found}, and not {ample}")
+        answers[answer] += 1
+
+
+def homerange_answer(found, ample):
+    if found == (3, "", MEMORY):
+        return "want of memory"
+    return "as ample" if found == ample else None
+
+
+def is_followed(line, size):
+    """Whether a file of that many fixes may come out like this where one growth was refused: its mark came, and
+    all fixes that were sent were taken, unless its estimator stopped."""
+    found = re.fullmatch(r"follow (whole|memory) (\d+) (\d+) true (true|false)", line)
+    if not found:
+        return False
+    sent, taken = int(found[2]), int(found[3])
+    is_read = sent == size if found[1] == "whole" else sent <= size
+    return is_read and (taken <= sent if found[4] == "true" else taken == sent)
+
+
+def growths_answer(found, ample):
+    """Which calls of `growths` wanted memory, or nothing where a line is no answer to one refused growth."""
+    if found == ample:
+        return "as ample"
+    status, text, told = found
+    lines, whole = text.splitlines(), ample[1].splitlines()
+    followed = [line for line in lines if FOLLOWED.match(line)]
+    troubled = [line for line in followed if line not in whole]
+    wants = [line for line in lines if line not in whole and line not in troubled]
+    is_well = status == 0 and not told and len(troubled) <= 1 and all(map(is_followed, followed, SIZES))
+    if not is_well or not all(map(WANTS.fullmatch, wants)) or len(wants) != 1:
+        return None
+    if troubled and wants != ["judge memory"]:
+        return None
+    if troubled and troubled[0].endswith(" true true"):
+        return STOPPED
+    return f"{'follow' if troubled else wants[0].split()[0]} wanted memory"
+
+
+def told(name, answers, growths):
+    counts = ", ".join(f"{answer} {count}" for answer, count in sorted(answers.items()))
+    print(f"{name}: {growths} growths: {counts}")
+
+
+def main():
+    growths, homerange = built("growths"), built("homerange")
+    with tempfile.TemporaryDirectory() as room:
+        folder = pathlib.Path(room)
+        files = {"a.csv": FILE_A, "b.csv": FILE_B, "bad.csv": FILE_A + "A,300,x,5\n"}
+        for name, text in files.items():
+            (folder / name).write_text(text)
+        library = ["cc", "-O2", "-shared", "-fPIC", TOP / "hostile" / "refuse.c", "-o", folder / "refuse.so"]
+        subprocess.run(library, check=True)
+        total, swept = collections.Counter(), 0
+        for _ in range(TURNS):
+            answers, count = sweep([growths], folder, growths_answer)
+            total, swept = total + answers, swept + count
+        told(f"growths, {TURNS} sweeps", total, swept)
+        if not total[STOPPED]:
+            raise SystemExit("no sweep met an estimator that stopped alone")
+        for words in COMMANDS:
+            told(f"homerange {words}", *sweep([homerange, *words.split()], folder, homerange_answer))
+
+
+if __name__ == "__main__":
+    main()
