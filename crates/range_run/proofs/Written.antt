@@ -1,15 +1,17 @@
 -- The text that was written is the report of an analysis.
-use Rattle.std.proofs.Common.{◌≡◌, ℕ, List, Option, subst}
-use Rattle.std.specs.Prelude.{Result, Err, OnErr, OnOk}
+use Rattle.std.proofs.Common.{◌≡◌, ℕ, List, Option, subst, sym}
+use Rattle.std.specs.Prelude.{Result, Err, IfErr, OnErr, OnOk}
 use Rattle.std.specs.Io.KnownBytes.{Appends}
-use Rattle.std.proofs.lemmas.Result.{on_ok_weaker}
+use Rattle.std.proofs.lemmas.Result.{IfErr-weaker, on_ok_weaker}
 use Rattle.range_tables.specs.declared.analysis.Analysis.{Analysis}
 use Rattle.range_plane.specs.declared.scale.Scale.{Scale}
 use Rattle.range_fixes.specs.Reading.{Reading}
 use Rattle.range_analysis.specs.Sources.{IsAnalysisOf}
 use Rattle.range_report.specs.Report.{report_text}
 use Rattle.range_run.specs.Output.{AppendsPrefix}
-use Rattle.range_run.specs.Run.{WritesPrefix, WritesReport}
+use Rattle.range_run.specs.Run.{Explains, WritesPrefix, WritesReport}
+use Rattle.range_run.specs.declared.fault.RunFault.{RunFault}
+use Rattle.range_run.specs.declared.fault.RunFault.TheVariants as runs
 
 pub writes_report : {T E : Type 0} (sources : List (Option Reading)) (levels given text : List ℕ) (unit : Scale) (old new : Option (List ℕ)) (analysis : Analysis) (r : Result T E)
     → given ≡ levels → text ≡ report_text analysis → IsAnalysisOf sources given unit analysis → OnOk r (Appends old new text) → OnOk r (WritesReport sources levels unit old new)
@@ -23,3 +25,9 @@ writes_prefix sources levels given text unit old new analysis r fault same is an
     let of_levels = subst (λ l. IsAnalysisOf sources l unit analysis) same analysed in
     let prefix = subst (λ s. OnErr s (AppendsPrefix old new text)) failed written in
     (analysis, of_levels, subst (λ t. AppendsPrefix old new t) is prefix)
+
+pub explained : {T : Type 0} (sources : List (Option Reading)) (levels given : List ℕ) (unit : Scale) (analysis : Analysis) (r : Result T RunFault)
+    → given ≡ levels → IsAnalysisOf sources given unit analysis → IfErr r (λ fault. fault ≡ runs.Write) → IfErr r (Explains sources levels unit)
+explained sources levels given unit analysis r same analysed =
+    let of_levels = subst (λ l. IsAnalysisOf sources l unit analysis) same analysed in
+    IfErr-weaker r (λ fault. fault ≡ runs.Write) (Explains sources levels unit) (λ fault is. subst (Explains sources levels unit) (sym is) (analysis, of_levels))

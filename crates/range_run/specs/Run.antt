@@ -1,5 +1,5 @@
 -- What a run writes, and why it ends without its report.
-use Rattle.std.specs.Prelude.{ℕ, ⊤, List, Option}
+use Rattle.std.specs.Prelude.{ℕ, List, Option}
 use Rattle.std.specs.Io.KnownBytes.{Appends}
 use Rattle.range_tables.specs.declared.analysis.Analysis.{Analysis}
 use Rattle.range_plane.specs.declared.scale.Scale.{Scale}
@@ -18,7 +18,8 @@ WritesReport sources levels unit old new = (analysis : Analysis) × IsAnalysisOf
 abbrev pub WritesPrefix : List (Option Reading) → List ℕ → Scale → Option (List ℕ) → Option (List ℕ) → Type 0
 WritesPrefix sources levels unit old new = (analysis : Analysis) × IsAnalysisOf sources levels unit analysis × AppendsPrefix old new (report_text analysis)
 
--- a run over the sources may end with this fault
-abbrev pub Explains : List (Option Reading) → RunFault → Type 0
-Explains sources (runs.Analyse fault) = HasNoAnalysisOf sources fault
-Explains sources fault = ⊤
+-- a run over the sources may end with this fault: one of an analysis only where there is none, and one of the report
+-- only where there is one
+abbrev pub Explains : List (Option Reading) → List ℕ → Scale → RunFault → Type 0
+Explains sources levels unit (runs.Analyse fault) = HasNoAnalysisOf sources fault
+Explains sources levels unit fault = (analysis : Analysis) × IsAnalysisOf sources levels unit analysis

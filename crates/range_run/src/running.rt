@@ -33,7 +33,7 @@ pub fn run<R: Wait + Threads + Sync, S: Read + Send + Drop, W: Write>(
     ensures prefix { result ≡ Err RunFault.Write → WritesPrefix (map (reading_from S.remaining options.now.plan.unit) sources.items) options.now.levels.items options.now.plan.unit
         (W.contents out.old) (W.contents out.new) }
     ensures unwritten { IfErr result (λ fault. fault ≢ RunFault.Write → out.new ≡ out.old) }
-    ensures fault { IfErr result (Explains (map (reading_from S.remaining options.now.plan.unit) sources.items)) }
+    ensures fault { IfErr result (Explains (map (reading_from S.remaining options.now.plan.unit) sources.items) options.now.levels.items options.now.plan.unit) }
 {
     let levels = options.levels.as_slice();
     let analysis = match analyse(rt, alloc, sources, &FreeGate, options.plan, levels) {

@@ -1,5 +1,5 @@
 use Rattle.std.proofs.Common.{refl, ◌∙◌}
-use Rattle.range_run.proofs.Written.{writes_prefix, writes_report}
+use Rattle.range_run.proofs.Written.{explained, writes_prefix, writes_report}
 use Rattle.range_run.proofs.running.run.Goals as goal
 
 pub returns-in-Err-clause-unwritten : goal.returns-in-Err-clause-unwritten
@@ -12,3 +12,15 @@ returns-clause-report g c =
 pub returns-clause-prefix : goal.returns-clause-prefix
 returns-clause-prefix g c =
     writes_prefix _ _ _ _ _ _ _ c.in-Ok.analysis _ _ c.as_slice-levels.ensures.value (c.as_slice.ensures.value ∙ c.in-Ok-report.ensures) c.in-Ok.ensures.analysis c.write_text.ensures.prefix
+
+pub returns-in_default-clause-fault : goal.returns-in_default-clause-fault
+returns-in_default-clause-fault g c =
+    let of_levels = rw c.as_slice-levels.ensures.value at c.in-Ok.ensures.analysis in
+    (c.in-Ok.analysis, of_levels)
+
+pub returns-clause-fault : goal.returns-clause-fault
+returns-clause-fault g c =
+    explained _ _ _ _ c.in-Ok.analysis _ c.as_slice-levels.ensures.value c.in-Ok.ensures.analysis c.write_text.ensures.fault
+
+pub returns-in-Err-clause-fault : goal.returns-in-Err-clause-fault
+returns-in-Err-clause-fault g c = c.in-Err.ensures.fault
