@@ -39,9 +39,10 @@ COMMANDS = (
 
 
 def built(crate):
-    """The program of a crate, built by `rt`, which runs it once."""
+    """The program of a crate, built by `rt`, which runs it once: `--help` makes `homerange` end well without a file."""
     folder = TOP / "crates" / crate
-    subprocess.run(["rt", "run"], cwd=folder, stdin=subprocess.DEVNULL, capture_output=True, check=True)
+    words = ["rt", "run", "--", "--help"]
+    subprocess.run(words, cwd=folder, stdin=subprocess.DEVNULL, capture_output=True, check=True)
     return str(folder / "out" / crate)
 
 

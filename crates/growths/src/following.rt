@@ -1,7 +1,5 @@
 // Both files, followed side by side.
 
-ghost use Rattle.std.specs.Prelude.{IfOk, length, ◌≡◌};
-
 use crate::files::{end_of, sources};
 use range_analysis::{AnalyseFault, analyse, judge};
 use range_collect::{Followed, follow};
