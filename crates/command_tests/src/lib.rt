@@ -1,8 +1,12 @@
 //! Tests of command lines: what words say, and which are refused; the reports of runs, byte for byte and in
-//! every plan, sources that cannot be read, outputs that fail at each write; and the line and the status of
-//! each refusal.
+//! every plan, sources and outputs that fail at each call; the words that the system gives; and the line and
+//! the status of each refusal.
 #![tactic(auto)]
 
+#[cfg(test)]
+mod failing;
+#[cfg(test)]
+mod failing_runs;
 #[cfg(test)]
 mod herd;
 #[cfg(test)]
@@ -10,8 +14,12 @@ mod line;
 #[cfg(test)]
 mod options;
 #[cfg(test)]
+mod reasons;
+#[cfg(test)]
 mod refusals;
 #[cfg(test)]
 mod runs;
+#[cfg(test)]
+mod started;
 #[cfg(test)]
 mod words;

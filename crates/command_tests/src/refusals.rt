@@ -2,7 +2,7 @@
 
 use crate::line::{line, texts};
 use range_analysis::AnalyseFault;
-use range_command::{Refusal, obey};
+use range_command::{Output, Refusal, obey};
 use range_fixes::ReadFault;
 use range_run::RunFault;
 use std::alloc::Global;
@@ -28,7 +28,7 @@ fn expect_refused<R: Wait + Threads + Sync + Files<File = File> + AllocGlobal + 
 ) {
     let alloc = rt.alloc();
     let words = line(rt, alloc, words);
-    let mut out = Vec::new(alloc);
+    let mut out = Output::new(Vec::new(alloc));
     let refused = obey(rt, words.as_slice(), b"".as_slice(), &mut out);
     expect_told(
         rt,
@@ -37,58 +37,82 @@ fn expect_refused<R: Wait + Threads + Sync + Files<File = File> + AllocGlobal + 
         status,
         text,
     );
-    assert!(rt; out.is_empty());
+    assert!(rt; out.writer().is_empty());
 }
 
-// Words that end before a run, and what is said of them; nothing is written.
+// Words that are refused, and what is said of them.
 #[test]
-fn words_and_files(rt: HostRuntime) {
+fn words(rt: HostRuntime) {
     let cases = [
         (
             ["--bogus"].as_slice(),
-            2,
             "unexpected argument '--bogus' found",
         ),
         (
-            &["--bo\ngus\u{1b}"],
-            2,
-            "unexpected argument '--bo\\ngus\\u{1b}' found",
-        ),
-        (
             &["--block", "0"],
-            2,
             "invalid value '0' for '--block <N>': 0 is not in 1..=1024",
         ),
         (
             &["--depth"],
-            2,
             "a value is required for '--depth <N>' but none was supplied",
         ),
         (
-            &["--unit", "k\nm"],
-            2,
-            "invalid value 'k\\nm' for '--unit <UNIT>': k\\nm is neither m nor dm",
-        ),
-        (
             &["--percent", "50,x"],
-            2,
             "part 2 of the levels is not a whole number from 1 to 100",
         ),
-        (&["--percent", "1,2,3,4,5,6,7,8,9"], 2, "more than 8 levels"),
+        (&["--percent", "1,2,3,4,5,6,7,8,9"], "more than 8 levels"),
+    ];
+    for (words, text) in cases {
+        expect_refused(&rt, words, 2, text);
+    }
+}
+
+// Words whose characters would end the line, or change how it is shown.
+#[test]
+fn unseen_characters(rt: HostRuntime) {
+    let cases = [
         (
-            &["/no/such.csv", "/"],
-            1,
+            ["--bo\ngus\u{1b}"].as_slice(),
+            "unexpected argument '--bo\\ngus\\u{1b}' found",
+        ),
+        (
+            &["--block", "5\n\nx"],
+            "invalid value '5\\n\\nx' for '--block <N>': invalid digit found in string",
+        ),
+        (
+            &["--unit", "k\\m\r\nm"],
+            "invalid value 'k\\\\m\\r\\nm' for '--unit <UNIT>': k\\\\m\\r\\nm is neither m nor dm",
+        ),
+        (
+            &["--\u{2028}\u{202e}\u{2066}"],
+            "unexpected argument '--\\u{2028}\\u{202e}\\u{2066}' found",
+        ),
+    ];
+    for (words, text) in cases {
+        expect_refused(&rt, words, 2, text);
+    }
+}
+
+// Files that cannot be opened, of which the first is told, so that its name can be told from the line.
+#[test]
+fn files(rt: HostRuntime) {
+    let cases = [
+        (
+            ["/no/such.csv", "/"].as_slice(),
             "/no/such.csv: No such file or directory",
         ),
         (
             &["/no\n\n/such.csv"],
-            1,
             "/no\\n\\n/such.csv: No such file or directory",
         ),
-        (&["/", "/no/such.csv"], 1, "/: Is a directory"),
+        (
+            &["/no/\\n\u{2029}\u{200f}\u{61c}.csv"],
+            "/no/\\\\n\\u{2029}\\u{200f}\\u{61c}.csv: No such file or directory",
+        ),
+        (&["/", "/no/such.csv"], "/: Is a directory"),
     ];
-    for (words, status, text) in cases {
-        expect_refused(&rt, words, status, text);
+    for (words, text) in cases {
+        expect_refused(&rt, words, 1, text);
     }
 }
 
@@ -102,10 +126,11 @@ fn many_files(rt: HostRuntime) {
 fn help_is_written(rt: HostRuntime) {
     let alloc = rt.alloc();
     let words = line(&rt, alloc, &["--help"]);
-    let mut out = Vec::new(alloc);
+    let mut out = Output::new(Vec::new(alloc));
     assert!(rt; obey(&rt, words.as_slice(), b"".as_slice(), &mut out).is_ok());
-    assert!(rt; out.as_slice().starts_with(b"Home ranges of tagged animals"));
-    assert!(rt; out.as_slice().ends_with(b"says why.\n"));
+    let help = out.writer().as_slice();
+    assert!(rt; help.starts_with(b"Home ranges of tagged animals"));
+    assert!(rt; help.ends_with(b"says why.\n"));
 }
 
 // The faults of runs over two files, and of one over standard input.
@@ -156,14 +181,23 @@ fn runs(rt: HostRuntime) {
             &["b.csv"],
             RunFault::Analyse(AnalyseFault::OutOfMemory),
             3,
-            "out of memory",
+            "out of memory, or a thread could not be started",
         ),
-        (&[], RunFault::OutOfMemory, 3, "out of memory"),
+        (
+            &[],
+            RunFault::OutOfMemory,
+            3,
+            "out of memory, or a thread could not be started",
+        ),
         (&[], RunFault::Write, 4, "the report could not be written"),
     ];
     for (paths, fault, status, text) in cases {
-        let files = texts(&rt, alloc, paths);
-        expect_told(&rt, alloc, &Refusal::Run { files, fault }, status, text);
+        let refused = Refusal::Run {
+            files: texts(&rt, alloc, paths),
+            fault,
+            reason: None,
+        };
+        expect_told(&rt, alloc, &refused, status, text);
     }
 }
 
@@ -183,8 +217,8 @@ fn longest_name(rt: HostRuntime) {
         ),
     ];
     for (text, is_read) in cases {
-        let mut out = Vec::new(alloc);
+        let mut out = Output::new(Vec::new(alloc));
         let outcome = obey(&rt, words.as_slice(), text, &mut out);
-        assert!(rt; outcome.is_ok() == is_read && out.is_empty() != is_read);
+        assert!(rt; outcome.is_ok() == is_read && out.writer().is_empty() != is_read);
     }
 }

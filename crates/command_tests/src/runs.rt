@@ -6,61 +6,19 @@ use range_fixes::ReadFault;
 use range_plane::Scale;
 use range_run::{RunFault, run, status};
 use std::alloc::Global;
-use std::io;
 use std::io::{Read, Write};
 use std::process::Abort;
 use std::sync::Wait;
 use std::thread::Threads;
 
-const FILE_A: &[u8] =
+pub(crate) const FILE_A: &[u8] =
     b"animal,second,easting,northing\nA,0,0,0\nA,60,10,0\nA,120,10,10\nA,180,0,10\nA,240,5,5\n";
 
-const REPORT_A: &[u8] =
+pub(crate) const REPORT_A: &[u8] =
     b"animal,A,fixes,5\nbox,A,0,0,10,10\nrow,A,1,0,1,0\nrow,A,2,60,2,0\nrow,A,3,120,3,100\nrow,A,4,180,4,200\nrow,A,5,240,4,200\ncorner,A,1,0,0\ncorner,A,2,10,0\ncorner,A,3,10,10\ncorner,A,4,0,10\npercent,A,50,3,3,50\npercent,A,95,5,4,200\npercent,A,100,5,4,200\nend,1\n";
 
-// Takes so many bytes at each write, fails after so many writes, may fail to flush, and counts flushes.
-#[derive(Drop)]
-struct Narrow {
-    held: Vec<u8>,
-    most: usize,
-    writes: usize,
-    can_flush: bool,
-    flushes: u32,
-}
-
-impl Write for Narrow {
-    fn write(&mut self, buf: &[u8]) -> io::Result<usize> {
-        if self.writes == 0 {
-            return Err(io::Error::from(io::ErrorKind::PermissionDenied));
-        }
-        self.writes -= 1;
-        let n = self.most.min(buf.len());
-        self.held.extend_from_slice(&buf[..n])?;
-        Ok(n)
-    }
-
-    fn flush(&mut self) -> io::Result<()> {
-        self.flushes = self.flushes.saturating_add(1);
-        if self.can_flush {
-            Ok(())
-        } else {
-            Err(io::Error::from(io::ErrorKind::PermissionDenied))
-        }
-    }
-}
-
-// Fails at its first read.
-#[derive(Drop)]
-struct Broken;
-
-impl Read for Broken {
-    fn read(&mut self, _buf: &mut [u8]) -> io::Result<usize> {
-        Err(io::Error::from(io::ErrorKind::PermissionDenied))
-    }
-}
-
-// Runs over one source with the options that are there where words give none.
-fn run_over<R: Wait + Threads + Sync + Abort, S: Read + Send + Drop, W: Write>(
+/// Runs over one source with the options that are there where words give none.
+pub(crate) fn run_over<R: Wait + Threads + Sync + Abort, S: Read + Send + Drop, W: Write>(
     rt: &R,
     alloc: Global,
     source: S,
@@ -292,46 +250,6 @@ fn refused_files(rt: HostRuntime) {
         let outcome = run_over(&rt, alloc, text, &mut out);
         assert!(rt; status(&outcome) == 1 && out.is_empty());
         assert!(rt; outcome == Err(RunFault::Analyse(AnalyseFault::File { file: 0, fault })));
-    }
-}
-
-#[test]
-fn broken_source(rt: HostRuntime) {
-    let mut out = Vec::new(rt.alloc());
-    let outcome = run_over(&rt, rt.alloc(), Broken, &mut out);
-    assert!(rt; status(&outcome) == 1 && out.is_empty());
-    let fault = ReadFault::Read;
-    assert!(rt; outcome == Err(RunFault::Analyse(AnalyseFault::File { file: 0, fault })));
-}
-
-// An output that fails at each of its writes in turn holds the first bytes of the report.
-#[test]
-fn failing_outputs(rt: HostRuntime) {
-    let alloc = rt.alloc();
-    let cases = [
-        (10, 0, true, 0, 4),
-        (10, 1, true, 10, 4),
-        (10, 2, true, 20, 4),
-        (10, 24, true, 240, 4),
-        (10, 25, true, 249, 0),
-        (1, 248, true, 248, 4),
-        (1, 249, true, 249, 0),
-        (0, 9, true, 0, 4),
-        (999, 9, false, 249, 4),
-    ];
-    for (most, writes, can_flush, length, code) in cases {
-        let mut out = Narrow {
-            held: Vec::new(alloc),
-            most,
-            writes,
-            can_flush,
-            flushes: 0,
-        };
-        let outcome = run_over(&rt, alloc, FILE_A, &mut out);
-        assert!(rt; status(&outcome) == code);
-        assert!(rt; code == 0 || outcome == Err(RunFault::Write));
-        assert!(rt; code == 4 || out.flushes == 1);
-        assert!(rt; out.held.len() == length && REPORT_A.starts_with(out.held.as_slice()));
     }
 }
 

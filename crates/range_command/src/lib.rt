@@ -2,9 +2,17 @@
 //! told in one line and a status.
 #![tactic(auto)]
 
+mod bad_words;
 mod files;
 mod obeying;
+mod one_line;
+mod output;
 mod refusal;
+mod retry;
+mod running;
+mod source;
+mod words;
 
 pub use obeying::{obey, program};
+pub use output::Output;
 pub use refusal::Refusal;

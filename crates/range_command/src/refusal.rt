@@ -1,14 +1,17 @@
 // Why the program ends without its report.
 
 ghost use Rattle.std.specs.Prelude.{◌≡◌};
+ghost use Rattle.range_command.specs.Obeying.{IsUnopened};
 ghost use Rattle.range_command.specs.Status.{refusal_status};
+ghost use Rattle.range_command.specs.declared.refusal.Refusal.TheVariants as refusals;
 
+use crate::one_line::OneLine;
 use range_analysis::AnalyseFault;
+use range_fixes::ReadFault;
 use range_run::{RunFault, status};
 use range_stats::{LEVEL_COUNT_LIMIT, LEVEL_LIMIT, LevelFault};
 use range_words::WordFault;
 use std::alloc::{AllocError, Global};
-use std::fmt::Write;
 use std::{fmt, io};
 
 /// Why the program ends without its report. It is shown in one line.
@@ -16,38 +19,47 @@ use std::{fmt, io};
 pub enum Refusal {
     /// A growth was refused for want of memory.
     OutOfMemory,
-    /// A word of the command line is not UTF-8.
-    NotText,
-    /// The words of the command line are refused.
+    /// This word of the command line is not UTF-8; the first behind the program's name is word 1.
+    NotText {
+        word: usize,
+    },
+    /// The words are not the program's; the line says why.
+    BadWords {
+        line: String,
+    },
+    /// The words are refused for another reason than this and a wish for help.
     Words(WordFault),
     /// A file cannot be opened to be read, for this reason of the system's.
-    Unopened { path: String, reason: String },
-    /// The help could not be written.
-    Unwritten,
-    /// The run over these files, or over standard input where there are none, has no report.
-    Run { files: Vec<String>, fault: RunFault },
+    Unopened {
+        path: String,
+        reason: String,
+    },
+    /// The help could not be written, for this reason of the system's if it gave one.
+    Unwritten {
+        reason: Option<String>,
+    },
+    /// The run over these files, or over standard input where there are none, has no report; for this reason of
+    /// the system's, where a read or a write failed and it gave one.
+    Run {
+        files: Vec<String>,
+        fault: RunFault,
+        reason: Option<String>,
+    },
 }
 
-// A text with its control characters escaped, so that it stays in one line.
-#[derive(Clone, Copy)]
-struct OneLine<'a>(&'a str);
+impl From<AllocError> for Refusal {
+    ghost from_gives = { λ _ refusal. refusal ≡ refusals.OutOfMemory };
 
-impl fmt::Display for OneLine<'_> {
-    fn fmt<W: fmt::Write>(&self, f: &mut fmt::Formatter<W>) -> fmt::Result {
-        for character in self.0.chars() {
-            if character.is_control() {
-                write!(f, "{}", character.escape_default())?;
-            } else {
-                f.write_char(character)?;
-            }
-        }
-        Ok(())
+    fn from(_refused: AllocError) -> Refusal {
+        Refusal::OutOfMemory
     }
 }
 
 impl Refusal {
     /// The refusal of a file that the system does not open.
-    pub(crate) fn unopened(alloc: Global, path: &str, error: &io::Error) -> Refusal {
+    pub(crate) fn unopened(alloc: Global, path: &str, error: &io::Error) -> Refusal
+        ensures { IsUnopened path.now result }
+    {
         match (String::from_str(alloc, path), reason_of(alloc, error)) {
             (Ok(path), Ok(reason)) => Refusal::Unopened { path, reason },
             _ => Refusal::OutOfMemory,
@@ -61,16 +73,16 @@ impl Refusal {
     {
         match self {
             Refusal::OutOfMemory | Refusal::Words(WordFault::OutOfMemory) => 3,
-            Refusal::NotText | Refusal::Words(_) => 2,
+            Refusal::NotText { .. } | Refusal::BadWords { .. } | Refusal::Words(_) => 2,
             Refusal::Unopened { .. } => 1,
-            Refusal::Unwritten => 4,
+            Refusal::Unwritten { .. } => 4,
             Refusal::Run { fault, .. } => status(&Err(*fault)),
         }
     }
 }
 
-// The system's reason, without its number.
-fn reason_of(alloc: Global, error: &io::Error) -> Result<String, AllocError> {
+/// The system's reason, without its number.
+pub(crate) fn reason_of(alloc: Global, error: &io::Error) -> Result<String, AllocError> {
     let text = format!(in alloc; "{error}")?;
     if let Some((reason, _)) = text.as_str().split_once(" (os error ") {
         return String::from_str(alloc, reason);
@@ -82,13 +94,20 @@ impl fmt::Display for Refusal {
     fn fmt<W: fmt::Write>(&self, f: &mut fmt::Formatter<W>) -> fmt::Result {
         match self {
             Refusal::OutOfMemory => write!(f, "out of memory"),
-            Refusal::NotText => write!(f, "a word of the command line is not UTF-8"),
+            Refusal::NotText { word } => {
+                write!(f, "word {word} of the command line is not UTF-8")
+            }
+            Refusal::BadWords { line } => write!(f, "{line}"),
             Refusal::Words(fault) => write_words(f, fault),
             Refusal::Unopened { path, reason } => {
                 write!(f, "{}: {reason}", OneLine(path.as_str()))
             }
-            Refusal::Unwritten => write!(f, "the help could not be written"),
-            Refusal::Run { files, fault } => write_run(f, files.as_slice(), *fault),
+            Refusal::Unwritten { reason } => write_output(f, "the help", reason),
+            Refusal::Run {
+                files,
+                fault,
+                reason,
+            } => write_run(f, files.as_slice(), *fault, reason),
         }
     }
 }
@@ -96,7 +115,6 @@ impl fmt::Display for Refusal {
 // What is wrong with the words.
 fn write_words<W: fmt::Write>(f: &mut fmt::Formatter<W>, fault: &WordFault) -> fmt::Result {
     match fault {
-        WordFault::BadWords(text) => write!(f, "{}", OneLine(first_part(text.as_str()))),
         WordFault::BadLevels(LevelFault::BadLevel { index }) => {
             let part = u64::from(*index) + 1;
             write!(
@@ -112,15 +130,6 @@ fn write_words<W: fmt::Write>(f: &mut fmt::Formatter<W>, fault: &WordFault) -> f
     }
 }
 
-// What `clap` says before it gives its usage and hints.
-fn first_part(text: &str) -> &str {
-    let text = text.strip_prefix("error: ").unwrap_or(text);
-    match text.split_once("\n\n") {
-        Some((first, _)) => first,
-        None => text,
-    }
-}
-
 // What a file is called.
 fn name_of(files: &[String], file: u32) -> OneLine<'_> {
     OneLine(match files.get(file as usize) {
@@ -129,29 +138,65 @@ fn name_of(files: &[String], file: u32) -> OneLine<'_> {
     })
 }
 
+// What could not be written, or why, if the system said so.
+fn write_output<W: fmt::Write>(
+    f: &mut fmt::Formatter<W>,
+    what: &str,
+    reason: &Option<String>,
+) -> fmt::Result {
+    match reason {
+        Some(reason) => write!(f, "standard output: {reason}"),
+        None => write!(f, "{what} could not be written"),
+    }
+}
+
 // Why the run over the files has no report.
 fn write_run<W: fmt::Write>(
     f: &mut fmt::Formatter<W>,
     files: &[String],
     fault: RunFault,
+    reason: &Option<String>,
 ) -> fmt::Result {
     match fault {
-        RunFault::Analyse(AnalyseFault::LineCut { file }) => {
+        RunFault::Analyse(fault) => write_analysis(f, files, fault, reason),
+        RunFault::OutOfMemory => write!(f, "out of memory, or a thread could not be started"),
+        RunFault::Write => write_output(f, "the report", reason),
+    }
+}
+
+// Why the files have no analysis.
+fn write_analysis<W: fmt::Write>(
+    f: &mut fmt::Formatter<W>,
+    files: &[String],
+    fault: AnalyseFault,
+    reason: &Option<String>,
+) -> fmt::Result {
+    match (fault, reason) {
+        (AnalyseFault::OutOfMemory, _) => {
+            write!(f, "out of memory, or a thread could not be started")
+        }
+        (AnalyseFault::LineCut { file }, _) => {
             write!(
                 f,
                 "{}: its fixes were not all handed on",
                 name_of(files, file)
             )
         }
-        RunFault::Analyse(AnalyseFault::File { file, fault }) => {
+        (
+            AnalyseFault::File {
+                file,
+                fault: ReadFault::Read,
+            },
+            Some(reason),
+        ) => { write!(f, "{}: {reason}", name_of(files, file)) }
+        (AnalyseFault::File { file, fault }, _) => {
             write!(f, "{}: {fault}", name_of(files, file))
         }
-        RunFault::Analyse(AnalyseFault::SameAnimal { first, second }) => write!(
+        (AnalyseFault::SameAnimal { first, second }, _) => write!(
             f,
             "{} and {} have the same animal",
             name_of(files, first),
             name_of(files, second)
         ),
-        _ => write!(f, "{fault}"),
     }
 }

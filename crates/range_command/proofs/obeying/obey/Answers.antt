@@ -1,0 +1,21 @@
+use Rattle.std.proofs.Common.{inl, inr, map, string_bytes, subst, rules}
+use Rattle.std.proofs.lemmas.Result.{IfErr-weaker, on_ok_weaker}
+use Rattle.range_fixes.specs.Reading.{reading_from}
+use Rattle.range_words.specs.WordList.{IsRefusalOf}
+use Rattle.range_command.specs.Obeying.{IsOfRun, IsTold}
+use Rattle.range_command.proofs.Sources.{told_of_run}
+use Rattle.range_command.proofs.obeying.obey.Goals as goal
+
+pub returns-in-Ok-clause-done : goal.returns-in-Ok-clause-done
+returns-in-Ok-clause-done g c = on_ok_weaker c.run_over.result (λ written. inl (c.in-Ok.words, c.in-Ok.ensures.ok, written)) c.run_over.ensures.done
+
+pub returns-in-Ok-clause-told : goal.returns-in-Ok-clause-told
+returns-in-Ok-clause-told g c =
+    IfErr-weaker c.run_over.result (IsOfRun c.in-Ok.words (λ unit. reading_from g.S.Read.remaining unit c.args.input))
+    (IsTold (map string_bytes c.args.words.now) (λ unit. reading_from g.S.Read.remaining unit c.args.input))
+    (told_of_run (map string_bytes c.args.words.now) (λ unit. reading_from g.S.Read.remaining unit c.args.input) c.in-Ok.words c.in-Ok.ensures.ok) c.run_over.ensures.told
+
+pub returns-in-Err-Help-clause-done : goal.returns-in-Err-Help-clause-done
+returns-in-Err-Help-clause-done g c =
+    let asked = subst (IsRefusalOf (map string_bytes c.args.words.now)) c.in-Err-Help.field-0-is c.in-Err-Help.ensures.err in
+    on_ok_weaker c.write_help.result (λ written. inr (c.in-Err-Help.text, asked, search rules)) c.write_help.ensures.help

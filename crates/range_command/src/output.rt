@@ -1,0 +1,66 @@
+// Where the program writes, and why a write failed.
+
+ghost use Rattle.std.specs.Prelude.{◌≡◌};
+
+use crate::retry::write_again;
+use std::io;
+use std::io::{ErrorKind, Write};
+
+/// A writer that tries a write again, up to 16 times in all, where a signal interrupts it, and that keeps
+/// the reason of its last failure.
+#[derive(Drop)]
+pub struct Output<W> {
+    writer: W,
+    failure: Option<io::Error>,
+}
+
+impl<W> Output<W> {
+    /// An output that has not failed.
+    pub fn new(writer: W) -> Output<W>
+        ensures { result.writer ≡ writer }
+    {
+        Output {
+            writer,
+            failure: None,
+        }
+    }
+
+    /// What is written to.
+    pub fn writer(&self) -> &W
+        ensures { result.now ≡ self.now.writer }
+    {
+        &self.writer
+    }
+
+    /// Why the last write or flush that failed has failed.
+    pub fn failure(&self) -> Option<io::Error>
+        ensures { result ≡ self.now.failure }
+    {
+        self.failure
+    }
+
+    /// Whether the last failure was a pipe's whose reader has gone.
+    pub fn is_closed(&self) -> bool {
+        matches!(&self.failure, Some(error) if error.kind() == ErrorKind::BrokenPipe)
+    }
+}
+
+impl<W: Write> Write for Output<W> {
+    ghost contents = { λ output. W.contents output.writer };
+
+    fn write(&mut self, buf: &[u8]) -> io::Result<usize> {
+        let written = write_again(&mut self.writer, buf);
+        if let Err(error) = &written {
+            self.failure = Some(*error);
+        }
+        written
+    }
+
+    fn flush(&mut self) -> io::Result<()> {
+        let flushed = self.writer.flush();
+        if let Err(error) = &flushed {
+            self.failure = Some(*error);
+        }
+        flushed
+    }
+}

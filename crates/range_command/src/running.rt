@@ -1,0 +1,111 @@
+// A run over the files of the words, or over the input where they name none.
+
+ghost use Rattle.std.specs.Prelude.{◌≡◌, ◌≢◌, ◌≤◌, ◌∷◌, [], All, IfErr, IfOk, OnOk, max, vec_len};
+ghost use Rattle.range_fixes.specs.Reading.{reading_from};
+ghost use Rattle.range_plan.specs.Limits.{file_limit};
+ghost use Rattle.range_stats.specs.Levels.{IsLevel};
+ghost use Rattle.range_command.specs.Obeying.{IsOfRun, Reports};
+ghost use Rattle.range_command.specs.Status.{refusal_status};
+
+use crate::files::open_all;
+use crate::output::Output;
+use crate::refusal::{Refusal, reason_of};
+use crate::source::Source;
+use range_analysis::AnalyseFault;
+use range_fixes::ReadFault;
+use range_run::{RunFault, run};
+use range_words::Words;
+use std::alloc::{AllocError, Global};
+use std::fs::File;
+use std::io;
+use std::io::{Read, Write};
+use std::rt::Files;
+use std::sync::Wait;
+use std::sync::atomic::{AtomicI32, Ordering};
+use std::thread::Threads;
+
+/// Runs over the files of the words, or over the input where they name none.
+pub(crate) fn run_over<
+    R: Wait + Threads + Sync + Files<File = File> + AllocGlobal,
+    S: Read + Send + Drop,
+    W: Write,
+>(rt: &R, words: Words, input: S, out: &mut Output<W>) -> Result<(), Refusal>
+    requires files { vec_len words.files ≤ file_limit }
+    requires levels { All IsLevel words.options.levels.items }
+    ensures done { OnOk result (Reports words (λ unit. reading_from S.remaining unit input) (W.contents out.old.writer) (W.contents out.new.writer)) }
+    ensures told { IfErr result (IsOfRun words (λ unit. reading_from S.remaining unit input)) }
+    ensures unwritten { IfErr result (λ refusal. refusal_status refusal ≢ 4 → out.new ≡ out.old) }
+{
+    let Words { files, options } = words;
+    let alloc = rt.alloc();
+    let places = places(alloc, files.len().max(1))?;
+    let outcome = if files.is_empty() {
+        let sources = alone(alloc, Source::new(input, &places[0]))?;
+        run(rt, alloc, sources, &options, out)
+    } else {
+        let sources = open_all(rt, alloc, files.as_slice(), places.as_slice())?;
+        run(rt, alloc, sources, &options, out)
+    };
+    match outcome {
+        Ok(()) => Ok(()),
+        Err(fault) => {
+            let reason = match error_of(fault, places.as_slice(), out.failure()) {
+                Some(error) => reason_of(alloc, &error).ok(),
+                None => None,
+            };
+            Err(Refusal::Run {
+                files,
+                fault,
+                reason,
+            })
+        }
+    }
+}
+
+// A place for the number of a reason, for each source. 0 is no such number.
+fn places(alloc: Global, count: usize) -> Result<Vec<AtomicI32>, AllocError>
+    ensures { IfOk result (λ places. vec_len places ≡ count) }
+{
+    let mut places = Vec::new(alloc);
+    for _ in 0..count {
+        if places.push(AtomicI32::new(0)).is_err() {
+            return Err(AllocError);
+        }
+    }
+    Ok(places)
+}
+
+// A list of one source.
+fn alone<S: Drop>(alloc: Global, source: S) -> Result<Vec<S>, AllocError>
+    ensures { IfOk result (λ sources. sources.items ≡ source ∷ []) }
+{
+    let mut sources = Vec::new(alloc);
+    match sources.push(source) {
+        Ok(()) => Ok(sources),
+        Err(_) => Err(AllocError),
+    }
+}
+
+// The error behind the fault: that of the read or of the write that failed, where it is known.
+fn error_of(
+    fault: RunFault,
+    places: &[AtomicI32],
+    written: Option<io::Error>,
+) -> Option<io::Error> {
+    match fault {
+        RunFault::Write => written,
+        RunFault::Analyse(
+            AnalyseFault::File {
+                file,
+                fault: ReadFault::Read,
+            },
+        ) => {
+            let number = places.get(file as usize)?.load(Ordering::Relaxed);
+            if number == 0 {
+                return None;
+            }
+            Some(io::Error::from_raw_os_error(number))
+        }
+        _ => None,
+    }
+}
