@@ -1,9 +1,9 @@
 // Tests of refused growths.
 
 use crate::growths::{MANY_GROWTHS, is_last_run};
-use crate::points::{HEXAGON, has_corners, hull_of, insert, plain_of, point, points_of};
+use crate::points::{HEXAGON, HEXAGON_CORNERS, has_corners, hull_of, insert, point, points_of};
 use range_hull::OnlineHull;
-use range_plane::{Point, Polygon};
+use range_plane::Point;
 use refusing::Refusing;
 use std::alloc::{Allocator, Global};
 use std::process::Abort;
@@ -42,30 +42,26 @@ fn reserve_twice<A: Allocator + Copy>(
     rt: &impl Abort,
     alloc: Global,
     refusing: A,
-    polygon: &Polygon,
+    corners: &[Point],
 ) -> u32 {
     let mut hull = OnlineHull::new(refusing);
     let first = reserve(rt, alloc, &mut hull, 6, &[]);
     for place in HEXAGON {
         insert(rt, &mut hull, point(rt, place));
     }
-    let second = reserve(rt, alloc, &mut hull, 1000, polygon.corners());
+    let second = reserve(rt, alloc, &mut hull, 1000, corners);
     assert!(rt; hull.points() == 6 && hull.inserted() == 6, "six points");
     assert!(rt; hull.spare() >= 1000 && hull.area2() == 56, "room and area");
-    assert!(rt;
-        has_corners(rt, alloc, &hull, polygon.corners()),
-        "in the end"
-    );
+    assert!(rt; has_corners(rt, alloc, &hull, corners), "in the end");
     u32::from(first) + u32::from(second)
 }
 
 #[test]
 fn reserve_is_refused_each_growth(rt: HostRuntime) {
-    let points = points_of(&rt, rt.alloc(), &HEXAGON);
-    let polygon = plain_of(&rt, rt.alloc(), &points);
+    let corners = points_of(&rt, rt.alloc(), &HEXAGON_CORNERS);
     for number in 1..MANY_GROWTHS {
         let alloc = Refusing::new(rt.alloc(), number);
-        let refusals = reserve_twice(&rt, rt.alloc(), &alloc, &polygon);
+        let refusals = reserve_twice(&rt, rt.alloc(), &alloc, &corners);
         if is_last_run(&rt, &alloc, number, refusals, LEAST_GROWTHS) {
             return;
         }
@@ -76,16 +72,16 @@ fn reserve_is_refused_each_growth(rt: HostRuntime) {
 // Makes the polygon of a hull, again where it is refused. How often it was refused.
 fn polygon_again<A: Allocator + Copy>(
     rt: &impl Abort,
-    alloc: Global,
     refusing: A,
     hull: &OnlineHull,
+    corners: &[Point],
 ) -> u32 {
     let polygon = hull.polygon(refusing);
     let refusals = u32::from(polygon.is_err());
     let polygon = polygon
         .or_else(|_| hull.polygon(refusing))
         .expect(rt, "again");
-    assert!(rt; has_corners(rt, alloc, hull, polygon.corners()), "corners");
+    assert!(rt; polygon.corners() == corners, "corners");
     refusals
 }
 
@@ -93,9 +89,10 @@ fn polygon_again<A: Allocator + Copy>(
 fn polygon_is_refused_each_growth(rt: HostRuntime) {
     let points = points_of(&rt, rt.alloc(), &HEXAGON);
     let hull = hull_of(&rt, rt.alloc(), &points);
+    let corners = points_of(&rt, rt.alloc(), &HEXAGON_CORNERS);
     for number in 1..MANY_GROWTHS {
         let alloc = Refusing::new(rt.alloc(), number);
-        let refusals = polygon_again(&rt, rt.alloc(), &alloc, &hull);
+        let refusals = polygon_again(&rt, &alloc, &hull, &corners);
         if is_last_run(&rt, &alloc, number, refusals, 1) {
             return;
         }

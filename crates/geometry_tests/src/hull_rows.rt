@@ -1,8 +1,7 @@
 // Tests of worked lists of points, whose polygons were made by hand.
 
 use crate::points::{
-    DECIMETRE_LIMITS, HEXAGON, METRE_LIMITS, has_corners, hull_of, insert, parabola, point,
-    points_of,
+    HEXAGON, HEXAGON_CORNERS, WORKED, has_corners, hull_of, insert, parabola, point, points_of,
 };
 use range_hull::OnlineHull;
 use range_plane::{FIX_LIMIT, Point};
@@ -37,59 +36,9 @@ fn expect_rows(
 
 #[test]
 fn rows(rt: HostRuntime) {
-    let alloc = rt.alloc();
-    expect_rows(
-        &rt,
-        alloc,
-        &METRE_LIMITS,
-        &[
-            (1, 0),
-            (2, 0),
-            (3, 281_474_976_710_656),
-            (4, 562_949_953_421_312),
-        ],
-        &METRE_LIMITS,
-    );
-    expect_rows(
-        &rt,
-        alloc,
-        &DECIMETRE_LIMITS,
-        &[
-            (1, 0),
-            (2, 0),
-            (3, 18_014_398_509_481_984),
-            (4, 36_028_797_018_963_968),
-        ],
-        &DECIMETRE_LIMITS,
-    );
-    expect_rows(
-        &rt,
-        alloc,
-        &[(7, 7), (7, 7), (7, 7)],
-        &[(1, 0), (1, 0), (1, 0)],
-        &[(7, 7)],
-    );
-    expect_rows(
-        &rt,
-        alloc,
-        &[(0, 0), (2, 2), (1, 1), (4, 4)],
-        &[(1, 0), (2, 0), (2, 0), (2, 0)],
-        &[(0, 0), (4, 4)],
-    );
-    expect_rows(
-        &rt,
-        alloc,
-        &[(5, 5), (6, 5), (6, 6), (0, 5)],
-        &[(1, 0), (2, 0), (3, 1), (3, 6)],
-        &[(0, 5), (6, 5), (6, 6)],
-    );
-    expect_rows(
-        &rt,
-        alloc,
-        &HEXAGON,
-        &[(1, 0), (2, 0), (3, 8), (4, 20), (5, 36), (5, 56)],
-        &[(0, 0), (4, 0), (10, 2), (4, 4), (0, 4)],
-    );
+    for (places, rows, corners) in WORKED {
+        expect_rows(&rt, rt.alloc(), places, rows, corners);
+    }
 }
 
 #[test]
@@ -99,11 +48,13 @@ fn no_points(rt: HostRuntime) {
     assert!(rt; hull.points() == 0 && hull.turns() == 0 && hull.area2() == 0);
 }
 
+// Five corners bound three triangles, each of which took a turn.
 #[test]
 fn few_turns(rt: HostRuntime) {
     let points = points_of(&rt, rt.alloc(), &HEXAGON);
     let hull = hull_of(&rt, rt.alloc(), &points);
-    assert!(rt; hull.turns() <= 48, "{} turns", hull.turns());
+    let turns = hull.turns();
+    assert!(rt; (3..=48).contains(&turns), "{turns} turns");
 }
 
 #[test]
@@ -138,8 +89,6 @@ fn skip_counts_alone(rt: HostRuntime) {
         "turns and room"
     );
     assert!(rt; hull.area2() == 56, "area");
-    assert!(rt;
-        has_corners(&rt, rt.alloc(), &hull, polygon.corners()),
-        "corners"
-    );
+    let corners = points_of(&rt, rt.alloc(), &HEXAGON_CORNERS);
+    assert!(rt; has_corners(&rt, rt.alloc(), &hull, &corners), "corners");
 }

@@ -30,6 +30,8 @@ fn marks(rt: &impl Abort, alloc: Global, corners: &Polygon, cols: &Columns) -> V
     marks
 }
 
+const FAR: i64 = COORDINATE_LIMIT;
+
 const TRIANGLE: [(i64, i64); 3] = [(0, 0), (4, 0), (0, 4)];
 
 const WIDE_TRIANGLE: [(i64, i64); 3] = [(0, 0), (16, 0), (0, 16)];
@@ -56,21 +58,46 @@ fn counts_along_a_line(rt: HostRuntime) {
     }
 }
 
+fn extent(min_e: i64, min_n: i64, max_e: i64, max_n: i64) -> Extent {
+    Extent {
+        min_e,
+        min_n,
+        max_e,
+        max_n,
+    }
+}
+
+// Nine points, one more than go through the lanes at once. The last is the westernmost and the northernmost.
+const FALLING: [(i64, i64); 9] = [
+    (9, 11),
+    (8, 12),
+    (7, 13),
+    (6, 14),
+    (5, 15),
+    (4, 16),
+    (3, 17),
+    (2, 18),
+    (1, 90),
+];
+
 #[test]
 fn extremes_and_sums(rt: HostRuntime) {
-    let none = Columns::new(rt.alloc());
-    assert!(rt; extremes(&none).is_none());
-    assert!(rt; sums(&none) == (0, 0));
-    let cols = line(&rt, rt.alloc(), 17, 0, 0);
-    let extent = Extent {
-        min_e: 0,
-        min_n: 0,
-        max_e: 16,
-        max_n: 0,
-    };
-    assert_eq!(rt; extremes(&cols), Some(extent));
-    assert!(rt; cols.len() < 100);
-    assert_eq!(rt; sums(&cols), (136, 0));
+    let cases = [
+        ([].as_slice(), None, (0, 0)),
+        (&[(5, 7)], Some(extent(5, 7, 5, 7)), (5, 7)),
+        (&FALLING, Some(extent(1, 11, 9, 90)), (45, 206)),
+        (
+            &DECIMETRE_LIMITS[1..3],
+            Some(extent(FAR, 0, FAR, FAR)),
+            (268_435_456, 134_217_728),
+        ),
+    ];
+    for (places, extent, expected) in cases {
+        let cols = columns_of(&rt, rt.alloc(), places);
+        assert!(rt; cols.len() < 100);
+        assert_eq!(rt; extremes(&cols), extent);
+        assert_eq!(rt; sums(&cols), expected);
+    }
 }
 
 #[test]
@@ -83,8 +110,6 @@ fn marks_of_a_square(rt: HostRuntime) {
     }
     assert_eq!(rt; count_inside(&square, &cols), 11);
 }
-
-const FAR: i64 = COORDINATE_LIMIT;
 
 const FAR_TRIANGLE: [(i64, i64); 3] = [(0, 0), (FAR, 0), (FAR, FAR)];
 
@@ -118,13 +143,7 @@ fn marks_at_the_limits(rt: HostRuntime) {
     let marks = marks(&rt, rt.alloc(), &triangle, &cols);
     let expected = [true, false, true, true, false, true, false, true, false];
     assert!(rt; marks.as_slice() == expected.as_slice());
-    let extent = Extent {
-        min_e: 0,
-        min_n: 0,
-        max_e: FAR,
-        max_n: FAR,
-    };
-    assert_eq!(rt; extremes(&cols), Some(extent));
+    assert_eq!(rt; extremes(&cols), Some(extent(0, 0, FAR, FAR)));
 }
 
 // So many points, in turn the corners of the greatest square in decimetres.

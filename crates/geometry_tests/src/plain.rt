@@ -1,9 +1,7 @@
 // Tests of polygons by definition.
 
 use crate::growths::{MANY_GROWTHS, is_last_run};
-use crate::points::{
-    DECIMETRE_LIMITS, HEXAGON, LATTICE, METRE_LIMITS, SEGMENT, SQUARE, plain_of, points_of,
-};
+use crate::points::{LATTICE, WORKED, Worked, plain_of, points_of};
 use range_plane::{Point, Polygon};
 use refusing::Refusing;
 use std::alloc::{Allocator, Global};
@@ -24,90 +22,33 @@ const OCTAGON: [(i64, i64); 8] = [
 // The first corner takes memory, and so does one past those that the first growth has room for.
 const LEAST_GROWTHS: u32 = 2;
 
-// Checks how many corners the first points have, and their doubled area.
-fn expect_row(rt: &impl Abort, alloc: Global, places: &[(i64, i64)], corners: usize, area2: u128) {
-    let points = points_of(rt, alloc, places);
-    let polygon = plain_of(rt, alloc, &points);
+// Checks how many corners the points have, and their doubled area.
+fn expect_row(rt: &impl Abort, points: &[Point], polygon: &Polygon, (corners, area2): (u32, u128)) {
+    let n = points.len();
     assert!(rt;
-        polygon.corners().len() == corners,
-        "corners of the first {}",
-        points.len()
+        u32::try_from(polygon.corners().len()) == Ok(corners),
+        "corners of the first {n}"
     );
-    assert!(rt;
-        polygon.area2() == area2,
-        "area of the first {}",
-        points.len()
-    );
+    assert!(rt; polygon.area2() == area2, "area of the first {n}");
 }
 
-// Checks the polygon of the points by its corners.
-fn expect_corners(rt: &impl Abort, alloc: Global, places: &[(i64, i64)], corners: &[(i64, i64)]) {
+// Checks the polygon of each first part of the points, and the corners of all.
+fn expect_rows(rt: &impl Abort, alloc: Global, (places, rows, corners): Worked) {
     let points = points_of(rt, alloc, places);
+    assert!(rt; places.len() == rows.len(), "rows");
+    for (i, row) in rows.iter().enumerate() {
+        let first = &points[..points.len().min(i.saturating_add(1))];
+        expect_row(rt, first, &plain_of(rt, alloc, first), *row);
+    }
     let corners = points_of(rt, alloc, corners);
     let polygon = plain_of(rt, alloc, &points);
-    assert!(rt;
-        polygon.corners() == corners.as_slice(),
-        "of {} points",
-        points.len()
-    );
+    assert!(rt; polygon.corners() == corners.as_slice(), "corners");
 }
 
 #[test]
 fn rows(rt: HostRuntime) {
-    let cases = [
-        (
-            SQUARE.as_slice(),
-            [1, 2, 3, 4, 4].as_slice(),
-            [0, 0, 100, 200, 200].as_slice(),
-        ),
-        (&SEGMENT, &[1, 2, 2], &[0, 0, 0]),
-        (
-            &METRE_LIMITS,
-            &[1, 2, 3, 4],
-            &[0, 0, 281_474_976_710_656, 562_949_953_421_312],
-        ),
-        (
-            &DECIMETRE_LIMITS,
-            &[1, 2, 3, 4],
-            &[0, 0, 18_014_398_509_481_984, 36_028_797_018_963_968],
-        ),
-        (&[(7, 7), (7, 7), (7, 7)], &[1, 1, 1], &[0, 0, 0]),
-        (
-            &[(0, 0), (2, 2), (1, 1), (4, 4)],
-            &[1, 2, 2, 2],
-            &[0, 0, 0, 0],
-        ),
-        (
-            &[(5, 5), (6, 5), (6, 6), (0, 5)],
-            &[1, 2, 3, 3],
-            &[0, 0, 1, 6],
-        ),
-        (&HEXAGON, &[1, 2, 3, 4, 5, 5], &[0, 0, 8, 20, 36, 56]),
-    ];
-    for (places, corners, areas) in cases {
-        for (i, (corners, area)) in corners.iter().zip(areas).enumerate() {
-            let first = &places[..places.len().min(i.saturating_add(1))];
-            expect_row(&rt, rt.alloc(), first, *corners, *area);
-        }
-    }
-}
-
-#[test]
-fn corners(rt: HostRuntime) {
-    let alloc = rt.alloc();
-    let cases = [
-        (
-            SQUARE.as_slice(),
-            [(0, 0), (10, 0), (10, 10), (0, 10)].as_slice(),
-        ),
-        (&SEGMENT, &[(5, 5), (20, 5)]),
-        (&[(7, 7), (7, 7), (7, 7)], &[(7, 7)]),
-        (&[(0, 0), (2, 2), (1, 1), (4, 4)], &[(0, 0), (4, 4)]),
-        (&[(5, 5), (6, 5), (6, 6), (0, 5)], &[(0, 5), (6, 5), (6, 6)]),
-        (&HEXAGON, &[(0, 0), (4, 0), (10, 2), (4, 4), (0, 4)]),
-    ];
-    for (places, corners) in cases {
-        expect_corners(&rt, alloc, places, corners);
+    for case in WORKED {
+        expect_rows(&rt, rt.alloc(), case);
     }
 }
 

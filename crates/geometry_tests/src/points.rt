@@ -27,6 +27,8 @@ pub(crate) const DECIMETRE_LIMITS: [(i64, i64); 4] = [
 // Six points, the last of which takes the corner away that the third is until then.
 pub(crate) const HEXAGON: [(i64, i64); 6] = [(0, 0), (4, 0), (5, 2), (4, 4), (0, 4), (10, 2)];
 
+pub(crate) const HEXAGON_CORNERS: [(i64, i64); 5] = [(0, 0), (4, 0), (10, 2), (4, 4), (0, 4)];
+
 // Six points as far from their mean as each other.
 pub(crate) const RING: [(i64, i64); 6] = [(10, 5), (0, 5), (8, 9), (2, 1), (9, 2), (1, 8)];
 
@@ -56,6 +58,63 @@ pub(crate) const LATTICE: [(i64, i64); 24] = [
     (8, 16_777_216),
     (16_777_216, 3),
     (4, 4),
+];
+
+// Points; how many corners each first part of them has, and which doubled area; and the corners of all.
+pub(crate) type Worked = (
+    &'static [(i64, i64)],
+    &'static [(u32, u128)],
+    &'static [(i64, i64)],
+);
+
+// Lists of points whose polygons were made by hand.
+pub(crate) const WORKED: [Worked; 8] = [
+    (
+        &SQUARE,
+        &[(1, 0), (2, 0), (3, 100), (4, 200), (4, 200)],
+        &[(0, 0), (10, 0), (10, 10), (0, 10)],
+    ),
+    (&SEGMENT, &[(1, 0), (2, 0), (2, 0)], &[(5, 5), (20, 5)]),
+    (
+        &METRE_LIMITS,
+        &[
+            (1, 0),
+            (2, 0),
+            (3, 281_474_976_710_656),
+            (4, 562_949_953_421_312),
+        ],
+        &METRE_LIMITS,
+    ),
+    (
+        &DECIMETRE_LIMITS,
+        &[
+            (1, 0),
+            (2, 0),
+            (3, 18_014_398_509_481_984),
+            (4, 36_028_797_018_963_968),
+        ],
+        &DECIMETRE_LIMITS,
+    ),
+    (
+        &[(7, 7), (7, 7), (7, 7)],
+        &[(1, 0), (1, 0), (1, 0)],
+        &[(7, 7)],
+    ),
+    (
+        &[(0, 0), (2, 2), (1, 1), (4, 4)],
+        &[(1, 0), (2, 0), (2, 0), (2, 0)],
+        &[(0, 0), (4, 4)],
+    ),
+    (
+        &[(5, 5), (6, 5), (6, 6), (0, 5)],
+        &[(1, 0), (2, 0), (3, 1), (3, 6)],
+        &[(0, 5), (6, 5), (6, 6)],
+    ),
+    (
+        &HEXAGON,
+        &[(1, 0), (2, 0), (3, 8), (4, 20), (5, 36), (5, 56)],
+        &HEXAGON_CORNERS,
+    ),
 ];
 
 pub(crate) fn point(rt: &impl Abort, (e, n): (i64, i64)) -> Point {

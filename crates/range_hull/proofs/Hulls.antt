@@ -17,7 +17,7 @@ use Rattle.range_hull.specs.declared.side.Side.TheVariants.{Lower, Upper}
 use Rattle.range_hull.specs.Chain.{bend, IsChain, IsWithin, on_corner, on_chord, BeginsAs, EndsAs, Extends}
 use Rattle.range_hull.specs.Hull.{inner, corners_of, AreChains}
 use Rattle.range_hull.proofs.Bends.{bend_rotate, bend_flip, bend_back, bend_lift, positive_left, turn_of, rank_of}
-use Rattle.range_hull.proofs.Chains.{at_most_by_rank, turns-so, contains-at, within_between}
+use Rattle.range_hull.proofs.Chains.{IsBetween, at_most_by_rank, turns-so, contains-at, within_between}
 
 -- ---- both chains after a point was added
 first-shared : {L U : List Position} (M V : List Position) (p : Position) → AreChains L U → BeginsAs L p M → BeginsAs U p V → at M 0 ≡ at V 0
@@ -75,6 +75,31 @@ length-inner U =
 
 pub length-corners : (L U : List Position) → length (corners_of L U) ≡ length L + (length U - 2)
 length-corners L U = omega (arith, length-append L (reverse (inner U)), length-reverse (inner U), length-inner U)
+
+-- a chain that goes on to a second point has two corners
+two-corners : {L : List Position} {q r : Position} → IsBetween L q → IsBetween L r → rank q <ℤ rank r → 1 < length L
+two-corners {L} a b apart =
+    elim (cases_lt 1 (length L)) [
+      | inl many ↦ many
+      | inr one ↦ absurd (let z : length L - 1 ≡ 0 = omega (arith, one) in omega (arith, linear, ap (λ (i : ℕ). rank (at L i)) z, a.first, b.last, apart))
+    ]
+
+-- what a point adds to both chains is at least what it adds to the corners
+pub corners-added : (L M : List Position) {U V : List Position} {p : Position} → IsChain Upper U → Extends Upper U p V → length (corners_of M V) + length L + length U ≤ length (corners_of L U) + length M + length V
+corners-added L M {U} {V} c t =
+    let before = length-corners L U in
+    let after = length-corners M V in
+    elim (cases_lt 0 (length U)) [
+      | inr none ↦ omega (arith, before, after, none)
+      | inl some ↦
+          let first = within_between t.chain (at U 0) (t.keeps (at U 0) (on_corner 0 some refl)) in
+          elim (cases_lt 1 (length U)) [
+            | inr one ↦ omega (arith, before, after, some, one, first.some)
+            | inl many ↦
+                let second = within_between t.chain (at U 1) (t.keeps (at U 1) (on_corner 1 many refl)) in
+                omega (arith, before, after, many, two-corners first second (c.rising 0 1 (omega arith) many))
+          ]
+    ]
 
 -- what stands at place m of the corners: a corner of the lower chain, or one between the ends of the upper
 data Corner (L U : List Position) (m : ℕ) : Type 0 where

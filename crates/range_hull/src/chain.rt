@@ -23,6 +23,7 @@ fn lies_outside(side: Side, chain: &[Point], place: usize, p: Point, tally: &mut
     ensures apart { OnTrue result (place < length chain.now → rank p <ℤ rank (at chain.now place)) }
     ensures inside { OnFalse result (IsWithin side chain.now p) }
     ensures turns { tally.new.turns ≤ tally.old.turns + 1 }
+    ensures rises { tally.old.turns ≤ tally.new.turns }
     ensures gained { OnTrue result (0 < place → place < length chain.now → pos tally.new.area ≡ pos tally.old.area +ℤ bend side (at chain.now (place - 1)) p (at chain.now place)) }
     ensures at_first { place ≡ 0 → tally.new.area ≡ tally.old.area }
     ensures at_last { place ≡ length chain.now → tally.new.area ≡ tally.old.area }
@@ -46,6 +47,7 @@ fn kept_before(side: Side, chain: &[Point], place: usize, p: Point, tally: &mut 
     ensures bends { 2 ≤ result → pos 0 <ℤ bend side (at chain.now (result - 2)) (at chain.now (result - 1)) p }
     ensures dents { result < place → bend side (at chain.now (result - 1)) (at chain.now result) p ≤ℤ pos 0 }
     ensures turns { tally.new.turns + result ≤ tally.old.turns + place + 1 }
+    ensures rises { tally.old.turns ≤ tally.new.turns }
     ensures swept { 0 < place → pos tally.new.area -ℤ swept_before side chain.now p result ≡ pos tally.old.area -ℤ swept_before side chain.now p place }
     ensures none { place ≡ 0 → tally.new.area ≡ tally.old.area }
 {
@@ -66,6 +68,7 @@ fn kept_after(side: Side, chain: &[Point], place: usize, p: Point, tally: &mut T
     ensures bends { result + 1 < length chain.now → pos 0 <ℤ bend side p (at chain.now result) (at chain.now (result + 1)) }
     ensures dents { place < result → bend side p (at chain.now (result - 1)) (at chain.now result) ≤ℤ pos 0 }
     ensures turns { tally.new.turns + place ≤ tally.old.turns + result + 1 }
+    ensures rises { tally.old.turns ≤ tally.new.turns }
     ensures swept { place < length chain.now → pos tally.new.area -ℤ swept_after side chain.now p result ≡ pos tally.old.area -ℤ swept_after side chain.now p place }
     ensures none { place ≡ length chain.now → tally.new.area ≡ tally.old.area }
 {
@@ -93,6 +96,7 @@ pub(crate) fn extend<A: Allocator>(
     ensures len { vec_len chain.new ≤ vec_len chain.old + 1 }
     ensures capacity { vec_capacity chain.old ≤ vec_capacity chain.new }
     ensures turns { tally.new.turns + vec_len chain.new ≤ tally.old.turns + vec_len chain.old + 4 }
+    ensures rises { tally.old.turns ≤ tally.new.turns }
     ensures swept { pos tally.new.area +ℤ swept side chain.old.items +ℤ signed side (open_edge (at chain.old.items 0) (at chain.old.items (length chain.old.items - 1)) p) ≡ pos tally.old.area +ℤ swept side chain.new.items }
 {
     let corners = chain.as_slice();

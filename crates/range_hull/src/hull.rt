@@ -1,6 +1,6 @@
 // The hull of points that come one at a time.
 
-ghost use Rattle.std.specs.Prelude.{◌≡◌, ◌+◌, ◌*◌, ◌<◌, ◌≤◌, pos, List, [], ◌∷◌, length, IfOk, IsTrue, OnOk};
+ghost use Rattle.std.specs.Prelude.{◌≡◌, ◌+◌, ◌*◌, ◌<◌, ◌≤◌, pos, List, [], ◌∷◌, length, IfOk, IsOk, IsTrue, OnOk};
 ghost use Rattle.range_plane.specs.Covering.{is_covered};
 ghost use Rattle.range_plane.specs.Fix.{fix_limit};
 ghost use Rattle.range_plane.specs.Plane.{Position};
@@ -66,10 +66,12 @@ impl<A: Allocator> OnlineHull<A> {
         }
     }
 
-    /// Makes room for `k` inserts.
+    /// Takes memory for `k` inserts, if there is no room for them yet. Room that is there stays.
     pub fn reserve(&mut self, k: usize) -> Result<(), OutOfMemory>
         ensures room { OnOk result (k ≤ self.new.spare) }
         ensures unchanged { self.new ≡ record self.old { spare = self.new.spare } }
+        ensures spare { self.old.spare ≤ self.new.spare }
+        ensures succeeds { k ≤ self.old.spare → IsOk result }
     {
         self.lower.reserve(k)?;
         self.upper.reserve(k)?;
@@ -88,6 +90,7 @@ impl<A: Allocator> OnlineHull<A> {
     /// Adds `p`, which may be covered, or repeated. It takes no memory, and about as many steps as the
     /// number of corners has bits, beside those for corners that are removed and for the move of the
     /// corners after `p`.
+    /// It evaluates at most eight turns, and one more for each corner that it removes.
     pub fn insert(&mut self, p: Point)
         requires room { 0 < self.old.spare }
         requires few { self.old.inserted + self.old.skipped < fix_limit }
@@ -96,6 +99,8 @@ impl<A: Allocator> OnlineHull<A> {
         ensures inserted { self.new.inserted ≡ self.old.inserted + 1 }
         ensures skipped { self.new.skipped ≡ self.old.skipped }
         ensures spare { self.old.spare ≤ self.new.spare + 1 }
+        ensures rises { self.old.turns ≤ self.new.turns }
+        ensures turns { self.new.turns + length self.new.corners ≤ self.old.turns + length self.old.corners + 8 }
     {
         covering_is_reaching();
         covering_members_are_corners();

@@ -42,7 +42,8 @@ impl<A: Allocator> Columns<A> {
     pub fn new(alloc: A) -> Columns<A>
     where
         A: Copy,
-        ensures { result.points ≡ [] }
+        ensures points { result.points ≡ [] }
+        ensures spare { result.spare ≡ 0 }
     {
         Columns {
             eastings: Vec::new(alloc),

@@ -27,6 +27,7 @@ loop-kept-preserved c =
       omega arith,
       (λ h. omega (arith, linear, gained, value, after-step side L c.args.p k within, i.5 h)),
       (λ z. absurd (omega (arith, z, i.0))),
+      omega arith,
     )
 
 pub returns-after-loop-kept-clause-bends : goal.returns-after-loop-kept-clause-bends

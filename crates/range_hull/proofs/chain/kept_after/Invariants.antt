@@ -13,6 +13,7 @@ invariant-loop-kept l =
     × (l.tally.turns + l.place ≤ l.initial.tally.turns + l.kept)
     × (l.place < length l.chain → pos l.tally.area -ℤ swept_after l.side l.chain l.p l.kept ≡ pos l.initial.tally.area -ℤ swept_after l.side l.chain l.p l.place)
     × (l.place ≡ length l.chain → l.tally.area ≡ l.initial.tally.area)
+    × (l.initial.tally.turns ≤ l.tally.turns)
 
 abbrev pub decreases-loop-kept : goal.decreases-loop-kept
 decreases-loop-kept l = length l.chain - l.kept

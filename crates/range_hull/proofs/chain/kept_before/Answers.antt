@@ -27,4 +27,5 @@ loop-kept-preserved c =
       omega arith,
       (λ h. omega (arith, linear, gained, value, before-step side L c.args.p k long within, i.4 h)),
       (λ z. absurd (omega (arith, z, i.0))),
+      omega arith,
     )

@@ -12,6 +12,7 @@ invariant-loop-kept l =
     × (l.tally.turns + l.kept ≤ l.initial.tally.turns + l.place)
     × (0 < l.place → pos l.tally.area -ℤ swept_before l.side l.chain l.p l.kept ≡ pos l.initial.tally.area -ℤ swept_before l.side l.chain l.p l.place)
     × (l.place ≡ 0 → l.tally.area ≡ l.initial.tally.area)
+    × (l.initial.tally.turns ≤ l.tally.turns)
 
 abbrev pub decreases-loop-kept : goal.decreases-loop-kept
 decreases-loop-kept l = l.kept

@@ -1,8 +1,8 @@
-use Rattle.std.proofs.Common.{arith, ◌∷◌, ◌+◌, subst, ap, pos}
+use Rattle.std.proofs.Common.{arith, ◌∷◌, ◌+◌, length, subst, ap, pos}
 use Rattle.range_plane.specs.Polygon.{IsPolygon}
 use Rattle.range_hull.specs.Hull.{Hull, corners_of}
 use Rattle.range_hull.proofs.Area.{area_extended}
-use Rattle.range_hull.proofs.Hulls.{chains_extended, polygon_extended}
+use Rattle.range_hull.proofs.Hulls.{chains_extended, corners-added, polygon_extended}
 use Rattle.range_hull.proofs.hull.OnlineHull.insert.Given as given
 use Rattle.range_hull.proofs.hull.OnlineHull.insert.Goals as goal
 
@@ -26,3 +26,10 @@ returns-clause-corners g c = polygon g c
 
 pub returns-clause-set : goal.returns-clause-set
 returns-clause-set g c = λ S old. (c.corners_stand_for_the_set.ensures S _ _ c.args.p old).0 (polygon g c)
+
+pub returns-clause-turns : goal.returns-clause-turns
+returns-clause-turns g c =
+    let lower = c.extend.ensures in
+    let upper = c.extend-2.ensures in
+    let added = corners-added c.self.inside.lower.items c.extend.new.chain.items c.self.invariant.chains.upper upper.chain in
+    omega (arith, added, lower.turns, upper.turns, ap (λ (h : Hull). h.turns + length h.corners) c.self.view_is)
