@@ -18,6 +18,6 @@ returns-clause-taker g c = (
   merged c.args.pass.now c.another-transcript.result c.absorb.new.pass c.requires.taker.0 c.absorb.ensures.rule,
   c.absorb.ensures.channel.0.2,
   (let seen = ap (λ (f : FeederView). f.line) c.self.view_is in
-  let first = ap (λ (v : PassView). get_or v.files 0 0) c.absorb.ensures.rule ∙ ap first_file c.requires.line ∙ sym (ap first_file seen) in
-  same_line (sends_on c.self.inside.sender) c.absorb.new.pass c.self.inside.pass c.absorb.ensures.channel.0 c.self.invariant.0 first ∙ seen ∙ sym c.requires.line),
+      let first = ap (λ (v : PassView). get_or v.files 0 0) c.absorb.ensures.rule ∙ ap first_file c.requires.line ∙ sym (ap first_file seen) in
+      same_line (sends_on c.self.inside.sender) c.absorb.new.pass c.self.inside.pass c.absorb.ensures.channel.0 c.self.invariant.0 first ∙ seen ∙ sym c.requires.line),
 )
