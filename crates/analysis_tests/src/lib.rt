@@ -1,11 +1,13 @@
 //! Tests of judging, over results that no run of threads gives at will; of the tables that it makes; and of
-//! reports, over analyses that are made by hand.
+//! reports, over analyses that are made by hand, each growth refused in turn.
 #![tactic(auto)]
 
 #[cfg(test)]
 mod faults;
 #[cfg(test)]
 mod files;
+#[cfg(test)]
+mod report_growths;
 #[cfg(test)]
 mod reports;
 #[cfg(test)]

@@ -13,7 +13,7 @@ use std::test::Fail;
 const REPORT: &[u8] =
     b"animal,A,fixes,5\nbox,A,0,0,10,10\nrow,A,1,0,1,0\nrow,A,2,60,2,0\nrow,A,3,120,3,100\nrow,A,4,180,4,200\nrow,A,5,240,4,200\ncorner,A,1,0,0\ncorner,A,2,10,0\ncorner,A,3,10,10\ncorner,A,4,0,10\npercent,A,50,3,3,50\npercent,A,95,5,4,200\npercent,A,100,5,4,200\nanimal,B,fixes,3\nbox,B,5,5,20,5\nrow,B,1,0,1,0\nrow,B,2,60,2,0\nrow,B,3,120,2,0\ncorner,B,1,5,5\ncorner,B,2,20,5\npercent,B,50,2,2,0\npercent,B,95,3,2,0\npercent,B,100,3,2,0\noverlap,A,B,1,5\noverlap,B,A,2,3\nend,2\n";
 
-fn extent(min_e: i64, min_n: i64, max_e: i64, max_n: i64) -> Extent {
+pub(crate) fn extent(min_e: i64, min_n: i64, max_e: i64, max_n: i64) -> Extent {
     Extent {
         min_e,
         min_n,
@@ -22,7 +22,7 @@ fn extent(min_e: i64, min_n: i64, max_e: i64, max_n: i64) -> Extent {
     }
 }
 
-fn row(second: u64, corners: u32, area2: u128) -> Row {
+pub(crate) fn row(second: u64, corners: u32, area2: u128) -> Row {
     Row {
         second,
         corners,
@@ -30,7 +30,7 @@ fn row(second: u64, corners: u32, area2: u128) -> Row {
     }
 }
 
-fn percent(level: u8, kept: u32, corners: u32, area2: u128) -> PercentRow {
+pub(crate) fn percent(level: u8, kept: u32, corners: u32, area2: u128) -> PercentRow {
     PercentRow {
         level,
         kept,
@@ -39,7 +39,7 @@ fn percent(level: u8, kept: u32, corners: u32, area2: u128) -> PercentRow {
     }
 }
 
-fn polygon(alloc: Global, places: &[(i64, i64)]) -> Result<Polygon, Fail> {
+pub(crate) fn polygon(alloc: Global, places: &[(i64, i64)]) -> Result<Polygon, Fail> {
     let mut points = Vec::new(alloc);
     for (e, n) in places {
         points.push(Point::new(*e, *n).ok_or("a point")?)?;

@@ -4,6 +4,7 @@ use Rattle.std.proofs.Math.Nat.{mod-add-div', mod-eq_of_lt, mod-lt}
 use Rattle.std.proofs.lemmas.Option.{same_Some, slice_get_within}
 use Rattle.std.specs.declared.clone.Clone.{Ghosts}
 use Rattle.range_fixes.specs.Reading.{Reading}
+use Rattle.range_line.specs.Lines.{first_file}
 use Rattle.range_collect.specs.Follow.{IsFollowed}
 use Rattle.range_collect.specs.Lanes.{AreLanesFollowed, Dealt, IsLaneFollowed}
 use Rattle.range_collect.specs.declared.followed.Followed.{Followed}
@@ -45,6 +46,18 @@ same_over i j n workers w is below_i below_j same =
           (let i_is : i % workers ≡ i = mod-eq_of_lt (omega (arith, few, below_i)) in
           let j_is : j % workers ≡ j = mod-eq_of_lt (omega (arith, few, below_j)) in
           ap (λ (k : ℕ). k % w) (sym i_is ∙ (same ∙ j_is)))
+    ]
+
+-- and the other way round
+pub same_under : (i j n workers w : ℕ) → w ≡ min n workers → i < n → j < n → i % w ≡ j % w → i % workers ≡ j % workers
+same_under i j n workers w is below_i below_j same =
+    elim (within n workers) as (λ _. i % workers ≡ j % workers) [
+      | inl all ↦ (let w_is : w ≡ workers = omega (arith, is, all) in rw (← w_is) same)
+      | inr few ↦
+          (let w_is : w ≡ n = omega (arith, is, few) in
+          let i_is : i % w ≡ i = mod-eq_of_lt (omega (arith, w_is, below_i)) in
+          let j_is : j % w ≡ j = mod-eq_of_lt (omega (arith, w_is, below_j)) in
+          ap (λ (k : ℕ). k % workers) (sym i_is ∙ (same ∙ j_is)))
     ]
 
 -- ---- one line's results, by other words
@@ -89,3 +102,21 @@ module _ {A : Type 0} {clone : Ghosts A} (size : ℕ) (sources : List (Option Re
       let lane = are.each (i % length results) source.0 a.0 source.1 a.1 in
       let P : Followed A clone → Type 0 = λ x. x.feeder.line ≡ lane.line in
       of_all P a.0 (i / length results) f lane.of_line a.2 ∙ sym (of_all P a.0 (j / length results) g lane.of_line in_a)
+
+  -- the line of a file begins with the number that its place leaves over
+  line_begins : (all : List (Followed A clone)) → Dealt all results → AreLanesFollowed size lanes results → 0 < length lanes
+      → (i : ℕ) (f : Followed A clone) → slice_get all i ≡ Some f → first_file f.feeder.line ≡ i % length lanes
+  line_begins all merged are some i f in_i =
+      let count : length results ≡ length lanes = are.count in
+      let some_results : 0 < length results = omega (arith, count, some) in
+      let a = dealt_place all results i f merged some_results in_i in
+      let below = slice_get_within results (i % length results) a.0 a.1 in
+      let source = there_is lanes (i % length results) (omega (arith, below, count)) in
+      let lane = are.each (i % length results) source.0 a.0 source.1 a.1 in
+      let of_line = of_all (λ (x : Followed A clone). x.feeder.line ≡ lane.line) a.0 (i / length results) f lane.of_line a.2 in
+      ap first_file of_line ∙ (lane.begins ∙ ap (λ (n : ℕ). i % n) count)
+
+  pub same_place : (all : List (Followed A clone)) → Dealt all results → AreLanesFollowed size lanes results → 0 < length lanes
+      → (i j : ℕ) (f g : Followed A clone) → slice_get all i ≡ Some f → slice_get all j ≡ Some g → f.feeder.line ≡ g.feeder.line → i % length lanes ≡ j % length lanes
+  same_place all merged are some i j f g in_i in_j same =
+      sym (line_begins all merged are some i f in_i) ∙ (ap first_file same ∙ line_begins all merged are some j g in_j)

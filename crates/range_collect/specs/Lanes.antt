@@ -3,7 +3,7 @@ use Rattle.std.specs.Prelude.{◌≡◌, ℕ, ◌+◌, ◌*◌, ◌<◌, ◌≤�
 use Rattle.std.specs.declared.clone.Clone.{Ghosts}
 use Rattle.range_plan.specs.Limits.{file_limit}
 use Rattle.range_fixes.specs.Reading.{Reading}
-use Rattle.range_line.specs.Lines.{files_from, new_feeder, FeederView, Line, TakerView}
+use Rattle.range_line.specs.Lines.{files_from, first_file, new_feeder, FeederView, Line, TakerView}
 use Rattle.range_line.specs.Messages.{of_file, IsLawful}
 use Rattle.range_estimator.specs.Estimation.{Estimation, IsEstimate}
 use Rattle.range_collect.specs.Follow.{IsFollowed}
@@ -29,12 +29,14 @@ pub record IsSeen (feeder : FeederView) (e : Estimation) (mark : Bool) : Type 0 
 pub record IsLane (first step size : ℕ) (sources : List (Option Reading)) (feeders : List FeederView) (reads : List Read) (worker : TakerView) : Type 0 where
   pub counts : (length feeders ≡ length sources) × (length reads ≡ length sources)
   pub files : worker.files ≡ files_from first step (length sources)
+  pub begins : first_file worker.line ≡ first
   pub pumped : (place : ℕ) (source : Option Reading) (f : FeederView) (r : Read) → slice_get sources place ≡ Some source → slice_get feeders place ≡ Some f
       → slice_get reads place ≡ Some r → IsPumped source size (new_feeder worker.line (first + place * step)) f r
 
 -- the files of a line were followed
 pub record IsLaneFollowed {A : Type 0} {clone : Ghosts A} (first step size : ℕ) (sources : List (Option Reading)) (results : List (Followed A clone)) : Type 0 where
   pub line : Line
+  pub begins : first_file line ≡ first
   pub of_line : All (λ f. f.feeder.line ≡ line) results
   pub count : length results ≡ length sources
   pub followed : (place : ℕ) (source : Option Reading) (f : Followed A clone) → slice_get sources place ≡ Some source → slice_get results place ≡ Some f

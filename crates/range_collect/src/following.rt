@@ -1,6 +1,6 @@
 // All files, followed side by side.
 
-ghost use Rattle.std.specs.Prelude.{◌≡◌, ◌≤◌, ℕ, ◌%◌, Some, map, slice_get, length, IfOk, vec_len};
+ghost use Rattle.std.specs.Prelude.{◌≡◌, ◌≤◌, ◌↔◌, ℕ, ◌%◌, Some, map, slice_get, length, IfOk, vec_len};
 ghost use Rattle.range_fixes.specs.Reading.{reading_from};
 ghost use Rattle.range_plan.specs.Limits.{file_limit};
 ghost use Rattle.range_collect.specs.Follow.{IsFollowed};
@@ -46,7 +46,7 @@ pub fn follow<
     requires sources { (1 ≤ vec_len sources) × (vec_len sources ≤ file_limit) }
     ensures followed { IfOk result (λ all. Paired (λ file source f. IsFollowed source file plan.block f.feeder f.read f.estimator f.marked) (map (reading_from S.remaining plan.unit) sources.items) all.items) }
     ensures lines { IfOk result (λ all. (i j : ℕ) (f g : _) → slice_get all.items i ≡ Some f → slice_get all.items j ≡ Some g
-        → i % plan.workers ≡ j % plan.workers → f.feeder.line ≡ g.feeder.line) }
+        → (i % plan.workers ≡ j % plan.workers) ↔ (f.feeder.line ≡ g.feeder.line)) }
 {
     let count = sources.len();
     let lanes = deal(alloc, sources, count.min(plan.workers as usize))?;

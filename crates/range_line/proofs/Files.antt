@@ -1,5 +1,5 @@
 -- The files of a line.
-use Rattle.std.proofs.Common.{◌≡◌, ℕ, suc, ◌+◌, ◌*◌, ◌<◌, ◌≤◌, [], ◌∷◌, ◌++◌, sym, ◌∙◌, suc-mul, mul-le-mul_right, arith, ap, length}
+use Rattle.std.proofs.Common.{◌≡◌, ℕ, zero, suc, ◌+◌, ◌*◌, ◌<◌, ◌≤◌, [], ◌∷◌, ◌++◌, get_or, sym, ◌∙◌, suc-mul, mul-le-mul_right, arith, ap, length}
 use Rattle.std.specs.Prelude.{Contains}
 use Rattle.std.proofs.lemmas.List.FromFn.{length-map-range_with_len, get_or-map-range_with_len, map-range_with_len_more}
 use Rattle.range_line.specs.Laws.{FilesHavePlaces}
@@ -23,6 +23,16 @@ file_is_new first step n some_step c =
     let same = place.2 in
     let apart : suc place.0 * step ≤ n * step = mul-le-mul_right step (omega arith) in
     omega (arith, suc-mul place.0 step, same)
+
+pub first_of_files : (first step n none : ℕ) → 1 ≤ n → get_or (files_from first step n) 0 none ≡ first
+first_of_files first step n none some =
+    let start : first + 0 * step ≡ first = omega arith in
+    get_or-map-range_with_len (λ j. first + j * step) 0 n 0 0 none (omega arith) (omega arith) ∙ start
+
+-- the next file is the first one where there is none before it
+pub first_or_next : (first step n : ℕ) → get_or (files_from first step n) 0 (first + n * step) ≡ first
+first_or_next first step zero = let start : first + 0 * step ≡ first = omega arith in start
+first_or_next first step (suc n) = first_of_files first step (suc n) (first + suc n * step) (omega arith)
 
 pub has_a_file : (first step n : ℕ) → 1 ≤ n → files_from first step n ≡ [] → ⊥
 has_a_file first step n some e =

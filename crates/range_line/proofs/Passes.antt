@@ -1,5 +1,5 @@
 -- What is known of a pass after each step.
-use Rattle.std.proofs.Common.{Result, Ok, Err, ◌≡◌, ℕ, Bool, true, false, not, List, [], ◌∷◌, ◌++◌, length, sym, refl, ap, ◌∙◌, subst, ◌+◌, ◌≤◌, ⊎_elim, ◌||◌, true≢false, length-append, arith}
+use Rattle.std.proofs.Common.{Result, Ok, Err, ◌≡◌, ℕ, Bool, true, false, not, List, [], ◌∷◌, ◌++◌, length, get_or, sym, refl, ap, ◌∙◌, subst, ◌+◌, ◌≤◌, ⊎_elim, ◌||◌, true≢false, length-append, arith}
 use Rattle.std.specs.Prelude.{Contains, IfSome, MatchResult}
 use Rattle.std.specs.Result.{result_ok}
 use Rattle.atomic_table.specs.declared.badge.Badge.{Badge}
@@ -20,20 +20,20 @@ use Rattle.std.proofs.lemmas.List.{append-nil}
 use Rattle.range_line.proofs.Orderly.{joined-append, of_file-push, orderly_push, has_mark-push}
 use Rattle.range_line.proofs.Steps.{sends, takes, completes, ends, joins, At, at_end}
 use Rattle.range_line.specs.Lines.{FeederView, TakerView, new_taker, next_message}
-use Rattle.range_line.specs.Passes.{LinePass, line_of, first_sent, sent_by, may_send, taken_by, files_known, depth_known, IsFeeding, IsTaking}
+use Rattle.range_line.specs.Passes.{LinePass, first_known, line_of, first_sent, sent_by, may_send, taken_by, files_known, depth_known, IsFeeding, IsTaking}
 
-pub same_line : {Q M L A : Type 0} (c : Rows (Badge (Key Message)) (Doing Message PassView) Q M (Key Message) L A) (a b : LinePass) → IsSeatAt c a → IsSeatAt c b → line_of a ≡ line_of b
-same_line c a b x y i = ((x.0 ∙ sym y.0) i, (x.1 ∙ sym y.1) i)
+pub same_line : {Q M L A : Type 0} (c : Rows (Badge (Key Message)) (Doing Message PassView) Q M (Key Message) L A) (a b : LinePass) → IsSeatAt c a → IsSeatAt c b → first_known a ≡ first_known b → line_of a ≡ line_of b
+same_line c a b x y same i = ((x.0 ∙ sym y.0) i, (x.1 ∙ sym y.1) i, same i)
 
 -- a pass of the same line, which holds no slot, is of the channel too
 pub seat_of_line : {Q M L A : Type 0} (c : Rows (Badge (Key Message)) (Doing Message PassView) Q M (Key Message) L A) (a b : LinePass) → IsSeatAt c a → line_of b ≡ line_of a → b.me.1 ≡ [] → IsSeatAt c b
 seat_of_line c a b x same free = (ap (λ l. l.0) same ∙ x.0, ap (λ l. l.1) same ∙ x.1, free, x.3)
 
-pub feeding_of : (p : LinePass) (depth file : ℕ) (sent : List Message) (closed may : Bool) (fixes : ℕ) → view p ≡ feeder_pass depth file sent closed may → of_file sent file ≡ sent → IsOrderly sent → has_mark sent ≡ closed → fixes ≡ length (joined sent)
+pub feeding_of : (p : LinePass) (depth first file : ℕ) (sent : List Message) (closed may : Bool) (fixes : ℕ) → view p ≡ feeder_pass depth first file sent closed may → of_file sent file ≡ sent → IsOrderly sent → has_mark sent ≡ closed → fixes ≡ length (joined sent)
     → IsFeeding p depth file closed fixes
-feeding_of p depth file sent closed may fixes e own run marked count =
-    let all : (view p ≡ feeder_pass depth file (sent_by p) closed (may_send p)) × (of_file (sent_by p) file ≡ sent_by p) × IsOrderly (sent_by p) × (has_mark (sent_by p) ≡ closed) × (fixes ≡ length (joined (sent_by p))) =
-    subst (λ (v : PassView). (v ≡ feeder_pass depth file (first_sent v.transcripts) closed v.sends) × (of_file (first_sent v.transcripts) file ≡ first_sent v.transcripts) × IsOrderly (first_sent v.transcripts) × (has_mark (first_sent v.transcripts) ≡ closed) × (fixes ≡ length (joined (first_sent v.transcripts)))) (sym e)
+feeding_of p depth first file sent closed may fixes e own run marked count =
+    let all : (view p ≡ feeder_pass depth (first_known p) file (sent_by p) closed (may_send p)) × (of_file (sent_by p) file ≡ sent_by p) × IsOrderly (sent_by p) × (has_mark (sent_by p) ≡ closed) × (fixes ≡ length (joined (sent_by p))) =
+    subst (λ (v : PassView). (v ≡ feeder_pass depth (get_or v.files 0 0) file (first_sent v.transcripts) closed v.sends) × (of_file (first_sent v.transcripts) file ≡ first_sent v.transcripts) × IsOrderly (first_sent v.transcripts) × (has_mark (first_sent v.transcripts) ≡ closed) × (fixes ≡ length (joined (first_sent v.transcripts)))) (sym e)
     (refl, own, run, marked, count) in
     record { shows = all.0; own = all.1; orderly = all.2; marked = all.3; count = all.4 }
 
@@ -63,7 +63,7 @@ pub record IsNext (p : LinePass) (depth file : ℕ) (closed : Bool) (fixes : ℕ
 
 -- what IsNext says of the pass alone
 record Follows (p : LinePass) (depth file : ℕ) (m : Message) : Type 0 where
-  shows : view p ≡ feeder_pass depth file (sent_by p) false true
+  shows : view p ≡ feeder_pass depth (first_known p) file (sent_by p) false true
   unmarked : has_mark (sent_by p) ≡ false
   is : m.file ≡ file
   place : m.place ≡ length (joined (sent_by p))
@@ -77,7 +77,7 @@ module _ (p : LinePass) (depth file : ℕ) (closed : Bool) (fixes : ℕ) (f : Fe
       let live = may (may_send p) (ap (λ (x : FeederView). x.ended) n.seen ∙ n.live.1) in
       let sent = ap (λ (x : FeederView). length (joined x.sent)) n.seen in
       record {
-        shows = n.feeding.shows ∙ (λ i. feeder_pass depth file (sent_by p) (open_ i) (live i));
+        shows = n.feeding.shows ∙ (λ i. feeder_pass depth (first_known p) file (sent_by p) (open_ i) (live i));
         unmarked = n.feeding.marked ∙ open_;
         is = ap (λ (x : Message). x.file) n.next ∙ sym (ap (λ (x : FeederView). x.file) n.seen);
         place = ap (λ (x : Message). x.place) n.next ∙ sym sent;
@@ -89,17 +89,17 @@ module _ (p : LinePass) (depth file : ℕ) (closed : Bool) (fixes : ℕ) (f : Fe
   pub pushes : Pushes IsRuled depth p.id (view p) m (λ w. w ≡ after_sending (view p) m)
   pushes = let t = follows in
       subst (λ (v : PassView). Pushes IsRuled depth p.id v m (λ w. w ≡ after_sending v m)) (sym t.shows)
-      (sends depth p.id file (sent_by p) m t.is n.feeding.orderly t.unmarked t.place t.fit t.room)
+      (sends depth p.id (first_known p) file (sent_by p) m t.is n.feeding.orderly t.unmarked t.place t.fit t.room)
 
   -- and the pass is then this one
   pub pushed : (q : LinePass) → view q ≡ after_sending (view p) m → IsFeeding q depth file (is_mark body) (fixes + length (fixes_in body))
   pushed q e =
       let t = follows in
       let sent = sent_by p in
-      let known : view q ≡ feeder_pass depth file (sent ++ m ∷ []) (is_mark m.body) true = e ∙ ap (λ v. after_sending v m) t.shows in
+      let known : view q ≡ feeder_pass depth (first_known p) file (sent ++ m ∷ []) (is_mark m.body) true = e ∙ ap (λ v. after_sending v m) t.shows in
       let count = n.feeding.count in
       subst (λ b. IsFeeding q depth file (is_mark b) (fixes + length (fixes_in b))) (ap (λ (x : Message). x.body) n.next)
-      (feeding_of q depth file (sent ++ m ∷ []) (is_mark m.body) true (fixes + length (fixes_in m.body)) known
+      (feeding_of q depth (first_known p) file (sent ++ m ∷ []) (is_mark m.body) true (fixes + length (fixes_in m.body)) known
       (ap (of_file (sent ++ m ∷ [])) (sym t.is) ∙ of_file-push sent m ∙ ap (λ l. l ++ m ∷ []) (ap (of_file sent) t.is ∙ n.feeding.own))
       (orderly_push sent m n.feeding.orderly t.unmarked t.place t.fit t.room)
       (has_mark-push sent m ∙ ap (λ b. b || is_mark m.body) t.unmarked)
@@ -162,15 +162,15 @@ received_of_line Z p q (Ok m) e = e.1
 received_of_line Z p q (Err _) e = tt
 
 -- a feeder's pass once it has ended
-pub ended_of : (p q : LinePass) (depth file : ℕ) (closed : Bool) (fixes : ℕ) → IsFeeding p depth file closed fixes → view q ≡ after_ending (view p) → view q ≡ feeder_pass depth file (sent_by p) closed false
+pub ended_of : (p q : LinePass) (depth file : ℕ) (closed : Bool) (fixes : ℕ) → IsFeeding p depth file closed fixes → view q ≡ after_ending (view p) → view q ≡ feeder_pass depth (first_known p) file (sent_by p) closed false
 ended_of p q depth file closed fixes f e = e ∙ ap after_ending f.shows
 
 pub forks : (p : LinePass) (depth file : ℕ) (closed : Bool) (fixes : ℕ) → IsFeeding p depth file closed fixes → Forks IsRuled p.id (view p) (after_ending (view p)) (after_ending (view p))
-forks p depth file closed fixes f = subst (λ (v : PassView). Forks IsRuled p.id v (after_ending v) (after_ending v)) (sym f.shows) (ends p.id depth file (sent_by p) closed (may_send p))
+forks p depth file closed fixes f = subst (λ (v : PassView). Forks IsRuled p.id v (after_ending v) (after_ending v)) (sym f.shows) (ends p.id depth (first_known p) file (sent_by p) closed (may_send p))
 
-pub merges : (p q : LinePass) (depth file : ℕ) (sent : List Message) (closed : Bool) → IsTaking p → view q ≡ feeder_pass depth file sent closed false → Merges IsRuled p.id (view p) q.id (view q) (after_joining (view p) (view q)) spent_pass
-merges p q depth file sent closed t e = let v = view p in
-    subst (λ (x : PassView × PassView). Merges IsRuled p.id x.0 q.id x.1 (after_joining x.0 x.1) spent_pass) (λ i. (sym t.shows i, sym e i)) (joins p.id v.depth v.files v.taken v.transcripts q.id depth file sent closed)
+pub merges : (p q : LinePass) (depth first file : ℕ) (sent : List Message) (closed : Bool) → IsTaking p → view q ≡ feeder_pass depth first file sent closed false → Merges IsRuled p.id (view p) q.id (view q) (after_joining (view p) (view q)) spent_pass
+merges p q depth first file sent closed t e = let v = view p in
+    subst (λ (x : PassView × PassView). Merges IsRuled p.id x.0 q.id x.1 (after_joining x.0 x.1) spent_pass) (λ i. (sym t.shows i, sym e i)) (joins p.id v.depth v.files v.taken v.transcripts q.id depth first file sent closed)
 
 pub merged : (p q r : LinePass) → IsTaking p → view r ≡ after_joining (view p) (view q) → IsTaking r
 merged p q r t e = taking_of r (after_joining (view p) (view q)) e (ap (λ v. after_joining v (view q)) t.shows, t.lawful, t.of_line)

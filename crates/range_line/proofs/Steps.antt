@@ -1,5 +1,5 @@
 -- Each step keeps the rule of a line.
-use Rattle.std.proofs.Common.{◌≡◌, ◌≢◌, ℕ, zero, suc, ◌+◌, ◌≤◌, ◌⊎◌, Bool, true, false, true≢false, ◌||◌, List, [], ◌∷◌, ◌++◌, length, set, inl, inr, ⊎_elim, sym, refl, ap, ◌∙◌, subst, append_assoc, length-append, arith, ne_eqb}
+use Rattle.std.proofs.Common.{◌≡◌, ◌≢◌, ℕ, zero, suc, ◌+◌, ◌≤◌, ◌⊎◌, Bool, true, false, true≢false, ◌||◌, List, [], ◌∷◌, ◌++◌, length, get_or, set, inl, inr, ⊎_elim, sym, refl, ap, ◌∙◌, subst, append_assoc, length-append, arith, ne_eqb}
 use Rattle.std.specs.Prelude.{Contains, cond}
 use Rattle.std.proofs.lemmas.List.Elements.{Contains-append_left, Contains-append_right}
 use Rattle.std.proofs.lemmas.Bool.{cases_eq}
@@ -113,11 +113,11 @@ begins =
     }
 
 -- a feeder sends: the message fits behind what it sent
-pub sends : (n pass file : ℕ) (sent : List Message) (m : Message) → m.file ≡ file → IsOrderly sent → has_mark sent ≡ false → m.place ≡ length (joined sent) → IsFit m.body []
+pub sends : (n pass first file : ℕ) (sent : List Message) (m : Message) → m.file ≡ file → IsOrderly sent → has_mark sent ≡ false → m.place ≡ length (joined sent) → IsFit m.body []
     → length (joined sent) + length (fixes_in m.body) ≤ fix_limit
-    → Pushes IsRuled n pass (feeder_pass n file sent false true) m (λ w. w ≡ after_sending (feeder_pass n file sent false true) m)
-sends n pass file sent m is run open_ place fit room items views less kept at =
-    let v = feeder_pass n file sent false true in
+    → Pushes IsRuled n pass (feeder_pass n first file sent false true) m (λ w. w ≡ after_sending (feeder_pass n first file sent false true) m)
+sends n pass first file sent m is run open_ place fit room items views less kept at =
+    let v = feeder_pass n first file sent false true in
     let w = after_sending v m in
     let carried = kept.carried in
     let all = kept.taken ++ items in
@@ -197,11 +197,11 @@ takes pass depth files taken feeders m items views kept at =
 
 -- a feeder for a new file is made
 pub opens : (pass : ℕ) (old depth file : ℕ) (files : List ℕ) (taken : List Message) (feeders : List Transcript) → (Contains files file → ⊥) → (files ≡ []) ⊎ (old ≡ depth)
-    → Forks IsRuled pass (taker_pass old files taken feeders) (after_opening depth file (taker_pass old files taken feeders)) (feeder_pass depth file [] false true)
+    → Forks IsRuled pass (taker_pass old files taken feeders) (after_opening depth file (taker_pass old files taken feeders)) (feeder_pass depth (get_or files 0 file) file [] false true)
 opens pass old depth file files taken feeders new first items views kept at =
     let v = taker_pass old files taken feeders in
     let left = taker_pass depth (files ++ file ∷ []) taken feeders in
-    let right = feeder_pass depth file [] false true in
+    let right = feeder_pass depth (get_or files 0 file) file [] false true in
     let carried = kept.carried in
     let fits = carried.each pass v at in
     let mine = fits.takes refl in
@@ -239,10 +239,10 @@ opens pass old depth file files taken feeders new first items views kept at =
     }
 
 -- a feeder ends, and what it sent is shown by another pass too
-pub ends : (pass depth file : ℕ) (sent : List Message) (closed may : Bool) → Forks IsRuled pass (feeder_pass depth file sent closed may) (feeder_pass depth file sent closed false) (feeder_pass depth file sent closed false)
-ends pass depth file sent closed may items views kept at =
-    let v = feeder_pass depth file sent closed may in
-    let w = feeder_pass depth file sent closed false in
+pub ends : (pass depth first file : ℕ) (sent : List Message) (closed may : Bool) → Forks IsRuled pass (feeder_pass depth first file sent closed may) (feeder_pass depth first file sent closed false) (feeder_pass depth first file sent closed false)
+ends pass depth first file sent closed may items views kept at =
+    let v = feeder_pass depth first file sent closed may in
+    let w = feeder_pass depth first file sent closed false in
     let carried = kept.carried in
     let fits = carried.each pass v at in
     let all = kept.taken ++ items in
@@ -268,11 +268,11 @@ ends pass depth file sent closed may items views kept at =
     }
 
 -- the taker takes in what a feeder that has ended shows
-pub joins : (pass depth : ℕ) (files : List ℕ) (taken : List Message) (feeders : List Transcript) (other depth' file : ℕ) (sent : List Message) (closed : Bool)
-    → Merges IsRuled pass (taker_pass depth files taken feeders) other (feeder_pass depth' file sent closed false) (taker_pass depth files taken (feeders ++ transcript file sent closed ∷ [])) spent_pass
-joins pass depth files taken feeders other depth' file sent closed items views kept at two at' =
+pub joins : (pass depth : ℕ) (files : List ℕ) (taken : List Message) (feeders : List Transcript) (other depth' own file : ℕ) (sent : List Message) (closed : Bool)
+    → Merges IsRuled pass (taker_pass depth files taken feeders) other (feeder_pass depth' own file sent closed false) (taker_pass depth files taken (feeders ++ transcript file sent closed ∷ [])) spent_pass
+joins pass depth files taken feeders other depth' own file sent closed items views kept at two at' =
     let v = taker_pass depth files taken feeders in
-    let w = feeder_pass depth' file sent closed false in
+    let w = feeder_pass depth' own file sent closed false in
     let both = taker_pass depth files taken (feeders ++ transcript file sent closed ∷ []) in
     let carried = kept.carried in
     let all = kept.taken ++ items in

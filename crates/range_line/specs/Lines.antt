@@ -10,9 +10,12 @@ use Rattle.range_line.specs.declared.message.Message.{Message}
 use Rattle.range_line.specs.declared.message.Body.{Body}
 use Rattle.range_line.specs.Messages.{message, of_file, joined, is_mark, has_mark}
 
--- which line it is: its channel has this table and this key to it
+-- which line it is: its channel has this table and this key to it, and this is the first of its files
 abbrev pub Line : Type 0
-Line = TableId × Badge (Key Message)
+Line = TableId × Badge (Key Message) × ℕ
+
+abbrev pub first_file : Line → ℕ
+first_file line = line.2
 
 -- a feeder: its line, its file, what it sent, whether that has the mark, and whether the line has ended
 pub record FeederView : Type 0 where

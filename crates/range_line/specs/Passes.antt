@@ -1,5 +1,5 @@
 -- What the invariants of a line's ends, and the steps of `settle`, say of passes.
-use Rattle.std.specs.Prelude.{◌≡◌, ℕ, Bool, List, [], ◌∷◌, ◌++◌, map, length, Contains}
+use Rattle.std.specs.Prelude.{◌≡◌, ℕ, Bool, List, [], ◌∷◌, ◌++◌, get_or, map, length, Contains}
 use mathlib.Core.Option.{some}
 use lib.ListN.{get_elem?}
 use Rattle.crossbeam_channel.specs.Claims.{Pass, view}
@@ -13,9 +13,17 @@ use Rattle.range_line.specs.Lines.{Line, FeederView}
 abbrev pub LinePass : Type 0
 LinePass = Pass Message PassView
 
+-- the first file of the line that the pass is of, as it shows
+abbrev pub first_known : LinePass → ℕ
+first_known p = get_or (view p).files 0 0
+
+-- the line with this first file on the channel that the pass is of
+abbrev pub line_from : LinePass → ℕ → Line
+line_from p first = (p.table_id, p.me.0.of, first)
+
 -- the line that the pass is of
 abbrev pub line_of : LinePass → Line
-line_of p = (p.table_id, p.me.0.of)
+line_of p = line_from p (first_known p)
 
 abbrev pub first_sent : List Transcript → List Message
 first_sent [] = []
@@ -39,7 +47,7 @@ depth_known p = (view p).depth
 
 -- the pass is that of a feeder
 pub record IsFeeding (p : LinePass) (depth file : ℕ) (closed : Bool) (fixes : ℕ) : Type 0 where
-  pub shows : view p ≡ feeder_pass depth file (sent_by p) closed (may_send p)
+  pub shows : view p ≡ feeder_pass depth (first_known p) file (sent_by p) closed (may_send p)
   pub own : of_file (sent_by p) file ≡ sent_by p
   pub orderly : IsOrderly (sent_by p)
   pub marked : has_mark (sent_by p) ≡ closed

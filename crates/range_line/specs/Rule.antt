@@ -12,9 +12,9 @@ use Rattle.range_line.specs.Messages.{of_file, is_mark, has_mark, IsLawful}
 abbrev pub transcript : ℕ → List Message → Bool → Transcript
 transcript file sent closed = record { file = file; sent = sent; closed = closed }
 
--- a feeder's pass: what was sent for its file, and whether it may send more
-abbrev pub feeder_pass : ℕ → ℕ → List Message → Bool → Bool → PassView
-feeder_pass depth file sent closed sends = record { takes = false; sends = sends; depth = depth; files = []; taken = []; transcripts = transcript file sent closed ∷ [] }
+-- a feeder's pass: the first file of its line, what was sent for its own file, and whether it may send more
+abbrev pub feeder_pass : ℕ → ℕ → ℕ → List Message → Bool → Bool → PassView
+feeder_pass depth first file sent closed sends = record { takes = false; sends = sends; depth = depth; files = first ∷ []; taken = []; transcripts = transcript file sent closed ∷ [] }
 
 -- the taker's pass: the files of the line, what was taken, and what ended feeders had sent
 abbrev pub taker_pass : ℕ → List ℕ → List Message → List Transcript → PassView

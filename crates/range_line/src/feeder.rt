@@ -1,13 +1,13 @@
 // The end of a line that sends the fixes of one file.
 
-ghost use Rattle.std.specs.Prelude.{◌≡◌, ◌+◌, ◌≤◌, ◌⊎◌, List, true, false, [], ◌∷◌, length, Contains, IfOk, MatchBool, MatchResult};
+ghost use Rattle.std.specs.Prelude.{◌≡◌, ◌+◌, ◌≤◌, ◌⊎◌, List, true, false, [], ◌∷◌, get_or, length, Contains, IfOk, MatchBool, MatchResult};
 ghost use Rattle.crossbeam_channel.specs.Claims.{view, IsSeatAt};
 ghost use Rattle.crossbeam_channel.specs.Ends.{sends_on, ruled_capacity};
 ghost use Rattle.range_plane.specs.Fix.{fix_limit};
 ghost use Rattle.range_plan.specs.Limits.{block_limit};
 ghost use Rattle.range_line.specs.Lines.{after_send, ended_feeder, new_feeder, next_message};
 ghost use Rattle.range_line.specs.Messages.{block_of, has_mark, joined, of_file, the_mark, IsLawful};
-ghost use Rattle.range_line.specs.Passes.{after_joining_all, line_of, IsTaking};
+ghost use Rattle.range_line.specs.Passes.{after_joining_all, line_from, line_of, IsTaking};
 ghost use Rattle.range_line.specs.Rule.{after_opening, feeder_pass, taker_pass, IsRest};
 
 use crate::message::{Block, Body, Message};
@@ -62,7 +62,7 @@ fn split_pass<B: Opening, A: Allocator + Clone>(
     requires taker { (view pass.old ≡ taker_pass (view pass.old).depth (view pass.old).files [] []) × (Contains (view pass.old).files file → ⊥) × (((view pass.old).files ≡ []) ⊎ ((view pass.old).depth ≡ B.depth)) }
     ensures channel { IsSeatAt (sends_on sender.now) pass.new × (pass.new.id ≡ pass.old.id) × IsSeatAt (sends_on sender.now) result }
     ensures taker { view pass.new ≡ after_opening (ruled_capacity (sends_on sender.now)) file (view pass.old) }
-    ensures feeder { view result ≡ feeder_pass (ruled_capacity (sends_on sender.now)) file [] false true }
+    ensures feeder { view result ≡ feeder_pass (ruled_capacity (sends_on sender.now)) (get_or (view pass.old).files 0 file) file [] false true }
 {
     sender.another::<Opens<B>>(pass)
 }
@@ -78,8 +78,8 @@ impl<A: Allocator + Clone> Feeder<A> {
         requires taker { (view pass.old ≡ taker_pass (view pass.old).depth (view pass.old).files [] []) × (Contains (view pass.old).files file → ⊥) × (((view pass.old).files ≡ []) ⊎ ((view pass.old).depth ≡ ruled_capacity (sends_on sender.now))) }
         ensures channel { IsSeatAt (sends_on sender.now) pass.new }
         ensures taker { IfOk result (λ _. view pass.new ≡ after_opening (ruled_capacity (sends_on sender.now)) file (view pass.old)) }
-        ensures feeder { IfOk result (λ f. f ≡ new_feeder (line_of pass.old) file) }
-        ensures line { line_of pass.new ≡ line_of pass.old }
+        ensures feeder { IfOk result (λ f. f ≡ new_feeder (line_from pass.old (get_or (view pass.old).files 0 file)) file) }
+        ensures line { line_from pass.new 0 ≡ line_from pass.old 0 }
     {
         let sender = sender.try_clone()?;
         let pass = split_pass::<Brand, A>(&sender, pass, file);

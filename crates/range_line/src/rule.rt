@@ -59,12 +59,12 @@ pub struct Opens<B: Opening> {
 }
 
 impl<B: Opening> Split<PassView> for Opens<B> {
-    ghost use Rattle.std.specs.Prelude.{[], true, false};
+    ghost use Rattle.std.specs.Prelude.{[], get_or, true, false};
     ghost use Rattle.range_line.specs.Rule.{after_opening, feeder_pass};
 
     ghost left = { λ v. after_opening B.depth B.file v };
 
-    ghost right = { λ v. feeder_pass B.depth B.file [] false true };
+    ghost right = { λ v. feeder_pass B.depth (get_or v.files 0 B.file) B.file [] false true };
 }
 
 // A feeder ends: a pass with what it sent is split off its own, and the taker takes that in.

@@ -3,7 +3,7 @@
 ghost use Rattle.std.specs.Prelude.{◌≡◌, ℕ, ◌<◌, ◌≤◌, false, map, Contains, IfOk, IfSome};
 ghost use Rattle.std.specs.Option.{MatchOption};
 ghost use Rattle.range_plan.specs.Limits.{depth_limit, file_limit};
-ghost use Rattle.range_line.specs.Lines.{after_take, files_from, new_feeder, new_taker};
+ghost use Rattle.range_line.specs.Lines.{after_take, files_from, first_file, new_feeder, new_taker};
 ghost use Rattle.range_line.specs.Messages.{IsLawful};
 
 use crate::feeder::{Feeder, LinePass};
@@ -58,6 +58,7 @@ pub fn open_line<A: Allocator + Clone + Copy>(
     requires depth { (1 ≤ depth) × (depth ≤ depth_limit) }
     ensures feeders { IfOk result (λ r. r.0.items ≡ map (new_feeder r.1.line) (files_from first step count)) }
     ensures taker { IfOk result (λ r. r.1 ≡ new_taker r.1.line (files_from first step count) depth) }
+    ensures line { IfOk result (λ r. first_file r.1.line ≡ first) }
 {
     let (sender, receiver, mut pass) = bounded_with::<Message, PassView, LineRule, A>(
         alloc, depth,

@@ -11,10 +11,10 @@ use range_lanes::Extent;
 use range_plane::Point;
 use range_stats::PercentRow;
 use range_tables::{Animal, OverlapRow};
-use std::alloc::AllocError;
+use std::alloc::{AllocError, Allocator};
 
 // Appends a number.
-fn push_number<I: Integer>(text: &mut Vec<u8>, n: I) -> Result<(), AllocError>
+fn push_number<A: Allocator, I: Integer>(text: &mut Vec<u8, A>, n: I) -> Result<(), AllocError>
     ensures { OnOk result (text.new.items ≡ text.old.items ++ I.text n) }
 {
     let mut buffer = Buffer::new();
@@ -22,7 +22,7 @@ fn push_number<I: Integer>(text: &mut Vec<u8>, n: I) -> Result<(), AllocError>
 }
 
 // Appends a number behind a comma.
-fn push_field<I: Integer>(text: &mut Vec<u8>, n: I) -> Result<(), AllocError>
+fn push_field<A: Allocator, I: Integer>(text: &mut Vec<u8, A>, n: I) -> Result<(), AllocError>
     ensures { OnOk result (text.new.items ≡ text.old.items ++ (codes "," ++ I.text n)) }
 {
     text.extend_from_slice(b",")?;
@@ -30,7 +30,11 @@ fn push_field<I: Integer>(text: &mut Vec<u8>, n: I) -> Result<(), AllocError>
 }
 
 // Appends the line of an animal and the number of its fixes.
-pub(crate) fn push_head(text: &mut Vec<u8>, name: &[u8], fixes: usize) -> Result<(), AllocError>
+pub(crate) fn push_head<A: Allocator>(
+    text: &mut Vec<u8, A>,
+    name: &[u8],
+    fixes: usize,
+) -> Result<(), AllocError>
     ensures { OnOk result (text.new.items ≡ text.old.items ++ animal_line name.now fixes) }
 {
     text.extend_from_slice(b"animal,")?;
@@ -42,7 +46,11 @@ pub(crate) fn push_head(text: &mut Vec<u8>, name: &[u8], fixes: usize) -> Result
 
 // Appends an easting and a northing, each behind a comma.
 #[tactic(auto, unfolding(crate::specs::Report::point_text))]
-fn push_point(text: &mut Vec<u8>, easting: i64, northing: i64) -> Result<(), AllocError>
+fn push_point<A: Allocator>(
+    text: &mut Vec<u8, A>,
+    easting: i64,
+    northing: i64,
+) -> Result<(), AllocError>
     ensures { OnOk result (text.new.items ≡ text.old.items ++ point_text easting northing) }
 {
     push_field(text, easting)?;
@@ -50,7 +58,11 @@ fn push_point(text: &mut Vec<u8>, easting: i64, northing: i64) -> Result<(), All
 }
 
 // Appends the line of a box.
-pub(crate) fn push_box(text: &mut Vec<u8>, name: &[u8], extent: Extent) -> Result<(), AllocError>
+pub(crate) fn push_box<A: Allocator>(
+    text: &mut Vec<u8, A>,
+    name: &[u8],
+    extent: Extent,
+) -> Result<(), AllocError>
     ensures { OnOk result (text.new.items ≡ text.old.items ++ box_line name.now extent) }
 {
     text.extend_from_slice(b"box,")?;
@@ -62,7 +74,12 @@ pub(crate) fn push_box(text: &mut Vec<u8>, name: &[u8], extent: Extent) -> Resul
 }
 
 // Appends the line of the row of the first n fixes.
-fn push_row(text: &mut Vec<u8>, name: &[u8], n: usize, row: Row) -> Result<(), AllocError>
+fn push_row<A: Allocator>(
+    text: &mut Vec<u8, A>,
+    name: &[u8],
+    n: usize,
+    row: Row,
+) -> Result<(), AllocError>
     ensures { OnOk result (text.new.items ≡ text.old.items ++ row_line name.now n row) }
 {
     text.extend_from_slice(b"row,")?;
@@ -76,7 +93,11 @@ fn push_row(text: &mut Vec<u8>, name: &[u8], n: usize, row: Row) -> Result<(), A
 }
 
 // Appends the lines of rows, counted from 1.
-pub(crate) fn push_rows(text: &mut Vec<u8>, name: &[u8], rows: &[Row]) -> Result<(), AllocError>
+pub(crate) fn push_rows<A: Allocator>(
+    text: &mut Vec<u8, A>,
+    name: &[u8],
+    rows: &[Row],
+) -> Result<(), AllocError>
     ensures { OnOk result (text.new.items ≡ text.old.items ++ numbered (row_line name.now) rows.now) }
 {
     for (i, row) in rows.iter().enumerate() {
@@ -86,8 +107,8 @@ pub(crate) fn push_rows(text: &mut Vec<u8>, name: &[u8], rows: &[Row]) -> Result
 }
 
 // Appends the line of a corner.
-fn push_corner(
-    text: &mut Vec<u8>,
+fn push_corner<A: Allocator>(
+    text: &mut Vec<u8, A>,
     name: &[u8],
     number: usize,
     corner: Point,
@@ -103,8 +124,8 @@ fn push_corner(
 }
 
 // Appends the lines of corners, counted from 1.
-pub(crate) fn push_corners(
-    text: &mut Vec<u8>,
+pub(crate) fn push_corners<A: Allocator>(
+    text: &mut Vec<u8, A>,
     name: &[u8],
     corners: &[Point],
 ) -> Result<(), AllocError>
@@ -117,7 +138,11 @@ pub(crate) fn push_corners(
 }
 
 // Appends the line of a percent polygon.
-fn push_percent(text: &mut Vec<u8>, name: &[u8], row: PercentRow) -> Result<(), AllocError>
+fn push_percent<A: Allocator>(
+    text: &mut Vec<u8, A>,
+    name: &[u8],
+    row: PercentRow,
+) -> Result<(), AllocError>
     ensures { OnOk result (text.new.items ≡ text.old.items ++ percent_line name.now row) }
 {
     text.extend_from_slice(b"percent,")?;
@@ -131,8 +156,8 @@ fn push_percent(text: &mut Vec<u8>, name: &[u8], row: PercentRow) -> Result<(), 
 }
 
 // Appends the lines of percent polygons.
-pub(crate) fn push_percents(
-    text: &mut Vec<u8>,
+pub(crate) fn push_percents<A: Allocator>(
+    text: &mut Vec<u8, A>,
     name: &[u8],
     rows: &[PercentRow],
 ) -> Result<(), AllocError>
@@ -145,7 +170,11 @@ pub(crate) fn push_percents(
 }
 
 // Appends the name of the animal at a place.
-fn push_name(text: &mut Vec<u8>, animals: &[Animal], place: u32) -> Result<(), AllocError>
+fn push_name<A: Allocator>(
+    text: &mut Vec<u8, A>,
+    animals: &[Animal],
+    place: u32,
+) -> Result<(), AllocError>
     requires { place < length animals.now }
     ensures { OnOk result (text.new.items ≡ text.old.items ++ name_at (map (λ a. a.name) animals.now) place) }
 {
@@ -153,7 +182,11 @@ fn push_name(text: &mut Vec<u8>, animals: &[Animal], place: u32) -> Result<(), A
 }
 
 // Appends the line of an overlap.
-fn push_overlap(text: &mut Vec<u8>, animals: &[Animal], row: OverlapRow) -> Result<(), AllocError>
+fn push_overlap<A: Allocator>(
+    text: &mut Vec<u8, A>,
+    animals: &[Animal],
+    row: OverlapRow,
+) -> Result<(), AllocError>
     requires { (row.animal < length animals.now) × (row.range < length animals.now) }
     ensures { OnOk result (text.new.items ≡ text.old.items ++ overlap_line (map (λ a. a.name) animals.now) row) }
 {
@@ -168,8 +201,8 @@ fn push_overlap(text: &mut Vec<u8>, animals: &[Animal], row: OverlapRow) -> Resu
 }
 
 // Appends the lines of overlaps.
-pub(crate) fn push_overlaps(
-    text: &mut Vec<u8>,
+pub(crate) fn push_overlaps<A: Allocator>(
+    text: &mut Vec<u8, A>,
     animals: &[Animal],
     rows: &[OverlapRow],
 ) -> Result<(), AllocError>
@@ -183,7 +216,10 @@ pub(crate) fn push_overlaps(
 }
 
 // Appends the last line.
-pub(crate) fn push_end(text: &mut Vec<u8>, animals: usize) -> Result<(), AllocError>
+pub(crate) fn push_end<A: Allocator>(
+    text: &mut Vec<u8, A>,
+    animals: usize,
+) -> Result<(), AllocError>
     ensures { OnOk result (text.new.items ≡ text.old.items ++ end_line animals) }
 {
     text.extend_from_slice(b"end,")?;

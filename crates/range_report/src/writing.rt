@@ -11,7 +11,7 @@ use crate::lines::{
 use range_plane::{OutOfMemory, Scale};
 use range_tables::{Analysis, Animal};
 use rayon::prelude::*;
-use std::alloc::{AllocError, Global};
+use std::alloc::{AllocError, Allocator};
 use std::thread::Threads;
 
 // How many bytes a line of one animal has at most beside its name.
@@ -44,7 +44,11 @@ fn room_of(animal: &Animal) -> usize {
 
 // The lines of an animal, behind the head of the report.
 #[tactic(auto, unfolding(crate::specs::Report::animal_text))]
-fn animal_text(alloc: Global, head: &[u8], animal: &Animal) -> Result<Vec<u8>, AllocError>
+fn animal_text<A: Allocator>(
+    alloc: A,
+    head: &[u8],
+    animal: &Animal,
+) -> Result<Vec<u8, A>, AllocError>
     ensures { IfOk result (λ text. IsPartOf head.now animal.now text.items) }
 {
     let mut text = Vec::with_capacity(alloc, room_of(animal).saturating_add(head.len()))?;
@@ -60,27 +64,27 @@ fn animal_text(alloc: Global, head: &[u8], animal: &Animal) -> Result<Vec<u8>, A
 }
 
 // The lines of each animal, behind the head. Those of several are written at once.
-fn animal_texts<R: Threads + Sync>(
+fn animal_texts<R: Threads + Sync, A: Allocator + Clone + Copy + Send + Sync>(
     rt: &R,
-    alloc: Global,
+    alloc: A,
     head: &[u8],
     animals: &[Animal],
-) -> Result<Vec<Vec<u8>>, AllocError>
+) -> Result<Vec<Vec<u8, A>, A>, AllocError>
     ensures { IfOk result (λ texts. AllZip (λ animal text. IsPartOf head.now animal text.items) animals.now texts.items) }
 {
     animals
         .par_iter()
         .with_min_len(1)
         .map(
-            |animal: &Animal| -> Result<Vec<u8>, AllocError>
+            |animal: &Animal| -> Result<Vec<u8, A>, AllocError>
                 ensures { IfOk result (λ text. IsPartOf head.entry.now animal.now text.items) }
             { animal_text(alloc, head, animal) },
         )
-        .collect::<Result<Vec<Vec<u8>>, AllocError>>(rt, alloc)?
+        .collect::<Result<Vec<Vec<u8, A>, A>, AllocError>>(rt, alloc)?
 }
 
 // How many bytes the texts have.
-fn length_of(texts: &[Vec<u8>]) -> usize {
+fn length_of<A: Allocator>(texts: &[Vec<u8, A>]) -> usize {
     let mut length: usize = 0;
     for text in texts {
         length = length.saturating_add(text.len());
@@ -97,12 +101,12 @@ fn without(text: &[u8], count: usize) -> &[u8]
 
 // The texts one after the other, with one head, and room behind them. The first is not copied where its memory
 // can grow.
-fn joined(
-    alloc: Global,
+fn joined<A: Allocator>(
+    alloc: A,
     head: &[u8],
-    texts: Vec<Vec<u8>>,
+    texts: Vec<Vec<u8, A>, A>,
     room: usize,
-) -> Result<Vec<u8>, AllocError>
+) -> Result<Vec<u8, A>, AllocError>
     ensures { IfOk result (λ all. all.items ≡ joined head.now (map (λ text. text.items) texts.items)) }
 {
     let length = length_of(&texts).saturating_add(room);
@@ -130,11 +134,11 @@ fn joined(
 ///   in B's polygon, and how many fixes A has.
 /// - Last `end,ANIMALS`, the number of animals.
 #[tactic(auto, unfolding(crate::specs::Report::report_text))]
-pub fn report<R: Threads + Sync>(
+pub fn report<R: Threads + Sync, A: Allocator + Clone + Copy + Send + Sync>(
     rt: &R,
-    alloc: Global,
+    alloc: A,
     analysis: &Analysis,
-) -> Result<Vec<u8>, OutOfMemory>
+) -> Result<Vec<u8, A>, OutOfMemory>
     ensures { IfOk result (λ text. text.items ≡ report_text analysis.now) }
 {
     let animals = analysis.animals.as_slice();

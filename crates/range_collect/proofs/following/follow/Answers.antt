@@ -7,7 +7,7 @@ use Rattle.range_collect.specs.Lanes.{Dealt}
 use Rattle.range_collect.specs.declared.followed.Followed.{Followed}
 use Rattle.range_collect.proofs.Deals.{dealt_alike, dealt_map}
 use Rattle.integers_and_lists.proofs.Places.{all_of, map_length, map_map, mapped, paired_at}
-use Rattle.range_collect.proofs.Results.{file_followed, lane_sizes, lanes_alike, same_line, same_over}
+use Rattle.range_collect.proofs.Results.{file_followed, lane_sizes, lanes_alike, same_line, same_over, same_place, same_under}
 use Rattle.range_collect.proofs.following.follow.Given as given
 use Rattle.range_collect.proofs.following.follow.Goals as goal
 use Rattle.range_collect.proofs.following.follow.Goals.{In_ok-results}
@@ -71,7 +71,7 @@ returns-clause-followed g c =
     (file_followed c.args.plan.block sources lanes results c.in_ok-all.all.items (told g at) dealt c.in_ok-results.ensures (some_lanes g at) place source f in_sources in_all))
 
 pub returns-clause-lines : goal.returns-clause-lines
-returns-clause-lines g c = λ i j f f' in_i in_j same.
+returns-clause-lines g c = λ i j f f' in_i in_j.
     let at = (goal.at.returns-clause-lines g c).In_ok-results in
     let sources = map (reading_from g.S.Read.remaining c.args.plan.unit) c.args.sources.items in
     let lanes = map (λ (lane : Vec _ _). map (reading_from g.S.Read.remaining c.args.plan.unit) lane.items) c.in_ok-lanes.lanes.items in
@@ -83,5 +83,12 @@ returns-clause-lines g c = λ i j f f' in_i in_j same.
     let count : length all ≡ c.len-count.result = ap length is ∙ m.1 in
     let below_i : i < c.len-count.result = (let b = slice_get_within all i f in_i in omega (arith, b, count)) in
     let below_j : j < c.len-count.result = (let b = slice_get_within all j f' in_j in omega (arith, b, count)) in
-    let over = same_over i j c.len-count.result c.args.plan.workers (length lanes) (lane_count g at ∙ c.min.ensures) below_i below_j same in
-    same_line c.args.plan.block sources lanes results all dealt c.in_ok-results.ensures (some_lanes g at) i j f f' in_i in_j over
+    let is_min = lane_count g at ∙ c.min.ensures in
+    let workers = c.args.plan.workers in (
+      λ same.
+          same_line c.args.plan.block sources lanes results all dealt c.in_ok-results.ensures (some_lanes g at) i j f f' in_i in_j
+          (same_over i j c.len-count.result workers (length lanes) is_min below_i below_j same),
+      λ line.
+          same_under i j c.len-count.result workers (length lanes) is_min below_i below_j
+          (same_place c.args.plan.block sources lanes results all dealt c.in_ok-results.ensures (some_lanes g at) i j f f' in_i in_j line),
+    )

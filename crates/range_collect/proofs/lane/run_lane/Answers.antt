@@ -2,7 +2,7 @@ use Rattle.std.proofs.Common.{◌≡◌, ℕ, ◌+◌, ◌*◌, length, map, ap,
 use Rattle.std.proofs.lemmas.List.Elements.{All-map}
 use Rattle.std.proofs.lemmas.List.FromFn.{length-map-range_with_len}
 use Rattle.range_fixes.specs.Reading.{reading_from}
-use Rattle.range_line.specs.Lines.{files_from, new_feeder, Line, TakerView}
+use Rattle.range_line.specs.Lines.{files_from, first_file, new_feeder, Line, TakerView}
 use Rattle.range_collect.specs.Lanes.{IsNew}
 use Rattle.range_collect.proofs.Lanes.{pumped_at}
 use Rattle.integers_and_lists.proofs.Places.{map_length}
@@ -43,6 +43,7 @@ returns g c =
         omega (arith, told, made, same, joined.counts.1, reads.ok.0, c.start_pumps-started.new.handles.ok.0),
       );
       files = c.work-worker.ensures.line.1 ∙ (ap (λ (t : TakerView). t.files) taker ∙ ap (files_from n.first n.step) (omega (arith, told, c.len-count.ensures, c.args.sources.ok.0)));
+      begins = ap first_file line ∙ c.in_ok-feeders.ensures.line;
       pumped = pumped_at (reading_from g.S.Read.remaining) (λ h. h.promise.source.value) (λ h. h.promise.feeder.value) (λ h. h.promise.plan) worker.line n.first n.step count c.args.plan
           handles c.args.sources.items c.in_ok-feeders.feeders.items back.items reads.items started.sources started.feeders
           (c.in_ok-feeders.ensures.feeders ∙ ap (λ (l : Line). map (new_feeder l) (files_from n.first n.step count)) (sym line))

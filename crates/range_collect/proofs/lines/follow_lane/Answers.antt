@@ -40,6 +40,7 @@ returns g c =
     let made = map_length (λ (f : Followed _ _). f.read) results in
     record {
       line = lane.worker.line;
+      begins = is.begins;
       of_line = lane_of_line (λ (f : Followed _ _). f.feeder) (λ f. f.read) (λ f. f.estimator) (λ f. f.marked) lane.worker.line lane.feeders.items d.result.0.items results (lane_line _ _ _ _ _ _ _ is) d.ensures.feeders p.feeders;
       count = omega (arith, told, made, is.counts.1);
       followed = lane_followed (λ (f : Followed _ _). f.feeder) (λ f. f.read) (λ f. f.estimator) (λ f. f.marked) c.args.numbers.first c.args.numbers.step c.args.plan.block

@@ -1,4 +1,4 @@
-use Rattle.std.proofs.Common.{◌≡◌, ℕ, List, ap, sym, ◌∙◌, subst, rules}
+use Rattle.std.proofs.Common.{◌≡◌, ℕ, List, get_or, ap, sym, ◌∙◌, subst, rules}
 use Rattle.std.specs.Prelude.{All, Contains, IfSome, IfNone}
 use Rattle.crossbeam_channel.specs.Claims.{view}
 use Rattle.crossbeam_channel.specs.Ends.{receives_on}
@@ -23,7 +23,9 @@ pub compare-requires-clause-line : goal.compare-requires-clause-line
 compare-requires-clause-line g c k f at =
     let fs = c.args.feeders.items in
     let line = c.args.taker.line in
-    same_line (receives_on c.taker.inside.receiver) c.try_recv_as.new.pass c.taker.inside.pass c.try_recv_as.ensures.channel.0 c.taker.invariant.0 ∙ ap (λ (t : TakerView). t.line) c.taker.view_is
+    let r = c.try_recv_as in
+    let files = received_files _ c.end_all.new.pass r.new.pass r.result r.ensures.rule ∙ ap (λ (v : PassView). v.files) c.end_all.ensures.transcripts in
+    same_line (receives_on c.taker.inside.receiver) r.new.pass c.taker.inside.pass r.ensures.channel.0 c.taker.invariant.0 (ap (λ l. get_or l 0 0) files) ∙ ap (λ (t : TakerView). t.line) c.taker.view_is
     ∙ are_settled line fs (all_are line fs c.requires.line) k f (subst (λ l. At l k f) c.end_all.ensures.feeders at)
 
 pub compare-requires-clause-transcripts : goal.compare-requires-clause-transcripts
@@ -76,7 +78,8 @@ returns-clause-lawful g c file =
 pub returns-clause-line : goal.returns-clause-line
 returns-clause-line g c =
     let r = c.try_recv_as in
-    let line = c.compare.ensures.pass.2 ∙ same_line (receives_on c.taker.inside.receiver) r.new.pass c.taker.inside.pass r.ensures.channel.0 c.taker.invariant.0 ∙ ap (λ (t : TakerView). t.line) c.taker.view_is in
+    let files = received_files _ c.end_all.new.pass r.new.pass r.result r.ensures.rule ∙ ap (λ (v : PassView). v.files) c.end_all.ensures.transcripts in
+    let line = c.compare.ensures.pass.2 ∙ same_line (receives_on c.taker.inside.receiver) r.new.pass c.taker.inside.pass r.ensures.channel.0 c.taker.invariant.0 (ap (λ l. get_or l 0 0) files) ∙ ap (λ (t : TakerView). t.line) c.taker.view_is in
     subst (λ (x : List FeederView × Line). AreOfLine x.0 x.1) (λ i. (sym c.end_all.ensures.feeders i, sym line i)) (ended_of_line c.args.taker.line c.args.feeders.items c.requires.line)
 
 pub returns-clause-files : goal.returns-clause-files

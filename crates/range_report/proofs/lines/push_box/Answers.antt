@@ -6,7 +6,7 @@ use Rattle.range_report.proofs.ListFacts.{five-parts}
 use Rattle.range_report.proofs.lines.push_box.Goals as goal
 
 pub returns : goal.returns
-returns c =
+returns g c =
     let min_e : FitsSigned w64 c.args.extent.min_e = search rules in
     let min_n : FitsSigned w64 c.args.extent.min_n = search rules in
     let max_e : FitsSigned w64 c.args.extent.max_e = search rules in

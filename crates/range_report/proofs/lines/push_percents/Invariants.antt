@@ -4,4 +4,4 @@ use Rattle.range_report.specs.Report.{percent_line}
 use Rattle.range_report.proofs.lines.push_percents.Given as goal
 
 abbrev pub invariant-loop-row : goal.invariant-loop-row
-invariant-loop-row l = l.text.items ≡ l.initial.text.items ++ flat_map (percent_line l.name) (take l.row-index l.rows)
+invariant-loop-row g l = l.text.items ≡ l.initial.text.items ++ flat_map (percent_line l.name) (take l.row-index l.rows)

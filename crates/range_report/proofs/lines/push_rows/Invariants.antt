@@ -3,4 +3,4 @@ use Rattle.range_report.specs.Report.{row_line, numbered}
 use Rattle.range_report.proofs.lines.push_rows.Given as goal
 
 abbrev pub invariant-loop-i : goal.invariant-loop-i
-invariant-loop-i l = l.text.items ≡ l.initial.text.items ++ numbered (row_line l.name) (take l.i l.rows)
+invariant-loop-i g l = l.text.items ≡ l.initial.text.items ++ numbered (row_line l.name) (take l.i l.rows)

@@ -5,4 +5,4 @@ use Rattle.range_report.proofs.writing.animal_text.Goals as goal
 
 pub returns : goal.returns
 unfolding animal_text
-returns c = grind (arith, common_steps)
+returns g c = grind (arith, common_steps)

@@ -9,5 +9,5 @@ returns g c =
     let animals = c.args.animals.now in
     let results = c.in_ok-collect.ensures in
     let chain = rw (c.map.ensures.base, c.map.ensures.f, c.with_min_len.ensures.base) at results.1 in
-    let each = slice-AllZip chain.0 animals (chain.1 ∙ c.par_iter.ensures) (IsResultOf (IsText c.args.head.now)) results.0 chain.2 in
-    gathered (IsText c.args.head.now) animals results.0 c.in_ok-collect.field-0 each results.2
+    let each = slice-AllZip chain.0 animals (chain.1 ∙ c.par_iter.ensures) (IsResultOf (IsText (λ text. text.items) c.args.head.now)) results.0 chain.2 in
+    gathered (IsText (λ text. text.items) c.args.head.now) animals results.0 c.in_ok-collect.field-0 each results.2

@@ -3,4 +3,4 @@ use Rattle.std.proofs.lemmas.Grind.{common_steps}
 use Rattle.range_report.proofs.writing.joined.Goals as goal
 
 pub loop-text-preserved : goal.loop-text-preserved
-loop-text-preserved c = grind (arith, common_steps)
+loop-text-preserved g c = grind (arith, common_steps)

@@ -5,4 +5,4 @@ use Rattle.range_report.specs.Parts.{joined}
 use Rattle.range_report.proofs.writing.joined.Given as goal
 
 abbrev pub invariant-loop-text : goal.invariant-loop-text
-invariant-loop-text l = l.all.items ++ flat_map (drop (length l.head)) (map (λ text. text.items) (into_iter_items l.text-iterator)) ≡ joined l.head (map (λ text. text.items) l.fn.texts.items)
+invariant-loop-text g l = l.all.items ++ flat_map (drop (length l.head)) (map (λ text. text.items) (into_iter_items l.text-iterator)) ≡ joined l.head (map (λ text. text.items) l.fn.texts.items)

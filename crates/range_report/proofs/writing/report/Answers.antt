@@ -6,5 +6,5 @@ use Rattle.range_report.proofs.writing.report.Goals as goal
 pub returns : goal.returns
 unfolding report_text
 returns g c =
-    let text = c.in_ok-text.ensures ∙ texts_joined _ _ _ c.in_ok-texts.ensures in
+    let text = c.in_ok-text.ensures ∙ texts_joined (λ text. text.items) _ _ _ c.in_ok-texts.ensures in
     search (rules, append_assoc)

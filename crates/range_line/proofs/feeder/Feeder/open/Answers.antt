@@ -6,4 +6,4 @@ use Rattle.range_line.proofs.feeder.Feeder.open.Goals as goal
 pub invariant_of-result : goal.invariant_of-result
 invariant_of-result g c =
     let s = c.split_pass-pass.ensures in
-    (s.channel.2, feeding_of _ _ _ _ _ _ _ s.feeder refl orderly_empty refl refl)
+    (s.channel.2, feeding_of _ _ _ _ _ _ _ _ s.feeder refl orderly_empty refl refl)
