@@ -1,7 +1,9 @@
-//! Tests of judging, over results that no run of threads gives at will; of the tables that it makes; and of
-//! reports, over analyses that are made by hand.
+//! Tests of judging, over results that no run of threads gives at will; of the tables that it makes; of
+//! sources that are analysed in every plan; and of reports, over analyses that are made by hand.
 #![tactic(auto)]
 
+#[cfg(test)]
+mod analysing;
 #[cfg(test)]
 mod faults;
 #[cfg(test)]
