@@ -1,8 +1,14 @@
 // Tests of why files have no analysis.
 
 use crate::files::{File, judged};
-use range_analysis::AnalyseFault;
+use pieces::Pieces;
+use range_analysis::{AnalyseFault, judge};
+use range_collect::Followed;
+use range_estimator::Estimator;
 use range_fixes::ReadFault;
+use range_line::open_line;
+use range_plane::Scale;
+use range_pump::{FreeGate, pump};
 use std::alloc::Global;
 use std::process::Abort;
 use std::sync::Wait;
@@ -66,6 +72,70 @@ fn order_of_faults(rt: HostRuntime) -> Result<(), Fail> {
     for (files, fault) in cases {
         assert!(rt; fault_of(&rt, rt.alloc(), files)? == Some(fault));
     }
+    Ok(())
+}
+
+// Each fault of one of eight files is answered as that file's, whichever it is.
+#[test]
+fn one_of_eight_files(rt: HostRuntime) -> Result<(), Fail> {
+    let (rec, field, unit) = (7, 2, Scale::Decimetre);
+    let (found, wanted) = (3, 5);
+    let faults = [
+        ReadFault::Read,
+        ReadFault::NoHeader,
+        ReadFault::BadHeader,
+        ReadFault::WrongFieldCount { rec, found, wanted },
+        ReadFault::BadName { rec },
+        ReadFault::OtherAnimal { rec },
+        ReadFault::NotNumber { rec, field },
+        ReadFault::TooLarge { rec, field, unit },
+        ReadFault::SecondFalls { rec },
+        ReadFault::TooManyFixes,
+        ReadFault::NoFixes,
+        ReadFault::BadUse { rec },
+    ];
+    let names = [b"A".as_slice(), b"B", b"C", b"D", b"E", b"F", b"G", b"H"];
+    for fault in faults {
+        for file in [0u32, 6, 7] {
+            let mut files = Vec::new(rt.alloc());
+            for (place, name) in names.iter().enumerate() {
+                files.push((
+                    if place == file as usize {
+                        Err(fault)
+                    } else {
+                        Ok(*name)
+                    },
+                    true,
+                ))?;
+            }
+            let expected = AnalyseFault::File { file, fault };
+            let said = fault_of(&rt, rt.alloc(), &files)?;
+            assert!(rt; said == Some(expected), "{expected}");
+        }
+    }
+    Ok(())
+}
+
+// A header alone, pumped on a line whose taker is gone: its mark was handed back, so its line was cut.
+#[test]
+fn header_whose_taker_is_gone(rt: HostRuntime) -> Result<(), Fail> {
+    let alloc = rt.alloc();
+    let (mut feeders, taker) = open_line(alloc, 0, 1, 1, 1)?;
+    let feeder = feeders.pop().ok_or("no feeder")?;
+    drop(taker);
+    let source = Pieces::new(b"animal,second,easting,northing\n", 8192);
+    let pumped = pump(&rt, alloc, source, feeder, &FreeGate, 1, Scale::Metre);
+    assert!(rt; matches!(pumped.read, Err(ReadFault::NoFixes)), "the fault");
+    assert!(rt; !pumped.feeder.closed(), "the mark");
+    let mut all = Vec::with_capacity(alloc, 1)?;
+    all.push_reserved(Followed {
+        feeder: pumped.feeder,
+        read: pumped.read,
+        estimator: Estimator::new(alloc),
+        marked: false,
+    });
+    let fault = judge(&rt, alloc, all, &[50, 95, 100], Scale::Metre).err();
+    assert!(rt; fault == Some(AnalyseFault::LineCut { file: 0 }));
     Ok(())
 }
 

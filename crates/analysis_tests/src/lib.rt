@@ -1,7 +1,10 @@
-//! Tests of judging, over results that no run of threads gives at will; of the tables that it makes; and of
-//! reports, over analyses that are made by hand, each growth refused in turn.
+//! Tests of judging, over results that no run of threads gives at will; of the tables that it makes; of
+//! sources that are analysed in every plan; and of reports, over analyses that are made by hand, each growth
+//! refused in turn.
 #![tactic(auto)]
 
+#[cfg(test)]
+mod analysing;
 #[cfg(test)]
 mod faults;
 #[cfg(test)]

@@ -1,6 +1,7 @@
 // Tests of the tables of animals.
 
 use crate::files::{File, judged};
+use range_plane::Scale;
 use range_stats::PercentRow;
 use range_tables::{Analysis, Animal, OverlapRow};
 use std::alloc::Global;
@@ -55,13 +56,43 @@ const fn percent(level: u8, kept: u32, corners: u32, area2: u128) -> PercentRow 
 // What an animal is to be: its name, its box by its least and greatest corners, the second, corners and
 // doubled area of each row, the corners of its polygon, and its percent polygons.
 #[derive(Clone, Copy)]
-struct Expected {
+pub(crate) struct Expected {
     name: &'static [u8],
     extent: [i64; 4],
     rows: &'static [(u64, u32, u128)],
     corners: &'static [(i64, i64)],
-    percents: [PercentRow; 3],
+    percents: [(u8, u32, u32, u128); 3],
 }
+
+pub(crate) const FOX_TABLES: Expected = Expected {
+    name: b"fox",
+    extent: [0, 0, 10, 10],
+    rows: &[
+        (0, 1, 0),
+        (60, 2, 0),
+        (120, 3, 100),
+        (180, 4, 200),
+        (240, 4, 200),
+    ],
+    corners: &[(0, 0), (10, 0), (10, 10), (0, 10)],
+    percents: [(50, 3, 3, 50), (95, 5, 4, 200), (100, 5, 4, 200)],
+};
+
+pub(crate) const HARE_TABLES: Expected = Expected {
+    name: b"hare",
+    extent: [5, 5, 20, 5],
+    rows: &[(0, 1, 0), (60, 2, 0), (120, 2, 0)],
+    corners: &[(5, 5), (20, 5)],
+    percents: [(50, 2, 2, 0), (95, 3, 2, 0), (100, 3, 2, 0)],
+};
+
+const OWL_TABLES: Expected = Expected {
+    name: b"owl",
+    extent: [1000, 2000, 1000, 2000],
+    rows: &[(7, 1, 0)],
+    corners: &[(1000, 2000)],
+    percents: [(50, 1, 1, 0), (95, 1, 1, 0), (100, 1, 1, 0)],
+};
 
 fn has_extent(animal: &Animal, expected: [i64; 4]) -> bool {
     let extent = animal.extent;
@@ -85,85 +116,55 @@ fn has_corners(animal: &Animal, expected: &[(i64, i64)]) -> bool {
             .all(|(p, &(e, n))| p.e == e && p.n == n)
 }
 
-#[test]
-fn animals(rt: HostRuntime) -> Result<(), Fail> {
-    let analysis = analysis_of(&rt, rt.alloc(), &[FOX, HARE, OWL], &[50, 95, 100])?;
-    let expected = [
-        Expected {
-            name: b"fox",
-            extent: [0, 0, 10, 10],
-            rows: &[
-                (0, 1, 0),
-                (60, 2, 0),
-                (120, 3, 100),
-                (180, 4, 200),
-                (240, 4, 200),
-            ],
-            corners: &[(0, 0), (10, 0), (10, 10), (0, 10)],
-            percents: [
-                percent(50, 3, 3, 50),
-                percent(95, 5, 4, 200),
-                percent(100, 5, 4, 200),
-            ],
-        },
-        Expected {
-            name: b"hare",
-            extent: [5, 5, 20, 5],
-            rows: &[(0, 1, 0), (60, 2, 0), (120, 2, 0)],
-            corners: &[(5, 5), (20, 5)],
-            percents: [
-                percent(50, 2, 2, 0),
-                percent(95, 3, 2, 0),
-                percent(100, 3, 2, 0),
-            ],
-        },
-        Expected {
-            name: b"owl",
-            extent: [1000, 2000, 1000, 2000],
-            rows: &[(7, 1, 0)],
-            corners: &[(1000, 2000)],
-            percents: [
-                percent(50, 1, 1, 0),
-                percent(95, 1, 1, 0),
-                percent(100, 1, 1, 0),
-            ],
-        },
-    ];
-    assert_eq!(rt; analysis.animals.as_slice().len(), expected.len());
-    for (animal, expected) in analysis.animals.as_slice().iter().zip(&expected) {
+fn has_percents(animal: &Animal, expected: [(u8, u32, u32, u128); 3]) -> bool {
+    let expected = expected.map(|(level, kept, corners, area2)| percent(
+        level, kept, corners, area2,
+    ));
+    animal.percents.as_slice() == expected.as_slice()
+}
+
+// Checks that the animals are these, in this order.
+pub(crate) fn expect_animals(rt: &impl Abort, analysis: &Analysis, expected: &[Expected]) {
+    let animals = analysis.animals.as_slice();
+    assert_eq!(rt; animals.len(), expected.len());
+    for (animal, expected) in animals.iter().zip(expected) {
         assert!(rt; animal.name.as_slice() == expected.name, "the name");
         assert!(rt; has_extent(animal, expected.extent), "the box");
         assert!(rt; has_rows(animal, expected.rows), "rows");
         assert!(rt; has_corners(animal, expected.corners), "corners");
-        assert!(rt;
-            animal.percents.as_slice() == expected.percents.as_slice(),
-            "percents"
-        );
+        assert!(rt; has_percents(animal, expected.percents), "percents");
     }
+}
+
+pub(crate) const fn overlap(animal: u32, range: u32, count: u64, fixes: u32) -> OverlapRow {
+    OverlapRow {
+        animal,
+        range,
+        count,
+        fixes,
+    }
+}
+
+#[test]
+fn animals(rt: HostRuntime) -> Result<(), Fail> {
+    let analysis = analysis_of(&rt, rt.alloc(), &[FOX, HARE, OWL], &[50, 95, 100])?;
+    expect_animals(&rt, &analysis, &[FOX_TABLES, HARE_TABLES, OWL_TABLES]);
+    assert!(rt; analysis.unit == Scale::Metre, "the unit");
     Ok(())
 }
 
 #[test]
 fn overlaps(rt: HostRuntime) -> Result<(), Fail> {
     let analysis = analysis_of(&rt, rt.alloc(), &[FOX, HARE, OWL], &[100])?;
-    let of = |animal: u32, range: u32, count: u64, fixes: u32| OverlapRow {
-        animal,
-        range,
-        count,
-        fixes,
-    };
-    assert!(rt;
-        analysis.overlaps.as_slice()
-            == [
-                of(0, 1, 1, 5),
-                of(0, 2, 0, 5),
-                of(1, 0, 2, 3),
-                of(1, 2, 0, 3),
-                of(2, 0, 0, 1),
-                of(2, 1, 0, 1),
-            ]
-            .as_slice()
-    );
+    let expected = [
+        overlap(0, 1, 1, 5),
+        overlap(0, 2, 0, 5),
+        overlap(1, 0, 2, 3),
+        overlap(1, 2, 0, 3),
+        overlap(2, 0, 0, 1),
+        overlap(2, 1, 0, 1),
+    ];
+    assert!(rt; analysis.overlaps.as_slice() == expected.as_slice());
     Ok(())
 }
 

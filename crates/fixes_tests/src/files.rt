@@ -1,9 +1,9 @@
 // What the reader answers to files, whole, cut, hostile and failing.
 
+use pieces::Pieces;
 use range_fixes::{FixReader, ReadFault};
-use range_plane::{FIX_LIMIT, Fix, Scale};
+use range_plane::{FIX_LIMIT, Fix, Point, Scale};
 use std::alloc::Global;
-use std::io;
 use std::io::Read;
 use std::process::Abort;
 
@@ -11,30 +11,6 @@ pub(crate) const HEADER: &[u8] = b"animal,second,easting,northing\n";
 
 const FILE_A: &[u8] =
     b"animal,second,easting,northing\nA,0,0,0\nA,60,10,0\nA,120,10,10\nA,180,0,10\nA,240,5,5\n";
-
-// Gives the bytes of a text, and then of another again and again, at most so many at a read. After so
-// many reads it fails.
-#[derive(Drop)]
-pub(crate) struct Pieces<'a> {
-    pub(crate) text: &'a [u8],
-    pub(crate) again: &'a [u8],
-    pub(crate) most: usize,
-    pub(crate) reads: u64,
-}
-
-impl Read for Pieces<'_> {
-    fn read(&mut self, buf: &mut [u8]) -> io::Result<usize> {
-        if self.reads == 0 {
-            return Err(io::Error::from(io::ErrorKind::PermissionDenied));
-        }
-        self.reads -= 1;
-        if self.text.is_empty() {
-            self.text = self.again;
-        }
-        let n = self.most.min(buf.len());
-        self.text.read(&mut buf[..n])
-    }
-}
 
 // What a source gave: how many fixes, the point of the last one, and the fault after them.
 pub(crate) type Outcome = (u32, Option<(i64, i64)>, Option<ReadFault>);
@@ -90,12 +66,7 @@ pub(crate) fn outcome_in(
 // Checks what a text gives, however it is cut into reads.
 pub(crate) fn expect(rt: &impl Abort, alloc: Global, text: &[u8], expected: Outcome) {
     for most in [1, 3, 8192] {
-        let source = Pieces {
-            text,
-            again: b"",
-            most,
-            reads: u64::MAX,
-        };
+        let source = Pieces::new(text, most);
         assert!(rt; outcome(rt, alloc, source) == expected);
     }
 }
@@ -299,52 +270,126 @@ fn long_numbers(rt: HostRuntime) {
     }
 }
 
+// As many fixes as a file may have, and one more; one that is malformed, and fixes without end.
 #[test]
-fn endless_source(rt: HostRuntime) {
-    for most in [1, 3, 8192] {
-        let source = Pieces {
-            text: HEADER,
-            again: b"A,0,0,0\n",
-            most,
-            reads: u64::MAX,
-        };
-        let found = outcome(&rt, rt.alloc(), source);
-        assert!(rt; found == (FIX_LIMIT, Some((0, 0)), Some(ReadFault::TooManyFixes)));
+fn most_fixes(rt: HostRuntime) {
+    let most_fixes = u64::from(FIX_LIMIT);
+    let many = Some(ReadFault::TooManyFixes);
+    let cases = [
+        (most_fixes, b"".as_slice(), None),
+        (most_fixes, b"A,0,0,0\n", many),
+        (most_fixes, b"A,0,x", many),
+        (u64::MAX, b"", many),
+    ];
+    for (times, rest, fault) in cases {
+        for most in [1, 3, 8192] {
+            let source = Pieces::repeated(HEADER, b"A,0,0,0\n", times, rest, most);
+            let found = outcome(&rt, rt.alloc(), source);
+            assert!(rt;
+                found == (FIX_LIMIT, Some((0, 0)), fault),
+                "by {most} bytes"
+            );
+        }
     }
 }
 
-// A source that fails after so many bytes is no short file: it gives the fixes of the whole lines that
-// were read, and then `Read`.
-#[test]
-fn failing_source(rt: HostRuntime) {
+// The points of the fixes of the file A.
+const POINTS: [(i64, i64); 5] = [(0, 0), (10, 0), (10, 10), (0, 10), (5, 5)];
+
+// How many fixes stand in the whole lines among so many bytes of the file A.
+fn whole_fixes(bytes: usize) -> u32 {
     let mut lines = 0u32;
-    for reads in 0..FILE_A.len() {
-        let source = Pieces {
-            text: FILE_A,
-            again: b"",
-            most: 1,
-            reads: reads as u64,
-        };
-        let (count, _, fault) = outcome(&rt, rt.alloc(), source);
-        assert!(rt; fault == Some(ReadFault::Read) && count == lines.saturating_sub(1));
-        if FILE_A[reads] == b'\n' {
+    for &byte in &FILE_A[..FILE_A.len().min(bytes)] {
+        if byte == b'\n' {
             lines = lines.saturating_add(1);
         }
     }
-    let reads = FILE_A.len() as u64 + 1;
-    let source = Pieces {
-        text: FILE_A,
-        again: b"",
-        most: 1,
-        reads,
-    };
-    assert!(rt; outcome(&rt, rt.alloc(), source) == (5, Some((5, 5)), None));
+    lines.saturating_sub(1)
 }
 
+// How many fixes the file A gives, at most so many bytes at a read, where it fails after so many reads;
+// `None` where it gives all and does not fail.
+fn fixes_before_failure(rt: &impl Abort, alloc: Global, most: usize, reads: usize) -> Option<u32> {
+    let source = Pieces::failing(FILE_A, most, reads as u64);
+    let (count, last, fault) = outcome(rt, alloc, source);
+    if fault.is_none() {
+        assert!(rt; (count, last) == (5, Some((5, 5))), "by {most} bytes");
+        return None;
+    }
+    let whole = whole_fixes(reads.saturating_mul(most));
+    assert!(rt; fault == Some(ReadFault::Read), "after {reads} reads");
+    assert!(rt; count <= whole, "after {reads} reads by {most} bytes");
+    assert!(rt; most > 1 || count == whole, "after {reads} bytes");
+    let place = count.checked_sub(1).map(|place| place as usize);
+    let point = place.and_then(|place| POINTS.get(place).copied());
+    assert!(rt; last == point, "after {reads} reads by {most} bytes");
+    Some(count)
+}
+
+// A source that fails at each of its reads in turn is no short file: it gives the fixes of whole lines that
+// were read, and then `Read`; all of them and then `Read` where the last read fails.
+#[test]
+fn failing_source(rt: HostRuntime) {
+    for most in [1, 3, 8, 8192] {
+        let mut before = 0;
+        for reads in 0..100 {
+            let Some(count) = fixes_before_failure(&rt, rt.alloc(), most, reads) else {
+                break;
+            };
+            assert!(rt; count >= before, "after {reads} reads by {most} bytes");
+            before = count;
+        }
+        assert!(rt; before == 5, "all but the end by {most} bytes");
+    }
+}
+
+fn fix(rt: &impl Abort, second: u64, e: i64, n: i64) -> Fix {
+    let at = Point::new(e, n).expect(rt, "a point");
+    Fix { second, at }
+}
+
+// Each fix of a file, and the name and the count with it.
+#[test]
+fn fixes_in_turn(rt: HostRuntime) {
+    let fixes = [
+        fix(&rt, 0, 0, 0),
+        fix(&rt, 60, 10, 0),
+        fix(&rt, 120, 10, 10),
+        fix(&rt, 180, 0, 10),
+        fix(&rt, 240, 5, 5),
+    ];
+    for most in [1, 3, 8, 8192] {
+        let source = Pieces::new(FILE_A, most);
+        let mut reader = FixReader::new(rt.alloc(), source, Scale::Metre);
+        assert!(rt; reader.name().is_none() && reader.count() == 0);
+        for (place, fix) in fixes.iter().enumerate() {
+            assert!(rt;
+                reader.next() == Ok(Some(*fix)),
+                "fix {place} by {most} bytes"
+            );
+            assert!(rt; reader.name() == Some(b"A".as_slice()), "the name");
+            assert!(rt; reader.count() as usize == place + 1, "so many fixes");
+        }
+        assert!(rt; reader.next() == Ok(None), "the end");
+        assert!(rt;
+            reader.name() == Some(b"A".as_slice()),
+            "the name in the end"
+        );
+    }
+}
+
+// A name of each length is kept whole.
 #[test]
 fn names(rt: HostRuntime) {
-    let mut reader = FixReader::new(rt.alloc(), FILE_A, Scale::Metre);
-    assert!(rt; reader.name().is_none() && reader.count() == 0);
-    assert!(rt; reader.next().is_ok());
-    assert!(rt; reader.name() == Some(b"A".as_slice()) && reader.count() == 1);
+    let longest = b"abcdefghijklmnopqrstuvwxyz012345";
+    for length in 1..=longest.len() {
+        let name = &longest[..length];
+        let mut text = Vec::from_slice(rt.alloc(), HEADER).expect(&rt, "memory");
+        text.extend_from_slice(name).expect(&rt, "memory");
+        text.extend_from_slice(b",60,1,2").expect(&rt, "memory");
+        let source = Pieces::new(text.as_slice(), 8192);
+        let mut reader = FixReader::new(rt.alloc(), source, Scale::Metre);
+        assert!(rt; reader.next() == Ok(Some(fix(&rt, 60, 1, 2))), "the fix");
+        assert!(rt; reader.name() == Some(name), "a name of {length} bytes");
+    }
 }

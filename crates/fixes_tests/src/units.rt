@@ -1,6 +1,7 @@
 // The limits of coordinates in metres and in decimetres.
 
-use crate::files::{HEADER, Pieces, outcome_in};
+use crate::files::{HEADER, outcome_in};
+use pieces::Pieces;
 use range_fixes::ReadFault;
 use range_plane::Scale;
 
@@ -27,12 +28,7 @@ fn limits(rt: HostRuntime) {
     for (record, unit, expected) in cases {
         let mut text = Vec::from_slice(alloc, HEADER).expect(&rt, "memory");
         text.extend_from_slice(record).expect(&rt, "memory");
-        let source = Pieces {
-            text: text.as_slice(),
-            again: b"",
-            most: 8192,
-            reads: u64::MAX,
-        };
+        let source = Pieces::new(text.as_slice(), 8192);
         let found = outcome_in(&rt, alloc, source, unit);
         let rec = 1;
         assert!(rt;

@@ -1,11 +1,10 @@
 // What the reader answers to files that say of each record whether its fix is used.
 
-use crate::files::{Outcome, Pieces, expect, outcome, too_large};
-use range_fixes::{FixReader, ReadFault};
-use range_plane::Scale;
+use crate::files::{Outcome, expect, outcome, too_large};
+use pieces::Pieces;
+use range_fixes::ReadFault;
+use range_plane::FIX_LIMIT;
 use std::alloc::Global;
-use std::io;
-use std::io::Read;
 use std::process::Abort;
 
 const HEADER: &[u8] = b"animal,second,easting,northing,use\n";
@@ -45,10 +44,17 @@ fn used_records(rt: HostRuntime) {
     }
 }
 
-// A record that is left out is checked as any other, and the next is held against it.
+// Checks the fault of each of these records, and that so many fixes at one place come before it.
+fn expect_faults(rt: &impl Abort, alloc: Global, cases: &[(&[u8], u32, ReadFault)]) {
+    for &(records, count, fault) in cases {
+        let last = if count > 0 { Some((0, 0)) } else { None };
+        expect_records(rt, alloc, records, (count, last, Some(fault)));
+    }
+}
+
+// What is wrong with one record, also with one that is left out.
 #[test]
-fn faults(rt: HostRuntime) {
-    let alloc = rt.alloc();
+fn faults_of_fields(rt: HostRuntime) {
     let bad = |rec| ReadFault::BadUse { rec };
     let wanted = 5;
     let wrong = |rec, found| ReadFault::WrongFieldCount { rec, found, wanted };
@@ -69,38 +75,25 @@ fn faults(rt: HostRuntime) {
         (b"A,0,16777217,0,0", 0, too_large(1, 2)),
         (b"A,1099511627777,0,0,0", 0, too_large(1, 1)),
         (b",0,0,0,0", 0, ReadFault::BadName { rec: 1 }),
-        (
-            b"A,60,0,0,0\nA,59,0,0,1\n",
-            0,
-            ReadFault::SecondFalls { rec: 2 },
-        ),
-        (
-            b"A,60,0,0,1\nA,59,0,0,0\n",
-            1,
-            ReadFault::SecondFalls { rec: 2 },
-        ),
-        (
-            b"A,60,0,0,1\nA,59,0,0,2\n",
-            1,
-            ReadFault::SecondFalls { rec: 2 },
-        ),
-        (
-            b"A,60,0,0,1\nA,70,0,0,0\nA,69,0,0,1\n",
-            1,
-            ReadFault::SecondFalls { rec: 3 },
-        ),
-        (
-            b"A,0,0,0,0\nB,0,0,0,1\n",
-            0,
-            ReadFault::OtherAnimal { rec: 2 },
-        ),
+    ];
+    expect_faults(&rt, rt.alloc(), &cases);
+}
+
+// A record that is left out has the next held against it, and is no fix.
+#[test]
+fn faults_of_order(rt: HostRuntime) {
+    let falls = |rec| ReadFault::SecondFalls { rec };
+    let other = |rec| ReadFault::OtherAnimal { rec };
+    let cases = [
+        (b"A,60,0,0,0\nA,59,0,0,1\n".as_slice(), 0, falls(2)),
+        (b"A,60,0,0,1\nA,59,0,0,0\n", 1, falls(2)),
+        (b"A,60,0,0,1\nA,59,0,0,2\n", 1, falls(2)),
+        (b"A,60,0,0,1\nA,70,0,0,0\nA,69,0,0,1\n", 1, falls(3)),
+        (b"A,0,0,0,0\nB,0,0,0,1\n", 0, other(2)),
         (b"A,0,0,0,0", 0, ReadFault::NoFixes),
         (b"A,0,0,0,0\nA,0,0,0,0\n", 0, ReadFault::NoFixes),
     ];
-    for (records, count, fault) in cases {
-        let last = if count > 0 { Some((0, 0)) } else { None };
-        expect_records(&rt, alloc, records, (count, last, Some(fault)));
-    }
+    expect_faults(&rt, rt.alloc(), &cases);
 }
 
 const FILE: &[u8] = b"animal,second,easting,northing,use\nA,0,0,0,1\nA,60,10,0,0\nA,120,10,10,1\n";
@@ -146,56 +139,29 @@ fn cut_files(rt: HostRuntime) {
     }
 }
 
-// Gives the bytes of a text, and then those of another so many times.
-#[derive(Drop)]
-struct Repeated<'a> {
-    text: &'a [u8],
-    again: &'a [u8],
-    left: u32,
-}
-
-impl Read for Repeated<'_> {
-    fn read(&mut self, buf: &mut [u8]) -> io::Result<usize> {
-        if self.text.is_empty() && self.left > 0 {
-            self.left -= 1;
-            self.text = self.again;
-        }
-        self.text.read(buf)
-    }
-}
-
-// As many records as a file may have, of which the first alone is used; and one more, good or not.
+// As many records as a file may have, of which the first alone is used, or none; one more, good or not; and
+// records without end.
 #[test]
 fn most_records(rt: HostRuntime) {
-    let first = b"animal,second,easting,northing,use\nA,0,5,6,1\n";
-    let unused = b"A,0,0,0,0\n".as_slice();
-    for (left, again, fault) in [
-        (1_048_575, unused, None),
-        (1_048_576, unused, Some(ReadFault::TooManyFixes)),
-    ] {
-        let text = first.as_slice();
-        let mut reader = FixReader::new(rt.alloc(), Repeated { text, again, left }, Scale::Metre);
-        assert!(rt; reader.next().is_ok() && reader.count() == 1);
-        assert!(rt; reader.next().err() == fault && reader.count() == 1);
-    }
-}
-
-// A source of records without end, none of which is used, and one of which the first is.
-#[test]
-fn endless_sources(rt: HostRuntime) {
-    let many = Some(ReadFault::TooManyFixes);
+    let none = HEADER;
     let one = b"animal,second,easting,northing,use\nA,0,5,6,1\n".as_slice();
-    for (text, expected) in [(HEADER, (0, None, many)), (one, (1, Some((5, 6)), many))] {
+    let unused = b"A,0,0,0,0\n".as_slice();
+    let limit = u64::from(FIX_LIMIT);
+    let many = Some(ReadFault::TooManyFixes);
+    let first = Some((5, 6));
+    let cases = [
+        (one, limit - 1, b"".as_slice(), (1, first, None)),
+        (one, limit, b"", (1, first, many)),
+        (one, limit - 1, b"x", (1, first, many)),
+        (one, u64::MAX, b"", (1, first, many)),
+        (none, limit, b"", (0, None, Some(ReadFault::NoFixes))),
+        (none, u64::MAX, b"", (0, None, many)),
+    ];
+    for (text, times, rest, expected) in cases {
         for most in [1, 3, 8192] {
-            let again = b"A,0,0,0,0\n".as_slice();
-            let reads = u64::MAX;
-            let source = Pieces {
-                text,
-                again,
-                most,
-                reads,
-            };
-            assert!(rt; outcome(&rt, rt.alloc(), source) == expected);
+            let source = Pieces::repeated(text, unused, times, rest, most);
+            let found = outcome(&rt, rt.alloc(), source);
+            assert!(rt; found == expected, "by {most} bytes");
         }
     }
 }

@@ -3,7 +3,7 @@
 use crate::files::Case;
 use range_collect::{Followed, follow};
 use range_estimator::Row;
-use range_fixes::ReadFault;
+use range_fixes::{Name, ReadFault};
 use range_plan::Plan;
 use range_plane::{Point, Polygon, Scale};
 use range_pump::Gate;
@@ -53,10 +53,7 @@ fn are_corners(found: &[Point], corners: &[(i64, i64)]) -> bool {
 pub(crate) fn expect_whole(rt: &impl Abort, alloc: Global, followed: &Followed, case: Case) {
     assert!(rt; followed.marked && followed.feeder.closed(), "the mark");
     assert!(rt; !followed.estimator.stopped(), "running");
-    match &followed.read {
-        Ok(name) => assert!(rt; name.as_slice() == case.name, "the name"),
-        Err(fault) => assert!(rt; false, "{fault}"),
-    }
+    assert!(rt; is_name(&followed.read, case.name), "the name");
     let rows = followed.estimator.rows();
     assert!(rt; rows.len() == case.rows.len(), "so many rows");
     assert!(rt; begin_with(case.rows, rows), "the rows");
@@ -65,19 +62,25 @@ pub(crate) fn expect_whole(rt: &impl Abort, alloc: Global, followed: &Followed, 
     assert!(rt; are_corners(polygon.corners(), case.corners), "corners");
 }
 
-// Whether the file was read to its end, and its mark and so many fixes were taken.
-pub(crate) fn is_whole(followed: &Followed, fixes: usize) -> bool {
-    followed.read.is_ok() && followed.marked && followed.estimator.rows().len() == fixes
+// Whether the reader gave this name.
+pub(crate) fn is_name(read: &Result<Name, ReadFault>, name: &[u8]) -> bool {
+    matches!(read, Ok(found) if found.as_slice() == name)
 }
 
-// Whether the file has this fault, and the mark and the fixes before it, so many, were taken.
-pub(crate) fn is_cut(followed: &Followed, fault: ReadFault, fixes: usize) -> bool {
-    let is_fault = match &followed.read {
-        Ok(_) => false,
-        Err(found) => *found == fault,
-    };
-    is_fault
+// Whether the file of an animal `A` was read to its end, and its mark and so many fixes were taken.
+pub(crate) fn is_whole(followed: &Followed, fixes: usize) -> bool {
+    is_name(&followed.read, b"A")
         && followed.marked
+        && followed.feeder.sent_fixes() == fixes as u64
+        && followed.estimator.rows().len() == fixes
+}
+
+// Whether the file has this fault, and the mark and the fixes before it, so many, were sent and taken.
+pub(crate) fn is_cut(followed: &Followed, fault: ReadFault, fixes: usize) -> bool {
+    matches!(&followed.read, Err(found) if *found == fault)
+        && followed.marked
+        && followed.feeder.closed()
+        && followed.feeder.sent_fixes() == fixes as u64
         && !followed.estimator.stopped()
         && followed.estimator.rows().len() == fixes
 }

@@ -1,5 +1,6 @@
 // Files whose rows and polygons were made by hand.
 
+use pieces::Pieces;
 use std::alloc::Global;
 use std::process::Abort;
 
@@ -43,26 +44,26 @@ pub(crate) const PLACE: Case = Case {
     corners: &[(7, 7)],
 };
 
-// Fixes on a slope, one of them between two others.
+// Fixes on a slope, one of them between two others. The name has 16 bytes.
 pub(crate) const SLOPE: Case = Case {
-    text: b"animal,second,easting,northing\nD,0,0,0\nD,0,2,2\nD,0,1,1\nD,0,4,4\n",
-    name: b"D",
+    text: b"animal,second,easting,northing\nabcdefghijklmnop,0,0,0\nabcdefghijklmnop,0,2,2\nabcdefghijklmnop,0,1,1\nabcdefghijklmnop,0,4,4\n",
+    name: b"abcdefghijklmnop",
     rows: &[(0, 1, 0), (0, 2, 0), (0, 2, 0), (0, 2, 0)],
     corners: &[(0, 0), (4, 4)],
 };
 
-// A corner that goes when the last fix comes.
+// A corner that goes when the last fix comes. The name has 17 bytes.
 pub(crate) const WEST: Case = Case {
-    text: b"animal,second,easting,northing\nE,0,5,5\nE,0,6,5\nE,0,6,6\nE,0,0,5\n",
-    name: b"E",
+    text: b"animal,second,easting,northing\nabcdefghijklmnopq,0,5,5\nabcdefghijklmnopq,0,6,5\nabcdefghijklmnopq,0,6,6\nabcdefghijklmnopq,0,0,5\n",
+    name: b"abcdefghijklmnopq",
     rows: &[(0, 1, 0), (0, 2, 0), (0, 3, 1), (0, 3, 6)],
     corners: &[(0, 5), (6, 5), (6, 6)],
 };
 
-// A corner that goes, and two that stay.
+// A corner that goes, and two that stay. The name has 32 bytes, the most that one may have.
 pub(crate) const EAST: Case = Case {
-    text: b"animal,second,easting,northing\nF,0,0,0\nF,0,4,0\nF,0,5,2\nF,0,4,4\nF,0,0,4\nF,0,10,2\n",
-    name: b"F",
+    text: b"animal,second,easting,northing\nabcdefghijklmnopqrstuvwxyz012345,0,0,0\nabcdefghijklmnopqrstuvwxyz012345,0,4,0\nabcdefghijklmnopqrstuvwxyz012345,0,5,2\nabcdefghijklmnopqrstuvwxyz012345,0,4,4\nabcdefghijklmnopqrstuvwxyz012345,0,0,4\nabcdefghijklmnopqrstuvwxyz012345,0,10,2\n",
+    name: b"abcdefghijklmnopqrstuvwxyz012345",
     rows: &[
         (0, 1, 0),
         (0, 2, 0),
@@ -108,11 +109,14 @@ pub(crate) const OUTWARD: Case = Case {
     corners: &[(0, 0), (10, 0), (20, 5), (10, 10), (0, 10)],
 };
 
-// The texts of the files.
-pub(crate) fn texts_of(rt: &impl Abort, alloc: Global, cases: &[Case]) -> Vec<&'static [u8]> {
-    let mut texts = Vec::new(alloc);
+// Sources of the files.
+pub(crate) fn sources_of(rt: &impl Abort, alloc: Global, cases: &[Case]) -> Vec<Pieces<'static>> {
+    let mut sources = Vec::new(alloc);
     for case in cases {
-        assert!(rt; texts.push(case.text).is_ok(), "memory");
+        assert!(rt;
+            sources.push(Pieces::new(case.text, 8192)).is_ok(),
+            "memory"
+        );
     }
-    texts
+    sources
 }

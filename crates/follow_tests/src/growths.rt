@@ -1,62 +1,103 @@
 // A test of refused growths.
 
-use crate::checks::{begin_with, plan};
-use crate::files::{LINE, SQUARE};
+use crate::checks::{begin_with, is_name, plan};
+use crate::files::{Case, LINE, SQUARE, sources_of};
 use range_collect::{Followed, follow};
-use range_pump::FreeGate;
+use range_pump::Gate;
 use refusing::Refusing;
 use std::alloc::Global;
 use std::process::Abort;
+use std::sync::atomic::{AtomicUsize, Ordering};
 
 // More growths than a run here makes.
 const MANY_GROWTHS: u32 = 1000;
 
+// Counts for each of two files the messages that were done with before the growth was refused.
+#[derive(Drop)]
+struct Watching<'a> {
+    alloc: &'a Refusing<Global>,
+    done: [AtomicUsize; 2],
+}
+
+impl Gate for Watching<'_> {
+    fn before_send(&self, _file: u32, _place: u64) {}
+
+    fn after_take(&self, file: u32, _place: u64) {
+        if self.alloc.has_refused() {
+            return;
+        }
+        if let Some(done) = self.done.get(file as usize) {
+            done.fetch_add(1, Ordering::SeqCst);
+        }
+    }
+}
+
 // Whether the file was handed on whole, and its estimator has all rows, or has stopped and has those of the
-// blocks before.
-fn holds_first(followed: &Followed<&Refusing<Global>>, rows: &[(u64, u32, u128)]) -> bool {
+// blocks before, which are done with, each of two fixes.
+fn holds_first(followed: &Followed<&Refusing<Global>>, case: Case, done: usize) -> bool {
     let found = followed.estimator.rows();
     let ends_right = if followed.estimator.stopped() {
-        found.len() < rows.len() && found.len().is_multiple_of(2)
+        found.len() < case.rows.len() && found.len() == done.saturating_mul(2)
     } else {
-        found.len() == rows.len()
+        found.len() == case.rows.len()
     };
-    followed.marked && followed.read.is_ok() && ends_right && begin_with(rows, found)
+    followed.marked
+        && is_name(&followed.read, case.name)
+        && followed.feeder.sent_fixes() == case.rows.len() as u64
+        && ends_right
+        && begin_with(case.rows, found)
 }
 
 // Checks two files of which at most one has an estimator that was refused its memory: that one has only
-// the rows of the blocks before, and the other all rows. Both marks were taken.
-fn expect_one_stopped(rt: &impl Abort, all: &[Followed<&Refusing<Global>>], refused: bool) {
+// the rows of the blocks before, and the other all rows. Both marks were taken. Gives how many have stopped.
+fn stopped_of(
+    rt: &impl Abort,
+    all: &[Followed<&Refusing<Global>>],
+    done: &[AtomicUsize; 2],
+) -> u32 {
     assert!(rt; all.len() == 2, "results");
     let mut stopped = 0u32;
-    for (followed, rows) in all.iter().zip([SQUARE.rows, LINE.rows]) {
-        assert!(rt; holds_first(followed, rows), "the file and its rows");
+    for ((followed, case), done) in all.iter().zip([SQUARE, LINE]).zip(done) {
+        let done = done.load(Ordering::SeqCst);
+        assert!(rt; holds_first(followed, case, done), "the file and its rows");
         if followed.estimator.stopped() {
             stopped = stopped.wrapping_add(1);
         }
     }
-    assert!(rt; stopped == u32::from(refused), "stopped estimators");
+    stopped
 }
 
+// In a run that is refused a growth, either there are no results, or one estimator has stopped; both come.
 #[test]
 fn each_growth_is_refused(rt: HostRuntime) {
-    let mut refused = 0u32;
+    let (mut without, mut with) = (0u32, 0u32);
     for number in 1..MANY_GROWTHS {
         let alloc = Refusing::new(rt.alloc(), number);
-        let mut sources = Vec::new(rt.alloc());
-        for text in [SQUARE.text, LINE.text] {
-            assert!(rt; sources.push(text).is_ok(), "memory");
-        }
+        let done = [AtomicUsize::new(0), AtomicUsize::new(0)];
+        let gate = Watching {
+            alloc: &alloc,
+            done,
+        };
+        let sources = sources_of(&rt, rt.alloc(), &[SQUARE, LINE]);
         assert!(rt; sources.len() == 2);
-        let plan = plan(&rt, 2, 4, 2);
-        match follow(&rt, &alloc, rt.alloc(), sources, &FreeGate, plan) {
-            Ok(all) => expect_one_stopped(&rt, &all, alloc.has_refused()),
-            Err(_) => assert!(rt; alloc.has_refused(), "at growth {number}"),
+        match follow(&rt, &alloc, rt.alloc(), sources, &gate, plan(&rt, 2, 4, 2)) {
+            Ok(all) => {
+                let stopped = stopped_of(&rt, &all, &gate.done);
+                assert!(rt;
+                    stopped == u32::from(alloc.has_refused()),
+                    "stopped estimators"
+                );
+                with = with.wrapping_add(stopped);
+            }
+            Err(_) => {
+                assert!(rt; alloc.has_refused(), "at growth {number}");
+                without = without.wrapping_add(1);
+            }
         }
         if !alloc.has_refused() {
-            assert!(rt; refused > 20, "growths");
+            assert!(rt; without > 10 && with > 10, "{without} and {with} growths");
             return;
         }
-        refused = refused.wrapping_add(1);
     }
     assert!(rt; false, "no run without a refusal");
 }

@@ -1,9 +1,12 @@
 //! Tests of files that are followed side by side: worked rows and polygons in every plan, threads that meet
-//! at gates, files with a fault or with more fixes than are taken, and growths refused in turn.
+//! at gates and each call of a gate, files with a fault or with more fixes than are taken, sources that fail,
+//! and growths refused in turn.
 #![tactic(auto)]
 
 #[cfg(test)]
 mod checks;
+#[cfg(test)]
+mod faults;
 #[cfg(test)]
 mod files;
 #[cfg(test)]
@@ -12,5 +15,3 @@ mod gates;
 mod growths;
 #[cfg(test)]
 mod plans;
-#[cfg(test)]
-mod sources;

@@ -1,24 +1,23 @@
 // Tests of plans, each of which gives the same rows, and of files that are not followed to their end.
 
 use crate::checks::{expect_whole, follow_all, is_cut, is_whole, plan};
-use crate::files::{Case, EAST, LIMITS, LINE, OUTWARD, PLACE, SLOPE, SQUARE, WEST, texts_of};
-use crate::sources::Repeated;
+use crate::files::{Case, EAST, LIMITS, LINE, OUTWARD, PLACE, SLOPE, SQUARE, WEST, sources_of};
+use pieces::Pieces;
 use range_collect::Followed;
 use range_fixes::ReadFault;
 use range_plan::Plan;
 use range_plane::{FIX_LIMIT, Scale};
 use range_pump::FreeGate;
 use std::alloc::Global;
-use std::io::Read;
 use std::process::Abort;
 use std::sync::Wait;
 use std::thread::Threads;
 
 // Follows one source.
-fn follow_one<R: Wait + Threads + Sync + Abort, S: Read + Send + Drop>(
+pub(crate) fn follow_one<R: Wait + Threads + Sync + Abort>(
     rt: &R,
     alloc: Global,
-    source: S,
+    source: Pieces<'static>,
     plan: Plan,
 ) -> Followed {
     let mut sources = Vec::new(alloc);
@@ -29,7 +28,7 @@ fn follow_one<R: Wait + Threads + Sync + Abort, S: Read + Send + Drop>(
 
 // Follows the files side by side, and checks each.
 fn expect_all<R: Wait + Threads + Sync + Abort>(rt: &R, alloc: Global, cases: &[Case], plan: Plan) {
-    let all = follow_all(rt, alloc, texts_of(rt, alloc, cases), &FreeGate, plan);
+    let all = follow_all(rt, alloc, sources_of(rt, alloc, cases), &FreeGate, plan);
     assert!(rt; all.len() == cases.len(), "results");
     for (followed, &case) in all.iter().zip(cases) {
         expect_whole(rt, alloc, followed, case);
@@ -76,7 +75,12 @@ fn many_files(rt: HostRuntime) {
 #[test]
 fn tested_by_block(rt: HostRuntime) {
     for (block, tested) in [(1, 6), (4, 6), (7, 7)] {
-        let followed = follow_one(&rt, rt.alloc(), OUTWARD.text, plan(&rt, block, 4, 1));
+        let followed = follow_one(
+            &rt,
+            rt.alloc(),
+            Pieces::new(OUTWARD.text, 8192),
+            plan(&rt, block, 4, 1),
+        );
         assert!(rt;
             followed.estimator.tested() == tested,
             "in blocks of {block}"
@@ -89,13 +93,17 @@ fn tested_by_block(rt: HostRuntime) {
 fn file_with_a_fault(rt: HostRuntime) {
     let text = SQUARE.text.strip_suffix(b",5\n").expect(&rt, "a suffix");
     for (block, depth) in [(1, 1), (2, 4), (1024, 64)] {
-        let followed = follow_one(&rt, rt.alloc(), text, plan(&rt, block, depth, 2));
+        let followed = follow_one(
+            &rt,
+            rt.alloc(),
+            Pieces::new(text, 8192),
+            plan(&rt, block, depth, 2),
+        );
         let fault = ReadFault::WrongFieldCount {
             rec: 5,
             found: 3,
             wanted: 4,
         };
-        assert!(rt; followed.feeder.sent_fixes() == 4, "sent");
         assert!(rt;
             is_cut(&followed, fault, 4),
             "the fault and the fixes before it"
@@ -113,7 +121,7 @@ fn faults_side_by_side(rt: HostRuntime) {
         SQUARE.text,
         b"animal,second,easting,northing\n",
     ] {
-        assert!(rt; sources.push(text).is_ok(), "memory");
+        assert!(rt; sources.push(Pieces::new(text, 8192)).is_ok(), "memory");
     }
     let all = follow_all(&rt, alloc, sources, &FreeGate, plan(&rt, 2, 1, 2));
     assert!(rt; all.len() == 3, "results");
@@ -122,9 +130,15 @@ fn faults_side_by_side(rt: HostRuntime) {
     assert!(rt; is_cut(&all[2], ReadFault::NoFixes, 0), "the last file");
 }
 
+// The header, records of one fix, and the rest.
+fn repeated(times: u64, rest: &'static [u8]) -> Pieces<'static> {
+    let header = b"animal,second,easting,northing\n".as_slice();
+    Pieces::repeated(header, b"A,0,0,0\n", times, rest, 8192)
+}
+
 #[test]
 fn most_fixes(rt: HostRuntime) {
-    let source = Repeated::new(FIX_LIMIT, b"");
+    let source = repeated(u64::from(FIX_LIMIT), b"");
     let followed = follow_one(&rt, rt.alloc(), source, plan(&rt, 256, 4, 1));
     assert!(rt; is_whole(&followed, FIX_LIMIT as usize), "the end");
     assert!(rt; followed.estimator.tested() == 256, "tested");
@@ -132,17 +146,14 @@ fn most_fixes(rt: HostRuntime) {
 
 #[test]
 fn too_many_fixes(rt: HostRuntime) {
-    for (records, rest) in [
-        (FIX_LIMIT, b"A,0,0,0\n".as_slice()),
-        (FIX_LIMIT, b"A,0,x"),
-        (u32::MAX, b""),
+    let limit = u64::from(FIX_LIMIT);
+    for (times, rest) in [
+        (limit, b"A,0,0,0\n".as_slice()),
+        (limit, b"A,0,x"),
+        (u64::MAX, b""),
     ] {
-        let followed = follow_one(
-            &rt,
-            rt.alloc(),
-            Repeated::new(records, rest),
-            plan(&rt, 1024, 4, 1),
-        );
+        let source = repeated(times, rest);
+        let followed = follow_one(&rt, rt.alloc(), source, plan(&rt, 1024, 4, 1));
         let fault = ReadFault::TooManyFixes;
         assert!(rt; is_cut(&followed, fault, FIX_LIMIT as usize), "the fault");
     }

@@ -1,0 +1,240 @@
+// Tests of sources that are analysed: in every plan, with names of every length, and with faults.
+
+use crate::tables::{FOX_TABLES, HARE_TABLES, expect_animals, overlap};
+use pieces::Pieces;
+use range_analysis::{AnalyseFault, analyse};
+use range_fixes::ReadFault;
+use range_plan::Plan;
+use range_plane::Scale;
+use range_pump::Gate;
+use range_tables::Analysis;
+use std::alloc::Global;
+use std::process::Abort;
+use std::sync::Wait;
+use std::sync::atomic::{AtomicBool, AtomicU64, Ordering};
+use std::test::Fail;
+use std::thread;
+use std::thread::Threads;
+
+const FOX: &[u8] =
+    b"animal,second,easting,northing\nfox,0,0,0\nfox,60,10,0\nfox,120,10,10\nfox,180,0,10\nfox,240,5,5\n";
+
+const HARE: &[u8] = b"animal,second,easting,northing\nhare,0,5,5\nhare,60,10,5\nhare,120,20,5\n";
+
+// How many turns a call waits for others.
+const MOST_TURNS: u64 = 10_000_000;
+
+// Counts the messages that are sent and those that are taken, and the workers that are in a call at once,
+// which wait for each other: as many as there are lines, and no more.
+#[derive(Drop)]
+struct Counting {
+    lines: u64,
+    sends: AtomicU64,
+    takes: AtomicU64,
+    workers: AtomicU64,
+    has_met: AtomicBool,
+    is_crowded: AtomicBool,
+}
+
+impl Counting {
+    fn new(lines: u64) -> Counting {
+        Counting {
+            lines,
+            sends: AtomicU64::new(0),
+            takes: AtomicU64::new(0),
+            workers: AtomicU64::new(0),
+            has_met: AtomicBool::new(false),
+            is_crowded: AtomicBool::new(false),
+        }
+    }
+
+    // Whether so many messages were sent and taken, by a worker for each line.
+    fn has_counted(&self, messages: u64) -> bool {
+        self.sends.load(Ordering::SeqCst) == messages
+            && self.takes.load(Ordering::SeqCst) == messages
+            && self.has_met.load(Ordering::SeqCst)
+            && !self.is_crowded.load(Ordering::SeqCst)
+    }
+}
+
+impl Gate for Counting {
+    fn before_send(&self, _file: u32, _place: u64) {
+        self.sends.fetch_add(1, Ordering::SeqCst);
+    }
+
+    fn after_take(&self, _file: u32, _place: u64) {
+        self.takes.fetch_add(1, Ordering::SeqCst);
+        let others = self.workers.fetch_add(1, Ordering::SeqCst);
+        if others >= self.lines {
+            self.is_crowded.store(true, Ordering::SeqCst);
+        }
+        if others.saturating_add(1) == self.lines {
+            self.has_met.store(true, Ordering::SeqCst);
+        }
+        for _turn in 0..MOST_TURNS {
+            if self.has_met.load(Ordering::SeqCst) {
+                break;
+            }
+            thread::yield_now();
+        }
+        self.workers.fetch_sub(1, Ordering::SeqCst);
+    }
+}
+
+// What these sources come to by this plan, at three levels.
+fn analysed<R: Wait + Threads + Sync + Abort>(
+    rt: &R,
+    alloc: Global,
+    sources: Vec<Pieces<'_>>,
+    gate: &Counting,
+    plan: Plan,
+) -> Result<Analysis, AnalyseFault> {
+    assert!(rt; !sources.is_empty() && sources.len() <= 64, "sources");
+    analyse(rt, alloc, sources, gate, plan, &[50, 95, 100])
+}
+
+// Each plan comes to the same, and its blocks are those that are sent: a mark a file besides.
+#[test]
+fn every_plan(rt: HostRuntime) -> Result<(), Fail> {
+    for (block, depth, workers, messages) in [
+        (1, 1, 1, 10),
+        (2, 4, 2, 7),
+        (3, 64, 8, 5),
+        (4, 1, 2, 5),
+        (5, 2, 1, 4),
+        (1024, 4, 2, 4),
+    ] {
+        let unit = Scale::Metre;
+        let plan = Plan::new(block, depth, workers, unit).ok_or("no plan")?;
+        let sources = vec![in rt.alloc(); Pieces::new(FOX, 8192), Pieces::new(HARE, 8)]?;
+        let gate = Counting::new(u64::from(workers.min(2)));
+        let analysis = analysed(&rt, rt.alloc(), sources, &gate, plan)
+            .ok()
+            .ok_or("no analysis")?;
+        expect_animals(&rt, &analysis, &[FOX_TABLES, HARE_TABLES]);
+        let overlaps = [overlap(0, 1, 1, 5), overlap(1, 0, 2, 3)];
+        assert!(rt;
+            analysis.overlaps.as_slice() == overlaps.as_slice(),
+            "overlaps"
+        );
+        assert!(rt; analysis.unit == unit, "the unit");
+        assert!(rt; gate.has_counted(messages), "messages in blocks of {block}");
+    }
+    Ok(())
+}
+
+// The text of a file of one fix, of an animal with this name.
+fn text_of(alloc: Global, name: &[u8]) -> Result<Vec<u8>, Fail> {
+    let mut text = Vec::from_slice(alloc, b"animal,second,easting,northing\n")?;
+    text.extend_from_slice(name)?;
+    text.extend_from_slice(b",0,16777217,3\n")?;
+    Ok(text)
+}
+
+// Names of each length are kept whole, and the unit is that of the plan.
+#[test]
+fn names_and_unit(rt: HostRuntime) -> Result<(), Fail> {
+    let alloc = rt.alloc();
+    let longest = b"abcdefghijklmnopqrstuvwxyz012345";
+    let mut texts = Vec::new(alloc);
+    for length in 1..=longest.len() {
+        texts.push(text_of(alloc, &longest[..length])?)?;
+    }
+    let mut sources = Vec::new(alloc);
+    for text in &texts {
+        sources.push(Pieces::new(text.as_slice(), 8192))?;
+    }
+    let plan = Plan::new(256, 4, 8, Scale::Decimetre).ok_or("no plan")?;
+    let gate = Counting::new(8);
+    let analysis = analysed(&rt, alloc, sources, &gate, plan)
+        .ok()
+        .ok_or("no analysis")?;
+    assert!(rt; analysis.unit == Scale::Decimetre, "the unit");
+    assert!(rt;
+        analysis.animals.as_slice().len() == longest.len(),
+        "animals"
+    );
+    for (place, animal) in analysis.animals.as_slice().iter().enumerate() {
+        let name = animal.name.as_slice();
+        assert!(rt; name.len() == place.saturating_add(1), "name {place}");
+        assert!(rt; longest.starts_with(name), "name {place}");
+    }
+    assert!(rt; gate.has_counted(64), "messages");
+    Ok(())
+}
+
+// Files of one fix each of the animals A to H, but that this text stands for the one at this place.
+fn one_of_eight<R: Wait + Threads + Sync + Abort>(
+    rt: &R,
+    alloc: Global,
+    text: &[u8],
+    place: u32,
+) -> Result<Option<AnalyseFault>, Fail> {
+    let mut texts = Vec::new(alloc);
+    for name in [b"A", b"B", b"C", b"D", b"E", b"F", b"G", b"H"] {
+        texts.push(text_of(alloc, name)?)?;
+    }
+    let mut sources = Vec::new(alloc);
+    for (file, good) in texts.iter().enumerate() {
+        let text = if file == place as usize {
+            text
+        } else {
+            good.as_slice()
+        };
+        sources.push(Pieces::new(text, 8192))?;
+    }
+    let plan = Plan::new(2, 4, 3, Scale::Decimetre).ok_or("no plan")?;
+    Ok(analysed(rt, alloc, sources, &Counting::new(3), plan).err())
+}
+
+// One file of eight that cannot be read to its end, or has the name of another.
+#[test]
+fn one_of_eight_sources(rt: HostRuntime) -> Result<(), Fail> {
+    let (rec, field, unit) = (1, 2, Scale::Decimetre);
+    let number = ReadFault::NotNumber { rec, field };
+    let large = ReadFault::TooLarge { rec, field, unit };
+    let cases = [
+        (b"".as_slice(), 6, ReadFault::NoHeader),
+        (b"animal,second,easting,northing\n", 0, ReadFault::NoFixes),
+        (b"animal,second,easting,northing\nA,0,x,0\n", 7, number),
+        (
+            b"animal,second,easting,northing\nA,0,134217729,0\n",
+            6,
+            large,
+        ),
+    ];
+    for (text, file, fault) in cases {
+        let expected = AnalyseFault::File { file, fault };
+        assert!(rt;
+            one_of_eight(&rt, rt.alloc(), text, file)? == Some(expected),
+            "{expected}"
+        );
+    }
+    let same = AnalyseFault::SameAnimal {
+        first: 2,
+        second: 6,
+    };
+    let text = b"animal,second,easting,northing\nC,0,0,0\n";
+    assert!(rt;
+        one_of_eight(&rt, rt.alloc(), text, 6)? == Some(same),
+        "{same}"
+    );
+    Ok(())
+}
+
+// A source that fails is a fault of its file, also where another file has a fault behind it.
+#[test]
+fn failing_source(rt: HostRuntime) -> Result<(), Fail> {
+    for reads in 0..9 {
+        let first = Pieces::new(FOX, 8192);
+        let second = Pieces::failing(HARE, 8, reads);
+        let last = Pieces::new(b"", 8192);
+        let sources = vec![in rt.alloc(); first, second, last]?;
+        let plan = Plan::new(2, 4, 2, Scale::Metre).ok_or("no plan")?;
+        let answer = analysed(&rt, rt.alloc(), sources, &Counting::new(2), plan);
+        let (file, fault) = (1, ReadFault::Read);
+        let expected = AnalyseFault::File { file, fault };
+        assert!(rt; answer.err() == Some(expected), "after {reads} reads");
+    }
+    Ok(())
+}

@@ -1,0 +1,80 @@
+//! A source that gives its bytes in pieces, repeats some of them, and fails. It is for tests alone.
+#![tactic(auto)]
+
+use std::io;
+use std::io::Read;
+
+/// For tests alone: gives the bytes of a text, then those of another so many times, and then the rest, at
+/// most so many at a read. After so many reads it fails. It tells no bytes.
+#[derive(Drop)]
+pub struct Pieces<'a> {
+    text: &'a [u8],
+    again: &'a [u8],
+    times: u64,
+    rest: &'a [u8],
+    most: usize,
+    reads: u64,
+}
+
+impl<'a> Pieces<'a> {
+    /// The bytes of a text, at most so many at a read.
+    pub fn new(text: &'a [u8], most: usize) -> Pieces<'a> {
+        Pieces::repeated(text, b"", 0, b"", most)
+    }
+
+    /// The bytes of a text, of another so many times, and of the rest, at most so many at a read.
+    pub fn repeated(
+        text: &'a [u8],
+        again: &'a [u8],
+        times: u64,
+        rest: &'a [u8],
+        most: usize,
+    ) -> Pieces<'a> {
+        Pieces {
+            text,
+            again,
+            times,
+            rest,
+            most,
+            reads: u64::MAX,
+        }
+    }
+
+    /// The bytes of a text, at most so many at a read. After so many reads each one fails.
+    pub fn failing(text: &'a [u8], most: usize, reads: u64) -> Pieces<'a> {
+        Pieces {
+            text,
+            again: b"",
+            times: 0,
+            rest: b"",
+            most,
+            reads,
+        }
+    }
+
+    // Where all of a text was given, goes on with the next.
+    fn refill(&mut self) {
+        if !self.text.is_empty() {
+            return;
+        }
+        if self.times > 0 {
+            self.times -= 1;
+            self.text = self.again;
+        } else {
+            self.text = self.rest;
+            self.rest = b"";
+        }
+    }
+}
+
+impl Read for Pieces<'_> {
+    fn read(&mut self, buf: &mut [u8]) -> io::Result<usize> {
+        if self.reads == 0 {
+            return Err(io::Error::from(io::ErrorKind::PermissionDenied));
+        }
+        self.reads -= 1;
+        self.refill();
+        let n = self.most.min(buf.len());
+        self.text.read(&mut buf[..n])
+    }
+}
