@@ -1,5 +1,6 @@
 // Sources and outputs that fail.
 
+use pieces::Pieces;
 use std::io;
 use std::io::{Read, Write};
 
@@ -45,23 +46,17 @@ impl Failures {
     }
 }
 
-/// Gives the bytes of a text, and then of another again and again, at most so many at a read, and fails.
+/// A source some of whose reads fail.
 #[derive(Drop)]
 pub(crate) struct Source<'a> {
-    pub(crate) text: &'a [u8],
-    pub(crate) again: &'a [u8],
-    pub(crate) most: usize,
+    pub(crate) pieces: Pieces<'a>,
     pub(crate) failures: Failures,
 }
 
 impl Read for Source<'_> {
     fn read(&mut self, buf: &mut [u8]) -> io::Result<usize> {
         self.failures.next()?;
-        if self.text.is_empty() {
-            self.text = self.again;
-        }
-        let n = self.most.min(buf.len());
-        self.text.read(&mut buf[..n])
+        self.pieces.read(buf)
     }
 }
 

@@ -1,7 +1,8 @@
 // Runs whose source or output fails at each of its calls, and a source without an end.
 
-use crate::failing::{Failures, Output, Source};
+use crate::failing::{Failures, Output};
 use crate::runs::{FILE_A, REPORT_A, run_over};
+use pieces::Pieces;
 use range_analysis::AnalyseFault;
 use range_fixes::ReadFault;
 use range_run::{RunFault, status};
@@ -10,7 +11,7 @@ use std::process::Abort;
 use std::sync::Wait;
 use std::thread::Threads;
 
-// The number of `Input/output error`.
+// The number of a failure that the system gives.
 const NUMBER: i32 = 5;
 
 // The refusal of the only file.
@@ -26,12 +27,7 @@ fn is_whole<R: Wait + Threads + Sync + Abort>(
     most: usize,
     before: usize,
 ) -> bool {
-    let source = Source {
-        text: FILE_A,
-        again: b"",
-        most,
-        failures: Failures::one_after(before, NUMBER),
-    };
+    let source = Pieces::failing(FILE_A, most, before as u64);
     let mut out = Vec::new(alloc);
     let outcome = run_over(rt, alloc, source, &mut out);
     if outcome == Ok(()) {
@@ -59,12 +55,8 @@ fn failing_reads(rt: HostRuntime) {
 // A source that repeats a record without end has more fixes than a file may have.
 #[test]
 fn endless_source(rt: HostRuntime) {
-    let source = Source {
-        text: b"animal,second,easting,northing\n",
-        again: b"A,0,0,0\n",
-        most: 4096,
-        failures: Failures::none(),
-    };
+    let header = b"animal,second,easting,northing\n";
+    let source = Pieces::repeated(header, b"A,0,0,0\n", u64::MAX, b"", 4096);
     let mut out = Vec::new(rt.alloc());
     let outcome = run_over(&rt, rt.alloc(), source, &mut out);
     assert!(rt; outcome == refusal(ReadFault::TooManyFixes) && out.is_empty());

@@ -3,6 +3,7 @@
 use crate::failing::{Failures, Output, Source};
 use crate::line::line;
 use crate::runs::{FILE_A, REPORT_A};
+use pieces::Pieces;
 use range_command::{Refusal, obey};
 use std::alloc::Global;
 use std::fs::File;
@@ -30,9 +31,7 @@ fn outcome_of<R: Wait + Threads + Sync + Files<File = File> + AllocGlobal + Abor
 ) -> (Vec<u8>, bool, Option<(u8, String)>) {
     let alloc = rt.alloc();
     let source = Source {
-        text: FILE_A,
-        again: b"",
-        most: 8,
+        pieces: Pieces::new(FILE_A, 8),
         failures: reads,
     };
     let mut out = range_command::Output::new(Output::new(Vec::new(alloc), 8, writes));
