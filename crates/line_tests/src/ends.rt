@@ -96,6 +96,55 @@ fn one_feeder_and_two_takes(rt: HostRuntime) -> Result<(), Fail> {
     Ok(())
 }
 
+// Ended with all messages on it, the line gives them in turn, the feeder being closed or not.
+#[test]
+fn one_feeder_and_no_take(rt: HostRuntime) -> Result<(), Fail> {
+    let (feeder, taker) = three_messages(&rt, rt.alloc())?;
+    let settled = settle_one(&rt, rt.alloc(), feeder, taker)?;
+    assert!(rt; is_block(&settled.extra, 3, 0, 60, 2), "the first block");
+    let settled = settle(&rt, settled.taker, settled.feeders);
+    assert!(rt; is_block(&settled.extra, 3, 2, 120, 1), "the second block");
+    let settled = settle(&rt, settled.taker, settled.feeders);
+    assert!(rt; is_mark(&settled.extra, 3, 3), "the mark");
+    let again = settle(&rt, settled.taker, settled.feeders);
+    assert!(rt; again.extra.is_none(), "nothing more");
+    assert!(rt; are_ends(&again, &[(3, 3, true)]), "the feeder");
+    let (mut feeders, taker) = open_line(rt.alloc(), 3, 1, 1, 4)?;
+    let mut feeder = feeders.pop().ok_or("no feeder")?;
+    assert!(rt;
+        feeder.send(&rt, fixes(rt.alloc(), 60, 2)?).is_ok(),
+        "two fixes"
+    );
+    let settled = settle_one(&rt, rt.alloc(), feeder, taker)?;
+    assert!(rt; is_block(&settled.extra, 3, 0, 60, 2), "the block");
+    let again = settle(&rt, settled.taker, settled.feeders);
+    assert!(rt; again.extra.is_none(), "no mark");
+    assert!(rt;
+        are_ends(&again, &[(3, 2, false)]),
+        "the feeder is not closed"
+    );
+    Ok(())
+}
+
+// Where all feeders are gone the taker is given what they sent, and then nothing, also when it asks again.
+#[test]
+fn the_feeders_are_gone(rt: HostRuntime) -> Result<(), Fail> {
+    let (feeder, mut taker) = three_messages(&rt, rt.alloc())?;
+    drop(feeder);
+    assert!(rt; is_block(&taker.take(&rt), 3, 0, 60, 2), "the first block");
+    assert!(rt;
+        is_block(&taker.take(&rt), 3, 2, 120, 1),
+        "the second block"
+    );
+    assert!(rt; is_mark(&taker.take(&rt), 3, 3), "the mark");
+    assert!(rt; taker.take(&rt).is_none(), "nothing");
+    assert!(rt; taker.take(&rt).is_none(), "nothing again");
+    let (feeders, mut taker) = open_line(rt.alloc(), 1, 2, 3, 4)?;
+    drop(feeders);
+    assert!(rt; taker.take(&rt).is_none(), "nothing was sent");
+    Ok(())
+}
+
 #[test]
 fn the_taker_is_gone(rt: HostRuntime) -> Result<(), Fail> {
     let (mut feeders, taker) = open_line(rt.alloc(), 3, 1, 1, 4)?;
