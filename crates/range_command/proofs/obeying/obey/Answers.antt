@@ -19,3 +19,6 @@ pub returns-in-Err-Help-clause-done : goal.returns-in-Err-Help-clause-done
 returns-in-Err-Help-clause-done g c =
     let asked = subst (IsRefusalOf (map string_bytes c.args.words.now)) c.in-Err-Help.field-0-is c.in-Err-Help.ensures.err in
     on_ok_weaker c.write_help.result (λ written. inr (c.in-Err-Help.text, asked, search rules)) c.write_help.ensures.help
+
+pub returns-in-Err-BadWords-clause-done : goal.returns-in-Err-BadWords-clause-done
+returns-in-Err-BadWords-clause-done g c = search rules
