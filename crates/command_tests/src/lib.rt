@@ -8,6 +8,8 @@ mod failing;
 #[cfg(test)]
 mod failing_runs;
 #[cfg(test)]
+mod files;
+#[cfg(test)]
 mod herd;
 #[cfg(test)]
 mod line;

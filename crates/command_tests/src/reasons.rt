@@ -87,6 +87,22 @@ fn writes(rt: HostRuntime) {
     }
 }
 
+// The reason of a flush that failed, after all was written.
+#[test]
+fn flush(rt: HostRuntime) {
+    let alloc = rt.alloc();
+    let mut full = Output::new(Vec::new(alloc), 8, Failures::none());
+    full.can_flush = false;
+    let mut out = range_command::Output::new(full);
+    let words = line(&rt, alloc, &[]);
+    let refusal = obey(&rt, words.as_slice(), FILE_A, &mut out).err();
+    let refusal = refusal.expect(&rt, "a refusal");
+    assert!(rt; refusal.status() == 4);
+    let text = text_of(&rt, alloc, &refusal);
+    assert!(rt; text.as_str() == "standard output: No space left on device");
+    assert!(rt; out.writer().held.as_slice() == REPORT_A && out.writer().flushes == 1);
+}
+
 // A read or a write that a signal interrupts fifteen times is as if it had not been, and one that is
 // interrupted sixteen times has failed.
 #[test]

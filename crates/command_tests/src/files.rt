@@ -1,0 +1,68 @@
+// Runs over files that words name, in the order of the words.
+
+use crate::line::line;
+use crate::runs::FILE_A;
+use range_command::{Output, obey};
+use std::fs;
+use std::fs::File;
+use std::process::Abort;
+use std::rt::Files;
+use std::sync::Wait;
+use std::thread::Threads;
+
+const FILE_B: &[u8] = b"animal,second,easting,northing\nB,0,5,5\nB,60,10,5\nB,120,20,5\n";
+
+const LINES_A: &[u8] =
+    b"animal,A,fixes,5\nbox,A,0,0,10,10\nrow,A,1,0,1,0\nrow,A,2,60,2,0\nrow,A,3,120,3,100\nrow,A,4,180,4,200\nrow,A,5,240,4,200\ncorner,A,1,0,0\ncorner,A,2,10,0\ncorner,A,3,10,10\ncorner,A,4,0,10\npercent,A,50,3,3,50\npercent,A,95,5,4,200\npercent,A,100,5,4,200\n";
+
+const LINES_B: &[u8] =
+    b"animal,B,fixes,3\nbox,B,5,5,20,5\nrow,B,1,0,1,0\nrow,B,2,60,2,0\nrow,B,3,120,2,0\ncorner,B,1,5,5\ncorner,B,2,20,5\npercent,B,50,2,2,0\npercent,B,95,3,2,0\npercent,B,100,3,2,0\n";
+
+// The words write these parts, or are refused with status 1 by this text, and then write nothing.
+fn expect<R: Wait + Threads + Sync + Files<File = File> + AllocGlobal + Abort>(
+    rt: &R,
+    words: &[&str],
+    parts: &[&[u8]],
+    text: &str,
+) {
+    let alloc = rt.alloc();
+    let mut report = Vec::new(alloc);
+    for part in parts {
+        report.extend_from_slice(part).expect(rt, "memory");
+    }
+    let words = line(rt, alloc, words);
+    let mut out = Output::new(Vec::new(alloc));
+    let told = match obey(rt, words.as_slice(), b"".as_slice(), &mut out) {
+        Ok(()) => String::new(alloc),
+        Err(refusal) => {
+            assert!(rt; refusal.status() == 1);
+            format!(in alloc; "{refusal}").expect(rt, "memory")
+        }
+    };
+    assert!(rt; told.as_str() == text, "{told}");
+    assert!(rt; out.writer().as_slice() == report.as_slice());
+}
+
+#[test]
+fn reports_and_refusals(rt: HostRuntime) {
+    let cut = b"animal,second,easting,northing\nA,0,0\n".as_slice();
+    let files = [("a.csv", FILE_A), ("b.csv", FILE_B), ("cut.csv", cut)];
+    for (path, text) in files {
+        fs::write(&rt, path, text).expect(&rt, "a file");
+    }
+    let a_first = b"overlap,A,B,1,5\noverlap,B,A,2,3\nend,2\n".as_slice();
+    let b_first = b"overlap,B,A,2,3\noverlap,A,B,1,5\nend,2\n".as_slice();
+    let one = b"end,1\n".as_slice();
+    expect(&rt, &["a.csv", "b.csv"], &[LINES_A, LINES_B, a_first], "");
+    expect(&rt, &["b.csv", "a.csv"], &[LINES_B, LINES_A, b_first], "");
+    expect(&rt, &["b.csv"], &[LINES_B, one], "");
+    let same = "a.csv and a.csv have the same animal";
+    expect(&rt, &["a.csv", "a.csv"], &[], same);
+    let fields = "cut.csv: record 1: 3 fields where 4 are wanted";
+    expect(&rt, &["a.csv", "cut.csv"], &[], fields);
+    let missing = "missing.csv: No such file or directory";
+    expect(&rt, &["a.csv", "missing.csv", "cut.csv"], &[], missing);
+    for (path, _) in files {
+        fs::remove_file(&rt, path).expect(&rt, "a file");
+    }
+}
