@@ -9,7 +9,8 @@
 // - The hull is two chains of corners in order (Andrew 1979), sorted vectors, or with `--trees` trees, which insert
 //   into long chains faster. A point within the hull's core costs four comparisons.
 // - The kept fixes of a level are selected, not sorted, the greatest level first and each lower one among those that
-//   are selected already. Their polygon is that of the sorted points outside the core; that of all fixes is known.
+//   are selected already. Their polygon is made by sorting those outside the polygon of every 64th; that of all
+//   fixes is known.
 // - An overlap tries the boxes, then for each fix the box, the core, and a binary search in both chains.
 // All arithmetic is exact.
 
@@ -190,9 +191,12 @@ impl<C: Chain> Hull<C> {
         if self.core.is_some_and(|core| core.surrounds(p)) {
             return false;
         }
-        self.core.get_or_insert(Core::new(p)).add(p);
         // Both sides, so no `||`.
-        self.south.insert(1, p, &mut self.area2) | self.north.insert(-1, p, &mut self.area2)
+        let is_other = self.south.insert(1, p, &mut self.area2) | self.north.insert(-1, p, &mut self.area2);
+        if is_other {
+            self.core.get_or_insert(Core::new(p)).add(p);
+        }
+        is_other
     }
 
     fn corner_count(&self) -> usize {
@@ -200,48 +204,54 @@ impl<C: Chain> Hull<C> {
     }
 }
 
-// How many corners the polygon of sorted points has, and its doubled area: each chain grows and shrinks at its end
-// alone, and each corner that it loses adds the area between it and the line through all points.
-fn polygon(sorted: &[Point]) -> (usize, i64) {
-    let (mut area2, mut corners) = (0, 0);
-    let mut chain = Vec::new();
-    for sign in [1, -1] {
-        chain.clear();
-        for &p in sorted {
-            if chain.last() == Some(&p) {
-                continue;
-            }
-            while let [.., a, b] = chain[..]
-                && dents(sign, [a, b, p], &mut area2)
-            {
-                chain.pop();
-            }
-            chain.push(p);
-        }
-        corners += chain.len();
-    }
-    ((corners - 2).max(1), area2)
-}
-
-// The fixes of an animal, and what they come to.
-struct Track {
-    name: Vec<u8>,
-    points: Vec<Point>,
-    rows: Vec<u8>,
+// A polygon by its chains, each sorted, its core and its doubled area.
+struct Range {
     south: Vec<Point>,
     north: Vec<Point>,
     core: Core,
     area2: i64,
 }
 
-impl Track {
+impl Range {
+    fn from_hull<C: Chain>(hull: Hull<C>) -> Option<Range> {
+        let (south, north) = (hull.south.into_sorted(), hull.north.into_sorted());
+        Some(Range { south, north, core: hull.core?, area2: hull.area2 })
+    }
+
+    // Each chain grows and shrinks at its end alone, and each corner that it loses adds the area between it and the
+    // line through all points.
+    fn new(mut points: Vec<Point>) -> Range {
+        points.sort_unstable();
+        points.dedup();
+        let (mut core, mut area2) = (Core::new(points[0]), 0);
+        points.iter().for_each(|p| core.add(*p));
+        let [south, north] = [1, -1].map(|sign| {
+            let mut chain = Vec::new();
+            for &p in &points {
+                while let [.., a, b] = chain[..]
+                    && dents(sign, [a, b, p], &mut area2)
+                {
+                    chain.pop();
+                }
+                chain.push(p);
+            }
+            chain
+        });
+        Range { south, north, core, area2 }
+    }
+
+    // Counterclockwise from the least.
+    fn corners(&self) -> impl Iterator<Item = &Point> {
+        self.south.iter().chain(self.north.iter().rev().skip(1).take(self.north.len().saturating_sub(2)))
+    }
+
     fn corner_count(&self) -> usize {
         (self.south.len() + self.north.len() - 2).max(1)
     }
 
     // The least and the greatest easting, and northing.
     fn extent(&self) -> [i32; 4] {
-        let northings = || self.south.iter().chain(&self.north).map(|p| p.n);
+        let northings = || self.corners().map(|p| p.n);
         let (first, last) = (self.south[0], self.south[self.south.len() - 1]);
         [first.e, last.e, northings().min().unwrap(), northings().max().unwrap()]
     }
@@ -254,8 +264,16 @@ impl Track {
             let place = chain.partition_point(|c| *c < p);
             chain[place] == p || sign * turn(chain[place - 1], chain[place], p) >= 0
         };
-        is_within(&self.south, 1) && is_within(&self.north, -1)
+        self.core.surrounds(p) || is_within(&self.south, 1) && is_within(&self.north, -1)
     }
+}
+
+// The fixes of an animal, and what they come to.
+struct Track {
+    name: Vec<u8>,
+    points: Vec<Point>,
+    rows: Vec<u8>,
+    range: Range,
 }
 
 const PAIRS: [[u8; 2]; 100] = {
@@ -347,9 +365,8 @@ fn track_of<C: Chain>(file: &[u8], limit: u64) -> Option<Track> {
         rows.extend_from_slice(&end);
         last = second;
     }
-    let (south, north) = (hull.south.into_sorted(), hull.north.into_sorted());
-    let (name, core, area2) = (name.to_vec(), hull.core?, hull.area2);
-    (points.len() <= FIXES).then_some(Track { name, points, rows, south, north, core, area2 })
+    let (name, range) = (name.to_vec(), Range::from_hull(hull)?);
+    (points.len() <= FIXES).then_some(Track { name, points, rows, range })
 }
 
 // Each point's squared distance from the mean, scaled to be whole, and behind it its place.
@@ -361,14 +378,13 @@ fn keys(points: &[Point]) -> Vec<u128> {
     points.iter().zip(0..).map(|(p, place)| distance(p) << 20 | place).collect()
 }
 
-// The polygon of the points with these keys. `add` takes all corners of a core, so it leaves out no corner.
-fn kept_polygon(points: &[Point], kept: &[u128]) -> (usize, i64) {
-    let point = |key: &u128| points[*key as usize % FIXES];
-    let mut core = Core::new(point(&kept[0]));
-    kept.iter().for_each(|key| core.add(point(key)));
-    let mut outer: Vec<Point> = kept.iter().map(point).filter(|p| !core.surrounds(*p)).collect();
-    outer.sort_unstable();
-    polygon(&outer)
+// The polygon of the points with these keys: of those that the polygon of a few of them leaves out, and its corners.
+fn kept_range(points: &[Point], kept: &[u128]) -> Range {
+    let mut outer: Vec<Point> = kept.iter().map(|key| points[*key as usize % FIXES]).collect();
+    let few = Range::new(outer.iter().copied().step_by(64).collect());
+    outer.retain(|p| !few.covers(*p));
+    outer.extend(few.corners());
+    Range::new(outer)
 }
 
 // For each level the kept fixes, and the corners and the doubled area of their polygon.
@@ -379,15 +395,13 @@ fn percents(track: &Track, levels: &[usize]) -> Vec<[u64; 3]> {
     let mut keys = keys(&track.points);
     for i in falling {
         let kept = (levels[i] * track.points.len()).div_ceil(100);
-        let (corners, area2) = if kept == track.points.len() {
-            (track.corner_count(), track.area2)
-        } else {
-            if kept < keys.len() {
-                keys.select_nth_unstable(kept);
-                keys.truncate(kept);
-            }
-            kept_polygon(&track.points, &keys)
-        };
+        if kept < keys.len() {
+            keys.select_nth_unstable(kept);
+            keys.truncate(kept);
+        }
+        let found = (kept < track.points.len()).then(|| kept_range(&track.points, &keys));
+        let range = found.as_ref().unwrap_or(&track.range);
+        let (corners, area2) = (range.corner_count(), range.area2);
         rows[i] = [kept as u64, corners as u64, area2 as u64];
     }
     rows
@@ -396,11 +410,10 @@ fn percents(track: &Track, levels: &[usize]) -> Vec<[u64; 3]> {
 // The lines of an animal before its rows, and those after them.
 fn around_rows(track: &Track, levels: &[usize]) -> [Vec<u8>; 2] {
     let (name, [mut head, mut tail]) = (&track.name[..], [vec![], vec![]]);
-    let [least_e, most_e, least_n, most_n] = track.extent().map(|x| x as u64);
+    let [least_e, most_e, least_n, most_n] = track.range.extent().map(|x| x as u64);
     put_line(&mut head, &[b"animal", name, b"fixes"], &[track.points.len() as u64]);
     put_line(&mut head, &[b"box", name], &[least_e, least_n, most_e, most_n]);
-    let back = track.north.iter().rev().skip(1).take(track.north.len().saturating_sub(2));
-    for (i, p) in (1..).zip(track.south.iter().chain(back)) {
+    for (i, p) in (1..).zip(track.range.corners()) {
         put_line(&mut tail, &[b"corner", name], &[i, p.e as u64, p.n as u64]);
     }
     for (&level, [kept, corners, area2]) in levels.iter().zip(percents(track, levels)) {
@@ -409,23 +422,23 @@ fn around_rows(track: &Track, levels: &[usize]) -> [Vec<u8>; 2] {
     [head, tail]
 }
 
-// How many of the animal's fixes lie in the range.
-fn overlap(animal: &Track, box_a: [i32; 4], range: &Track, box_b: [i32; 4]) -> usize {
+// How many of the points lie in the range, by the boxes of both at first.
+fn overlap(points: &[Point], box_a: [i32; 4], range: &Range, box_b: [i32; 4]) -> usize {
     let [west, east, south, north] = box_b;
     if box_a[1] < west || east < box_a[0] || box_a[3] < south || north < box_a[2] {
         return 0;
     }
     let is_in_box = |p: Point| (p.e >= west) & (p.e <= east) & (p.n >= south) & (p.n <= north);
-    let is_covered = |p: Point| is_in_box(p) && (range.core.surrounds(p) || range.covers(p));
-    animal.points.iter().filter(|p| is_covered(**p)).count()
+    let is_covered = |p: Point| is_in_box(p) && range.covers(p);
+    points.iter().filter(|p| is_covered(**p)).count()
 }
 
 fn overlaps(tracks: &[Track]) -> Vec<u8> {
     let mut text = vec![];
-    let boxes: Vec<[i32; 4]> = tracks.iter().map(Track::extent).collect();
+    let boxes: Vec<[i32; 4]> = tracks.iter().map(|track| track.range.extent()).collect();
     for (a, box_a) in tracks.iter().zip(&boxes) {
         for (b, box_b) in tracks.iter().zip(&boxes).filter(|(b, _)| b.name != a.name) {
-            let count = overlap(a, *box_a, b, *box_b);
+            let count = overlap(&a.points, *box_a, &b.range, *box_b);
             put_line(&mut text, &[b"overlap", &a.name, &b.name], &[count as u64, a.points.len() as u64]);
         }
     }
