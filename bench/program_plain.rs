@@ -4,22 +4,25 @@
 //
 // It prints the bytes that `homerange` prints for the same words, and stops at a file that breaks a rule. It reads
 // the plain form of a file alone: four columns, no quotes, a line feed at each line's end but perhaps the last.
-// - A file is read whole and gone through once, byte by byte. A fix is put into the hull and its row written as it
-//   is read; what a row says of the polygon is written anew only where a fix changed it.
+// - A file is read in blocks of 64 KB, each gone through once, byte by byte, no line copied. A fix is put into the hull
+//   and its row written as it is read; what a row says of the polygon is written anew only where a fix changed it.
 // - The hull is two chains of corners in order (Andrew 1979), sorted vectors, or with `--trees` trees, which insert
-//   into long chains faster. A point within the hull's core costs four comparisons.
+//   into long chains faster. A point that the hull's core surrounds costs four comparisons.
 // - The kept fixes of a level are selected, not sorted, the greatest level first and each lower one among those that
 //   are selected already. Their polygon is made by sorting those outside the polygon of every 64th; that of all
 //   fixes is known.
 // - An overlap tries the boxes, then for each fix the box, the core, and a binary search in both chains.
-// All arithmetic is exact.
+// - Digits are made by hand, two at a time. All texts are made before the first is written, each at once.
+// All arithmetic is exact. One thread does not read ahead, so waiting for a disk adds to its time.
 
 use std::cmp::Reverse;
 use std::collections::{BTreeSet, HashSet};
-use std::io::Write;
+use std::fs::File;
+use std::io::{Read, Write};
 use std::slice::Iter;
 
-const HEADER: &[u8] = b"animal,second,easting,northing\n";
+const HEADER: [u8; 31] = *b"animal,second,easting,northing\n";
+const BLOCK: usize = 1 << 16;
 const FIXES: usize = 1 << 20;
 const SECONDS: u64 = 1 << 40;
 
@@ -55,7 +58,7 @@ fn turn(a: Point, b: Point, c: Point) -> i64 {
     (b.e - a.e) as i64 * (c.n - a.n) as i64 - (b.n - a.n) as i64 * (c.e - a.e) as i64
 }
 
-// The farthest points to the south-west, south-east, north-west and north-east.
+// The core of a polygon: its farthest points to the south-west, south-east, north-west and north-east.
 #[derive(Clone, Copy)]
 struct Core([Point; 4]);
 
@@ -340,33 +343,86 @@ fn name_of(bytes: &[u8]) -> Option<&[u8]> {
     is_name.then_some(name)
 }
 
-// The track of a file, its rows written. None where it breaks a rule.
-fn track_of<C: Chain>(file: &[u8], limit: u64) -> Option<Track> {
-    let records = file.strip_prefix(HEADER)?;
-    let name = name_of(records)?;
-    let (lead, start) = ([name, b","].concat(), [b"row,", name, b","].concat());
-    let (mut points, mut rows, mut hull) = (vec![], vec![], Hull::<C>::default());
-    let (mut bytes, mut last, mut end) = (records.iter(), 0, vec![]);
-    while !bytes.as_slice().is_empty() {
-        bytes = bytes.as_slice().strip_prefix(&lead[..])?.iter();
-        let second = number(&mut bytes, SECONDS, b',').filter(|second| *second >= last)?;
-        let e = number(&mut bytes, limit, b',')? as i32;
-        let n = number(&mut bytes, limit, b'\n')? as i32;
-        let p = Point { n, e };
-        if hull.insert(p) {
-            end.clear();
-            put_numbers(&mut end, &[hull.corner_count() as u64, hull.area2 as u64]);
-        }
-        points.push(p);
-        rows.extend_from_slice(&start);
-        put_number(&mut rows, points.len() as u64);
-        rows.push(b',');
-        put_number(&mut rows, second);
-        rows.extend_from_slice(&end);
-        last = second;
+// What is known of an animal within its file.
+struct Reading<C> {
+    limit: u64,
+    name: Vec<u8>,
+    points: Vec<Point>,
+    rows: Vec<u8>,
+    hull: Hull<C>,
+    last: u64,
+    // How each record begins, and how a row begins and ends.
+    lead: Vec<u8>,
+    row: Vec<u8>,
+    end: Vec<u8>,
+}
+
+impl<C: Chain> Reading<C> {
+    fn new(name: &[u8], limit: u64) -> Reading<C> {
+        let (name, lead, row) = (name.to_vec(), [name, b","].concat(), [b"row,", name, b","].concat());
+        let (points, rows, hull, last, end) = (vec![], vec![], Hull::default(), 0, vec![]);
+        Reading { limit, name, points, rows, hull, last, lead, row, end }
     }
-    let (name, range) = (name.to_vec(), Range::from_hull(hull)?);
-    (points.len() <= FIXES).then_some(Track { name, points, rows, range })
+
+    // Takes whole lines. None where one breaks a rule.
+    fn take(&mut self, lines: &[u8]) -> Option<()> {
+        let mut bytes = lines.iter();
+        while !bytes.as_slice().is_empty() {
+            bytes = bytes.as_slice().strip_prefix(&self.lead[..])?.iter();
+            let second = number(&mut bytes, SECONDS, b',').filter(|second| *second >= self.last)?;
+            let e = number(&mut bytes, self.limit, b',')? as i32;
+            let n = number(&mut bytes, self.limit, b'\n')? as i32;
+            self.add(second, Point { n, e });
+        }
+        Some(())
+    }
+
+    fn add(&mut self, second: u64, p: Point) {
+        if self.hull.insert(p) {
+            self.end.clear();
+            put_numbers(&mut self.end, &[self.hull.corner_count() as u64, self.hull.area2 as u64]);
+        }
+        self.points.push(p);
+        self.rows.extend_from_slice(&self.row);
+        put_number(&mut self.rows, self.points.len() as u64);
+        self.rows.push(b',');
+        put_number(&mut self.rows, second);
+        self.rows.extend_from_slice(&self.end);
+        self.last = second;
+    }
+
+    fn into_track(self) -> Option<Track> {
+        let Reading { name, points, rows, .. } = self;
+        let range = Range::from_hull(self.hull)?;
+        (points.len() <= FIXES).then_some(Track { name, points, rows, range })
+    }
+}
+
+// The track of a file, its rows written, read in blocks; a line that a block cuts goes to the start of the next. None
+// where a line breaks a rule, or is as long as a block.
+fn track_of<C: Chain>(mut file: File, limit: u64) -> Option<Track> {
+    let mut header = [0; HEADER.len()];
+    file.read_exact(&mut header).ok().filter(|_| header == HEADER)?;
+    let (mut block, mut filled, mut reading) = (vec![0; BLOCK], 0, None);
+    while filled < BLOCK {
+        let count = file.read(&mut block[filled..]).ok()?;
+        filled += count;
+        let line_end = block[..filled].iter().rposition(|byte| *byte == b'\n');
+        let whole = if count == 0 { filled } else { line_end.map_or(0, |place| place + 1) };
+        let lines = &block[..whole];
+        if reading.is_none() && whole > 0 {
+            reading = Some(Reading::<C>::new(name_of(lines)?, limit));
+        }
+        if let Some(reading) = &mut reading {
+            reading.take(lines)?;
+        }
+        if count == 0 {
+            return reading?.into_track();
+        }
+        block.copy_within(whole..filled, 0);
+        filled -= whole;
+    }
+    None
 }
 
 // Each point's squared distance from the mean, scaled to be whole, and behind it its place.
@@ -450,9 +506,7 @@ fn overlaps(tracks: &[Track]) -> Vec<u8> {
 fn report<C: Chain>(files: &[String], levels: &[usize], is_fine: bool) {
     let (mut tracks, mut around, mut names) = (vec![], vec![], HashSet::new());
     for path in files {
-        let file = std::fs::read(path).unwrap();
-        let track = track_of::<C>(&file, if is_fine { 1 << 27 } else { 1 << 24 });
-        drop(file);
+        let track = track_of::<C>(File::open(path).unwrap(), if is_fine { 1 << 27 } else { 1 << 24 });
         let track = track.filter(|track| names.insert(track.name.clone())).expect(path);
         around.push(around_rows(&track, levels));
         tracks.push(track);
