@@ -78,7 +78,7 @@ def read_words():
     parser = argparse.ArgumentParser(description=__doc__, epilog=f"Cases: {', '.join(CASES)}")
     parser.add_argument("cases", nargs="*", type=named_case, metavar="CASE", help="what is run")
     parser.add_argument("--turns", type=int, metavar="N", help="how often each program is run, in each case")
-    parser.add_argument("--homerange", type=pathlib.Path, metavar="FILE", help="a built program, in place of building it")
+    parser.add_argument("--homerange", type=pathlib.Path, metavar="FILE", help="the program, where it is built already")
     parser.add_argument("--compare", action="store_true", help="compare the reports and time nothing")
     words = parser.parse_args()
     words.cases = words.cases or list(CASES.values())
@@ -157,14 +157,12 @@ def main():
         plain = programs.plain("program_plain.rs", folder)
         maker = programs.plain("program_files.rs", folder)
         make_apart(maker, {name for case in words.cases for name in case.files}, folder)
-        print(HEAD)
+        print("The reports are the same in:" if words.compare else HEAD)
         for case in words.cases:
             commands = commands_of(case, proved, plain)
             compare(case, commands, folder)
-            if words.compare:
-                print(f"| {case.name} | the same |", flush=True)
-            else:
-                print(row(case, medians(commands, folder, words.turns or case.turns)), flush=True)
+            found = [] if words.compare else medians(commands, folder, words.turns or case.turns)
+            print(row(case, found) if found else case.name, flush=True)
 
 
 main()
