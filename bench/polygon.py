@@ -5,8 +5,7 @@ of their angles: so every corner is one, exactly. The polygon stays off the edge
 coordinates by a margin.
 """
 
-from functools import cmp_to_key
-from math import gcd
+from math import gcd, inf
 
 LIMIT = 1 << 24
 
@@ -26,9 +25,14 @@ def half_plane(count):
         reach *= 2
 
 
-def corners(count, margin=LIMIT // 8):
-    """The corners counterclockwise from the least by easting, then northing."""
-    east = sorted(half_plane(count // 2), key=cmp_to_key(lambda u, v: u[1] * v[0] - u[0] * v[1]))
+def slope(vector):
+    """Of two vectors with no common divisor and below 2^20, the slopes differ by more than floats round."""
+    return vector[1] / vector[0] if vector[0] else inf
+
+
+def corners(count, margin=LIMIT // 8, limit=LIMIT):
+    """The corners counterclockwise from the least by easting, then northing, of coordinates up to a limit."""
+    east = sorted(half_plane(count // 2), key=slope)
     edges = east + [(-e, -n) for e, n in east]
     at, places = (0, 0), []
     for e, n in edges:
@@ -36,7 +40,7 @@ def corners(count, margin=LIMIT // 8):
         at = (at[0] + e, at[1] + n)
     least = min(n for _, n in places)
     wide = max(max(e for e, _ in places), max(n for _, n in places) - least)
-    scale = (LIMIT - 2 * margin) // wide
+    scale = (limit - 2 * margin) // wide
     places = [(margin + e * scale, margin + (n - least) * scale) for e, n in places]
     first = places.index(min(places))
     return places[first:] + places[:first]

@@ -26,6 +26,6 @@ def proved_part(part):
 
 def plain(source, folder):
     """The program of a file beside this one, built by `rustc --edition 2024 -O` into the folder."""
-    program = pathlib.Path(folder) / "plain"
+    program = pathlib.Path(folder) / pathlib.Path(source).stem
     subprocess.run(["rustc", "--edition", "2024", "-O", TOP / "bench" / source, "-o", program], check=True)
     return program
