@@ -96,7 +96,7 @@ fn one_feeder_and_two_takes(rt: HostRuntime) -> Result<(), Fail> {
     Ok(())
 }
 
-// Ended with all messages on it, the line gives them in turn, the feeder being closed or not.
+// Ended with all messages on it, the line gives them in turn.
 #[test]
 fn one_feeder_and_no_take(rt: HostRuntime) -> Result<(), Fail> {
     let (feeder, taker) = three_messages(&rt, rt.alloc())?;
@@ -109,20 +109,21 @@ fn one_feeder_and_no_take(rt: HostRuntime) -> Result<(), Fail> {
     let again = settle(&rt, settled.taker, settled.feeders);
     assert!(rt; again.extra.is_none(), "nothing more");
     assert!(rt; are_ends(&again, &[(3, 3, true)]), "the feeder");
+    Ok(())
+}
+
+// A line is ended in the same way where its feeder is not closed.
+#[test]
+fn one_feeder_without_a_mark(rt: HostRuntime) -> Result<(), Fail> {
     let (mut feeders, taker) = open_line(rt.alloc(), 3, 1, 1, 4)?;
     let mut feeder = feeders.pop().ok_or("no feeder")?;
-    assert!(rt;
-        feeder.send(&rt, fixes(rt.alloc(), 60, 2)?).is_ok(),
-        "two fixes"
-    );
+    let block = fixes(rt.alloc(), 60, 2)?;
+    assert!(rt; feeder.send(&rt, block).is_ok(), "two fixes");
     let settled = settle_one(&rt, rt.alloc(), feeder, taker)?;
     assert!(rt; is_block(&settled.extra, 3, 0, 60, 2), "the block");
     let again = settle(&rt, settled.taker, settled.feeders);
     assert!(rt; again.extra.is_none(), "no mark");
-    assert!(rt;
-        are_ends(&again, &[(3, 2, false)]),
-        "the feeder is not closed"
-    );
+    assert!(rt; are_ends(&again, &[(3, 2, false)]), "the feeder");
     Ok(())
 }
 

@@ -9,7 +9,7 @@ ghost use Rattle.range_command.specs.Status.{refusal_status};
 
 use crate::bad_words::bad_words;
 use crate::output::Output;
-use crate::refusal::{Refusal, reason_of};
+use crate::refusal::{Refusal, known_reason};
 use crate::running::run_over;
 use crate::words::command_words;
 use range_run::write_text;
@@ -65,9 +65,6 @@ fn write_help<W: Write>(alloc: Global, text: &str, out: &mut Output<W>) -> Resul
     if write_text(out, text.as_bytes()).is_ok() {
         return Ok(());
     }
-    let reason = match out.failure() {
-        Some(error) => reason_of(alloc, &error).ok(),
-        None => None,
-    };
+    let reason = known_reason(alloc, out.failure());
     Err(Refusal::Unwritten { reason })
 }

@@ -1,6 +1,6 @@
 // A run over the files of the words, or over the input where they name none.
 
-ghost use Rattle.std.specs.Prelude.{◌≡◌, ◌≢◌, ◌≤◌, ◌∷◌, [], All, IfErr, IfOk, OnOk, max, vec_len};
+ghost use Rattle.std.specs.Prelude.{◌≡◌, ◌≢◌, ◌≤◌, ◌∷◌, [], All, IfErr, IfOk, OnOk, vec_len};
 ghost use Rattle.range_fixes.specs.Reading.{reading_from};
 ghost use Rattle.range_plan.specs.Limits.{file_limit};
 ghost use Rattle.range_stats.specs.Levels.{IsLevel};
@@ -9,7 +9,7 @@ ghost use Rattle.range_command.specs.Status.{refusal_status};
 
 use crate::files::open_all;
 use crate::output::Output;
-use crate::refusal::{Refusal, reason_of};
+use crate::refusal::{Refusal, known_reason};
 use crate::source::Source;
 use range_analysis::AnalyseFault;
 use range_fixes::ReadFault;
@@ -49,10 +49,8 @@ pub(crate) fn run_over<
     match outcome {
         Ok(()) => Ok(()),
         Err(fault) => {
-            let reason = match error_of(fault, places.as_slice(), out.failure()) {
-                Some(error) => reason_of(alloc, &error).ok(),
-                None => None,
-            };
+            let error = error_of(fault, places.as_slice(), out.failure());
+            let reason = known_reason(alloc, error);
             Err(Refusal::Run {
                 files,
                 fault,
