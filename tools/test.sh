@@ -10,10 +10,11 @@
 set -u
 tools=$(cd "$(dirname "$0")" && pwd)
 top=${tools%/*}
-case ${1:-$top/homerange} in
-    /*) HOMERANGE=${1:-$top/homerange} ;;
-    *) HOMERANGE=$PWD/$1 ;;
-esac
+if [ $# -eq 0 ]; then
+    "$top/homerange" --help >/dev/null || exit
+    set -- "$top/crates/homerange/out/homerange"
+fi
+HOMERANGE=$(readlink -f -- "$1")
 export HOMERANGE
 work=$(mktemp -d)
 trap 'rm -rf "$work"' EXIT

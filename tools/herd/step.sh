@@ -6,7 +6,10 @@
 # HOMERANGE names the program (if left out, homerange). The status is 0 where the file is there and whole.
 set -eu
 cd "$1"
-program=$(command -v "${HOMERANGE:-homerange}")
+program=$(command -v "${HOMERANGE:-homerange}") || {
+    echo "step.sh: there is no program ${HOMERANGE:-homerange}" >&2
+    exit 255
+}
 made=reports/$2.txt lines=.
 if [ "$2" != "$3" ]; then
     made=pairs/$2-$3.txt lines='^overlap,\|^end,'
@@ -31,7 +34,7 @@ is_fresh() {
 
 is_fresh "$2" "$3" && exit
 count=$(files "$2" "$3" | wc -l)
-{ cat options; files "$2" "$3"; } | tr '\n' '\0' | xargs -0 "$program" --workers 1 | grep "$lines" >"$mine.part"
+{ cat options; files "$2" "$3"; } | tr '\n' '\0' | xargs -0 "$program" --workers 1 | grep "$lines" >"$mine.part" || :
 # A run that failed has no last line; one of other files has another.
 if [ "$(tail -n 1 "$mine.part")" != "end,$count" ] ||
     [ "$(grep -c '^overlap,' "$mine.part")" -ne $((count * (count - 1))) ]; then
