@@ -1,5 +1,5 @@
 # Tests split.py, and split.R where there is Rscript, on awkward exports. Expected files are written by hand.
-# shellcheck shell=sh disable=SC2154
+# shellcheck shell=sh disable=SC2154,SC2034
 
 splitters=python
 if is_here Rscript 'split.R'; then
