@@ -27,8 +27,9 @@ files() {
 # Whether what was made is newer than all that it is made of.
 is_fresh() {
     [ -f "$made" ] || return 1
+    # shellcheck disable=SC2016
     newer=$({ files "$@"; printf '%s\n' "groups/$1" "groups/$2" options "$program"; } | tr '\n' '\0' |
-        xargs -0 -I '{}' find -H '{}' -newer "$made")
+        xargs -0 sh -c 'exec find -H "$@" -newer "$0"' "$made")
     [ -z "$newer" ]
 }
 
