@@ -39,7 +39,6 @@ files "$@" >"$mine.files"
 if [ -z "${HOMERANGE:-}" ]; then
     "$top/homerange" --help >/dev/null
     program=$top/crates/homerange/out/homerange
-    cp "$top/crates/homerange/out/build.log" "$report.build.log"
 else
     program=$(command -v "$HOMERANGE") || fail "there is no program $HOMERANGE"
 fi
@@ -47,6 +46,7 @@ tr '\n' '\0' <"$mine.files" | xargs -0 sha256sum -- >"$mine.inputs"
 "$program" "$@" >"$mine.report"
 sha256sum --quiet -c "$mine.inputs" || fail 'a file changed while it was read'
 mv "$mine.report" "$report"
+[ -n "${HOMERANGE:-}" ] || cp "$top/crates/homerange/out/build.log" "$report.build.log"
 {
     printf '# words:' && printf " '%s'" "$@" && echo
     echo "# made: $(date -u +%Y-%m-%dT%H:%M:%SZ)"
