@@ -1,11 +1,17 @@
 """Writes three simulated tracks beside itself: fox.csv, badger.csv and otter.csv.
 
+With a folder, a number of animals and a number of fixes it writes a herd instead: so many tracks, of so many fixes
+each, into the folder, which is made.
+
+    python3 simulate.py FOLDER ANIMALS FIXES
+
 No animal was tracked. Each fix comes from the random numbers of one fixed seed,
 so each run writes the same bytes. To hold that for every version of Python,
 the script draws by random() alone, and only adds, subtracts and multiplies.
 """
 
 import random
+import sys
 from pathlib import Path
 
 SEED = 1
@@ -69,11 +75,28 @@ def otter(draw):
         along = min(along, 2 * end - along)
 
 
-draw = random.Random(SEED).random
-for name, fixes, track in [("fox", 1200, fox), ("badger", 800, badger), ("otter", 480, otter)]:
-    places = track(draw)
-    with open(Path(__file__).resolve().parent / f"{name}.csv", "w", newline="\n") as out:
+def deer(draw):
+    """Roams around a home of its own, somewhere in 20 by 20 kilometres."""
+    home = [552000.0 + 20000.0 * draw(), 5124000.0 + 20000.0 * draw()]
+    at = home
+    while True:
+        yield at
+        at = step(draw, at, home, 0.03, 150.0)
+
+
+def write(folder, name, fixes, places):
+    with open(folder / f"{name}.csv", "w", newline="\n") as out:
         out.write("animal,second,easting,northing\n")
         for fix in range(fixes):
             easting, northing = [int(metres + 0.5) for metres in next(places)]
             out.write(f"{name},{fix * INTERVAL},{easting},{northing}\n")
+
+
+draw = random.Random(SEED).random
+if len(sys.argv) == 4:
+    Path(sys.argv[1]).mkdir(parents=True)
+    for number in range(int(sys.argv[2])):
+        write(Path(sys.argv[1]), f"deer{number:05}", int(sys.argv[3]), deer(draw))
+else:
+    for name, fixes, track in [("fox", 1200, fox), ("badger", 800, badger), ("otter", 480, otter)]:
+        write(Path(__file__).resolve().parent, name, fixes, track(draw))

@@ -1,0 +1,36 @@
+#!/bin/sh
+# plan.sh TRACKS OUT [OPTION ..]: what a herd's runs are to be.
+#
+# Writes OUT/groups/NNNN, the files TRACKS/*.csv in groups of at most 32, one name a line; OUT/options, the options
+# of homerange, one a line; and OUT/steps, the runs, one a line: 'A A' for the tables of group A, 'A B' for the
+# overlaps of groups A and B. What has not changed is left as it is, so that a run that stands is not made again.
+set -eu
+tracks=$(cd "$1" && pwd)
+mkdir -p "$2/groups" "$2/reports" "$2/pairs"
+cd "$2"
+shift 2
+
+# Puts standard input into a file, if the file is not that already.
+keep() {
+    cat >"$1.part"
+    cmp -s "$1.part" "$1" || cp "$1.part" "$1"
+    rm "$1.part"
+}
+
+rm -rf groups.part
+mkdir groups.part
+printf '%s\n' "$tracks"/*.csv | LC_ALL=C sort | split -l 32 -a 4 -d - groups.part/
+for group in groups.part/*; do
+    keep "groups/${group##*/}" <"$group"
+done
+for group in groups/*; do
+    [ -f "groups.part/${group##*/}" ] || rm "$group"
+done
+rm -r groups.part
+for option; do
+    printf '%s\n' "$option"
+done | keep options
+for group in groups/*; do
+    printf '%s\n' "${group##*/}"
+done | awk '{ name[NR] = $0 } END { for (i = 1; i <= NR; i++) for (j = i; j <= NR; j++) print name[i], name[j] }' |
+    keep steps

@@ -1,0 +1,48 @@
+# Tests the evidence of a run, and the checks of a report by other methods.
+# shellcheck shell=sh disable=SC2154
+
+is_refused() {
+    ! "$@"
+}
+
+rm -rf tracks evidence
+mkdir evidence tracks
+cp "$top"/examples/fox.csv "$top"/examples/otter.csv "$top"/examples/badger.csv tracks
+head -n 61 "$top/examples/fox.csv" | sed '1s/$/,use/; 2,$s/$/,1/; 9s/1$/0/' >tracks/fox.csv
+report=evidence/report.txt
+holds 'evidence of a run' "$tools/evidence.sh" $report --percent 95,50 --unit=dm tracks/fox.csv 'tracks/otter.csv'
+"$HOMERANGE" --unit dm --percent 95,50 tracks/fox.csv tracks/otter.csv >direct
+holds 'its report is that of homerange' cmp direct $report
+holds 'its sums hold' sha256sum -c $report.sha256
+holds 'its words' grep -qxF "# words: '--percent' '95,50' '--unit=dm' 'tracks/fox.csv' 'tracks/otter.csv'" $report.sha256
+for file in "$HOMERANGE" $report tracks/fox.csv tracks/otter.csv; do
+    holds "a sum of $file" grep -qF "$(sha256sum "$file")" $report.sha256
+done
+holds 'no further sums' [ "$(grep -vc '^#' $report.sha256)" -eq 4 ]
+holds 'a report is not written over' is_refused "$tools/evidence.sh" $report tracks/fox.csv
+holds 'no file, no evidence' is_refused "$tools/evidence.sh" evidence/none --unit dm
+echo 'fox,9,9' >>tracks/fox.csv
+holds 'a changed file is found' is_refused sha256sum -c $report.sha256
+holds 'a refused file, no evidence' is_refused "$tools/evidence.sh" evidence/none tracks/fox.csv
+holds 'nothing is left of refused runs' [ "$(ls evidence)" = "report.txt
+report.txt.sha256" ]
+
+# Every line of a report, by wrapping; and that a wrong line is found.
+sed -i '$d' tracks/fox.csv
+head -n 101 "$top/examples/badger.csv" >tracks/badger.csv
+holds 'a report in decimetres is checked' "$tools/check.py" $report tracks/fox.csv tracks/otter.csv
+"$HOMERANGE" --percent 1,50,95,99,100 tracks/fox.csv tracks/badger.csv tracks/otter.csv >direct
+holds 'a report is checked' "$tools/check.py" direct tracks/fox.csv tracks/badger.csv tracks/otter.csv
+for change in 's/^row,fox,7,/row,fox,7,1/' 's/^overlap,fox,otter,/&1/' '/^corner,otter,3,/d' 's/^percent,fox,99,59/&0/'; do
+    sed "$change" direct >changed
+    cmp -s direct changed && holds "a change by $change" false
+    holds "a report changed by $change" \
+        is_refused "$tools/check.py" changed tracks/fox.csv tracks/badger.csv tracks/otter.csv
+done
+if is_here Rscript 'check.R'; then
+    Rscript "$tools/check.R" direct tracks/fox.csv tracks/badger.csv >checked
+    holds 'a report is checked by R' cmp checked - <<END
+fox 59 of 59 rows and 5 of 5 percent lines agree
+badger 100 of 100 rows and 5 of 5 percent lines agree
+END
+fi

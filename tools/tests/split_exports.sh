@@ -1,0 +1,64 @@
+# The awkward exports. The functions are those of split.sh.
+# shellcheck shell=sh disable=SC2154
+
+# Outliers, of both columns, failed fixes, and metres that lie halfway.
+split_to 0 <<END
+$head_line,manually-marked-outlier
+vixen,2024-05-01 00:00:10.000,562000.31,5134000.74,33N,true,
+vixen,2024-05-01 00:30:04.900,561974.50,5133991.49,33N,TRUE,false
+vixen,2024-05-01 00:40:00.000,648210.00,5201133.00,33N,false,
+vixen,2024-05-01 00:50:00.000,562100.00,5134100.00,33N,true,true
+vixen,2024-05-01 01:00:07.000,,,,true,
+vixen,2024-05-01 01:30:02.000,NA,NA,NA,true,NA
+END
+makes vixen.csv <<END
+animal,second,easting,northing
+vixen,$(stamp '2024-05-01 00:00:10'),562000,5134001
+vixen,$(stamp '2024-05-01 00:30:04'),561975,5133991
+END
+says '2 outliers: left out'
+says '2 records have no coordinates: left out'
+
+# The same with outliers marked, in decimetres.
+split_to 0 --mark --unit dm <<END
+$head_line
+vixen,2024-05-01 00:00:10,562000.31,5134000.74,33N,true
+vixen,2024-05-01 00:40:00,648210.00,5201133.00,33N,false
+vixen,2024-05-01 00:41:00,0.5,5201133.00,12N,false
+END
+makes vixen.csv <<END
+animal,second,easting,northing,use
+vixen,$(stamp '2024-05-01 00:00:10'),5620003,51340007,1
+vixen,$(stamp '2024-05-01 00:40:00'),6482100,52011330,0
+END
+says '1 outliers off the grid: left out'
+
+# Excel: a byte order mark, semicolons, decimal commas, CRLF, no seconds, empty lines; columns as R renames them.
+{
+    printf '\357\273\277'
+    printf '%s\r\n' 'individual.local.identifier;timestamp;utm.easting;utm.northing;utm.zone' \
+        'Jäger "Q";2024-05-01 00:30;562000,31;5134000,74;33N' '' 'Jäger "Q";2024-05-01 01:00;562001;5134002,5;33N'
+} | split_to 0
+makes 'Jäger _Q_.csv' <<END
+animal,second,easting,northing
+Jäger _Q_,$(stamp '2024-05-01 00:30:00'),562000,5134001
+Jäger _Q_,$(stamp '2024-05-01 01:00:00'),562001,5134003
+END
+
+# Names: slash, comma, quote, apostrophe, NA, export, 34 bytes; T..Z; more than 32 bits of seconds.
+split_to 0 <<END
+$head_line
+a/b\\c,2024-05-01T00:00:00Z,1.4,2,33N,
+"d,""e",2024-05-01T00:00:00Z,1,2,33N,
+o'hara,2024-05-01T00:00:00.250Z,1,2,33N,
+NA,2024-05-01T00:00:00Z,1,2,33N,
+export,2086-05-01T00:00:00Z,1,2,33N,
+ääääääääääääääääa,2024-05-01T00:00:00Z,1,2,33N,
+xääääääääääääääää,2024-05-01T00:00:00Z,1,2,33N,
+END
+for name in a_b_c d__e "o'hara" NA ääääääääääääääää xäääääääääääääää; do
+    printf '%s\n' animal,second,easting,northing "$name,$(stamp '2024-05-01 00:00:00'),1,2" | makes "$name.csv"
+done
+printf '%s\n' animal,second,easting,northing "export,$(stamp '2086-05-01 00:00:00'),1,2" | makes export.csv
+says "animal 'a/b\\c' is named a_b_c"
+says "animal 'ääääääääääääääääa' is named ääääääääääääääää"
