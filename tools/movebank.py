@@ -2,7 +2,6 @@
 import csv, io, re, sys
 from datetime import datetime
 from typing import NamedTuple, Optional
-
 ANIMAL, TIME = "individual-local-identifier", "timestamp"
 TIME_FORM = r"([0-9]{4}-[0-9]{2}-[0-9]{2})[ T]([0-9]{2}:[0-9]{2})(:[0-9]{2})?(\.[0-9]+)?Z?"
 
@@ -30,7 +29,7 @@ def read_table(path):
         refuse(f"{path} cannot be read as text in UTF-8: {fault}")
     semicolons = re.match("[^,\r\n]*;", text) is not None
     rows = csv.reader(io.StringIO(text, newline=""), delimiter=";" if semicolons else ",")
-    titles, *rows = [row for row in rows if row] or [[]]
+    titles, *rows = list(filter(None, rows)) or [[]]
     return [re.sub("[ ._]", "-", title.lower()) for title in titles], rows, "[.,]" if semicolons else "[.]"
 
 
@@ -62,11 +61,11 @@ def parse(number, row, point):
         return int(since), float(rest or 0)
 
     grid, degrees = pair("utm-easting", "utm-northing"), pair("location-long", "location-lat")
-    if grid is None and degrees is None:
+    if grid is degrees is None:
         return None
+    row[ANIMAL] or refuse(f"record {number}: there is no {ANIMAL}")
     used = is_true("visible") is not False and not is_true("manually-marked-outlier")
-    animal = row[ANIMAL] or refuse(f"record {number}: there is no {ANIMAL}")
-    return Record(number, animal, time(), used, grid, row.get("utm-zone", ""), degrees)
+    return Record(number, row[ANIMAL], time(), used, grid, row.get("utm-zone", ""), degrees)
 
 
 def read(path):

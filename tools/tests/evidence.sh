@@ -1,5 +1,5 @@
 # Tests the evidence of a run, and the checks of a report by other methods.
-# shellcheck shell=sh disable=SC2154
+# shellcheck shell=sh disable=SC2154,SC2016
 
 is_refused() {
     ! "$@"
@@ -26,6 +26,19 @@ holds 'a changed file is found' is_refused sha256sum -c $report.sha256
 holds 'a refused file, no evidence' is_refused "$tools/evidence.sh" evidence/none tracks/fox.csv
 holds 'nothing is left of refused runs' [ "$(ls evidence)" = "report.txt
 report.txt.sha256" ]
+
+# A program whose input changes while it runs.
+printf '#!/bin/sh\n"%s" "$@"\necho >>tracks/otter.csv\n' "$HOMERANGE" >changing
+chmod +x changing
+holds 'a file changes in a run, no evidence' is_refused env HOMERANGE=./changing "$tools/evidence.sh" evidence/none tracks/otter.csv
+holds 'nothing is left of that run' [ ! -e evidence/none ]
+
+# Fixes on the edges of a square, at its corners, inside and outside.
+printf '%s\n' animal,second,easting,northing a,0,0,0 a,1,200,0 a,2,200,200 a,3,0,200 >tracks/a.csv
+printf '%s\n' animal,second,easting,northing b,0,100,0 b,1,200,200 b,2,100,100 b,3,201,100 >tracks/b.csv
+"$HOMERANGE" tracks/a.csv tracks/b.csv >direct
+holds 'three of four fixes lie in the square' grep -qx overlap,b,a,3,4 direct
+holds 'edges are checked' "$tools/check.py" direct tracks/a.csv tracks/b.csv
 
 # Every line of a report, by wrapping; and that a wrong line is found.
 sed -i '$d' tracks/fox.csv

@@ -1,5 +1,5 @@
 # Tests the runs of a herd. What is wanted is what one run of homerange writes of the same files.
-# shellcheck shell=sh disable=SC2154,SC2086
+# shellcheck shell=sh disable=SC2154,SC2086,SC2016
 
 export JOBS=2
 herd="$tools/herd/run.sh tracks herd"
@@ -31,6 +31,17 @@ rm tracks/deer0006?.csv tracks/deer0004?.csv
 "$HOMERANGE" tracks/*.csv >direct
 holds 'a herd runs of fewer files' $herd
 holds 'fewer files are run anew' cmp direct herd/report.txt
+
+# An input that changes while it is read is read again by the next call.
+printf '#!/bin/sh\n"%s" "$@"\necho "deer00000,99999999,552000,5124000" >>%s\n' "$HOMERANGE" \
+    "$work/tracks/deer00000.csv" >changing
+chmod +x changing
+rm herd/reports/0000.txt
+holds 'a step whose input changes' env HOMERANGE="$work/changing" "$tools/herd/step.sh" herd 0000 0000
+"$HOMERANGE" tracks/*.csv >direct
+touch -d '1 hour ago' changing
+holds 'a herd runs after that' $herd
+holds 'an input that changed in a run is run again' cmp direct herd/report.txt
 
 # What is wrong is said, and leaves no report that looks whole.
 fails() {
