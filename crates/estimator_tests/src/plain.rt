@@ -1,10 +1,27 @@
 // Tests of estimators against `Polygon::plain`, which makes polygons straight from the definitions.
 
-use crate::fixes::{estimator_of, holds};
+use crate::fixes::{estimator_of, fixes_of, holds};
 use range_estimator::Row;
 use range_plane::{Fix, Point, Polygon};
 use std::alloc::Global;
 use std::process::Abort;
+
+// Fixes within a curve, on its edges, at its corners and outside of it, some only within what the one before
+// added.
+const LATER: [(u64, i64, i64); 12] = [
+    (28, 13, 180),
+    (29, 0, 0),
+    (30, 27, 729),
+    (31, 1, 27),
+    (32, 1, 28),
+    (33, 2, 55),
+    (34, 2, 54),
+    (35, 28, 700),
+    (36, 20, 500),
+    (37, 28, 712),
+    (38, 28, 706),
+    (39, 14, 196),
+];
 
 // The next number of Knuth's generator for MMIX.
 fn next(seed: u64) -> u64 {
@@ -53,5 +70,27 @@ fn random_fixes(rt: HostRuntime) {
             }
             expect_plain(&rt, alloc, &fixes, size);
         }
+    }
+}
+
+// Fixes that all stay corners, more than blocks of up to five fixes are marked by a copy of, and then others.
+fn curve(rt: &impl Abort, alloc: Global) -> Vec<Fix> {
+    let mut places = Vec::new(alloc);
+    for i in 0..28_u8 {
+        let e = i64::from(i);
+        places.push((u64::from(i), e, e * e)).expect(rt, "memory");
+    }
+    places.extend_from_slice(&LATER).expect(rt, "memory");
+    fixes_of(rt, alloc, &places)
+}
+
+#[test]
+fn curve_in_short_blocks(rt: HostRuntime) {
+    let fixes = curve(&rt, rt.alloc());
+    expect_plain(&rt, rt.alloc(), &fixes, 3);
+    for (size, tested) in [(1, 32), (2, 32), (3, 33), (5, 33)] {
+        let estimator = estimator_of(&rt, rt.alloc(), &fixes, size);
+        assert!(rt; holds(&estimator, &fixes), "fixes in blocks of {size}");
+        assert!(rt; estimator.tested() == tested, "in blocks of {size}");
     }
 }

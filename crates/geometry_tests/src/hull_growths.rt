@@ -12,7 +12,7 @@ use std::process::Abort;
 const LEAST_GROWTHS: u32 = 4;
 
 // Makes room, again where it is refused, which leaves the corners and all counts. Whether it was refused.
-fn reserve<A: Allocator>(
+fn reserve<A: Allocator + Copy>(
     rt: &impl Abort,
     alloc: Global,
     hull: &mut OnlineHull<A>,

@@ -12,6 +12,8 @@ mod covering;
 #[cfg(test)]
 mod growths;
 #[cfg(test)]
+mod hull_covering;
+#[cfg(test)]
 mod hull_growths;
 #[cfg(test)]
 mod hull_polygons;

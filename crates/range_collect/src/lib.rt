@@ -11,6 +11,7 @@ mod merging;
 mod numbers;
 mod pairing;
 mod pumps;
+mod stack;
 mod worker;
 
 pub use followed::Followed;

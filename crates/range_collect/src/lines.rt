@@ -9,6 +9,7 @@ use crate::followed::Followed;
 use crate::lane::{Lane, read_lane};
 use crate::numbers::Numbers;
 use crate::pairing::pair;
+use crate::stack::small_stack;
 use range_plan::Plan;
 use range_plane::OutOfMemory;
 use range_pump::Gate;
@@ -93,7 +94,8 @@ fn start_line<
         numbers,
         plan,
     };
-    match scope.spawn_with(
+    match small_stack().spawn_scoped_with(
+        scope,
         promise,
         move || -> Results<A>
             requires { (1 ≤ vec_len sources) × (vec_len sources ≤ file_limit) }

@@ -7,6 +7,7 @@ ghost use Rattle.range_line.specs.Lines.{FeederView};
 ghost use Rattle.range_collect.specs.Lanes.{IsNew};
 ghost use Rattle.range_pump.specs.Pump.{IsPumped, Read as ReadView};
 
+use crate::stack::small_stack;
 use range_fixes::{Name, ReadFault};
 use range_line::Feeder;
 use range_plan::Plan;
@@ -61,7 +62,8 @@ fn start_pump<
         feeder: Snapshot::of(&feeder),
         plan,
     };
-    match scope.spawn_with(
+    match small_stack().spawn_scoped_with(
+        scope,
         promise,
         move || -> Pumped<A>
             requires { (1 ≤ block) × (block ≤ block_limit) × IsNew feeder }

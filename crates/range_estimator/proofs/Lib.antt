@@ -1,3 +1,4 @@
+pub mod Beginning
 pub mod Blocks
 pub mod Sets
 pub mod Tables

@@ -11,7 +11,12 @@ use range_plane::{Columns, Fix, OutOfMemory, Polygon};
 use std::alloc::Allocator;
 use std::marker::Model;
 
-// Marks the points of blocks, each against a copy of the polygon, which is kept as long as it holds.
+// The corners that a polygon may have for each fix of a block, for the block to be marked by a copy of it.
+// Where there are more, the copy costs more than a search in the hull for each fix.
+const CORNERS_A_FIX: usize = 4;
+
+// Marks the points of blocks, by a copy of the polygon, which is kept as long as it holds, or by the hull
+// itself where a copy would be dear.
 #[derive(Drop)]
 pub(crate) struct Marker<A: Allocator> {
     copy: Option<Polygon<A>>,
@@ -52,12 +57,17 @@ impl<A: Allocator + Copy> Marker<A> {
         }
     }
 
-    // Marks which points of a block the table's polygon covers. It is copied where there is no copy yet.
+    // Marks which points of a block the table's polygon covers. It is copied where there is no copy yet, and
+    // where it has few corners.
     pub(crate) fn mark(&mut self, table: &Table<A>, block: &[Fix]) -> Result<(), OutOfMemory>
         requires { IfSome self.old.copy (λ corners. corners ≡ table.now.corners) }
         ensures copy { IfSome self.new.copy (λ corners. corners ≡ table.now.corners) }
         ensures marks { OnOk result (self.new.marks ≡ map (is_covered table.now.corners) (points_of block.now)) }
     {
+        let corners = table.corner_count() as usize;
+        if self.copy.is_none() && corners / CORNERS_A_FIX > block.len() {
+            return self.mark_uncopied(table, block);
+        }
         load(&mut self.points, block)?;
         self.marks.resize(block.len(), false)?;
         let polygon = match self.copy.take() {
@@ -66,6 +76,19 @@ impl<A: Allocator + Copy> Marker<A> {
         };
         mark_inside(&polygon, &self.points, &mut self.marks);
         self.copy = Some(polygon);
+        Ok(())
+    }
+
+    // Marks which points of a block the table's polygon covers, by its hull.
+    fn mark_uncopied(&mut self, table: &Table<A>, block: &[Fix]) -> Result<(), OutOfMemory>
+        ensures copy { self.new.copy ≡ self.old.copy }
+        ensures marks { OnOk result (self.new.marks ≡ map (is_covered table.now.corners) (points_of block.now)) }
+    {
+        self.marks.clear();
+        self.marks.reserve(block.len())?;
+        for fix in block {
+            self.marks.push_reserved(table.covers(fix.at));
+        }
         Ok(())
     }
 

@@ -82,6 +82,8 @@ impl<A: Allocator> Table<A> {
 
     // Makes room for `k` more fixes.
     pub(crate) fn reserve(&mut self, k: usize) -> Result<(), OutOfMemory>
+    where
+        A: Copy,
         ensures room { OnOk result (k ≤ self.new.spare) }
         ensures unchanged { self.new ≡ record self.old { spare = self.new.spare } }
     {
@@ -162,6 +164,20 @@ impl<A: Allocator> Table<A> {
         ensures { result ≡ self.now.tested }
     {
         self.hull.inserted()
+    }
+
+    // How many corners the polygon has.
+    pub(crate) fn corner_count(&self) -> u32
+        ensures { result ≡ length self.now.corners }
+    {
+        self.hull.corner_count()
+    }
+
+    // Whether the polygon covers `p`.
+    pub(crate) fn covers(&self, p: Point) -> bool
+        ensures { result ≡ is_covered self.now.corners p }
+    {
+        self.hull.covers(p)
     }
 
     // The polygon of the fixes, in a list of its own.

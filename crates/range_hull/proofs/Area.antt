@@ -10,13 +10,14 @@ use Rattle.range_plane.specs.Plane.{Position, origin, turn}
 use Rattle.range_plane.specs.Polygon.{area2, shoelace}
 use Rattle.integers_and_lists.proofs.Integers.{linear}
 use Rattle.integers_and_lists.proofs.Ring.{Expr, var, num, ◌⊕◌, ◌⊖◌, ◌⊗◌, ring}
+use Rattle.range_chain.specs.Blocks.{replaced}
 use Rattle.range_hull.specs.declared.side.Side.{Side}
 use Rattle.range_hull.specs.declared.side.Side.TheVariants.{Lower, Upper}
 use Rattle.range_hull.specs.Area.{wedge, path, signed, swept, swept_before, swept_after, open_edge}
-use Rattle.range_hull.specs.Chain.{bend, IsChain, IsWithin, replaced}
+use Rattle.range_hull.specs.Chain.{bend, IsChain, IsWithin}
 use Rattle.range_hull.specs.Hull.{inner, corners_of, AreChains}
 use Rattle.range_hull.proofs.Bends.{turn_of}
-use Rattle.range_hull.proofs.Chains.{IsCut, within_between}
+use Rattle.range_hull.proofs.Chains.{IsPlaced, within_between}
 use Rattle.range_hull.proofs.Hulls.{length-corners}
 
 wedge_of : Expr → Expr → Expr → Expr → Expr
@@ -125,13 +126,13 @@ pub record Grows (side : Side) (L : List Position) (p : Position) (from place to
   pub after : place < length L → d -ℤ swept_after side L p to ≡ c -ℤ swept_after side L p place
   pub none_after : place ≡ length L → d ≡ c
 
-grown-between : (side : Side) (L : List Position) (p : Position) (from place to : ℕ) (a b c d : ℤ) → IsCut side L p from place to → Grows side L p from place to a b c d → 0 < place → place < length L → d +ℤ swept side L ≡ a +ℤ swept side (replaced L p from to)
+grown-between : (side : Side) (L : List Position) (p : Position) (from place to : ℕ) (a b c d : ℤ) → IsPlaced side L p from place to → Grows side L p from place to a b c d → 0 < place → place < length L → d +ℤ swept side L ≡ a +ℤ swept side (replaced L p from to)
 grown-between Lower L p from place to a b c d t g h k =
     omega (arith, linear, g.outside h k, g.before h, g.after k, path-before L (drop to L) p from (t.starts h) (omega (arith, t.low)), path-after L p to (t.stops k), path-split L place h k, turn_wedges (at L (place - 1)) p (at L place))
 grown-between Upper L p from place to a b c d t g h k =
     omega (arith, linear, g.outside h k, g.before h, g.after k, path-before L (drop to L) p from (t.starts h) (omega (arith, t.low)), path-after L p to (t.stops k), path-split L place h k, turn_wedges (at L (place - 1)) p (at L place))
 
-grown-first : (side : Side) (L : List Position) (p : Position) (from place to : ℕ) (a b c d : ℤ) → IsCut side L p from place to → Grows side L p from place to a b c d → place ≡ 0 → 0 < length L → d +ℤ swept side L +ℤ signed side (wedge p (at L 0)) ≡ a +ℤ swept side (replaced L p from to)
+grown-first : (side : Side) (L : List Position) (p : Position) (from place to : ℕ) (a b c d : ℤ) → IsPlaced side L p from place to → Grows side L p from place to a b c d → place ≡ 0 → 0 < length L → d +ℤ swept side L +ℤ signed side (wedge p (at L 0)) ≡ a +ℤ swept side (replaced L p from to)
 grown-first Lower L p from place to a b c d t g z k =
     let f : from ≡ 0 = omega (arith, t.low, z) in
     omega (arith, linear, g.at_first z, g.none_before z, g.after (omega (arith, z, k)), path-after L p to (t.stops (omega (arith, z, k))), ap (λ (n : ℕ). path (take n L ++ p ∷ drop to L)) f, ap (λ (n : ℕ). wedge p (at L n) +ℤ path (drop n L)) z)
@@ -143,7 +144,7 @@ grown-empty : (side : Side) (p : Position) (from to : ℕ) → swept side [] ≡
 grown-empty Lower p from to = omega (arith, linear, ap (λ (M : List Position). path (M ++ p ∷ drop to [])) (take_all from [] (omega arith)), path-end [] p to (omega arith))
 grown-empty Upper p from to = omega (arith, linear, ap (λ (M : List Position). path (M ++ p ∷ drop to [])) (take_all from [] (omega arith)), path-end [] p to (omega arith))
 
-grown-last : (side : Side) (L : List Position) (p : Position) (from place to : ℕ) (a b c d : ℤ) → IsCut side L p from place to → Grows side L p from place to a b c d → 0 < place → place ≡ length L → d +ℤ swept side L +ℤ signed side (wedge (at L (length L - 1)) p) ≡ a +ℤ swept side (replaced L p from to)
+grown-last : (side : Side) (L : List Position) (p : Position) (from place to : ℕ) (a b c d : ℤ) → IsPlaced side L p from place to → Grows side L p from place to a b c d → 0 < place → place ≡ length L → d +ℤ swept side L +ℤ signed side (wedge (at L (length L - 1)) p) ≡ a +ℤ swept side (replaced L p from to)
 grown-last Lower L p from place to a b c d t g h e =
     omega (arith, linear, g.at_last e, g.before h, g.none_after e, path-before L (drop to L) p from (t.starts h) (omega (arith, t.low, e)), path-end L p to (omega (arith, t.high, e)), ap path (take_all place L (omega (arith, e))), ap (λ (n : ℕ). wedge (at L (n - 1)) p) e)
 grown-last Upper L p from place to a b c d t g h e =
@@ -156,7 +157,7 @@ signed-naught Upper = refl
 grown-so : (x y : ℤ) (side : Side) (e f : ℤ) → e ≡ f → x +ℤ signed side f ≡ y → x +ℤ signed side e ≡ y
 grown-so x y side e f h g = ap (λ (z : ℤ). x +ℤ signed side z) h ∙ g
 
-grown_from : (side : Side) (L : List Position) (p : Position) (from place to : ℕ) (a b c d : ℤ) → IsCut side L p from place to → Grows side L p from place to a b c d → 0 < length L → d +ℤ swept side L +ℤ signed side (open_edge (at L 0) (at L (length L - 1)) p) ≡ a +ℤ swept side (replaced L p from to)
+grown_from : (side : Side) (L : List Position) (p : Position) (from place to : ℕ) (a b c d : ℤ) → IsPlaced side L p from place to → Grows side L p from place to a b c d → 0 < length L → d +ℤ swept side L +ℤ signed side (open_edge (at L 0) (at L (length L - 1)) p) ≡ a +ℤ swept side (replaced L p from to)
 grown_from side L p from place to a b c d t g k =
     elim (cases_lt 0 place) [
       | inr z ↦ grown-so (d +ℤ swept side L) (a +ℤ swept side (replaced L p from to)) side _ _ (edge-first (at L 0) (at L (length L - 1)) p (t.after 0 z k)) (grown-first side L p from place to a b c d t g (omega (arith, z)) k)
@@ -172,7 +173,7 @@ grown_from side L p from place to a b c d t g k =
       ]
     ]
 
-pub grown : (side : Side) (L : List Position) (p : Position) (from place to : ℕ) (a b c d : ℤ) → IsCut side L p from place to → Grows side L p from place to a b c d → d +ℤ swept side L +ℤ signed side (open_edge (at L 0) (at L (length L - 1)) p) ≡ a +ℤ swept side (replaced L p from to)
+pub grown : (side : Side) (L : List Position) (p : Position) (from place to : ℕ) (a b c d : ℤ) → IsPlaced side L p from place to → Grows side L p from place to a b c d → d +ℤ swept side L +ℤ signed side (open_edge (at L 0) (at L (length L - 1)) p) ≡ a +ℤ swept side (replaced L p from to)
 grown side [] p from place to a b c d t g =
     let z : place ≡ 0 = omega (arith, t.high, t.within) in
     grown-so (d +ℤ swept side []) (a +ℤ swept side (replaced [] p from to)) side _ _ (edge-origin p) (omega (arith, linear, signed-naught side, grown-empty side p from to, g.at_first z, g.none_before z, g.none_after z))

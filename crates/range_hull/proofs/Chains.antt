@@ -1,19 +1,22 @@
 -- A chain in which a point takes the place of the corners that it covers is a chain, and has within it all that it had.
-use Rattle.std.proofs.Common.{◌≡◌, refl, sym, ap, subst, ◌∙◌, ℕ, suc, ◌+◌, ◌-◌, ◌<◌, ◌≤◌, pos, ◌≤ℤ◌, ◌<ℤ◌, ◌⊎◌, inl, inr, List, ◌∷◌, length, take, drop, get_or, arith, eq-or-lt_of_le, length-append, length-drop, Contains}
+use Rattle.std.proofs.Common.{◌≡◌, refl, sym, ap, subst, ◌∙◌, ℕ, suc, ◌+◌, ◌-◌, ◌<◌, ◌≤◌, pos, ◌≤ℤ◌, ◌<ℤ◌, ◌⊎◌, inl, inr, List, ◌∷◌, length, take, drop, get_or, arith, eq-or-lt_of_le, Contains}
 use Rattle.std.proofs.lemmas.Bool.{cases_lt}
 use Rattle.std.proofs.lemmas.Int.{by_lt_z, ints}
-use Rattle.std.proofs.lemmas.List.{get_or_append_left, get_or-take, get_or-drop, get_or-append_right, length-take-le, get_or_default, get_or_read}
+use Rattle.std.proofs.lemmas.List.{get_or_append_left, get_or-take, get_or-drop, get_or-append_right, length-take-le, get_or_default}
 use Rattle.range_plane.specs.Edges.{at}
 use Rattle.range_plane.specs.Order.{rank, rank_base}
 use Rattle.range_plane.specs.Plane.{Position, IsAtMost, IsWithinLimits, origin}
 use Rattle.integers_and_lists.proofs.Integers.{linear}
 use Rattle.integers_and_lists.proofs.Numbered.{by_one_number}
+use Rattle.range_chain.specs.Blocks.{replaced}
+use Rattle.range_chain.specs.Chain.{IsRising}
+use Rattle.range_chain.proofs.Joins.{length-replaced}
 use Rattle.range_hull.specs.declared.side.Side.{Side}
-use Rattle.range_hull.specs.Chain.{bend, IsChain, IsWithin, on_corner, on_chord, replaced, IsRising, BeginsAs, EndsAs, Extends}
+use Rattle.range_hull.specs.Chain.{bend, IsChain, IsWithin, on_corner, on_chord, BeginsAs, EndsAs, Extends}
 use Rattle.range_hull.proofs.Bends.{bend_rotate, bend_flip, bend_back, bend_from, bend_to, bend_outer, bend_inner, dents_later, dents_earlier, lifted, chord_left, chord_right}
 
 -- p falls at `place`, outside of the chain; the corners from `from` up to `to` dent the chain with p, and those around them don't
-pub record IsCut (side : Side) (L : List Position) (p : Position) (from place to : ℕ) : Type 0 where
+pub record IsPlaced (side : Side) (L : List Position) (p : Position) (from place to : ℕ) : Type 0 where
   pub low : from ≤ place
   pub high : place ≤ to
   pub within : to ≤ length L
@@ -26,10 +29,6 @@ pub record IsCut (side : Side) (L : List Position) (p : Position) (from place to
   pub dents_before : from < place → bend side (at L (from - 1)) (at L from) p ≤ℤ pos 0
   pub bends_after : to + 1 < length L → pos 0 <ℤ bend side p (at L to) (at L (to + 1))
   pub dents_after : place < to → bend side p (at L (to - 1)) (at L to) ≤ℤ pos 0
-
-pub length-replaced : (L : List Position) (p : Position) (from to : ℕ) → from ≤ to → to ≤ length L → length (replaced L p from to) + to ≡ length L + from + 1
-length-replaced L p from to h k =
-    omega (arith, length-append (take from L) (p ∷ drop to L), length-take-le from L (omega arith), length-drop to L)
 
 pub at-left : (L : List Position) (p : Position) (from to m : ℕ) → from ≤ to → to ≤ length L → m < from → at (replaced L p from to) m ≡ at L m
 at-left L p from to m h k lt =
@@ -48,28 +47,28 @@ at-right L p from to m x h k e le =
     ∙ ap (λ (y : ℕ). get_or L y origin) (let g : to + (x - to) ≡ x = omega arith in g)
 
 -- ---- bends with p of the corners that stay
-near_before : {side : Side} {L : List Position} {p : Position} {from place to : ℕ} → IsChain side L → IsCut side L p from place to → (i : ℕ) → i + 1 < from → pos 0 <ℤ bend side (at L i) (at L (from - 1)) p
+near_before : {side : Side} {L : List Position} {p : Position} {from place to : ℕ} → IsChain side L → IsPlaced side L p from place to → (i : ℕ) → i + 1 < from → pos 0 <ℤ bend side (at L i) (at L (from - 1)) p
 near_before {side} {L} {p} {from} {place} {to} c t i h =
     elim (eq-or-lt_of_le (let k : i + 2 ≤ from = omega arith in k)) [
       | inl e ↦ subst (λ (x : ℕ). pos 0 <ℤ bend side (at L x) (at L (from - 1)) p) (let f : from - 2 ≡ i = omega (arith, e) in f) (t.bends_before (omega arith))
       | inr lt ↦ bend_outer side (at L i) (at L (from - 2)) (at L (from - 1)) p (c.rising i (from - 2) (omega (arith, lt)) (omega (arith, t.low, t.high, t.within))) (c.rising (from - 2) (from - 1) (omega (arith, lt)) (omega (arith, t.low, t.high, t.within))) (t.before (from - 1) (omega (arith, t.low))) (c.convex i (from - 2) (from - 1) (omega (arith, lt)) (omega (arith, lt)) (omega (arith, t.low, t.high, t.within))) (t.bends_before (omega arith))
     ]
 
-bends-before : {side : Side} {L : List Position} {p : Position} {from place to : ℕ} → IsChain side L → IsCut side L p from place to → (i j : ℕ) → i < j → j < from → pos 0 <ℤ bend side (at L i) (at L j) p
+bends-before : {side : Side} {L : List Position} {p : Position} {from place to : ℕ} → IsChain side L → IsPlaced side L p from place to → (i j : ℕ) → i < j → j < from → pos 0 <ℤ bend side (at L i) (at L j) p
 bends-before {side} {L} {p} {from} {place} {to} c t i j ij h =
     elim (eq-or-lt_of_le (let k : j + 1 ≤ from = omega arith in k)) [
       | inl e ↦ subst (λ (x : ℕ). pos 0 <ℤ bend side (at L i) (at L x) p) (let f : from - 1 ≡ j = omega (arith, e) in f) (near_before c t i (omega arith))
       | inr lt ↦ bend_inner side (at L i) (at L j) (at L (from - 1)) p (c.rising i j ij (omega (arith, t.low, t.high, t.within))) (c.rising j (from - 1) (omega (arith, lt)) (omega (arith, t.low, t.high, t.within))) (t.before (from - 1) (omega (arith, t.low))) (c.convex i j (from - 1) ij (omega (arith, lt)) (omega (arith, t.low, t.high, t.within))) (near_before c t j lt)
     ]
 
-near_after : {side : Side} {L : List Position} {p : Position} {from place to : ℕ} → IsChain side L → IsCut side L p from place to → (j : ℕ) → to < j → j < length L → pos 0 <ℤ bend side p (at L to) (at L j)
+near_after : {side : Side} {L : List Position} {p : Position} {from place to : ℕ} → IsChain side L → IsPlaced side L p from place to → (j : ℕ) → to < j → j < length L → pos 0 <ℤ bend side p (at L to) (at L j)
 near_after {side} {L} {p} {from} {place} {to} c t j h k =
     elim (eq-or-lt_of_le (let m : to + 1 ≤ j = omega arith in m)) [
       | inl e ↦ subst (λ (x : ℕ). pos 0 <ℤ bend side p (at L to) (at L x)) e (t.bends_after (omega (arith, e)))
       | inr lt ↦ bend_inner side p (at L to) (at L (to + 1)) (at L j) (t.after to t.high (omega arith)) (c.rising to (to + 1) (omega arith) (omega (arith, lt))) (c.rising (to + 1) j lt k) (t.bends_after (omega (arith, lt))) (c.convex to (to + 1) j (omega arith) lt k)
     ]
 
-bends-after : {side : Side} {L : List Position} {p : Position} {from place to : ℕ} → IsChain side L → IsCut side L p from place to → (i j : ℕ) → to ≤ i → i < j → j < length L → pos 0 <ℤ bend side p (at L i) (at L j)
+bends-after : {side : Side} {L : List Position} {p : Position} {from place to : ℕ} → IsChain side L → IsPlaced side L p from place to → (i j : ℕ) → to ≤ i → i < j → j < length L → pos 0 <ℤ bend side p (at L i) (at L j)
 bends-after {side} {L} {p} {from} {place} {to} c t i j h ij k =
     elim (eq-or-lt_of_le h) [
       | inl e ↦ subst (λ (x : ℕ). pos 0 <ℤ bend side p (at L x) (at L j)) e (near_after c t j (omega (arith, e)) k)
@@ -77,7 +76,7 @@ bends-after {side} {L} {p} {from} {place} {to} c t i j h ij k =
     ]
 
 -- p lies outside of every chord above it
-outside_left : {side : Side} {L : List Position} {p : Position} {from place to : ℕ} → IsChain side L → IsCut side L p from place to → (i : ℕ) → i < place → place < length L → pos 0 <ℤ bend side (at L i) p (at L place)
+outside_left : {side : Side} {L : List Position} {p : Position} {from place to : ℕ} → IsChain side L → IsPlaced side L p from place to → (i : ℕ) → i < place → place < length L → pos 0 <ℤ bend side (at L i) p (at L place)
 outside_left {side} {L} {p} {from} {place} {to} c t i h k =
     elim (eq-or-lt_of_le (let m : i + 1 ≤ place = omega arith in m)) [
       | inl e ↦ subst (λ (x : ℕ). pos 0 <ℤ bend side (at L x) p (at L place)) (let f : place - 1 ≡ i = omega (arith, e) in f) (t.outside (omega arith) k)
@@ -87,7 +86,7 @@ outside_left {side} {L} {p} {from} {place} {to} c t i h k =
           omega (arith, linear, bend_rotate side d a p)
     ]
 
-outside-chord : {side : Side} {L : List Position} {p : Position} {from place to : ℕ} → IsChain side L → IsCut side L p from place to → (i j : ℕ) → i < place → place ≤ j → j < length L → pos 0 <ℤ bend side (at L i) p (at L j)
+outside-chord : {side : Side} {L : List Position} {p : Position} {from place to : ℕ} → IsChain side L → IsPlaced side L p from place to → (i j : ℕ) → i < place → place ≤ j → j < length L → pos 0 <ℤ bend side (at L i) p (at L j)
 outside-chord {side} {L} {p} {from} {place} {to} c t i j h g k =
     elim (eq-or-lt_of_le g) [
       | inl e ↦ subst (λ (x : ℕ). pos 0 <ℤ bend side (at L i) p (at L x)) e (outside_left c t i h (omega (arith, e)))
@@ -122,7 +121,7 @@ pub turns-so : (P : Position → Position → Position → Type 0) (a b c x y z 
 turns-so P a b c x y z e f g h =
     subst (λ (u : Position). P u b c) (sym e) (subst (λ (v : Position). P x v c) (sym f) (subst (λ (w : Position). P x y w) (sym g) h))
 
-replaced-rising : {side : Side} {L : List Position} {p : Position} {from place to : ℕ} → IsChain side L → IsCut side L p from place to → (i j : ℕ) → i < j → j < length (replaced L p from to) → rank (at (replaced L p from to) i) <ℤ rank (at (replaced L p from to) j)
+replaced-rising : {side : Side} {L : List Position} {p : Position} {from place to : ℕ} → IsChain side L → IsPlaced side L p from place to → (i j : ℕ) → i < j → j < length (replaced L p from to) → rank (at (replaced L p from to) i) <ℤ rank (at (replaced L p from to) j)
 replaced-rising {side} {L} {p} {from} {place} {to} c t i j h k =
     let fits : from ≤ to = omega (arith, t.low, t.high) in
     let M = replaced L p from to in
@@ -145,7 +144,7 @@ replaced-rising {side} {L} {p} {from} {place} {to} c t i j h k =
       ]
     ]
 
-replaced-convex : {side : Side} {L : List Position} {p : Position} {from place to : ℕ} → IsChain side L → IsCut side L p from place to → (i j k : ℕ) → i < j → j < k → k < length (replaced L p from to) → pos 0 <ℤ bend side (at (replaced L p from to) i) (at (replaced L p from to) j) (at (replaced L p from to) k)
+replaced-convex : {side : Side} {L : List Position} {p : Position} {from place to : ℕ} → IsChain side L → IsPlaced side L p from place to → (i j k : ℕ) → i < j → j < k → k < length (replaced L p from to) → pos 0 <ℤ bend side (at (replaced L p from to) i) (at (replaced L p from to) j) (at (replaced L p from to) k)
 replaced-convex {side} {L} {p} {from} {place} {to} c t i j k ij jk h =
     let fits : from ≤ to = omega (arith, t.low, t.high) in
     let M = replaced L p from to in
@@ -188,11 +187,11 @@ replaced-convex {side} {L} {p} {from} {place} {to} c t i j k ij jk h =
       ]
     ]
 
-replaced_is_chain : {side : Side} {L : List Position} {p : Position} {from place to : ℕ} → IsChain side L → IsCut side L p from place to → IsChain side (replaced L p from to)
+replaced_is_chain : {side : Side} {L : List Position} {p : Position} {from place to : ℕ} → IsChain side L → IsPlaced side L p from place to → IsChain side (replaced L p from to)
 replaced_is_chain c t = record { rising = replaced-rising c t; convex = replaced-convex c t }
 
 -- ---- no corner lies outside of the two new edges
-past-left : {side : Side} {L : List Position} {p : Position} {from place to : ℕ} → IsChain side L → IsCut side L p from place to → (m : ℕ) → 0 < from → m < length L → pos 0 ≤ℤ bend side (at L (from - 1)) p (at L m)
+past-left : {side : Side} {L : List Position} {p : Position} {from place to : ℕ} → IsChain side L → IsPlaced side L p from place to → (m : ℕ) → 0 < from → m < length L → pos 0 ≤ℤ bend side (at L (from - 1)) p (at L m)
 past-left {side} {L} {p} {from} {place} {to} c t m s k =
     let w = at L (from - 1) in
     elim (cases_lt m from) [
@@ -209,7 +208,7 @@ past-left {side} {L} {p} {from} {place} {to} c t m s k =
       ]
     ]
 
-past-right : {side : Side} {L : List Position} {p : Position} {from place to : ℕ} → IsChain side L → IsCut side L p from place to → (m : ℕ) → to < length L → m < length L → pos 0 ≤ℤ bend side p (at L to) (at L m)
+past-right : {side : Side} {L : List Position} {p : Position} {from place to : ℕ} → IsChain side L → IsPlaced side L p from place to → (m : ℕ) → to < length L → m < length L → pos 0 ≤ℤ bend side p (at L to) (at L m)
 past-right {side} {L} {p} {from} {place} {to} c t m s k =
     let z = at L to in
     elim (cases_lt m to) [
@@ -227,12 +226,12 @@ past-right {side} {L} {p} {from} {place} {to} c t m s k =
     ]
 
 -- ---- all that was within the chain is within the new one
-kept-corner-left : {side : Side} {L : List Position} {p : Position} {from place to : ℕ} → IsCut side L p from place to → (q : Position) (i : ℕ) → i < from → q ≡ at L i → IsWithin side (replaced L p from to) q
+kept-corner-left : {side : Side} {L : List Position} {p : Position} {from place to : ℕ} → IsPlaced side L p from place to → (q : Position) (i : ℕ) → i < from → q ≡ at L i → IsWithin side (replaced L p from to) q
 kept-corner-left {side} {L} {p} {from} {place} {to} t q i h e =
     let fits : from ≤ to = omega (arith, t.low, t.high) in
     on_corner i (omega (arith, length-replaced L p from to fits t.within, t.within)) (e ∙ sym (at-left L p from to i fits t.within h))
 
-kept-corner-right : {side : Side} {L : List Position} {p : Position} {from place to : ℕ} → IsCut side L p from place to → (q : Position) (i : ℕ) → to ≤ i → i < length L → q ≡ at L i → IsWithin side (replaced L p from to) q
+kept-corner-right : {side : Side} {L : List Position} {p : Position} {from place to : ℕ} → IsPlaced side L p from place to → (q : Position) (i : ℕ) → to ≤ i → i < length L → q ≡ at L i → IsWithin side (replaced L p from to) q
 kept-corner-right {side} {L} {p} {from} {place} {to} t q i h k e =
     let fits : from ≤ to = omega (arith, t.low, t.high) in
     on_corner (i + from + 1 - to) (omega (arith, length-replaced L p from to fits t.within)) (e ∙ sym (at-right L p from to (i + from + 1 - to) i fits t.within (omega arith) h))
@@ -244,18 +243,18 @@ chord {side} M q a b i j e f ij k aq qb h =
     (subst (λ (x : Position). pos 0 ≤ℤ bend side x (at M j) q) (sym e) (subst (λ (x : Position). pos 0 ≤ℤ bend side a x q) (sym f) h))
 
 -- q between the corner before p and p
-in-left : {side : Side} {L : List Position} {p : Position} {from place to : ℕ} → IsChain side L → IsCut side L p from place to → (q : Position) → 0 < from → rank (at L (from - 1)) ≤ℤ rank q → rank q ≤ℤ rank p → pos 0 ≤ℤ bend side (at L (from - 1)) p q → IsWithin side (replaced L p from to) q
+in-left : {side : Side} {L : List Position} {p : Position} {from place to : ℕ} → IsChain side L → IsPlaced side L p from place to → (q : Position) → 0 < from → rank (at L (from - 1)) ≤ℤ rank q → rank q ≤ℤ rank p → pos 0 ≤ℤ bend side (at L (from - 1)) p q → IsWithin side (replaced L p from to) q
 in-left {side} {L} {p} {from} {place} {to} c t q s wq qp h =
     let fits : from ≤ to = omega (arith, t.low, t.high) in
     chord (replaced L p from to) q (at L (from - 1)) p (from - 1) from (at-left L p from to (from - 1) fits t.within (omega arith)) (at-here L p from to fits t.within) (omega arith) (omega (arith, length-replaced L p from to fits t.within, t.within)) wq qp h
 
-in-right : {side : Side} {L : List Position} {p : Position} {from place to : ℕ} → IsChain side L → IsCut side L p from place to → (q : Position) → to < length L → rank p ≤ℤ rank q → rank q ≤ℤ rank (at L to) → pos 0 ≤ℤ bend side p (at L to) q → IsWithin side (replaced L p from to) q
+in-right : {side : Side} {L : List Position} {p : Position} {from place to : ℕ} → IsChain side L → IsPlaced side L p from place to → (q : Position) → to < length L → rank p ≤ℤ rank q → rank q ≤ℤ rank (at L to) → pos 0 ≤ℤ bend side p (at L to) q → IsWithin side (replaced L p from to) q
 in-right {side} {L} {p} {from} {place} {to} c t q s pq qz h =
     let fits : from ≤ to = omega (arith, t.low, t.high) in
     chord (replaced L p from to) q p (at L to) from (from + 1) (at-here L p from to fits t.within) (at-right L p from to (from + 1) to fits t.within (omega arith) (omega arith)) (omega arith) (omega (arith, length-replaced L p from to fits t.within)) pq qz h
 
 -- a corner, kept or not
-corner-stays : {side : Side} {L : List Position} {p : Position} {from place to : ℕ} → IsChain side L → IsCut side L p from place to → (q : Position) (i : ℕ) → i < length L → q ≡ at L i → IsWithin side (replaced L p from to) q
+corner-stays : {side : Side} {L : List Position} {p : Position} {from place to : ℕ} → IsChain side L → IsPlaced side L p from place to → (q : Position) (i : ℕ) → i < length L → q ≡ at L i → IsWithin side (replaced L p from to) q
 corner-stays {side} {L} {p} {from} {place} {to} c t q i k e =
     elim (cases_lt i from) [
       | inl l ↦ kept-corner-left t q i l e
@@ -280,7 +279,7 @@ stands-before {side} {L} c i j k lt =
     ]
 
 -- q past the chord from i to j, before the corner before p
-chord-left : {side : Side} {L : List Position} {p : Position} {from place to : ℕ} → IsChain side L → IsCut side L p from place to → (q : Position) (i j : ℕ) → i < j → j < length L → rank (at L i) ≤ℤ rank q → rank q ≤ℤ rank (at L j) → pos 0 ≤ℤ bend side (at L i) (at L j) q → 0 < from → rank q <ℤ rank (at L (from - 1)) → IsWithin side (replaced L p from to) q
+chord-left : {side : Side} {L : List Position} {p : Position} {from place to : ℕ} → IsChain side L → IsPlaced side L p from place to → (q : Position) (i j : ℕ) → i < j → j < length L → rank (at L i) ≤ℤ rank q → rank q ≤ℤ rank (at L j) → pos 0 ≤ℤ bend side (at L i) (at L j) q → 0 < from → rank q <ℤ rank (at L (from - 1)) → IsWithin side (replaced L p from to) q
 chord-left {side} {L} {p} {from} {place} {to} c t q i j ij k iq qj h s qw =
     let fits : from ≤ to = omega (arith, t.low, t.high) in
     let M = replaced L p from to in
@@ -291,7 +290,7 @@ chord-left {side} {L} {p} {from} {place} {to} c t q i j ij k iq qj h s qw =
       | inr g ↦ chord M q (at L i) (at L (from - 1)) i (from - 1) (at-left L p from to i fits t.within (omega arith)) (at-left L p from to (from - 1) fits t.within (omega arith)) iw (omega (arith, t.within)) iq (omega (arith, linear)) (chord_left side (at L i) (at L (from - 1)) (at L j) q (c.rising i (from - 1) iw (omega (arith, t.within, g))) (c.rising i j ij k) iq (c.convex i (from - 1) j iw (omega (arith, g)) k) h)
     ]
 
-chord-right : {side : Side} {L : List Position} {p : Position} {from place to : ℕ} → IsChain side L → IsCut side L p from place to → (q : Position) (i j : ℕ) → i < j → j < length L → rank (at L i) ≤ℤ rank q → rank q ≤ℤ rank (at L j) → pos 0 ≤ℤ bend side (at L i) (at L j) q → to < length L → rank (at L to) <ℤ rank q → IsWithin side (replaced L p from to) q
+chord-right : {side : Side} {L : List Position} {p : Position} {from place to : ℕ} → IsChain side L → IsPlaced side L p from place to → (q : Position) (i j : ℕ) → i < j → j < length L → rank (at L i) ≤ℤ rank q → rank q ≤ℤ rank (at L j) → pos 0 ≤ℤ bend side (at L i) (at L j) q → to < length L → rank (at L to) <ℤ rank q → IsWithin side (replaced L p from to) q
 chord-right {side} {L} {p} {from} {place} {to} c t q i j ij k iq qj h s zq =
     let fits : from ≤ to = omega (arith, t.low, t.high) in
     let M = replaced L p from to in
@@ -303,7 +302,7 @@ chord-right {side} {L} {p} {from} {place} {to} c t q i j ij k iq qj h s zq =
       | inl l ↦ chord M q (at L to) (at L j) (from + 1) (j + from + 1 - to) (at-right L p from to (from + 1) to fits t.within (omega arith) (omega arith)) ej (omega arith) (omega arith) (omega (arith, linear)) qj (chord_right side (at L i) (at L to) (at L j) q (c.rising to j zj k) (c.rising i j ij k) qj (c.convex i to j l zj k) h)
     ]
 
-chord-stays : {side : Side} {L : List Position} {p : Position} {from place to : ℕ} → IsChain side L → IsCut side L p from place to → (q : Position) (i j : ℕ) → i < j → j < length L → rank (at L i) ≤ℤ rank q → rank q ≤ℤ rank (at L j) → pos 0 ≤ℤ bend side (at L i) (at L j) q → IsWithin side (replaced L p from to) q
+chord-stays : {side : Side} {L : List Position} {p : Position} {from place to : ℕ} → IsChain side L → IsPlaced side L p from place to → (q : Position) (i j : ℕ) → i < j → j < length L → rank (at L i) ≤ℤ rank q → rank q ≤ℤ rank (at L j) → pos 0 ≤ℤ bend side (at L i) (at L j) q → IsWithin side (replaced L p from to) q
 chord-stays {side} {L} {p} {from} {place} {to} c t q i j ij k iq qj h =
     by_lt_z (rank q) (rank p)
     (λ qp. elim (cases_lt 0 from) [
@@ -317,11 +316,11 @@ chord-stays {side} {L} {p} {from} {place} {to} c t q i j ij k iq qj h =
       | inr g ↦ absurd (let u : rank (at L j) <ℤ rank p = elim (cases_lt place (length L)) [ inl b ↦ absurd (omega (arith, t.stops b, g)) | inr b ↦ t.before j (omega (arith, b)) ] in omega (arith, linear))
     ])
 
-stays_within : {side : Side} {L : List Position} {p : Position} {from place to : ℕ} → IsChain side L → IsCut side L p from place to → (q : Position) → IsWithin side L q → IsWithin side (replaced L p from to) q
+stays_within : {side : Side} {L : List Position} {p : Position} {from place to : ℕ} → IsChain side L → IsPlaced side L p from place to → (q : Position) → IsWithin side L q → IsWithin side (replaced L p from to) q
 stays_within c t q (on_corner i k e) = corner-stays c t q i k e
 stays_within c t q (on_chord i j ij k iq qj h) = chord-stays c t q i j ij k iq qj h
 
-new_within : {side : Side} {L : List Position} {p : Position} {from place to : ℕ} → IsCut side L p from place to → IsWithin side (replaced L p from to) p
+new_within : {side : Side} {L : List Position} {p : Position} {from place to : ℕ} → IsPlaced side L p from place to → IsWithin side (replaced L p from to) p
 new_within {side} {L} {p} {from} {place} {to} t =
     let fits : from ≤ to = omega (arith, t.low, t.high) in
     on_corner from (omega (arith, length-replaced L p from to fits t.within)) (sym (at-here L p from to fits t.within))
@@ -359,7 +358,7 @@ first-kept c p h = let b = within_between c p h in inr (refl, b.some, b.first)
 last-kept : {side : Side} {L : List Position} → IsChain side L → (p : Position) → IsWithin side L p → EndsAs L p L
 last-kept c p h = let b = within_between c p h in inr (refl, b.some, b.last)
 
-first-replaced : {side : Side} {L : List Position} {p : Position} {from place to : ℕ} → IsChain side L → IsCut side L p from place to → BeginsAs L p (replaced L p from to)
+first-replaced : {side : Side} {L : List Position} {p : Position} {from place to : ℕ} → IsChain side L → IsPlaced side L p from place to → BeginsAs L p (replaced L p from to)
 first-replaced {side} {L} {p} {from} {place} {to} c t =
     let fits : from ≤ to = omega (arith, t.low, t.high) in
     elim (cases_lt 0 from) [
@@ -367,7 +366,7 @@ first-replaced {side} {L} {p} {from} {place} {to} c t =
       | inr g ↦ inl (ap (at (replaced L p from to)) (let e : 0 ≡ from = omega (arith, g) in e) ∙ at-here L p from to fits t.within, λ s. elim (cases_lt 0 place) [ inl b ↦ absurd (omega (arith, t.starts b, g)) | inr b ↦ t.after 0 (omega (arith, b)) s ])
     ]
 
-last-replaced : {side : Side} {L : List Position} {p : Position} {from place to : ℕ} → IsChain side L → IsCut side L p from place to → EndsAs L p (replaced L p from to)
+last-replaced : {side : Side} {L : List Position} {p : Position} {from place to : ℕ} → IsChain side L → IsPlaced side L p from place to → EndsAs L p (replaced L p from to)
 last-replaced {side} {L} {p} {from} {place} {to} c t =
     let fits : from ≤ to = omega (arith, t.low, t.high) in
     let n = length-replaced L p from to fits t.within in
@@ -394,7 +393,7 @@ pub within_extends : {side : Side} {L : List Position} → IsChain side L → (p
 within_extends c p h = record { chain = c; keeps = λ q w. w; takes = h; members = λ q m. inr m; first = first-kept c p h; last = last-kept c p h }
 
 -- p takes the place of the corners that it covers
-pub replaced_extends : {side : Side} {L : List Position} {p : Position} {from place to : ℕ} → IsChain side L → IsCut side L p from place to → Extends side L p (replaced L p from to)
+pub replaced_extends : {side : Side} {L : List Position} {p : Position} {from place to : ℕ} → IsChain side L → IsPlaced side L p from place to → Extends side L p (replaced L p from to)
 replaced_extends {side} {L} {p} {from} {place} {to} c t = record {
   chain = replaced_is_chain c t;
   keeps = stays_within c t;
@@ -405,28 +404,11 @@ replaced_extends {side} {L} {p} {from} {place} {to} c t = record {
 }
 
 -- ---- what the code reads
-pub read : (L : List Position) (q : Position) (i : ℕ) → i < length L → q ≡ get_or L i q → q ≡ at L i
-read L q i k e = get_or_read L i q k e origin
-
 pub after-place : (L : List Position) (p : Position) (place : ℕ) → IsRising L → (place < length L → rank p <ℤ rank (at L place)) → (i : ℕ) → place ≤ i → i < length L → rank p <ℤ rank (at L i)
 after-place L p place c h i g k =
     elim (eq-or-lt_of_le g) [
       | inl e ↦ subst (λ (x : ℕ). rank p <ℤ rank (at L x)) e (h (omega (arith, e)))
       | inr l ↦ let u : rank (at L place) <ℤ rank (at L i) = c place i l k in let v : rank p <ℤ rank (at L place) = h (omega arith) in omega (arith, linear)
-    ]
-
-pub all-before : (L : List Position) (p : Position) (m : ℕ) → IsRising L → m < length L → rank (at L m) <ℤ rank p → (i : ℕ) → i < m + 1 → rank (at L i) <ℤ rank p
-all-before L p m c k h i l =
-    elim (cases_lt i m) [
-      | inl lt ↦ let u : rank (at L i) <ℤ rank (at L m) = c i m lt k in omega (arith, linear)
-      | inr g ↦ subst (λ (x : ℕ). rank (at L x) <ℤ rank p) (let e : m ≡ i = omega (arith, g, l) in e) h
-    ]
-
-pub all-after : (L : List Position) (p : Position) (m : ℕ) → IsRising L → rank p ≤ℤ rank (at L m) → (i : ℕ) → m ≤ i → i < length L → rank p ≤ℤ rank (at L i)
-all-after L p m c h i g k =
-    elim (eq-or-lt_of_le g) [
-      | inl e ↦ subst (λ (x : ℕ). rank p ≤ℤ rank (at L x)) e h
-      | inr lt ↦ let u : rank (at L m) <ℤ rank (at L i) = c m i lt k in omega (arith, linear)
     ]
 
 -- the order of points within the limits is that of their ranks

@@ -2,7 +2,7 @@
 use Rattle.std.proofs.Common.{◌≡◌, ◌≢◌, refl, sym, ap, subst, ◌∙◌, ℕ, ◌+◌, ◌-◌, ◌<◌, ◌≤◌, ℤ, pos, neg_ℤ, ◌+ℤ◌, ◌-ℤ◌, ◌*ℤ◌, ◌≤ℤ◌, ◌<ℤ◌, ◌⊎◌, inl, inr, List, [], ◌∷◌, ◌++◌, length, take, drop, reverse, get_or, arith, eq-or-lt_of_le, length-append, length-drop, Contains, AllPairs, append_assoc}
 use Rattle.std.proofs.lemmas.Bool.{cases_lt}
 use Rattle.std.proofs.lemmas.Int.{by_lt_z, ints}
-use Rattle.std.proofs.lemmas.List.{get_or_append_left, get_or-take, get_or-drop, get_or-append_right, get_or-reverse, length-take-le, length-reverse, get_or_default, take_more, take_all}
+use Rattle.std.proofs.lemmas.List.{get_or_append_left, get_or-take, get_or-drop, get_or-append_right, get_or-reverse, length-take-le, length-reverse, get_or_default, take_more}
 use Rattle.range_plane.specs.Covering.{advance}
 use Rattle.range_plane.specs.Edges.{at}
 use Rattle.range_plane.specs.Order.{rank, rank_base}
@@ -132,7 +132,7 @@ other_bend Lower a b c = omega (arith, linear, bend_flip Lower a b c)
 other_bend Upper a b c = omega (arith, linear, bend_flip Lower a b c)
 
 -- an edge of a chain bends to each corner that is not between its ends, or is on it
-edge-sees : {side : Side} {L : List Position} → IsChain side L → (i j m : ℕ) → i < j → j < length L → m < length L → (m ≤ i) ⊎ (j ≤ m) → pos 0 ≤ℤ bend side (at L i) (at L j) (at L m)
+pub edge-sees : {side : Side} {L : List Position} → IsChain side L → (i j m : ℕ) → i < j → j < length L → m < length L → (m ≤ i) ⊎ (j ≤ m) → pos 0 ≤ℤ bend side (at L i) (at L j) (at L m)
 edge-sees {side} {L} c i j m ij k l (inl h) =
     elim (eq-or-lt_of_le h) [
       | inl e ↦ subst (λ (x : ℕ). pos 0 ≤ℤ bend side (at L i) (at L j) (at L x)) (sym e) (omega (arith, linear, bend_back side (at L i) (at L j)))
@@ -284,7 +284,7 @@ source L U q m =
     ]
 
 -- every corner is within both chains
-corner_in_lower : {L U : List Position} → AreChains L U → (q : Position) → Contains (corners_of L U) q → IsWithin Lower L q
+pub corner_in_lower : {L U : List Position} → AreChains L U → (q : Position) → Contains (corners_of L U) q → IsWithin Lower L q
 corner_in_lower {L} {U} h q m =
     elim (source L U q m) [
       | of_lower i k e ↦ on_corner i k e
@@ -297,7 +297,7 @@ corner_in_lower {L} {U} h q m =
           subst (λ (p : Position). IsWithin Lower L p) (sym e) (on_chord 0 (length L - 1) some (omega arith) (omega (arith, linear)) (omega (arith, linear)) (omega (arith, linear, bend_flip Lower (at L 0) (at L (length L - 1)) (at U x))))
     ]
 
-corner_in_upper : {L U : List Position} → AreChains L U → (q : Position) → Contains (corners_of L U) q → IsWithin Upper U q
+pub corner_in_upper : {L U : List Position} → AreChains L U → (q : Position) → Contains (corners_of L U) q → IsWithin Upper U q
 corner_in_upper {L} {U} h q m =
     elim (source L U q m) [
       | of_upper x s t e ↦ on_corner x (omega (arith, t)) e
@@ -371,7 +371,7 @@ reach-self R d q m = (q, m, omega (arith, linear, nothing d.e (q.e -ℤ q.e) (om
     nothing : (x y : ℤ) → y ≡ pos 0 → x *ℤ y ≡ pos 0
     nothing x y e = ap (λ (z : ℤ). x *ℤ z) e ∙ omega (arith, ints)
 
-reaches : {L U : List Position} → AreChains L U → (q : Position) → IsWithin Lower L q → IsWithin Upper U q → ReachesEveryWay (corners_of L U) q
+pub reaches : {L U : List Position} → AreChains L U → (q : Position) → IsWithin Lower L q → IsWithin Upper U q → ReachesEveryWay (corners_of L U) q
 reaches {L} {U} h q (on_corner i k e) u d = reach-self (corners_of L U) d q (subst (λ (p : Position). Contains (corners_of L U) p) (sym e) (in-lower L U i k))
 reaches {L} {U} h q (on_chord i j ij k iq qj t) (on_corner x kx e) d = reach-self (corners_of L U) d q (subst (λ (p : Position). Contains (corners_of L U) p) (sym e) (in-upper h x kx))
 reaches {L} {U} h q (on_chord i j ij k iq qj t) (on_chord x y xy ky xq qy u) d =
@@ -415,20 +415,17 @@ polygon_extended reaching corners L U M V p hp h a b =
 pub own_polygon : {L U : List Position} → CoveringIsReaching → CoveringMembersAreCorners → AreChains L U → IsPolygon (corners_of L U) (corners_of L U)
 own_polygon {L} {U} reaching corners h = hull_polygon reaching corners h (corners_of L U) (λ x m. m) (corner_in_lower h) (corner_in_upper h)
 
--- ---- the corners, one after another
-pub next_corner : (L U corners : List Position) (i n : ℕ) (x : Position) → n ≡ length U - 2 → i < n → x ≡ get_or U (n - i) x → corners ≡ L ++ take i (reverse (inner U)) → corners ++ x ∷ [] ≡ L ++ take (i + 1) (reverse (inner U))
-next_corner L U corners i n x size h r e =
-    let k : length (inner U) ≡ n = sym (size ∙ sym (length-take-le (length U - 2) (drop 1 U) (omega (arith, length-drop 1 U)))) in
-    let y : get_or (reverse (inner U)) i x ≡ x =
-    get_or-reverse (inner U) i x (omega arith)
-    ∙ get_or-take (length U - 2) (drop 1 U) (length (inner U) - 1 - i) x (omega arith)
-    ∙ get_or-drop 1 U (length (inner U) - 1 - i) x
-    ∙ ap (λ (m : ℕ). get_or U m x) (let f : 1 + (length (inner U) - 1 - i) ≡ n - i = omega arith in f)
+-- ---- the corners of the upper chain, one after another
+pub next_corner : (L U corners : List Position) (k : ℕ) (x : Position) → 2 ≤ k → k < length U → x ≡ at U (length U - k) → corners ≡ L ++ take (k - 2) (reverse (inner U)) → corners ++ x ∷ [] ≡ L ++ take (k + 1 - 2) (reverse (inner U))
+next_corner L U corners k x least most r e =
+    let i : ℕ = k - 2 in
+    let n : length (inner U) ≡ length U - 2 = length-inner U in
+    let y : at (reverse (inner U)) i ≡ x =
+    get_or-reverse (inner U) i origin (omega arith)
+    ∙ get_or-take (length U - 2) (drop 1 U) (length (inner U) - 1 - i) origin (omega arith)
+    ∙ get_or-drop 1 U (length (inner U) - 1 - i) origin
+    ∙ ap (at U) (let f : 1 + (length (inner U) - 1 - i) ≡ length U - k = omega arith in f)
     ∙ sym r in
     ap (λ (c : List Position). c ++ x ∷ []) e ∙ append_assoc L (take i (reverse (inner U))) (x ∷ [])
-    ∙ ap (λ (c : List Position). L ++ c) (sym (take_more (reverse (inner U)) i x (omega (arith, length-reverse (inner U))) ∙ ap (λ (z : Position). take i (reverse (inner U)) ++ z ∷ []) y))
-
--- after the last of them
-pub all_corners : (L U corners : List Position) (i n : ℕ) → n ≡ length U - 2 → n ≤ i → corners ≡ L ++ take i (reverse (inner U)) → corners ≡ corners_of L U
-all_corners L U corners i n size h e =
-    e ∙ ap (λ (M : List Position). L ++ M) (take_all i (reverse (inner U)) (omega (arith, length-reverse (inner U), length-inner U)))
+    ∙ ap (λ (c : List Position). L ++ c) (sym (take_more (reverse (inner U)) i origin (omega (arith, length-reverse (inner U))) ∙ ap (λ (z : Position). take i (reverse (inner U)) ++ z ∷ []) y))
+    ∙ ap (λ (m : ℕ). L ++ take m (reverse (inner U))) (let f : i + 1 ≡ k + 1 - 2 = omega arith in f)

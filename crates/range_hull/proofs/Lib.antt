@@ -1,5 +1,7 @@
 pub mod Area
 pub mod Bends
+pub mod Beyond
 pub mod Chains
 pub mod Hulls
 pub mod Searching
+pub mod Spots

@@ -3,8 +3,9 @@ use Rattle.std.proofs.Common.{◌≡◌, sym, subst, ℕ, ◌+◌, ◌-◌, ◌/
 use Rattle.range_plane.specs.Edges.{at}
 use Rattle.range_plane.specs.Order.{rank}
 use Rattle.range_plane.specs.Plane.{Position}
-use Rattle.range_hull.specs.Chain.{FallsAt, IsRising}
-use Rattle.range_hull.proofs.Chains.{all-after, all-before}
+use Rattle.range_chain.specs.Blocks.{block, joined, offset}
+use Rattle.range_chain.specs.Chain.{FallsAt, IsRising}
+use Rattle.range_chain.proofs.Places.{all-after, all-before, one_block}
 
 -- p comes after the corner at `low`, and not after the one `size` places on, if there is one
 pub record IsBetween (L : List Position) (p : Position) (low size : ℕ) : Type 0 where
@@ -41,3 +42,8 @@ falls_first L p c h = record {
   before = λ i k. absurd (omega (arith, k));
   after = λ i g k. all-after L p 0 c (h (omega (arith, k))) i g k;
 }
+
+-- where p falls in the only block
+pub falls_in_one : (bs : List (List Position)) (p : Position) (within k : ℕ) → length bs ≡ 1 → FallsAt (block bs 0) p within → k ≡ offset bs 0 + within → FallsAt (joined bs) p k
+falls_in_one bs p within k one falls e =
+    subst (λ (n : ℕ). FallsAt (joined bs) p n) (let same : within ≡ k = omega (arith, e) in same) (subst (λ (L : List Position). FallsAt L p within) (sym (one_block bs one)) falls)

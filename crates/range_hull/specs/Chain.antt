@@ -1,8 +1,9 @@
 -- The two chains of a hull: corners in order that all bend one way, what lies within them, and a point that is put into one.
-use Rattle.std.specs.Prelude.{ℕ, ◌-◌, ◌<◌, ◌≤◌, ℤ, pos, neg_ℤ, ◌≤ℤ◌, ◌<ℤ◌, ◌≡◌, ◌⊎◌, List, ◌∷◌, ◌++◌, length, take, drop, Contains}
+use Rattle.std.specs.Prelude.{ℕ, ◌+◌, ◌-◌, ◌<◌, ℤ, pos, neg_ℤ, ◌≤ℤ◌, ◌<ℤ◌, ◌≡◌, ◌⊎◌, List, length, Contains}
 use Rattle.range_plane.specs.Edges.{at}
 use Rattle.range_plane.specs.Order.{rank}
 use Rattle.range_plane.specs.Plane.{Position, turn}
+use Rattle.range_chain.specs.Chain.{IsRising}
 use Rattle.range_hull.specs.declared.side.Side.{Side}
 use Rattle.range_hull.specs.declared.side.Side.TheVariants.{Lower, Upper}
 
@@ -10,16 +11,6 @@ use Rattle.range_hull.specs.declared.side.Side.TheVariants.{Lower, Upper}
 abbrev pub bend : Side → Position → Position → Position → ℤ
 bend Lower a b c = turn a b c
 bend Upper a b c = neg_ℤ (turn a b c)
-
--- each point comes after those before it
-abbrev pub IsRising : List Position → Type 0
-IsRising L = (i j : ℕ) → i < j → j < length L → rank (at L i) <ℤ rank (at L j)
-
--- p falls at this place of L: the points before it come before p, and no others
-pub record FallsAt (L : List Position) (p : Position) (place : ℕ) : Type 0 where
-  pub bound : place ≤ length L
-  pub before : (i : ℕ) → i < place → rank (at L i) <ℤ rank p
-  pub after : (i : ℕ) → place ≤ i → i < length L → rank p ≤ℤ rank (at L i)
 
 -- the corners rise, and every three of them bend the side's way
 pub record IsChain (side : Side) (L : List Position) : Type 0 where
@@ -31,9 +22,11 @@ pub data IsWithin (side : Side) (L : List Position) (q : Position) : Type 0 wher
   on_corner : (i : ℕ) → i < length L → q ≡ at L i → IsWithin side L q
   on_chord : (i j : ℕ) → i < j → j < length L → rank (at L i) ≤ℤ rank q → rank q ≤ℤ rank (at L j) → pos 0 ≤ℤ bend side (at L i) (at L j) q → IsWithin side L q
 
--- L with p in the place of the points from `from` up to `to`
-abbrev pub replaced : List Position → Position → ℕ → ℕ → List Position
-replaced L p from to = take from L ++ p ∷ drop to L
+-- q comes before the first corner or after all, or lies strictly past an edge on the side from which the chain bends away
+pub data IsBeyond (side : Side) (L : List Position) (q : Position) : Type 0 where
+  before_first : rank q <ℤ rank (at L 0) → IsBeyond side L q
+  after_all : ((i : ℕ) → i < length L → rank (at L i) <ℤ rank q) → IsBeyond side L q
+  past_edge : (i : ℕ) → i + 1 < length L → pos 0 <ℤ bend side (at L i) q (at L (i + 1)) → IsBeyond side L q
 
 -- M begins with p where p comes before all of L, and as L does elsewhere
 abbrev pub BeginsAs : List Position → Position → List Position → Type 0

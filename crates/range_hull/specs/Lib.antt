@@ -1,4 +1,5 @@
 pub mod Area
 pub mod Chain
 pub mod Hull
+pub mod Spot
 pub mod Tally

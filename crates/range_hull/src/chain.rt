@@ -1,109 +1,191 @@
 // A chain of corners, and a point that is added to it.
 
 ghost use Rattle.std.specs.Bool.{OnFalse, OnTrue};
-ghost use Rattle.std.specs.Prelude.{◌≡◌, ℕ, ◌+◌, ◌-◌, ◌<◌, ◌≤◌, pos, ◌+ℤ◌, ◌-ℤ◌, ◌≤ℤ◌, ◌<ℤ◌, length, vec_len, vec_capacity};
+ghost use Rattle.std.specs.Prelude.{◌≡◌, ◌+◌, ◌-◌, ◌<◌, ◌≤◌, pos, ◌+ℤ◌, ◌-ℤ◌, ◌≤ℤ◌, ◌<ℤ◌, ◌++◌, length, reverse, OnOk};
 ghost use Rattle.range_plane.specs.Edges.{at};
 ghost use Rattle.range_plane.specs.Order.{rank};
 ghost use Rattle.range_plane.specs.Plane.{IsWithinLimits};
+ghost use Rattle.range_chain.specs.Blocks.{joined};
+ghost use Rattle.range_chain.specs.Chain.{Stands, place};
 ghost use Rattle.range_hull.specs.Area.{open_edge, signed, swept, swept_after, swept_before};
-ghost use Rattle.range_hull.specs.Chain.{Extends, FallsAt, IsChain, IsWithin, bend};
+ghost use Rattle.range_hull.specs.Chain.{Extends, IsBeyond, IsChain, IsWithin, bend};
+ghost use Rattle.range_hull.specs.Hull.{inner};
+ghost use Rattle.range_hull.specs.Spot.{IsSpot};
 ghost use Rattle.range_hull.specs.Tally.{most_turns};
 
 use crate::side::Side;
-use crate::splice::replace_run;
+use crate::spot::Spot;
 use crate::tally::Tally;
-use range_plane::{Point, rank};
+use range_chain::{Chain, Cursor};
+use range_plane::{OutOfMemory, Point, rank};
 use std::alloc::Allocator;
 
-// Whether `p`, which falls at `place`, lies outside of `chain`.
-fn lies_outside(side: Side, chain: &[Point], place: usize, p: Point, tally: &mut Tally) -> bool
-    requires place { FallsAt chain.now p place }
-    requires few { tally.old.turns < most_turns }
-    ensures outside { OnTrue result (0 < place → place < length chain.now → pos 0 <ℤ bend side (at chain.now (place - 1)) p (at chain.now place)) }
-    ensures apart { OnTrue result (place < length chain.now → rank p <ℤ rank (at chain.now place)) }
-    ensures inside { OnFalse result (IsWithin side chain.now p) }
-    ensures turns { tally.new.turns ≤ tally.old.turns + 1 }
-    ensures rises { tally.old.turns ≤ tally.new.turns }
-    ensures gained { OnTrue result (0 < place → place < length chain.now → pos tally.new.area ≡ pos tally.old.area +ℤ bend side (at chain.now (place - 1)) p (at chain.now place)) }
-    ensures at_first { place ≡ 0 → tally.new.area ≡ tally.old.area }
-    ensures at_last { place ≡ length chain.now → tally.new.area ≡ tally.old.area }
-    ensures none { OnFalse result (tally.new.area ≡ tally.old.area) }
+// Whether `p`, which falls at `spot`, lies within `chain`. The turn for it is not counted.
+pub(crate) fn lies_within<A: Allocator>(side: Side, chain: &Chain<A>, spot: Spot, p: Point) -> bool
+    requires { IsSpot chain.now.blocks p spot }
+    ensures within { OnTrue result (IsWithin side (joined chain.now.blocks) p) }
+    ensures beyond { OnFalse result (IsBeyond side (joined chain.now.blocks) p) }
 {
-    if place == chain.len() {
+    let _ = chain;
+    let Some(next) = spot.after else {
+        return false;
+    };
+    if rank(next) == rank(p) {
         return true;
     }
-    if rank(chain[place]) == rank(p) {
+    let Some(before) = spot.before else {
+        return false;
+    };
+    side.has_within(before, p, next)
+}
+
+// Whether `p`, which falls at `spot`, lies outside of `chain`.
+#[inline(always)]
+fn lies_outside<A: Allocator>(
+    side: Side,
+    chain: &Chain<A>,
+    spot: Spot,
+    p: Point,
+    tally: &mut Tally,
+) -> bool
+    requires spot { IsSpot chain.now.blocks p spot }
+    requires few { tally.old.turns < most_turns }
+    ensures outside { let L = joined chain.now.blocks in let i = place chain.now.blocks spot.at in OnTrue result (0 < i → i < length L → pos 0 <ℤ bend side (at L (i - 1)) p (at L i)) }
+    ensures apart { let L = joined chain.now.blocks in let i = place chain.now.blocks spot.at in OnTrue result (i < length L → rank p <ℤ rank (at L i)) }
+    ensures inside { OnFalse result (IsWithin side (joined chain.now.blocks) p) }
+    ensures turns { tally.new.turns ≤ tally.old.turns + 1 }
+    ensures rises { tally.old.turns ≤ tally.new.turns }
+    ensures gained { let L = joined chain.now.blocks in let i = place chain.now.blocks spot.at in OnTrue result (0 < i → i < length L → pos tally.new.area ≡ pos tally.old.area +ℤ bend side (at L (i - 1)) p (at L i)) }
+    ensures at_first { place chain.now.blocks spot.at ≡ 0 → tally.new.area ≡ tally.old.area }
+    ensures at_last { place chain.now.blocks spot.at ≡ length (joined chain.now.blocks) → tally.new.area ≡ tally.old.area }
+    ensures none { OnFalse result (tally.new.area ≡ tally.old.area) }
+{
+    let _ = chain;
+    let Some(after) = spot.after else {
+        return true;
+    };
+    if rank(after) == rank(p) {
         return false;
     }
-    place == 0 || tally.bulges(side, chain[place - 1], p, chain[place])
+    let Some(before) = spot.before else {
+        return true;
+    };
+    tally.bulges(side, before, p, after)
 }
 
-// How many corners before `place` stay once `p` stands there.
-fn kept_before(side: Side, chain: &[Point], place: usize, p: Point, tally: &mut Tally) -> usize
-    requires within { place ≤ length chain.now }
-    requires few { tally.old.turns + place ≤ most_turns }
-    ensures bound { result ≤ place }
-    ensures starts { 0 < place → 0 < result }
-    ensures bends { 2 ≤ result → pos 0 <ℤ bend side (at chain.now (result - 2)) (at chain.now (result - 1)) p }
-    ensures dents { result < place → bend side (at chain.now (result - 1)) (at chain.now result) p ≤ℤ pos 0 }
-    ensures turns { tally.new.turns + result ≤ tally.old.turns + place + 1 }
+// The place after the corners before `c` that stay once `p` stands there.
+fn kept_before<A: Allocator>(
+    side: Side,
+    chain: &Chain<A>,
+    c: Cursor,
+    p: Point,
+    tally: &mut Tally,
+) -> Cursor
+    requires stands { Stands chain.now.blocks c }
+    requires few { tally.old.turns + place chain.now.blocks c ≤ most_turns }
+    ensures stands { Stands chain.now.blocks result }
+    ensures bound { place chain.now.blocks result ≤ place chain.now.blocks c }
+    ensures starts { 0 < place chain.now.blocks c → 0 < place chain.now.blocks result }
+    ensures bends { let L = joined chain.now.blocks in let k = place chain.now.blocks result in 2 ≤ k → pos 0 <ℤ bend side (at L (k - 2)) (at L (k - 1)) p }
+    ensures dents { let L = joined chain.now.blocks in let k = place chain.now.blocks result in k < place chain.now.blocks c → bend side (at L (k - 1)) (at L k) p ≤ℤ pos 0 }
+    ensures turns { tally.new.turns + place chain.now.blocks result ≤ tally.old.turns + place chain.now.blocks c + 1 }
     ensures rises { tally.old.turns ≤ tally.new.turns }
-    ensures swept { 0 < place → pos tally.new.area -ℤ swept_before side chain.now p result ≡ pos tally.old.area -ℤ swept_before side chain.now p place }
-    ensures none { place ≡ 0 → tally.new.area ≡ tally.old.area }
+    ensures swept { let L = joined chain.now.blocks in let i = place chain.now.blocks c in 0 < i → pos tally.new.area -ℤ swept_before side L p (place chain.now.blocks result) ≡ pos tally.old.area -ℤ swept_before side L p i }
+    ensures none { place chain.now.blocks c ≡ 0 → tally.new.area ≡ tally.old.area }
 {
-    let mut kept = place;
-    while kept >= 2 && tally.dents(side, chain[kept - 2], chain[kept - 1], p) {
-        kept -= 1;
+    let mut kept = c;
+    while !chain.is_start(kept) {
+        let last = chain.previous(kept);
+        if chain.is_start(last) {
+            return kept;
+        }
+        let before = chain.get(chain.previous(last));
+        if !tally.dents(side, before, chain.get(last), p) {
+            return kept;
+        }
+        kept = last;
     }
     kept
 }
 
-// The first corner from `place` on that stays once `p` stands before it.
-fn kept_after(side: Side, chain: &[Point], place: usize, p: Point, tally: &mut Tally) -> usize
-    requires within { place ≤ length chain.now }
-    requires few { tally.old.turns + length chain.now ≤ most_turns + place }
-    ensures bound { place ≤ result }
-    ensures within { result ≤ length chain.now }
-    ensures stops { place < length chain.now → result < length chain.now }
-    ensures bends { result + 1 < length chain.now → pos 0 <ℤ bend side p (at chain.now result) (at chain.now (result + 1)) }
-    ensures dents { place < result → bend side p (at chain.now (result - 1)) (at chain.now result) ≤ℤ pos 0 }
-    ensures turns { tally.new.turns + place ≤ tally.old.turns + result + 1 }
+// The place before the first corner from `c` on that stays once `p` stands before it.
+fn kept_after<A: Allocator>(
+    side: Side,
+    chain: &Chain<A>,
+    c: Cursor,
+    p: Point,
+    tally: &mut Tally,
+) -> Cursor
+    requires stands { Stands chain.now.blocks c }
+    requires few { tally.old.turns + length (joined chain.now.blocks) ≤ most_turns + place chain.now.blocks c }
+    ensures stands { Stands chain.now.blocks result }
+    ensures bound { place chain.now.blocks c ≤ place chain.now.blocks result }
+    ensures within { place chain.now.blocks result ≤ length (joined chain.now.blocks) }
+    ensures stops { let L = joined chain.now.blocks in place chain.now.blocks c < length L → place chain.now.blocks result < length L }
+    ensures bends { let L = joined chain.now.blocks in let k = place chain.now.blocks result in k + 1 < length L → pos 0 <ℤ bend side p (at L k) (at L (k + 1)) }
+    ensures dents { let L = joined chain.now.blocks in let k = place chain.now.blocks result in place chain.now.blocks c < k → bend side p (at L (k - 1)) (at L k) ≤ℤ pos 0 }
+    ensures turns { tally.new.turns + place chain.now.blocks c ≤ tally.old.turns + place chain.now.blocks result + 1 }
     ensures rises { tally.old.turns ≤ tally.new.turns }
-    ensures swept { place < length chain.now → pos tally.new.area -ℤ swept_after side chain.now p result ≡ pos tally.old.area -ℤ swept_after side chain.now p place }
-    ensures none { place ≡ length chain.now → tally.new.area ≡ tally.old.area }
+    ensures swept { let L = joined chain.now.blocks in let i = place chain.now.blocks c in i < length L → pos tally.new.area -ℤ swept_after side L p (place chain.now.blocks result) ≡ pos tally.old.area -ℤ swept_after side L p i }
+    ensures none { place chain.now.blocks c ≡ length (joined chain.now.blocks) → tally.new.area ≡ tally.old.area }
 {
-    let mut kept = place;
-    while kept + 1 < chain.len() && tally.dents(side, p, chain[kept], chain[kept + 1]) {
-        kept += 1;
+    let mut kept = c;
+    while !chain.is_end(kept) {
+        let next = chain.next(kept);
+        if chain.is_end(next) {
+            return kept;
+        }
+        if !tally.dents(side, p, chain.get(kept), chain.get(next)) {
+            return kept;
+        }
+        kept = next;
     }
     kept
 }
 
-// Makes `chain` the chain of its points and `p`, which falls at `place`. It takes no memory.
+// Makes `chain` the chain of its points and `p`, which falls at `spot`. It takes no memory.
+#[inline(always)]
 pub(crate) fn extend<A: Allocator>(
     side: Side,
-    chain: &mut Vec<Point, A>,
-    place: usize,
+    chain: &mut Chain<A>,
+    spot: Spot,
     p: Point,
     tally: &mut Tally,
 )
-    requires chain { IsChain side chain.old.items }
-    requires place { FallsAt chain.old.items p place }
-    requires room { vec_len chain.old < vec_capacity chain.old }
-    requires few { tally.old.turns + vec_len chain.old + 4 ≤ most_turns }
-    ensures chain { Extends side chain.old.items p chain.new.items }
+    requires chain { IsChain side (joined chain.old.blocks) }
+    requires spot { IsSpot chain.old.blocks p spot }
+    requires room { 0 < chain.old.spare }
+    requires few { tally.old.turns + length (joined chain.old.blocks) + 4 ≤ most_turns }
+    ensures chain { Extends side (joined chain.old.blocks) p (joined chain.new.blocks) }
     ensures limits { IsWithinLimits p }
-    ensures len { vec_len chain.new ≤ vec_len chain.old + 1 }
-    ensures capacity { vec_capacity chain.old ≤ vec_capacity chain.new }
-    ensures turns { tally.new.turns + vec_len chain.new ≤ tally.old.turns + vec_len chain.old + 4 }
+    ensures spare { chain.old.spare ≤ chain.new.spare + 1 }
+    ensures turns { tally.new.turns + length (joined chain.new.blocks) ≤ tally.old.turns + length (joined chain.old.blocks) + 4 }
     ensures rises { tally.old.turns ≤ tally.new.turns }
-    ensures swept { pos tally.new.area +ℤ swept side chain.old.items +ℤ signed side (open_edge (at chain.old.items 0) (at chain.old.items (length chain.old.items - 1)) p) ≡ pos tally.old.area +ℤ swept side chain.new.items }
+    ensures swept { let L = joined chain.old.blocks in pos tally.new.area +ℤ swept side L +ℤ signed side (open_edge (at L 0) (at L (length L - 1)) p) ≡ pos tally.old.area +ℤ swept side (joined chain.new.blocks) }
 {
-    let corners = chain.as_slice();
-    if !lies_outside(side, corners, place, p, tally) {
+    let c = spot.at;
+    if !lies_outside(side, chain, spot, p, tally) {
         return;
     }
-    let from = kept_before(side, corners, place, p, tally);
-    let to = kept_after(side, corners, place, p, tally);
-    replace_run(chain, from, to, p);
+    let from = kept_before(side, chain, c, p, tally);
+    let to = kept_after(side, chain, c, p, tally);
+    chain.replace_run(from, to, p);
+}
+
+// Appends the corners between the ends of `chain`, the last of them first.
+pub(crate) fn push_back<A: Allocator, B: Allocator>(
+    corners: &mut Vec<Point, B>,
+    chain: &Chain<A>,
+) -> Result<(), OutOfMemory>
+    ensures { OnOk result (corners.new.items ≡ corners.old.items ++ reverse (inner (joined chain.now.blocks))) }
+{
+    if chain.len() < 2 {
+        return Ok(());
+    }
+    let mut next = chain.previous(chain.end());
+    for _ in 2..chain.len() {
+        next = chain.previous(next);
+        corners.push(chain.get(next))?;
+    }
+    Ok(())
 }

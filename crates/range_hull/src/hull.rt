@@ -6,10 +6,11 @@ ghost use Rattle.range_plane.specs.Fix.{fix_limit};
 ghost use Rattle.range_plane.specs.Plane.{Position};
 ghost use Rattle.range_plane.specs.Polygon.{IsPolygon, area2};
 
-use crate::chain::extend;
-use crate::search::places_of;
+use crate::chain::{extend, lies_within, push_back};
+use crate::search::spots_of;
 use crate::side::Side;
 use crate::tally::Tally;
+use range_chain::Chain;
 use range_plane::{
     OutOfMemory, Point, Polygon, corners_cover_the_set, corners_stand_for_the_set,
     covered_is_decided, covered_points_change_nothing, covering_is_reaching,
@@ -25,29 +26,30 @@ use std::marker::Model;
 #[derive(Drop)]
 pub struct OnlineHull<A: Allocator = Global> {
     // The corners along the south, by easting and then by northing.
-    lower: Vec<Point, A>,
+    lower: Chain<A>,
     // The corners along the north, in the same order; both chains have the same ends.
-    upper: Vec<Point, A>,
+    upper: Chain<A>,
     inserted: u32,
     skipped: u32,
     tally: Tally,
 }
 
 impl<A: Allocator> Model for OnlineHull<A> {
-    ghost use Rattle.std.specs.Prelude.{◌-◌, min, vec_len, vec_capacity};
+    ghost use Rattle.std.specs.Prelude.{min};
+    ghost use Rattle.range_chain.specs.Blocks.{joined};
     ghost use Rattle.range_hull.specs.Hull.{Hull, IsKept, corners_of};
 
     ghost Value = { Hull };
 
     ghost view = { λ h. record {
-      corners = corners_of h.lower.items h.upper.items;
+      corners = corners_of (joined h.lower.blocks) (joined h.upper.blocks);
       inserted = h.inserted;
       skipped = h.skipped;
       turns = h.tally.turns;
-      spare = min (vec_capacity h.lower - vec_len h.lower) (vec_capacity h.upper - vec_len h.upper);
+      spare = min h.lower.spare h.upper.spare;
     } };
 
-    ghost invariant = { λ h. IsKept h.lower.items h.upper.items h.inserted h.skipped h.tally };
+    ghost invariant = { λ h. IsKept (joined h.lower.blocks) (joined h.upper.blocks) h.inserted h.skipped h.tally };
 }
 
 impl<A: Allocator> OnlineHull<A> {
@@ -58,8 +60,8 @@ impl<A: Allocator> OnlineHull<A> {
         ensures { result ≡ record { corners = []; inserted = 0; skipped = 0; turns = 0; spare = 0 } }
     {
         OnlineHull {
-            lower: Vec::new(alloc),
-            upper: Vec::new(alloc),
+            lower: Chain::new(alloc),
+            upper: Chain::new(alloc),
             inserted: 0,
             skipped: 0,
             tally: Tally::new(),
@@ -68,6 +70,8 @@ impl<A: Allocator> OnlineHull<A> {
 
     /// Takes memory for `k` inserts, if there is no room for them yet. Room that is there stays.
     pub fn reserve(&mut self, k: usize) -> Result<(), OutOfMemory>
+    where
+        A: Copy,
         ensures room { OnOk result (k ≤ self.new.spare) }
         ensures unchanged { self.new ≡ record self.old { spare = self.new.spare } }
         ensures spare { self.old.spare ≤ self.new.spare }
@@ -82,15 +86,12 @@ impl<A: Allocator> OnlineHull<A> {
     pub fn spare(&self) -> usize
         ensures { result ≡ self.now.spare }
     {
-        let for_lower = self.lower.capacity() - self.lower.len();
-        let for_upper = self.upper.capacity() - self.upper.len();
-        for_lower.min(for_upper)
+        self.lower.spare().min(self.upper.spare())
     }
 
     /// Adds `p`, which may be covered, or repeated. It takes no memory, and about as many steps as the
-    /// number of corners has bits, beside those for corners that are removed and for the move of the
-    /// corners after `p`.
-    /// It evaluates at most eight turns, and one more for each corner that it removes.
+    /// number of corners has bits, beside those for corners that are removed and for the move of a few
+    /// hundred corners behind `p`. It evaluates at most eight turns, and one more for each corner that it removes.
     pub fn insert(&mut self, p: Point)
         requires room { 0 < self.old.spare }
         requires few { self.old.inserted + self.old.skipped < fix_limit }
@@ -105,7 +106,7 @@ impl<A: Allocator> OnlineHull<A> {
         covering_is_reaching();
         covering_members_are_corners();
         corners_stand_for_the_set();
-        let (in_lower, in_upper) = places_of(&self.lower, &self.upper, p);
+        let (in_lower, in_upper) = spots_of(&self.lower, &self.upper, p);
         extend(Side::Lower, &mut self.lower, in_lower, p, &mut self.tally);
         extend(Side::Upper, &mut self.upper, in_upper, p, &mut self.tally);
         self.inserted += 1;
@@ -123,6 +124,18 @@ impl<A: Allocator> OnlineHull<A> {
         covered_points_change_nothing();
         let _ = p;
         self.skipped += 1;
+    }
+
+    /// Whether the polygon covers `p`, in about as many steps as the number of corners has bits. It evaluates
+    /// at most two turns, which `turns` does not count.
+    pub fn covers(&self, p: Point) -> bool
+        ensures { result ≡ is_covered self.now.corners p }
+    {
+        covered_is_decided();
+        covering_is_reaching();
+        let (in_lower, in_upper) = spots_of(&self.lower, &self.upper, p);
+        lies_within(Side::Lower, &self.lower, in_lower, p)
+            && lies_within(Side::Upper, &self.upper, in_upper, p)
     }
 
     /// How many points were inserted or skipped.
@@ -176,11 +189,8 @@ impl<A: Allocator> OnlineHull<A> {
     {
         covering_is_reaching();
         covering_members_are_corners();
-        let mut corners = Vec::from_slice(alloc, &self.lower)?;
-        let between = self.upper.len().saturating_sub(2);
-        for i in 0..between {
-            corners.push(self.upper[between - i])?;
-        }
+        let mut corners = self.lower.to_vec(alloc)?;
+        push_back(&mut corners, &self.upper)?;
         Ok(corners)
     }
 }

@@ -5,7 +5,7 @@ mod chain;
 mod hull;
 mod search;
 mod side;
-mod splice;
+mod spot;
 mod tally;
 
 pub use hull::OnlineHull;

@@ -3,10 +3,15 @@
 ghost use Rattle.std.specs.Prelude.{◌≡◌, ◌⊎◌, ◌<◌, ◌≤ℤ◌, ◌<ℤ◌, length};
 ghost use Rattle.range_plane.specs.Edges.{at};
 ghost use Rattle.range_plane.specs.Order.{rank};
-ghost use Rattle.range_hull.specs.Chain.{FallsAt, IsRising};
+ghost use Rattle.range_chain.specs.Blocks.{joined};
+ghost use Rattle.range_chain.specs.Chain.{FallsAt, IsRising};
 ghost use Rattle.range_hull.specs.Hull.{AreChains};
+ghost use Rattle.range_hull.specs.Spot.{IsSpot};
 
+use crate::spot::{Spot, spot_at, spot_in};
+use range_chain::Chain;
 use range_plane::{Point, rank};
+use std::alloc::Allocator;
 
 // `count` where `corner` comes before `p`, else 0, made without a branch, of which every second one would
 // be predicted wrong.
@@ -17,7 +22,7 @@ fn count_before(count: usize, corner: Point, p: Point) -> usize
     count * usize::from(rank(corner) - rank(p) < 0)
 }
 
-// The places of a point that comes after the first of both chains. The searches take turns, so that
+// The places of a point that comes after the first of both lists. The searches take turns, so that
 // neither waits for the other.
 fn places_after_first(lower: &[Point], upper: &[Point], p: Point) -> (usize, usize)
     requires rising { IsRising lower.now × IsRising upper.now }
@@ -41,17 +46,30 @@ fn places_after_first(lower: &[Point], upper: &[Point], p: Point) -> (usize, usi
     (in_lower + 1, in_upper + 1)
 }
 
-// The places at which `p` falls in both chains of a hull. No turn is evaluated.
-pub(crate) fn places_of(lower: &[Point], upper: &[Point], p: Point) -> (usize, usize)
-    requires { AreChains lower.now upper.now }
+// The places at which `p` falls in two lists that rise from the same first point.
+fn places_in(lower: &[Point], upper: &[Point], p: Point) -> (usize, usize)
+    requires rising { IsRising lower.now × IsRising upper.now }
+    requires some { (0 < length lower.now) × (0 < length upper.now) }
+    requires first { at lower.now 0 ≡ at upper.now 0 }
     ensures lower { FallsAt lower.now p result.0 }
     ensures upper { FallsAt upper.now p result.1 }
 {
-    if lower.is_empty() {
-        return (0, 0);
-    }
     if rank(p) <= rank(lower[0]) {
         return (0, 0);
     }
     places_after_first(lower, upper, p)
+}
+
+// Where `p` falls in both chains of a hull. No turn is evaluated.
+#[inline(always)]
+pub(crate) fn spots_of<A: Allocator>(lower: &Chain<A>, upper: &Chain<A>, p: Point) -> (Spot, Spot)
+    requires { AreChains (joined lower.now.blocks) (joined upper.now.blocks) }
+    ensures lower { IsSpot lower.now.blocks p result.0 }
+    ensures upper { IsSpot upper.now.blocks p result.1 }
+{
+    if lower.block_count() != 1 || upper.block_count() != 1 {
+        return (spot_at(lower, lower.find(p)), spot_at(upper, upper.find(p)));
+    }
+    let (in_lower, in_upper) = places_in(lower.block(0), upper.block(0), p);
+    (spot_in(lower, in_lower), spot_in(upper, in_upper))
 }

@@ -8,7 +8,7 @@ ghost use Rattle.range_hull.specs.Chain.{bend};
 ghost use Rattle.range_hull.specs.Tally.{most_turns};
 
 use crate::side::Side;
-use range_plane::{Point, turn};
+use range_plane::Point;
 use std::marker::Model;
 
 // How often `turn` was evaluated, and the doubled area within the chains. Each turn that changes a chain
@@ -50,7 +50,7 @@ impl Tally {
         self.area
     }
 
-    // How far `a`, `b`, `c` bend the way that a chain of this side has to. Every turn of a hull is
+    // How far `a`, `b`, `c` bend the way that a chain of this side has to. Every turn of an insertion is
     // evaluated here.
     fn bend(&mut self, side: Side, a: Point, b: Point, c: Point) -> i64
         requires { self.old.turns < most_turns }
@@ -60,11 +60,7 @@ impl Tally {
         ensures room { self.new.area + turn_limit ≤ self.new.turns * turn_limit }
     {
         self.turns += 1;
-        let turned = turn(a, b, c);
-        match side {
-            Side::Lower => turned,
-            Side::Upper => -turned,
-        }
+        side.bend(a, b, c)
     }
 
     // Whether `b` lies outside of the chain, past the edge from `a` to `c`, so that it becomes a corner.

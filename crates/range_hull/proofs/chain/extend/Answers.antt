@@ -1,52 +1,59 @@
-use Rattle.std.proofs.Common.{ℕ, List, subst, sym, length, ap, ◌∙◌, ◌-◌, pos, ◌+ℤ◌}
+use Rattle.std.proofs.Common.{ℕ, List, subst, sym, length, ap, ◌∙◌, ◌-◌, pos, ◌+ℤ◌, arith}
 use Rattle.range_plane.specs.Edges.{at}
 use Rattle.range_plane.specs.Plane.{Position}
+use Rattle.range_chain.specs.Blocks.{joined}
+use Rattle.range_chain.specs.Chain.{place}
+use Rattle.range_chain.proofs.Joins.{length-replaced}
 use Rattle.range_hull.specs.Area.{swept, signed, open_edge}
-use Rattle.range_hull.specs.Chain.{Extends, FallsAt, IsChain, IsWithin}
+use Rattle.range_hull.specs.Chain.{Extends}
 use Rattle.range_hull.proofs.Area.{Grows, grown, not_grown}
-use Rattle.range_hull.proofs.Chains.{IsCut, after-place, replaced_extends, within_extends}
+use Rattle.range_hull.proofs.Chains.{IsPlaced, after-place, replaced_extends, within_extends}
 use Rattle.range_hull.proofs.chain.extend.Given as given
 use Rattle.range_hull.proofs.chain.extend.Goals as goal
 
-inside : (g : given.Over) (c : goal.Then-not-lies_outside g) → IsWithin c.args.side c.args.chain.now.items c.args.p
-inside g c = subst (λ (L : List Position). IsWithin c.args.side L c.args.p) c.as_slice-corners.ensures.value c.if-not-lies_outside.ensures.inside
-
 pub returns-then-not-lies_outside-clause-chain : goal.returns-then-not-lies_outside-clause-chain
-returns-then-not-lies_outside-clause-chain g c = within_extends c.requires.chain c.args.p (inside g c)
+returns-then-not-lies_outside-clause-chain g c = within_extends c.requires.chain c.args.p c.if-not-lies_outside.ensures.inside
 
 pub returns-then-not-lies_outside-clause-swept : goal.returns-then-not-lies_outside-clause-swept
 returns-then-not-lies_outside-clause-swept g c =
-    ap (λ (n : ℕ). pos n +ℤ swept c.args.side c.args.chain.now.items +ℤ signed c.args.side (open_edge (at c.args.chain.now.items 0) (at c.args.chain.now.items (length c.args.chain.now.items - 1)) c.args.p)) c.if-not-lies_outside.ensures.none
-    ∙ not_grown c.requires.chain c.args.p (pos c.args.tally.now.area) (inside g c)
+    let L = joined c.args.chain.now.blocks in
+    ap (λ (n : ℕ). pos n +ℤ swept c.args.side L +ℤ signed c.args.side (open_edge (at L 0) (at L (length L - 1)) c.args.p)) c.if-not-lies_outside.ensures.none
+    ∙ not_grown c.requires.chain c.args.p (pos c.args.tally.now.area) c.if-not-lies_outside.ensures.inside
 
-cut : (g : given.Over) (c : goal.After-replace_run g) → IsCut c.args.side c.args.chain.now.items c.args.p c.kept_before-from.result c.args.place c.kept_after-to.result
-cut g c =
-    let L = c.as_slice-corners.result.now in
-    let falls = subst (λ (M : List Position). FallsAt M c.args.p c.args.place) (sym c.as_slice-corners.ensures.value) c.requires.place in
-    let rising = (subst (λ (M : List Position). IsChain c.args.side M) (sym c.as_slice-corners.ensures.value) c.requires.chain).rising in
-    let t : IsCut c.args.side L c.args.p c.kept_before-from.result c.args.place c.kept_after-to.result = record {
+placed : (g : given.Over) (c : goal.After-replace_run g) → IsPlaced c.args.side (joined c.args.chain.now.blocks) c.args.p (place c.args.chain.now.blocks c.kept_before-from.result) (place c.args.chain.now.blocks c.args.spot.at) (place c.args.chain.now.blocks c.kept_after-to.result)
+placed g c =
+    let bs = c.args.chain.now.blocks in record {
       low = c.kept_before-from.ensures.bound;
       high = c.kept_after-to.ensures.bound;
       within = c.kept_after-to.ensures.within;
       starts = c.kept_before-from.ensures.starts;
       stops = c.kept_after-to.ensures.stops;
-      before = falls.before;
-      after = after-place L c.args.p c.args.place rising c.if-not-lies_outside.ensures.apart;
+      before = c.requires.spot.falls.before;
+      after = after-place (joined bs) c.args.p (place bs c.args.spot.at) c.requires.chain.rising c.if-not-lies_outside.ensures.apart;
       outside = c.if-not-lies_outside.ensures.outside;
       bends_before = c.kept_before-from.ensures.bends;
       dents_before = c.kept_before-from.ensures.dents;
       bends_after = c.kept_after-to.ensures.bends;
       dents_after = c.kept_after-to.ensures.dents;
-    } in
-    subst (λ (M : List Position). IsCut c.args.side M c.args.p c.kept_before-from.result c.args.place c.kept_after-to.result) c.as_slice-corners.ensures.value t
+    }
 
 pub returns-clause-chain : goal.returns-clause-chain
-returns-clause-chain g c = subst (λ (M : List Position). Extends c.args.side c.args.chain.now.items c.args.p M) (sym c.replace_run.ensures.items) (replaced_extends c.requires.chain (cut g c))
+returns-clause-chain g c = subst (λ (M : List Position). Extends c.args.side (joined c.args.chain.now.blocks) c.args.p M) (sym c.replace_run.ensures.points) (replaced_extends c.requires.chain (placed g c))
+
+pub returns-clause-turns : goal.returns-clause-turns
+returns-clause-turns g c =
+    let bs = c.args.chain.now.blocks in
+    let size = length-replaced (joined bs) c.args.p (place bs c.kept_before-from.result) (place bs c.kept_after-to.result) (omega (arith, c.kept_before-from.ensures.bound, c.kept_after-to.ensures.bound)) c.kept_after-to.ensures.within in
+    omega (arith, size, ap length c.replace_run.ensures.points, c.if-not-lies_outside.ensures.turns, c.kept_before-from.ensures.turns, c.kept_after-to.ensures.turns)
 
 pub returns-clause-swept : goal.returns-clause-swept
 returns-clause-swept g c =
-    let L = c.as_slice-corners.result.now in
-    let grows : Grows c.args.side L c.args.p c.kept_before-from.result c.args.place c.kept_after-to.result (pos c.args.tally.now.area) (pos c.lies_outside.new.tally.area) (pos c.kept_before-from.new.tally.area) (pos c.kept_after-to.new.tally.area) = record {
+    let bs = c.args.chain.now.blocks in
+    let L = joined bs in
+    let from : ℕ = place bs c.kept_before-from.result in
+    let here : ℕ = place bs c.args.spot.at in
+    let to : ℕ = place bs c.kept_after-to.result in
+    let grows : Grows c.args.side L c.args.p from here to (pos c.args.tally.now.area) (pos c.lies_outside.new.tally.area) (pos c.kept_before-from.new.tally.area) (pos c.kept_after-to.new.tally.area) = record {
       outside = c.if-not-lies_outside.ensures.gained;
       at_first = λ z. ap pos (c.if-not-lies_outside.ensures.at_first z);
       at_last = λ z. ap pos (c.if-not-lies_outside.ensures.at_last z);
@@ -55,6 +62,5 @@ returns-clause-swept g c =
       after = c.kept_after-to.ensures.swept;
       none_after = λ z. ap pos (c.kept_after-to.ensures.none z);
     } in
-    let h = subst (λ (M : List Position). Grows c.args.side M c.args.p c.kept_before-from.result c.args.place c.kept_after-to.result (pos c.args.tally.now.area) (pos c.lies_outside.new.tally.area) (pos c.kept_before-from.new.tally.area) (pos c.kept_after-to.new.tally.area)) c.as_slice-corners.ensures.value grows in
-    grown c.args.side c.args.chain.now.items c.args.p c.kept_before-from.result c.args.place c.kept_after-to.result _ _ _ _ (cut g c) h
-    ∙ ap (λ (M : List Position). pos c.args.tally.now.area +ℤ swept c.args.side M) (sym {A = List Position} c.replace_run.ensures.items)
+    grown c.args.side L c.args.p from here to _ _ _ _ (placed g c) grows
+    ∙ ap (λ (M : List Position). pos c.args.tally.now.area +ℤ swept c.args.side M) (sym {A = List Position} c.replace_run.ensures.points)

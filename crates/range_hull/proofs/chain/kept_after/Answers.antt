@@ -1,34 +1,55 @@
-use Rattle.std.proofs.Common.{◌≡◌, ℕ, ◌+◌, ◌-◌, ◌<◌, length, pos, ◌≤ℤ◌, arith, ap, subst, ◌∙◌}
+use Rattle.std.proofs.Common.{◌≡◌, ℕ, ◌+◌, ◌-◌, ◌<◌, length, pos, ◌≤ℤ◌, arith, refl, ap, sym, subst, ◌∙◌}
 use Rattle.range_plane.specs.Edges.{at}
 use Rattle.range_plane.specs.Plane.{Position}
 use Rattle.integers_and_lists.proofs.Integers.{linear}
+use Rattle.range_chain.specs.Blocks.{joined}
+use Rattle.range_chain.specs.Chain.{place}
+use Rattle.range_chain.proofs.Places.{place_within}
+use Rattle.range_hull.specs.Area.{swept_after}
 use Rattle.range_hull.specs.Chain.{bend}
 use Rattle.range_hull.proofs.Area.{after-step}
-use Rattle.range_hull.proofs.Chains.{read}
 use Rattle.range_hull.proofs.chain.kept_after.Goals as goal
 
-pub loop-kept-preserved : goal.loop-kept-preserved
-loop-kept-preserved c =
-    let L = c.args.chain.now in
-    let side = c.args.side in
-    let k = c.loop-kept.kept in
-    let i = c.loop-kept.invariant in
-    let within : k + 1 < length L = omega arith in
-    let e = read L c.index-chain-kept.result k (omega arith) c.index-chain-kept.is in
-    let f = read L c.index-chain-kept-in-loop-kept.result (k + 1) within c.index-chain-kept-in-loop-kept.is in
-    let value : bend side c.args.p c.index-chain-kept.result c.index-chain-kept-in-loop-kept.result ≡ bend side c.args.p (at L k) (at L (k + 1)) =
-    ap (λ (x : Position). bend side c.args.p x c.index-chain-kept-in-loop-kept.result) e ∙ ap (λ (x : Position). bend side c.args.p (at L k) x) f in
-    let dent : bend side c.args.p (at L k) (at L (k + 1)) ≤ℤ pos 0 = omega (arith, linear, value, c.if-dents.ensures.yes) in
-    let gained = c.if-dents.ensures.gained in (
+pub loop-side-init : goal.loop-side-init
+loop-side-init g c =
+    let within = place_within c.args.chain.now.blocks c.args.c c.requires.stands in (
+      c.requires.stands,
       omega arith,
+      within,
+      (λ h. h),
+      (λ h. absurd (omega (arith, h))),
       omega arith,
-      (λ h. within),
-      (λ h. subst (λ (n : ℕ). bend side c.args.p (at L n) (at L (k + 1)) ≤ℤ pos 0) (let g : k ≡ k + 1 - 1 = omega arith in g) dent),
-      omega arith,
-      (λ h. omega (arith, linear, gained, value, after-step side L c.args.p k within, i.5 h)),
-      (λ z. absurd (omega (arith, z, i.0))),
+      (λ h. refl),
+      (λ h. refl),
       omega arith,
     )
 
-pub returns-after-loop-kept-clause-bends : goal.returns-after-loop-kept-clause-bends
-returns-after-loop-kept-clause-bends c = λ h. absurd (omega arith)
+pub loop-side-preserved : goal.loop-side-preserved
+loop-side-preserved g c =
+    let bs = c.args.chain.now.blocks in
+    let L = joined bs in
+    let side = c.args.side in
+    let p = c.args.p in
+    let k : ℕ = place bs c.loop-side.kept in
+    let m : ℕ = place bs c.next-next.result in
+    let i = c.loop-side.invariant in
+    let more : k + 1 ≡ m = sym c.next-next.ensures.place in
+    let within : m < length L = c.if-is_end.ensures.within in
+    let here = c.get.ensures in
+    let after = c.get-in-loop-side.ensures ∙ ap (at L) (sym more) in
+    let value : bend side p c.get.result c.get-in-loop-side.result ≡ bend side p (at L k) (at L (k + 1)) =
+    ap (λ (x : Position). bend side p x c.get-in-loop-side.result) here ∙ ap (λ (x : Position). bend side p (at L k) x) after in
+    let dent : bend side p (at L k) (at L (k + 1)) ≤ℤ pos 0 = omega (arith, linear, value, c.if-not-dents.ensures.yes) in
+    let gained = c.if-not-dents.ensures.gained in (
+      c.next-next.ensures.stands,
+      omega (arith, more, i.1),
+      omega (arith, within),
+      (λ h. within),
+      (λ h.
+          subst (λ (n : ℕ). bend side p (at L (n - 1)) (at L n) ≤ℤ pos 0) more
+          (subst (λ (n : ℕ). bend side p (at L n) (at L (k + 1)) ≤ℤ pos 0) (let e : k ≡ k + 1 - 1 = omega arith in e) dent)),
+      omega (arith, more, i.5, c.if-not-dents.ensures.turns),
+      (λ h. omega (arith, linear, gained, value, after-step side L p k (omega (arith, more, within)), i.6 h, ap (swept_after side L p) more)),
+      (λ z. absurd (omega (arith, z, i.1, more, within))),
+      omega (arith, i.8, c.if-not-dents.ensures.turns),
+    )

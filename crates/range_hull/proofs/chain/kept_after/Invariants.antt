@@ -1,19 +1,25 @@
 use Rattle.std.proofs.Common.{◌+◌, ◌-◌, ◌<◌, ◌≤◌, length, pos, ◌≤ℤ◌, ◌≡◌, ◌-ℤ◌}
 use Rattle.range_plane.specs.Edges.{at}
+use Rattle.range_chain.specs.Blocks.{joined}
+use Rattle.range_chain.specs.Chain.{Stands, place}
 use Rattle.range_hull.specs.Area.{swept_after}
 use Rattle.range_hull.specs.Chain.{bend}
 use Rattle.range_hull.proofs.chain.kept_after.Given as goal
 
-abbrev pub invariant-loop-kept : goal.invariant-loop-kept
-invariant-loop-kept l =
-    (l.place ≤ l.kept)
-    × (l.kept ≤ length l.chain)
-    × (l.place < length l.chain → l.kept < length l.chain)
-    × (l.place < l.kept → bend l.side l.p (at l.chain (l.kept - 1)) (at l.chain l.kept) ≤ℤ pos 0)
-    × (l.tally.turns + l.place ≤ l.initial.tally.turns + l.kept)
-    × (l.place < length l.chain → pos l.tally.area -ℤ swept_after l.side l.chain l.p l.kept ≡ pos l.initial.tally.area -ℤ swept_after l.side l.chain l.p l.place)
-    × (l.place ≡ length l.chain → l.tally.area ≡ l.initial.tally.area)
+abbrev pub invariant-loop-side : goal.invariant-loop-side
+invariant-loop-side g l =
+    let L = joined l.chain.blocks in
+    let i = place l.chain.blocks l.fn.c in
+    let k = place l.chain.blocks l.kept in
+    Stands l.chain.blocks l.kept
+    × (i ≤ k)
+    × (k ≤ length L)
+    × (i < length L → k < length L)
+    × (i < k → bend l.side l.p (at L (k - 1)) (at L k) ≤ℤ pos 0)
+    × (l.tally.turns + i ≤ l.initial.tally.turns + k)
+    × (i < length L → pos l.tally.area -ℤ swept_after l.side L l.p k ≡ pos l.initial.tally.area -ℤ swept_after l.side L l.p i)
+    × (i ≡ length L → l.tally.area ≡ l.initial.tally.area)
     × (l.initial.tally.turns ≤ l.tally.turns)
 
-abbrev pub decreases-loop-kept : goal.decreases-loop-kept
-decreases-loop-kept l = length l.chain - l.kept
+abbrev pub decreases-loop-side : goal.decreases-loop-side
+decreases-loop-side g l = length (joined l.chain.blocks) - place l.chain.blocks l.kept

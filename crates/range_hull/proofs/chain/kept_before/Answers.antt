@@ -1,31 +1,50 @@
-use Rattle.std.proofs.Common.{◌≡◌, ℕ, ◌-◌, ◌≤◌, length, pos, ◌≤ℤ◌, arith, ap, subst, ◌∙◌}
+use Rattle.std.proofs.Common.{◌≡◌, ℕ, ◌+◌, ◌-◌, ◌≤◌, length, pos, ◌≤ℤ◌, arith, ap, subst, ◌∙◌}
 use Rattle.range_plane.specs.Edges.{at}
 use Rattle.range_plane.specs.Plane.{Position}
 use Rattle.integers_and_lists.proofs.Integers.{linear}
+use Rattle.range_chain.specs.Blocks.{joined}
+use Rattle.range_chain.specs.Chain.{place}
+use Rattle.range_chain.proofs.Places.{place_within}
+use Rattle.range_hull.specs.Area.{swept_before}
 use Rattle.range_hull.specs.Chain.{bend}
 use Rattle.range_hull.proofs.Area.{before-step}
-use Rattle.range_hull.proofs.Chains.{read}
 use Rattle.range_hull.proofs.chain.kept_before.Goals as goal
 
-pub loop-kept-preserved : goal.loop-kept-preserved
-loop-kept-preserved c =
-    let L = c.args.chain.now in
+pub get-before-requires-clause-within : goal.get-before-requires-clause-within
+get-before-requires-clause-within g c =
+    omega (arith, place_within c.args.chain.now.blocks c.loop-side.kept c.loop-side.invariant.0, c.previous-last.ensures.place, c.previous.ensures.place)
+
+pub get-requires-clause-within : goal.get-requires-clause-within
+get-requires-clause-within g c =
+    omega (arith, place_within c.args.chain.now.blocks c.loop-side.kept c.loop-side.invariant.0, c.previous-last.ensures.place)
+
+pub loop-side-preserved : goal.loop-side-preserved
+loop-side-preserved g c =
+    let bs = c.args.chain.now.blocks in
+    let L = joined bs in
     let side = c.args.side in
-    let k = c.loop-kept.kept in
-    let i = c.loop-kept.invariant in
-    let within : k ≤ length L = omega (arith, i.0, c.requires.within) in
-    let long : 2 ≤ k = omega arith in
-    let e = read L c.index-chain-kept.result (k - 2) (omega arith) c.index-chain-kept.is in
-    let f = read L c.index-chain-kept-in-loop-kept.result (k - 1) (omega arith) c.index-chain-kept-in-loop-kept.is in
-    let value : bend side c.index-chain-kept.result c.index-chain-kept-in-loop-kept.result c.args.p ≡ bend side (at L (k - 2)) (at L (k - 1)) c.args.p =
-    ap (λ (x : Position). bend side x c.index-chain-kept-in-loop-kept.result c.args.p) e ∙ ap (λ (x : Position). bend side (at L (k - 2)) x c.args.p) f in
-    let dent : bend side (at L (k - 2)) (at L (k - 1)) c.args.p ≤ℤ pos 0 = omega (arith, linear, value, c.if-dents.ensures.yes) in
-    let gained = c.if-dents.ensures.gained in (
-      omega arith,
-      (λ h. omega arith),
-      (λ h. subst (λ (n : ℕ). bend side (at L n) (at L (k - 1)) c.args.p ≤ℤ pos 0) (let g : k - 2 ≡ k - 1 - 1 = omega arith in g) dent),
-      omega arith,
-      (λ h. omega (arith, linear, gained, value, before-step side L c.args.p k long within, i.4 h)),
-      (λ z. absurd (omega (arith, z, i.0))),
-      omega arith,
+    let p = c.args.p in
+    let k : ℕ = place bs c.loop-side.kept in
+    let m : ℕ = place bs c.previous-last.result in
+    let i = c.loop-side.invariant in
+    let last : m + 1 ≡ k = c.previous-last.ensures.place in
+    let first : place bs c.previous.result + 1 ≡ m = c.previous.ensures.place in
+    let within : k ≤ length L = place_within bs c.loop-side.kept i.0 in
+    let before = c.get-before.ensures ∙ ap (at L) (let e : place bs c.previous.result ≡ k - 2 = omega (arith, last, first) in e) in
+    let here = c.get.ensures ∙ ap (at L) (let e : m ≡ k - 1 = omega (arith, last) in e) in
+    let value : bend side c.get-before.result c.get.result p ≡ bend side (at L (k - 2)) (at L (k - 1)) p =
+    ap (λ (x : Position). bend side x c.get.result p) before ∙ ap (λ (x : Position). bend side (at L (k - 2)) x p) here in
+    let dent : bend side (at L (k - 2)) (at L (k - 1)) p ≤ℤ pos 0 = omega (arith, linear, value, c.if-not-dents.ensures.yes) in
+    let gained = c.if-not-dents.ensures.gained in
+    let less : k - 1 ≡ m = omega (arith, last) in (
+      c.previous-last.ensures.stands,
+      omega (arith, last, i.1),
+      (λ h. omega (arith, last, first)),
+      (λ h.
+          subst (λ (n : ℕ). bend side (at L (n - 1)) (at L n) p ≤ℤ pos 0) less
+          (subst (λ (n : ℕ). bend side (at L n) (at L (k - 1)) p ≤ℤ pos 0) (let e : k - 2 ≡ k - 1 - 1 = omega arith in e) dent)),
+      omega (arith, last, i.4, c.if-not-dents.ensures.turns),
+      (λ h. omega (arith, linear, gained, value, before-step side L p k (omega (arith, last, first)) within, i.5 h, ap (swept_before side L p) less)),
+      (λ z. absurd (omega (arith, z, i.1, last))),
+      omega (arith, i.7, c.if-not-dents.ensures.turns),
     )

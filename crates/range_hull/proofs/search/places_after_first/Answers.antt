@@ -1,7 +1,7 @@
 use Rattle.std.proofs.Common.{◌≡◌, ℕ, ◌+◌, ◌/◌, ◌<ℤ◌, ◌≤ℤ◌, ◌⊎◌, arith, subst}
 use Rattle.range_plane.specs.Order.{rank}
 use Rattle.range_plane.specs.Plane.{Position}
-use Rattle.range_hull.proofs.Chains.{read}
+use Rattle.range_chain.proofs.Places.{read}
 use Rattle.range_hull.proofs.Searching.{falls_after, halved}
 use Rattle.range_hull.proofs.search.places_after_first.Goals as goal
 

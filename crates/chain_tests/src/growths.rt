@@ -1,0 +1,57 @@
+// Tests of refused growths.
+
+use range_chain::Chain;
+use range_plane::Point;
+use refusing::Refusing;
+
+// More growths than a run here makes.
+const MANY_GROWTHS: u32 = 100;
+
+// Two lists of blocks, and ten blocks.
+const LEAST_GROWTHS: u32 = 12;
+
+#[test]
+fn reserve_is_refused_each_growth(rt: HostRuntime) {
+    let p = Point::new(1, 2).expect(&rt, "a point");
+    for number in 1..MANY_GROWTHS {
+        let alloc = Refusing::new(rt.alloc(), number);
+        let mut chain = Chain::new(&alloc);
+        let mut refusals = 0u32;
+        if chain.reserve(1).is_err() {
+            refusals = refusals.wrapping_add(1);
+            assert!(rt;
+                chain.len() == 0 && chain.spare() == 0,
+                "after growth {number}"
+            );
+            assert!(rt; chain.reserve(1).is_ok(), "again");
+        }
+        if chain.spare() > 0 {
+            let end = chain.end();
+            chain.replace_run(end, end, p);
+        }
+        if chain.reserve(1200).is_err() {
+            refusals = refusals.wrapping_add(1);
+            assert!(rt;
+                chain.len() == 1 && chain.block_count() == 1,
+                "after growth {number}"
+            );
+            assert!(rt; chain.reserve(1200).is_ok(), "again");
+        }
+        assert!(rt; chain.spare() >= 1200, "room");
+        assert!(rt; chain.len() == 1, "in the end");
+        assert_eq!(rt; alloc.has_refused(), refusals == 1, "at growth {number}");
+        if refusals == 0 {
+            assert!(rt; number > LEAST_GROWTHS, "growths");
+            return;
+        }
+    }
+    assert!(rt; false, "no run without a refusal");
+}
+
+#[test]
+fn more_points_than_memory_are_refused(rt: HostRuntime) {
+    let mut chain = Chain::new(rt.alloc());
+    assert!(rt; chain.reserve(usize::MAX).is_err());
+    assert!(rt; chain.reserve(1).is_ok() && chain.reserve(usize::MAX).is_err());
+    assert!(rt; chain.spare() == 256);
+}

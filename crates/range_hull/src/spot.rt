@@ -1,0 +1,61 @@
+// Where a point falls in a chain, and the corners on either side of it.
+
+ghost use Rattle.std.specs.Prelude.{◌≡◌, ◌≤◌, length};
+ghost use Rattle.range_chain.specs.Blocks.{block, joined};
+ghost use Rattle.range_chain.specs.Chain.{Stands, place};
+ghost use Rattle.range_hull.specs.Spot.{IsBeside};
+
+use range_chain::{Chain, Cursor};
+use range_plane::Point;
+use std::alloc::Allocator;
+
+#[derive(Clone, Copy)]
+pub(crate) struct Spot {
+    pub(crate) at: Cursor,
+    // The corner before, if there is one.
+    pub(crate) before: Option<Point>,
+    // The corner after, if there is one.
+    pub(crate) after: Option<Point>,
+}
+
+// The spot at place `k` of the only block.
+#[inline(always)]
+pub(crate) fn spot_in<A: Allocator>(chain: &Chain<A>, k: usize) -> Spot
+    requires one { length chain.now.blocks ≡ 1 }
+    requires within { k ≤ length (block chain.now.blocks 0) }
+    ensures stands { Stands chain.now.blocks result.at }
+    ensures place { place chain.now.blocks result.at ≡ k }
+    ensures beside { IsBeside (joined chain.now.blocks) k result.before result.after }
+{
+    let points = chain.block(0);
+    Spot {
+        at: chain.cursor_in(0, k),
+        before: if k > 0 { Some(points[k - 1]) } else { None },
+        after: if k < points.len() {
+            Some(points[k])
+        } else {
+            None
+        },
+    }
+}
+
+// The spot at `c`.
+pub(crate) fn spot_at<A: Allocator>(chain: &Chain<A>, c: Cursor) -> Spot
+    requires { Stands chain.now.blocks c }
+    ensures at { result.at ≡ c }
+    ensures beside { IsBeside (joined chain.now.blocks) (place chain.now.blocks c) result.before result.after }
+{
+    Spot {
+        at: c,
+        before: if chain.is_start(c) {
+            None
+        } else {
+            Some(chain.get(chain.previous(c)))
+        },
+        after: if chain.is_end(c) {
+            None
+        } else {
+            Some(chain.get(c))
+        },
+    }
+}
