@@ -25,17 +25,23 @@ pub fn distances(points: &[Point]) -> Vec<(u128, u32)> {
     points.iter().zip(0..).map(|(p, place)| (distance(p), place)).collect()
 }
 
-// The rows of the levels, the kept points selected for each.
+// The rows of the levels, which rise: the kept points selected for each, the greatest first, and one hull for all.
 pub fn by_selection(points: &[Point]) -> Vec<(usize, usize, u128)> {
+    let kept = |level: usize| (level * points.len()).div_ceil(100);
     let mut ranked = distances(points);
+    let mut cut = points.len();
+    for level in LEVELS.into_iter().rev().filter(|level| kept(*level) < points.len()) {
+        ranked[..cut].select_nth_unstable(kept(level));
+        cut = kept(level);
+    }
+    let (mut hull, mut done) = (Hull::default(), 0);
     LEVELS
         .map(|level| {
-            let kept = (level * points.len()).div_ceil(100);
-            if kept < points.len() {
-                ranked.select_nth_unstable(kept);
+            for (_, place) in ranked[done..kept(level)].iter().rev() {
+                hull.insert(points[*place as usize]);
             }
-            row(ranked[..kept].iter().map(|(_, place)| points[*place as usize]))
+            done = kept(level);
+            (done, hull.corner_count(), hull.tally.area)
         })
         .to_vec()
 }
-

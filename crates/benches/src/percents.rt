@@ -11,15 +11,12 @@ use std::time::Instant;
 
 const ROUNDS: u8 = 5;
 
-fn percents(alloc: Global, fixes: &Columns) -> Result<[PercentRow; 3], OutOfMemory>
+const LEVELS: [u8; 3] = [50, 95, 100];
+
+fn percents(alloc: Global, fixes: &Columns) -> Result<Vec<PercentRow>, OutOfMemory>
     requires { length fixes.now.points ≤ fix_limit }
 {
-    let ranking = Ranking::new(alloc, fixes)?;
-    Ok([
-        ranking.row(alloc, 50)?,
-        ranking.row(alloc, 95)?,
-        ranking.row(alloc, 100)?,
-    ])
+    Ranking::new(alloc, fixes, &LEVELS)?.rows(alloc, &LEVELS)
 }
 
 /// Times the percent polygons of a walk, at three levels read off one ranking. Prints how many points each level

@@ -20,10 +20,21 @@ fn has_row(found: PercentRow, (level, kept, corners, area2): Row) -> bool {
         }
 }
 
-// Checks rows, each by itself and read off one ranking.
+// Checks rows, each by itself, and all and each read off one ranking.
 fn expect_rows(rt: &impl Abort, alloc: Global, fixes: &Columns, rows: &[Row]) {
     assert!(rt; fixes.len() <= 250);
-    let ranking = Ranking::new(alloc, fixes).expect(rt, "memory");
+    let levels = rows
+        .iter()
+        .map(|row| row.0)
+        .collect::<Vec<u8>>(alloc)
+        .expect(rt, "memory");
+    let ranking = Ranking::new(alloc, fixes, &levels).expect(rt, "memory");
+    assert!(rt; levels.iter().all(|level| *level <= 100));
+    let all = ranking.rows(alloc, &levels).expect(rt, "memory");
+    assert!(rt; all.len() == rows.len());
+    for (row, found) in rows.iter().zip(all) {
+        assert!(rt; has_row(found, *row), "{found:?}");
+    }
     for row in rows {
         let level = row.0;
         assert!(rt; level <= 100);
@@ -122,6 +133,25 @@ fn scattered_far(rt: HostRuntime) {
     );
 }
 
+// Levels in no order, and one of them twice.
+#[test]
+fn levels_in_any_order(rt: HostRuntime) {
+    let fixes = scattered(&rt, rt.alloc(), 0xFF_FFFF);
+    expect_rows(
+        &rt,
+        rt.alloc(),
+        &fixes,
+        &[
+            (50, 125, 17, 225_655_721_396_135),
+            (2, 5, 4, 901_215_403_882),
+            (100, 250, 13, 535_309_414_729_752),
+            (50, 125, 17, 225_655_721_396_135),
+            (1, 3, 3, 13_606_412_965),
+            (95, 238, 18, 501_845_282_572_989),
+        ],
+    );
+}
+
 // With many ties.
 #[test]
 fn scattered_near(rt: HostRuntime) {
@@ -156,7 +186,7 @@ fn at_the_limits(rt: HostRuntime) {
         fixes.push(Point { e: 0, n: 0 }).expect(&rt, "memory");
     }
     assert!(rt; fixes.len() <= 1_048_576);
-    let ranking = Ranking::new(rt.alloc(), &fixes).expect(&rt, "memory");
+    let ranking = Ranking::new(rt.alloc(), &fixes, &[99, 100]).expect(&rt, "memory");
     for row in [(99, 1_038_091, 1, 0), (100, 1_048_576, 2, 0)] {
         let found = ranking.row(rt.alloc(), row.0).expect(&rt, "memory");
         assert!(rt; has_row(found, row), "{found:?}");

@@ -8,7 +8,7 @@ use refusing::Refusing;
 use std::alloc::{Allocator, Global};
 use std::process::Abort;
 
-// A ranking takes memory twice, and a hull for each of its chains.
+// A ranking takes memory twice, rows once, and a hull for each of its chains.
 const RANKING_GROWTHS: u32 = 2;
 
 const HULL_GROWTHS: u32 = 2;
@@ -59,10 +59,10 @@ fn ranking_again<A: Allocator + Copy>(
     fixes: &Columns,
 ) -> u32 {
     assert!(rt; fixes.len() < 100);
-    let ranking = Ranking::new(refusing, fixes);
+    let ranking = Ranking::new(refusing, fixes, &[50]);
     let refusals = u32::from(ranking.is_err());
     let ranking = ranking
-        .or_else(|_| Ranking::new(refusing, fixes))
+        .or_else(|_| Ranking::new(refusing, fixes, &[50]))
         .expect(rt, "again");
     let row = ranking.row(alloc, 50).expect(rt, "memory");
     assert!(rt; row == HALF_OF_RING, "row");
@@ -95,11 +95,40 @@ fn row_again<A: Allocator + Copy>(rt: &impl Abort, alloc: A, ranking: &Ranking) 
 fn row_is_refused_each_growth(rt: HostRuntime) {
     let fixes = columns_of(&rt, rt.alloc(), &RING);
     assert!(rt; fixes.len() < 100);
-    let ranking = Ranking::new(rt.alloc(), &fixes).expect(&rt, "memory");
+    let ranking = Ranking::new(rt.alloc(), &fixes, &[50]).expect(&rt, "memory");
     for number in 1..MANY_GROWTHS {
         let alloc = Refusing::new(rt.alloc(), number);
         let refusals = row_again(&rt, &alloc, &ranking);
         if is_last_run(&rt, &alloc, number, refusals, HULL_GROWTHS) {
+            return;
+        }
+    }
+    assert!(rt; false, "no run without a refusal");
+}
+
+// Reads rows off a ranking, again where it is refused. How often it was refused.
+fn rows_again<A: Allocator + Copy>(rt: &impl Abort, alloc: A, ranking: &Ranking) -> u32 {
+    let rows = ranking.rows(alloc, &[50, 50]);
+    let refusals = u32::from(rows.is_err());
+    let rows = rows
+        .or_else(|_| ranking.rows(alloc, &[50, 50]))
+        .expect(rt, "again");
+    assert!(rt;
+        rows.as_slice() == [HALF_OF_RING, HALF_OF_RING].as_slice(),
+        "rows"
+    );
+    refusals
+}
+
+#[test]
+fn rows_are_refused_each_growth(rt: HostRuntime) {
+    let fixes = columns_of(&rt, rt.alloc(), &RING);
+    assert!(rt; fixes.len() < 100);
+    let ranking = Ranking::new(rt.alloc(), &fixes, &[50]).expect(&rt, "memory");
+    for number in 1..MANY_GROWTHS {
+        let alloc = Refusing::new(rt.alloc(), number);
+        let refusals = rows_again(&rt, &alloc, &ranking);
+        if is_last_run(&rt, &alloc, number, refusals, 1 + HULL_GROWTHS) {
             return;
         }
     }

@@ -1,13 +1,13 @@
--- In a list in order, the entries before which fewer than k come are the first k.
-use Rattle.std.proofs.Common.{◌≡◌, ℕ, zero, suc, ◌+◌, ◌<◌, Bool, true, false, cond, eqb, nat_lt, List, [], ◌∷◌, length, get_or, set, map, take, filter, refl, sym, ap, subst, ◌∙◌, arith, rules, tests, suc-le-suc}
+-- In a list that is cut, the entries before which fewer than k come are the first k.
+use Rattle.std.proofs.Common.{◌≡◌, ℕ, zero, suc, ◌+◌, ◌<◌, ◌≤◌, Bool, true, false, cond, eqb, nat_lt, List, [], ◌∷◌, ◌++◌, length, get_or, set, map, take, drop, filter, refl, sym, ap, ap₂, subst, ◌∙◌, arith}
 use Rattle.std.specs.Prelude.{count_by}
-use Rattle.std.specs.Cmp.{IsStrictWeakOrder}
-use Rattle.std.specs.List.{AllByRecursion, IsDistinct, swap}
-use Rattle.std.specs.List.Sorted.{IsPermutation, IsSortedBy}
+use Rattle.std.specs.List.{All, AllByRecursion, IsDistinct, swap}
+use Rattle.std.specs.List.Sorted.{IsPermutation}
 use Rattle.std.proofs.lemmas.Bool.Decides.{nat_tests}
-use Rattle.std.proofs.lemmas.List.Elements.{recursion_from_All}
-use Rattle.std.proofs.lemmas.List.Sorted.{sorted_far, sum_by-IsPermutation, IsPermutation-refl, IsPermutation-trans, IsPermutation-cons, IsPermutation-append_left, IsPermutation-append_comm, IsPermutation-keeps}
-use Rattle.std.proofs.lemmas.List.Sums.{sum_by-cons}
+use Rattle.std.proofs.lemmas.List.{append-nil, length-drop, length-take, take-append-drop}
+use Rattle.std.proofs.lemmas.List.Elements.{All-from_recursion, filter-append, recursion_from_All}
+use Rattle.std.proofs.lemmas.List.Sorted.{sum_by-IsPermutation, IsPermutation-refl, IsPermutation-trans, IsPermutation-cons, IsPermutation-append_left, IsPermutation-append_comm, IsPermutation-keeps}
+use Rattle.std.proofs.lemmas.List.Sums.{count_by-le-length, sum_by-append, sum_by-cons}
 use Rattle.std.proofs.lemmas.Map.Keys.{IsDistinct-IsPermutation}
 use Rattle.range_stats.specs.Percent.{comes_before}
 
@@ -15,15 +15,6 @@ abbrev pub Entry : Type 0
 Entry = ℕ × ℕ
 
 -- ---- the order
-before_one_way : (a b : Entry) → comes_before a b ≡ true → comes_before b a ≡ false
-before_one_way a b h = grind (arith, nat_tests)
-
-before_chain : (a b c : Entry) → comes_before a b ≡ false → comes_before b c ≡ false → comes_before a c ≡ false
-before_chain a b c h k = grind (arith, nat_tests)
-
-before_order : IsStrictWeakOrder comes_before
-before_order = record { one_way = before_one_way; chain = before_chain }
-
 before_itself : (a : Entry) → comes_before a a ≡ false
 before_itself a = grind (arith, nat_tests)
 
@@ -33,45 +24,35 @@ same_place a b = eqb a.1 b.1
 before_other : (a b : Entry) → comes_before b a ≡ false → same_place a b ≡ false → comes_before a b ≡ true
 before_other a b h k = grind (arith, nat_tests)
 
--- ---- lists in which each entry comes before all later ones
-abbrev Rises : List Entry → Type 0
-Rises [] = Unit {0}
-Rises (x ∷ xs) = AllByRecursion (λ y. comes_before x y ≡ true) xs × Rises xs
+-- ---- counts and filters
+at_most_one : (b : Bool) → cond b 1 0 ≤ 1
+at_most_one true = omega arith
+at_most_one false = omega arith
 
-all_before : (x : Entry) (xs : List Entry) → AllByRecursion (λ y. comes_before y x ≡ false) xs → AllByRecursion (λ y. same_place x y ≡ false) xs → AllByRecursion (λ y. comes_before x y ≡ true) xs
-all_before x [] late apart = tt
-all_before x (y ∷ ys) late apart = (before_other x y late.0 apart.0, all_before x ys late.1 apart.1)
+module _ {A : Type 0} (p : A → Bool) where
+  count_more : (x : A) (xs : List A) (b : Bool) → p x ≡ b → count_by p (x ∷ xs) ≡ cond b 1 0 + count_by p xs
+  count_more x xs b is = sum_by-cons (λ y. cond (p y) 1 0) x xs ∙ ap (λ c. cond c 1 0 + count_by p xs) is
 
-sorted_tail : (x : Entry) (xs : List Entry) → IsSortedBy comes_before (x ∷ xs) → IsSortedBy comes_before xs
-sorted_tail x xs up k d low high =
-    let next : suc k + 1 ≡ suc (k + 1) = omega arith in
-    subst (λ (n : ℕ). comes_before (get_or (x ∷ xs) n d) (get_or xs k d) ≡ false) next (up (suc k) d (omega arith) (omega arith))
+  none_counted : (xs : List A) → AllByRecursion (λ x. p x ≡ false) xs → count_by p xs ≡ 0
+  none_counted [] h = refl
+  none_counted (x ∷ xs) h = omega (arith, count_more x xs false h.0, none_counted xs h.1)
 
-rises_if_sorted : (xs : List Entry) → IsSortedBy comes_before xs → IsDistinct same_place xs → Rises xs
-unfolding IsDistinct
-rises_if_sorted [] up apart = tt
-rises_if_sorted (x ∷ xs) up apart =
-    let late = recursion_from_All (λ (y : Entry). comes_before y x ≡ false) xs (λ k d lt. sorted_far comes_before before_order (x ∷ xs) up 0 (suc k) d (omega arith) (suc-le-suc lt)) in
-    (all_before x xs late apart.0, rises_if_sorted xs (sorted_tail x xs up) apart.1)
+  all_counted : (xs : List A) → AllByRecursion (λ x. p x ≡ true) xs → count_by p xs ≡ length xs
+  all_counted [] h = refl
+  all_counted (x ∷ xs) h = omega (arith, count_more x xs true h.0, all_counted xs h.1)
 
--- ---- how many come before an entry
-abbrev pub rank_in : List Entry → Entry → ℕ
-rank_in all a = count_by (λ b. comes_before b a) all
+  one_missed : (xs : List A) (i : ℕ) (d : A) → i < length xs → p (get_or xs i d) ≡ false → count_by p xs < length xs
+  one_missed [] i d within fails = absurd (omega (arith, within))
+  one_missed (x ∷ xs) zero d within fails = omega (arith, count_more x xs false fails, count_by-le-length p xs)
+  one_missed (x ∷ xs) (suc i) d within fails = omega (arith, count_more x xs (p x) refl, at_most_one (p x), one_missed xs i d (omega (arith, within)) fails)
 
-rank_later : (y : Entry) (ys : List Entry) (x : Entry) → comes_before y x ≡ true → rank_in (y ∷ ys) x ≡ rank_in ys x + 1
-rank_later y ys x h = sum_by-cons (λ b. cond (comes_before b x) 1 0) y ys ∙ ap (λ b. cond b 1 0 + rank_in ys x) h ∙ omega arith
+  all_pass : (xs : List A) → AllByRecursion (λ x. p x ≡ true) xs → filter p xs ≡ xs
+  all_pass [] h = refl
+  all_pass (x ∷ xs) h = ap (λ b. cond b (x ∷ filter p xs) (filter p xs)) h.0 ∙ ap (λ l. x ∷ l) (all_pass xs h.1)
 
-rank_earlier : (y : Entry) (ys : List Entry) (x : Entry) → comes_before y x ≡ false → rank_in (y ∷ ys) x ≡ rank_in ys x
-rank_earlier y ys x h = sum_by-cons (λ b. cond (comes_before b x) 1 0) y ys ∙ ap (λ b. cond b 1 0 + rank_in ys x) h ∙ omega arith
-
-none_before : (x : Entry) (xs : List Entry) → AllByRecursion (λ y. comes_before x y ≡ true) xs → rank_in xs x ≡ 0
-none_before x [] h = refl
-none_before x (y ∷ ys) h = rank_earlier y ys x (before_one_way x y h.0) ∙ none_before x ys h.1
-
--- ---- filters
-filter_same : {A : Type 0} (p q : A → Bool) (xs : List A) → AllByRecursion (λ a. p a ≡ q a) xs → filter p xs ≡ filter q xs
-filter_same p q [] same = refl
-filter_same p q (x ∷ xs) same = ap (λ b. cond b (x ∷ filter p xs) (filter p xs)) same.0 ∙ ap (λ l. cond (q x) (x ∷ l) l) (filter_same p q xs same.1)
+  none_passes : (xs : List A) → AllByRecursion (λ x. p x ≡ false) xs → filter p xs ≡ []
+  none_passes [] h = refl
+  none_passes (x ∷ xs) h = ap (λ b. cond b (x ∷ filter p xs) (filter p xs)) h.0 ∙ none_passes xs h.1
 
 pub filter-map : {A B : Type 0} (p : B → Bool) (f : A → B) (xs : List A) → filter p (map f xs) ≡ map f (filter (λ a. p (f a)) xs)
 filter-map p f [] = refl
@@ -80,33 +61,6 @@ filter-map p f (x ∷ xs) = ap (λ l. cond (p (f x)) (f x ∷ l) l) (filter-map 
     kept : (b : Bool) → cond b (f x ∷ map f (filter (λ a. p (f a)) xs)) (map f (filter (λ a. p (f a)) xs)) ≡ map f (cond b (x ∷ filter (λ a. p (f a)) xs) (filter (λ a. p (f a)) xs))
     kept true = refl
     kept false = refl
-
-none_passes : (all xs : List Entry) → filter (λ a. nat_lt (rank_in all a) 0) xs ≡ []
-none_passes all [] = refl
-none_passes all (x ∷ xs) =
-    let test : nat_lt (rank_in all x) 0 ≡ false = search (rules, tests) in
-    ap (λ b. cond b (x ∷ filter (λ a. nat_lt (rank_in all a) 0) xs) (filter (λ a. nat_lt (rank_in all a) 0) xs)) test ∙ none_passes all xs
-
--- an entry that comes before all others raises each rank by one
-less_by_one : (n k : ℕ) → nat_lt (n + 1) (suc k) ≡ nat_lt n k
-less_by_one n k = grind (arith, nat_tests)
-
-ranks_raised : (x : Entry) (all xs : List Entry) (k : ℕ) → AllByRecursion (λ y. comes_before x y ≡ true) xs → AllByRecursion (λ a. nat_lt (rank_in (x ∷ all) a) (suc k) ≡ nat_lt (rank_in all a) k) xs
-ranks_raised x all [] k h = tt
-ranks_raised x all (y ∷ ys) k h = (ap (λ n. nat_lt n (suc k)) (rank_later x all y h.0) ∙ less_by_one (rank_in all y) k, ranks_raised x all ys k h.1)
-
-some_pass : (k : ℕ) → nat_lt 0 (suc k) ≡ true
-some_pass k = grind (arith, nat_tests)
-
-first_of_rising : (xs : List Entry) → Rises xs → (k : ℕ) → filter (λ a. nat_lt (rank_in xs a) k) xs ≡ take k xs
-first_of_rising xs up zero = none_passes xs xs
-first_of_rising [] up (suc k) = refl
-first_of_rising (x ∷ xs) up (suc k) =
-    let test = λ (a : Entry). nat_lt (rank_in (x ∷ xs) a) (suc k) in
-    let own : rank_in (x ∷ xs) x ≡ 0 = rank_earlier x xs x (before_itself x) ∙ none_before x xs up.0 in
-    let passes : test x ≡ true = ap (λ n. nat_lt n (suc k)) own ∙ some_pass k in
-    ap (λ b. cond b (x ∷ filter test xs) (filter test xs)) passes
-    ∙ ap (λ l. x ∷ l) (filter_same test (λ a. nat_lt (rank_in xs a) k) xs (ranks_raised x xs xs k up.0) ∙ first_of_rising xs up.1 k)
 
 -- ---- the same entries in another order
 module _ {A : Type 0} (p : A → Bool) where
@@ -145,12 +99,64 @@ module _ {A : Type 0} (p : A → Bool) where
   IsPermutation-filter : (xs ys : List A) → IsPermutation xs ys → Kept xs ys
   IsPermutation-filter xs = IsPermutation-keeps xs (Kept xs) (IsPermutation-refl (filter p xs)) (λ l i j h k so_far. IsPermutation-trans _ _ _ so_far (kept_swapped l i j h k))
 
--- the entries before which fewer than k of all come are the first k of the sorted ones
-pub nearest_are_first : (all sorted : List Entry) (k : ℕ) → IsPermutation all sorted → IsSortedBy comes_before sorted → IsDistinct same_place all
-    → IsPermutation (filter (λ a. nat_lt (rank_in all a) k) all) (take k sorted)
-nearest_are_first all sorted k moved up apart =
+-- ---- a list in two parts, of which no entry of the second comes before one of the first
+-- how many come before an entry
+abbrev pub rank_in : List Entry → Entry → ℕ
+rank_in all a = count_by (λ b. comes_before b a) all
+
+-- no entry of `last` comes before one of `first`
+abbrev pub IsApart : List Entry → List Entry → Type 0
+IsApart first last = All (λ a. All (λ b. comes_before b a ≡ false) last) first
+
+holds_after : {A : Type 0} (P : A → Type 0) (xs ys : List A) → AllByRecursion P (xs ++ ys) → AllByRecursion P ys
+holds_after P [] ys h = h
+holds_after P (x ∷ xs) ys h = holds_after P xs ys h.1
+
+places_apart : (first last : List Entry) → IsDistinct same_place (first ++ last) → All (λ a. All (λ b. same_place a b ≡ false) last) first
+unfolding IsDistinct
+places_apart [] last apart i d within = absurd (omega (arith, within))
+places_apart (a ∷ first) last apart zero d within = All-from_recursion (λ b. same_place a b ≡ false) last (holds_after (λ b. same_place a b ≡ false) first last apart.0)
+places_apart (a ∷ first) last apart (suc i) d within = places_apart first last apart.1 i d (omega (arith, within))
+
+module _ (first last : List Entry) (k : ℕ) (apart : IsApart first last) where
+  rank_split : (a : Entry) → rank_in (first ++ last) a ≡ rank_in first a + rank_in last a
+  rank_split a = sum_by-append (λ b. cond (comes_before b a) 1 0) first last
+
+  is_less : (n : ℕ) → n < k → nat_lt n k ≡ true
+  is_less n h = grind (arith, nat_tests)
+
+  is_no_less : (n : ℕ) → k ≤ n → nat_lt n k ≡ false
+  is_no_less n h = grind (arith, nat_tests)
+
+  first_rank_low : length first ≤ k → All (λ a. nat_lt (rank_in (first ++ last) a) k ≡ true) first
+  first_rank_low few i d within =
+      let a = get_or first i d in
+      let after : rank_in last a ≡ 0 = none_counted (λ b. comes_before b a) last (recursion_from_All (λ b. comes_before b a ≡ false) last (apart i d within)) in
+      let before : rank_in first a < length first = one_missed (λ b. comes_before b a) first i d within (before_itself a) in
+      is_less (rank_in (first ++ last) a) (omega (arith, rank_split a, after, before))
+
+  last_rank_high : (0 < length last → k ≤ length first) → IsDistinct same_place (first ++ last) → All (λ b. nat_lt (rank_in (first ++ last) b) k ≡ false) last
+  last_rank_high many distinct j e inside =
+      let b = get_or last j e in
+      let before : rank_in first b ≡ length first =
+      all_counted (λ a. comes_before a b) first (recursion_from_All (λ a. comes_before a b ≡ true) first (λ i d within. before_other (get_or first i d) b (apart i d within j e inside) (places_apart first last distinct i d within j e inside))) in
+      is_no_less (rank_in (first ++ last) b) (omega (arith, rank_split b, before, many (omega (arith, inside))))
+
+  first_pass : length first ≤ k → (0 < length last → k ≤ length first) → IsDistinct same_place (first ++ last) → filter (λ a. nat_lt (rank_in (first ++ last) a) k) (first ++ last) ≡ first
+  first_pass few many distinct =
+      let test = λ (a : Entry). nat_lt (rank_in (first ++ last) a) k in
+      filter-append test first last
+      ∙ ap₂ (λ xs ys. xs ++ ys) (all_pass test first (recursion_from_All (λ a. test a ≡ true) first (first_rank_low few))) (none_passes test last (recursion_from_All (λ b. test b ≡ false) last (last_rank_high many distinct)))
+      ∙ append-nil first
+
+-- the entries before which fewer than k of all come are the first k of those that are cut there
+pub nearest_are_first : (all cut : List Entry) (k : ℕ) → IsPermutation all cut → IsApart (take k cut) (drop k cut) → IsDistinct same_place all
+    → IsPermutation (filter (λ a. nat_lt (rank_in all a) k) all) (take k cut)
+nearest_are_first all cut k moved apart distinct =
     let test = λ (a : Entry). nat_lt (rank_in all a) k in
-    let rises = rises_if_sorted sorted up (IsDistinct-IsPermutation same_place (λ x y. grind (arith, nat_tests)) all sorted moved apart) in
-    let same_rank = λ (a : Entry). ap (λ n. nat_lt n k) (sym (sum_by-IsPermutation (λ b. cond (comes_before b a) 1 0) all sorted moved)) in
-    let first : filter test sorted ≡ take k sorted = (λ i. filter (λ a. same_rank a i) sorted) ∙ first_of_rising sorted rises k in
-    subst (IsPermutation (filter test all)) first (IsPermutation-filter test all sorted moved)
+    let whole = take-append-drop k cut in
+    let differ = subst (IsDistinct same_place) (sym whole) (IsDistinct-IsPermutation same_place (λ x y. grind (arith, nat_tests)) all cut moved distinct) in
+    let passes = first_pass (take k cut) (drop k cut) k apart (omega (arith, length-take k cut)) (λ some. omega (arith, length-take k cut, length-drop k cut, some)) differ in
+    let same_rank = λ (a : Entry). ap (λ n. nat_lt n k) (sym (sum_by-IsPermutation (λ b. cond (comes_before b a) 1 0) all cut moved)) in
+    let first : filter test cut ≡ take k cut = (λ i. filter (λ a. same_rank a i) cut) ∙ subst (λ (l : List Entry). filter (λ a. nat_lt (rank_in l a) k) l ≡ take k cut) whole passes in
+    subst (IsPermutation (filter test all)) first (IsPermutation-filter test all cut moved)

@@ -1,7 +1,10 @@
 -- Keys: a point's distance and its place as one number, by which points are ranked.
-use Rattle.std.specs.Prelude.{ℕ, ◌+◌, ◌*◌, ◌/◌, ◌%◌}
+use Rattle.std.specs.Prelude.{ℕ, ◌+◌, ◌*◌, ◌/◌, ◌%◌, ◌<◌, ◌≤◌, ◌≡◌, ◌++◌, All, List, length, map, take, drop, Option, None, Some}
+use Rattle.std.specs.List.Sorted.{IsPermutation}
+use Rattle.range_plane.specs.Edges.{at}
 use Rattle.range_plane.specs.Fix.{fix_limit}
-use Rattle.range_plane.specs.Plane.{coordinate_limit}
+use Rattle.range_plane.specs.Plane.{Position, coordinate_limit}
+use Rattle.range_stats.specs.Percent.{kept_count}
 
 -- no scaled distance of at most so many points is greater
 abbrev pub distance_limit : ℕ
@@ -14,3 +17,20 @@ key entry = entry.0 * fix_limit + entry.1
 -- the distance and the place in a key
 abbrev pub entry_in : ℕ → ℕ × ℕ
 entry_in key = (key / fix_limit, key % fix_limit)
+
+-- the points at the places in keys
+abbrev pub points_in : List Position → List ℕ → List Position
+points_in points keys = map (λ key. at points (key % fix_limit)) keys
+
+-- none of the first k keys is greater than one after them
+abbrev pub IsCutAt : ℕ → List ℕ → Type 0
+IsCutAt k keys = All (λ x. All (λ y. x ≤ y) (drop k keys)) (take k keys)
+
+-- the most that one of the levels keeps of n points, of those that keep fewer than the limit
+abbrev pub IsGreatestCut : List ℕ → ℕ → ℕ → Option ℕ → Type 0
+IsGreatestCut levels n limit None = All (λ level. limit ≤ kept_count level n) levels
+IsGreatestCut levels n limit (Some kept) = (kept < limit) × All (λ level. kept_count level n < limit → kept_count level n ≤ kept) levels
+
+-- to the old points those in the keys are added, in an order that is cut at what each of the levels keeps of all points
+abbrev pub IsCutAdded : List Position → List ℕ → List ℕ → List Position → List Position → Type 0
+IsCutAdded points levels keys old new = (cut : List ℕ) × IsPermutation keys cut × All (λ level. IsCutAt (kept_count level (length points)) cut) levels × (new ≡ old ++ points_in points cut)

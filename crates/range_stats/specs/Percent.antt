@@ -1,7 +1,8 @@
 -- Percent polygons: the polygon of the points that lie nearest to the mean of all.
-use Rattle.std.specs.Prelude.{ℕ, ◌+◌, ◌*◌, ◌/◌, ◌≤◌, ℤ, pos, ◌-ℤ◌, ◌*ℤ◌, unsigned_abs, ◌≡◌, ◌==◌, nat_lt, Bool, ◌&&◌, ◌||◌, List, length, map, take, count_by}
+use Rattle.std.specs.Prelude.{ℕ, ◌+◌, ◌*◌, ◌/◌, ℤ, pos, ◌-ℤ◌, ◌*ℤ◌, unsigned_abs, ◌≡◌, ◌==◌, nat_lt, Bool, ◌&&◌, ◌||◌, All, List, length, map, take, count_by}
 use Rattle.std.specs.List.{filter, range_with_len}
 use Rattle.std.specs.List.Sorted.{IsPermutation}
+use Rattle.range_hull.specs.Hull.{Hull}
 use Rattle.range_lanes.specs.Totals.{total}
 use Rattle.range_plane.specs.Edges.{at}
 use Rattle.range_plane.specs.Plane.{Position}
@@ -53,7 +54,22 @@ pub record IsPercentRow (points : List Position) (level : ℕ) (row : PercentRow
   pub kept : row.kept ≡ length (nearest points (kept_count level (length points)))
   pub polygon : (L : List Position) × IsPolygon (nearest_points points (kept_count level (length points))) L × (row.corners ≡ length L) × (pos row.area2 ≡ area2 L)
 
--- ranked lists the points so that, for each k, the first k of them are the k nearest
-pub record IsRanking (points ranked : List Position) : Type 0 where
+-- the first k of ranked are the k nearest of the points
+abbrev pub AreNearestFirst : List Position → List Position → ℕ → Type 0
+AreNearestFirst points ranked k = IsPermutation (nearest_points points k) (take k ranked)
+
+-- ranked lists the points so that those that one of the levels keeps come first
+pub record IsRanking (points : List Position) (levels : List ℕ) (ranked : List Position) : Type 0 where
   pub same_length : length ranked ≡ length points
-  pub nearest_first : (k : ℕ) → k ≤ length points → IsPermutation (nearest_points points k) (take k ranked)
+  pub nearest_first : All (λ level. AreNearestFirst points ranked (kept_count level (length points))) levels
+
+-- the row of the percent polygon at a level, where the points that it keeps are the first of these
+pub record IsFirstRow (ranked : List Position) (level : ℕ) (row : PercentRow) : Type 0 where
+  pub same_level : row.level ≡ level
+  pub kept : row.kept ≡ kept_count level (length ranked)
+  pub polygon : (L : List Position) × IsPolygon (take (kept_count level (length ranked)) ranked) L × (row.corners ≡ length L) × (pos row.area2 ≡ area2 L)
+
+-- a hull of the points, of which each was counted
+pub record IsHullOf (points : List Position) (hull : Hull) : Type 0 where
+  pub polygon : IsPolygon points hull.corners
+  pub counted : hull.inserted + hull.skipped ≡ length points

@@ -2,6 +2,7 @@
 //! levels.
 #![tactic(auto)]
 
+mod cuts;
 mod distances;
 mod level;
 mod overlaps;

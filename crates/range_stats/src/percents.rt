@@ -33,5 +33,5 @@ where
     ensures kept { IfOk result (λ row. row.kept ≡ kept_count level (length fixes.now.points)) }
     ensures row { IfOk result (IsPercentRow fixes.now.points level) }
 {
-    Ranking::new(alloc, fixes)?.row(alloc, level)
+    Ranking::new(alloc, fixes, &[level])?.row(alloc, level)
 }

@@ -1,13 +1,13 @@
 // Points by their distance from the mean of all.
 
-ghost use Rattle.std.specs.Prelude.{◌≡◌, ◌%◌, ◌≤◌, ◌<◌, All, IfOk, List, length, map};
-ghost use Rattle.range_plane.specs.Edges.{at};
+ghost use Rattle.std.specs.Prelude.{◌≡◌, ◌+◌, ◌++◌, ◌≤◌, ℕ, All, Contains, IfOk, List, length, take};
+ghost use Rattle.std.specs.List.{AllZip};
 ghost use Rattle.range_plane.specs.Fix.{fix_limit};
 ghost use Rattle.range_plane.specs.Plane.{Position};
-ghost use Rattle.range_plane.specs.Polygon.{IsPolygon};
-ghost use Rattle.range_stats.specs.Percent.{IsPercentRow, IsRanking, kept_count};
+ghost use Rattle.range_stats.specs.Percent.{IsFirstRow, IsHullOf, IsPercentRow, IsRanking, kept_count};
 
-use crate::distances::{keys, place_in};
+use crate::cuts::{kept_count, push_cut};
+use crate::distances::keys;
 use crate::percents::PercentRow;
 use range_hull::OnlineHull;
 use range_plane::{
@@ -17,8 +17,8 @@ use range_plane::{
 use std::alloc::{Allocator, Global};
 use std::marker::Model;
 
-/// Points in the order of their distances from the mean of all, the nearest first: the percent polygon of each
-/// level is that of the first so many.
+/// Points by their distance from the mean of all, ranked for some levels: the points that one of these levels
+/// keeps come before all others, and its percent polygon is that of the first so many.
 #[derive(Drop)]
 pub struct Ranking<A: Allocator = Global> {
     points: Vec<Point, A>,
@@ -37,33 +37,96 @@ impl<A: Allocator> Model for Ranking<A> {
 }
 
 impl<A: Allocator> Ranking<A> {
-    /// Ranks the points by their distance from their mean, and points as near as each other by their places.
-    pub fn new<B: Allocator>(alloc: A, fixes: &Columns<B>) -> Result<Ranking<A>, OutOfMemory>
+    /// Ranks the points for the levels by their distance from their mean, and points as near as each other by
+    /// their places. The levels stand in any order.
+    pub fn new<B: Allocator>(
+        alloc: A,
+        fixes: &Columns<B>,
+        levels: &[u8],
+    ) -> Result<Ranking<A>, OutOfMemory>
     where
         A: Copy,
         requires { length fixes.now.points ≤ fix_limit }
-        ensures { IfOk result (IsRanking fixes.now.points) }
+        ensures { IfOk result (IsRanking fixes.now.points levels.now) }
     {
         let mut keys = keys(alloc, fixes)?;
-        keys.sort_unstable();
-        let points = points_of(alloc, fixes, &keys)?;
+        let mut points = Vec::with_capacity(alloc, keys.len())?;
+        push_cut(&mut points, fixes, &mut keys, levels)?;
         Ok(Ranking { points })
     }
 
-    /// The percent polygon at a level. The hull that it is made with takes memory from `alloc`.
+    /// The percent polygon at a level, which is one of those that the points were ranked for. The hull that it
+    /// is made with takes memory from `alloc`.
     pub fn row<B: Allocator>(&self, alloc: B, level: u8) -> Result<PercentRow, OutOfMemory>
     where
         B: Copy,
         requires { level ≤ 100 }
         ensures kept { IfOk result (λ row. row.kept ≡ kept_count level (length self.now)) }
-        ensures row { (points : List Position) → IsRanking points self.now → IfOk result (IsPercentRow points level) }
+        ensures row { (points : List Position) (levels : List ℕ) → IsRanking points levels self.now → Contains levels level → IfOk result (IsPercentRow points level) }
     {
         larger_sets_cover_more();
         few_cover_little();
         corners_cover_the_set();
         covering_members_are_corners();
-        let kept = (usize::from(level) * self.points.len() + 99) / 100;
-        let hull = hull_of(alloc, &self.points[..kept])?;
+        let mut hull = OnlineHull::new(alloc);
+        self.read(&mut hull, 0, level)
+    }
+
+    /// The percent polygons at the levels that the points were ranked for, in their order. Levels that rise share
+    /// one hull, to which each adds the points that the one before it does not keep; it takes memory from `alloc`,
+    /// as the rows do.
+    pub fn rows<B: Allocator>(
+        &self,
+        alloc: B,
+        levels: &[u8],
+    ) -> Result<Vec<PercentRow, B>, OutOfMemory>
+    where
+        B: Copy,
+        requires { All (λ level. level ≤ 100) levels.now }
+        ensures { (points : List Position) → IsRanking points levels.now self.now → IfOk result (λ rows. AllZip (IsPercentRow points) levels.now rows.items) }
+    {
+        larger_sets_cover_more();
+        few_cover_little();
+        corners_cover_the_set();
+        covering_members_are_corners();
+        let mut rows = Vec::with_capacity(alloc, levels.len())?;
+        let mut hull = OnlineHull::new(alloc);
+        let mut done = 0;
+        for level in levels {
+            let kept = kept_count(*level, self.points.len());
+            if kept < done {
+                hull = OnlineHull::new(alloc);
+                done = 0;
+            }
+            let row = self.read(&mut hull, done, *level)?;
+            rows.push(row)?;
+            done = kept;
+        }
+        Ok(rows)
+    }
+
+    // Reads the row of a level off a hull of the first `done` points, to which those up to what the level keeps are
+    // added.
+    fn read<B: Allocator>(
+        &self,
+        hull: &mut OnlineHull<B>,
+        done: usize,
+        level: u8,
+    ) -> Result<PercentRow, OutOfMemory>
+    where
+        B: Copy,
+        requires level { level ≤ 100 }
+        requires done { done ≤ kept_count level (length self.now) }
+        requires hull { IsHullOf (take done self.now) hull.old }
+        ensures row { IfOk result (IsFirstRow self.now level) }
+        ensures hull { IfOk result (λ row. IsHullOf (take (kept_count level (length self.now)) self.now) hull.new) }
+    {
+        larger_sets_cover_more();
+        few_cover_little();
+        corners_cover_the_set();
+        covering_members_are_corners();
+        let kept = kept_count(level, self.points.len());
+        add_points(hull, &self.points[done..kept])?;
         Ok(PercentRow {
             level,
             kept: kept as u32,
@@ -73,33 +136,17 @@ impl<A: Allocator> Ranking<A> {
     }
 }
 
-// The points at the places in the keys.
-fn points_of<A: Allocator, B: Allocator>(
-    alloc: A,
-    fixes: &Columns<B>,
-    keys: &[u128],
-) -> Result<Vec<Point, A>, OutOfMemory>
-    requires { All (λ key. key % fix_limit < length fixes.now.points) keys.now }
-    ensures { IfOk result (λ points. points.items ≡ map (λ key. at fixes.now.points (key % fix_limit)) keys.now) }
-{
-    let mut points = Vec::with_capacity(alloc, keys.len())?;
-    for key in keys {
-        points.push(fixes.at(place_in(*key)))?;
-    }
-    Ok(points)
-}
-
-// The hull of the points. The last come first, so that they, the farthest, cover most of the others.
-fn hull_of<A: Allocator>(alloc: A, points: &[Point]) -> Result<OnlineHull<A>, OutOfMemory>
+// Adds the points to a hull. The last come first, since they cover most of the others: the farthest are among those
+// that a level keeps and no lower one.
+fn add_points<A: Allocator>(hull: &mut OnlineHull<A>, points: &[Point]) -> Result<(), OutOfMemory>
 where
     A: Copy,
-    requires { length points.now ≤ fix_limit }
-    ensures { IfOk result (λ hull. IsPolygon points.now hull.corners) }
+    requires few { hull.old.inserted + hull.old.skipped + length points.now ≤ fix_limit }
+    ensures { (S : List Position) → IsHullOf S hull.old → IfOk result (λ done. IsHullOf (points.now ++ S) hull.new) }
 {
-    let mut hull = OnlineHull::new(alloc);
     for point in points.iter().rev() {
         hull.reserve(1)?;
         hull.insert(*point);
     }
-    Ok(hull)
+    Ok(())
 }

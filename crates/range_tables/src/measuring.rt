@@ -23,12 +23,8 @@ fn percents(alloc: Global, fixes: &Columns, levels: &[u8]) -> Result<Percents, O
     requires levels { All IsLevel levels.now }
     ensures { IfOk result (AllZip (IsPercentRow fixes.now.points) levels.now) }
 {
-    let ranking = Ranking::new(alloc, fixes)?;
-    let mut rows = Vec::with_capacity(alloc, levels.len())?;
-    for level in levels {
-        let row = ranking.row(alloc, *level)?;
-        rows.push(row)?;
-    }
+    let ranking = Ranking::new(alloc, fixes, levels)?;
+    let rows = ranking.rows(alloc, levels)?;
     Ok(Percents::new(rows))
 }
 

@@ -1,12 +1,12 @@
-use Rattle.std.proofs.Common.{◌≡◌, ℕ, suc, ◌+◌, ◌-◌, ◌<◌, List, ◌∷◌, length, drop, reverse, get_or, rules, arith, sym, ap, subst, ◌∙◌}
+use Rattle.std.proofs.Common.{◌≡◌, ℕ, suc, ◌+◌, ◌-◌, ◌<◌, List, ◌∷◌, ◌++◌, length, drop, reverse, get_or, rules, arith, sym, ap, subst, ◌∙◌}
 use Rattle.std.proofs.Math.Seq.{drop-cons}
 use Rattle.std.proofs.lemmas.Iterator.Adapters.{YieldsList-from_rev_slice}
 use Rattle.std.proofs.lemmas.Iterator.Consumers.{YieldsList-end, YieldsList-turn}
-use Rattle.std.proofs.lemmas.List.{get_or-reverse, length-reverse, length_push}
+use Rattle.std.proofs.lemmas.List.{get_or-reverse, length-append, length-reverse, length_push}
 use Rattle.range_hull.specs.Hull.{Hull}
 use Rattle.range_plane.specs.Plane.{Position}
 use Rattle.range_plane.specs.Polygon.{IsPolygon}
-use Rattle.range_stats.proofs.ranking.hull_of.Goals as goal
+use Rattle.range_stats.proofs.ranking.add_points.Goals as goal
 
 -- one more member from the end
 drop_more : (xs : List Position) (n : ℕ) (x : Position) → n < length (reverse xs) → x ≡ get_or (reverse xs) n x → drop (length xs - (n + 1)) xs ≡ x ∷ drop (length xs - n) xs
@@ -27,17 +27,22 @@ loop-point-preserved g c =
     YieldsList-turn (YieldsList-from_rev_slice xs (search rules)) c.loop-point.yielded _ c.loop-point.yielded_by _ _ c.in-Some.point c.in-Some.is c.next.ensures.steps in
     let more = length_push c.loop-point.yielded c.in-Some.point in
     let kept = c.in_ok-reserve.ensures.unchanged in
-    let before = subst (λ (h : Hull). IsPolygon (drop (length xs - n) xs) h.corners) (sym kept) c.loop-point.invariant.polygon in
-    let after = c.insert.ensures.set (drop (length xs - n) xs) before in
     record {
       count = omega (arith, more, c.loop-point.invariant.count, c.insert.ensures.inserted, c.insert.ensures.skipped, ap (λ (h : Hull). h.inserted + h.skipped) kept);
-      polygon = subst (λ (S : List Position). IsPolygon S c.insert.new.self.corners) (sym (ap (λ m. drop (length xs - m) xs) more ∙ drop_more xs n p turn.0 turn.1)) after;
+      polygon = λ S before.
+          let so_far = drop (length xs - n) xs ++ S in
+          let here = subst (λ (h : Hull). IsPolygon so_far h.corners) (sym kept) (c.loop-point.invariant.polygon S before) in
+          let longer = ap (λ m. drop (length xs - m) xs) more ∙ drop_more xs n p turn.0 turn.1 in
+          subst (λ (l : List Position). IsPolygon (l ++ S) c.insert.new.self.corners) (sym longer) (c.insert.ensures.set so_far here);
     }
 
 pub returns : goal.returns
-returns g c =
+returns g c = λ S before.
     let xs = c.args.points.now in
     let n = length c.loop-point.yielded in
     let end = YieldsList-end (YieldsList-from_rev_slice xs (search rules)) c.loop-point.yielded _ c.loop-point.yielded_by _ _ c.in-None.is c.next.ensures.steps in
     let none : length xs - n ≡ 0 = omega (arith, end.1, length-reverse xs) in
-    subst (λ m. IsPolygon (drop m xs) c.loop-point.hull.corners) none c.loop-point.invariant.polygon
+    record {
+      polygon = subst (λ m. IsPolygon (drop m xs ++ S) c.loop-point.hull.corners) none (c.loop-point.invariant.polygon S before.polygon);
+      counted = omega (arith, c.loop-point.invariant.count, end.1, length-reverse xs, before.counted, length-append xs S);
+    }
