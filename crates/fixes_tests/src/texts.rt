@@ -19,14 +19,21 @@ fn faults_of_files(rt: HostRuntime) {
     let cases = [
         (ReadFault::Read, "a read failed"),
         (
+            ReadFault::NoHeader,
+            "empty where animal,second,easting,northing is wanted",
+        ),
+        (
             ReadFault::BadHeader,
-            "another header than animal,second,easting,northing or animal,second,easting,northing,use",
+            "the first line is not animal,second,easting,northing (commas, small letters, this order; plain UTF-8 text), nor that with ,use behind it",
         ),
         (
             ReadFault::TooManyFixes,
             "more than 1048576 records after the header",
         ),
-        (ReadFault::NoFixes, "no record after the header is used"),
+        (
+            ReadFault::NoFixes,
+            "no record after the header, or none that is used",
+        ),
     ];
     expect_texts(&rt, rt.alloc(), &cases);
 }
@@ -44,11 +51,15 @@ fn faults_of_records(rt: HostRuntime) {
         ),
         (
             ReadFault::NotNumber { rec: 1, field: 3 },
-            "record 1: northing is not a whole number in digits alone",
+            "record 1: northing is not a whole number: no point, sign, space or exponent",
+        ),
+        (
+            ReadFault::NotNumber { rec: 6, field: 2 },
+            "record 6: easting is not a whole number: no point, sign, space or exponent",
         ),
         (
             ReadFault::SecondFalls { rec: 3 },
-            "record 3: second is less than in the record before",
+            "record 3: second is less than in the record before: sort the file by time",
         ),
         (
             ReadFault::BadUse { rec: 7 },

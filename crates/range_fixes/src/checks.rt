@@ -1,12 +1,13 @@
 // What a record says, and what is wrong with it.
 
-ghost use Rattle.std.specs.Prelude.{◌≡◌, ◌≢◌, ◌∷◌, ◌^◌, ◌<◌, [], length, option_map, MatchOption};
+ghost use Rattle.std.specs.Prelude.{◌≡◌, ◌≢◌, ◌∷◌, ◌^◌, ◌<◌, [], length, IfSome, MatchOption, option_map};
 ghost use Rattle.csv.specs.Records.{fields_of};
 ghost use Rattle.range_fixes.specs.Check.{IsSplit, animal_in, checked_in, falls, fix_in, number_in, used_in};
+ghost use Rattle.range_fixes.specs.Reader.{IsWithin};
 ghost use Rattle.range_fixes.specs.Field.{first_field, header_of, is_name, is_name_byte, names_animal, width};
 
 use crate::fault::ReadFault;
-use crate::number::{capped_value, is_number};
+use crate::number::value_of;
 use crate::previous::Previous;
 use csv::ByteRecord;
 use range_plane::{Fix, Point, SECOND_LIMIT, Scale};
@@ -111,19 +112,23 @@ fn is_name(field: &[u8]) -> bool
     !field.is_empty() && field.len() <= NAME_LIMIT && field.iter().all(|byte| is_name_byte(*byte))
 }
 
-// Checks the name of a record.
+// Checks the name of a record. One that is that of the record before was checked there.
 fn check_animal(name: &[u8], rec: u32, previous: Option<&Previous>) -> Result<(), ReadFault>
+    requires within { IfSome previous (λ p. IsWithin p.now) }
     ensures { result ≡ animal_in rec (option_map (λ p. p.now) previous.entry) name.now }
 {
+    if let Some(previous) = previous
+        && previous.animal() == name
+    {
+        return Ok(());
+    }
     if !is_name(name) {
         return Err(ReadFault::BadName { rec });
     }
-    if let Some(previous) = previous
-        && previous.animal() != name
-    {
-        return Err(ReadFault::OtherAnimal { rec });
+    match previous {
+        Some(_) => Err(ReadFault::OtherAnimal { rec }),
+        None => Ok(()),
     }
-    Ok(())
 }
 
 // The number of a field, which may be as great as the limit.
@@ -131,10 +136,9 @@ fn number_in(bytes: &[u8], unit: Scale, rec: u32, field: u32, limit: u64) -> Res
     requires { limit < 2 ^ 60 }
     ensures { result ≡ number_in unit rec field limit bytes.now }
 {
-    if !is_number(bytes) {
+    let Some(value) = value_of(bytes, limit) else {
         return Err(ReadFault::NotNumber { rec, field });
-    }
-    let value = capped_value(bytes, limit);
+    };
     if value > limit {
         return Err(ReadFault::TooLarge { rec, field, unit });
     }
@@ -158,6 +162,7 @@ fn fix_in(
     rec: u32,
     previous: Option<&Previous>,
 ) -> Result<Fix, ReadFault>
+    requires within { IfSome previous (λ p. IsWithin p.now) }
     ensures { result ≡ fix_in unit rec (option_map (λ p. p.now) previous.entry)
         fields.entry.name.now fields.entry.second.now fields.entry.easting.now fields.entry.northing.now }
 {
@@ -194,6 +199,7 @@ pub(crate) fn checked_in(
     rec: u32,
     previous: Option<&Previous>,
 ) -> Result<Checked, ReadFault>
+    requires within { IfSome previous (λ p. IsWithin p.now) }
     ensures { result ≡ checked_in unit has_use rec (option_map (λ p. p.now) previous.entry) (fields_of row.now) }
 {
     let Some(fields) = fields_in(row, has_use) else {

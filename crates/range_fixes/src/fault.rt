@@ -38,11 +38,19 @@ pub enum ReadFault {
     BadUse { rec: u32 },
 }
 
-// How the header is written.
+// How the header is written, and what is often wrong with it.
 const HEADER: &str = "animal,second,easting,northing";
+
+const HEADER_RULE: &str = "commas, small letters, this order; plain UTF-8 text";
 
 // What a name is.
 const NAME_RULE: &str = "1 to 32 bytes with no comma, double quote or control character";
+
+// What a number is not written with.
+const NUMBER_RULE: &str = "no point, sign, space or exponent";
+
+// What is wrong with a second that falls, and what helps.
+const FALL: &str = "second is less than in the record before: sort the file by time";
 
 // What a field is called.
 fn field_name(field: u32) -> &'static str {
@@ -76,6 +84,28 @@ impl ReadFault {
     }
 }
 
+// How many fields there are, and how many are wanted.
+fn write_count<W: fmt::Write>(f: &mut fmt::Formatter<W>, found: u64, wanted: u32) -> fmt::Result {
+    let fields = if found == 1 { "field" } else { "fields" };
+    write!(f, "{found} {fields} where {wanted} are wanted")
+}
+
+// Which field is no number.
+fn write_no_number<W: fmt::Write>(f: &mut fmt::Formatter<W>, field: u32) -> fmt::Result {
+    let name = field_name(field);
+    write!(f, "{name} is not a whole number: {NUMBER_RULE}")
+}
+
+// Which limit the number of a field is past.
+fn write_limit<W: fmt::Write>(f: &mut fmt::Formatter<W>, field: u32, unit: Scale) -> fmt::Result {
+    let name = field_name(field);
+    if field == 1 {
+        return write!(f, "{name} is past its limit of {SECOND_LIMIT}");
+    }
+    let limit = unit.limit();
+    write!(f, "{name} is past its limit of {limit} {unit}")
+}
+
 impl fmt::Display for ReadFault {
     fn fmt<W: fmt::Write>(&self, f: &mut fmt::Formatter<W>) -> fmt::Result {
         if let Some(rec) = self.record() {
@@ -85,38 +115,18 @@ impl fmt::Display for ReadFault {
             ReadFault::OutOfMemory => write!(f, "out of memory"),
             ReadFault::Read => write!(f, "a read failed"),
             ReadFault::NoHeader => write!(f, "empty where {HEADER} is wanted"),
-            ReadFault::BadHeader => write!(f, "another header than {HEADER} or {HEADER},use"),
-            ReadFault::WrongFieldCount {
-                found: 1,
-                wanted,
-                ..
-            } => { write!(f, "1 field where {wanted} are wanted") }
-            ReadFault::WrongFieldCount { found, wanted, .. } => {
-                write!(f, "{found} fields where {wanted} are wanted")
-            }
+            ReadFault::BadHeader => write!(
+                f,
+                "the first line is not {HEADER} ({HEADER_RULE}), nor that with ,use behind it"
+            ),
+            ReadFault::WrongFieldCount { found, wanted, .. } => write_count(f, found, wanted),
             ReadFault::BadName { .. } => write!(f, "animal is not a name of {NAME_RULE}"),
             ReadFault::OtherAnimal { .. } => write!(f, "animal is another than in record 1"),
-            ReadFault::NotNumber { field, .. } => {
-                write!(
-                    f,
-                    "{} is not a whole number in digits alone",
-                    field_name(field)
-                )
-            }
-            ReadFault::TooLarge { field: 1, .. } => {
-                write!(f, "second is past its limit of {SECOND_LIMIT}")
-            }
-            ReadFault::TooLarge { field, unit, .. } => {
-                let limit = unit.limit();
-                write!(
-                    f,
-                    "{} is past its limit of {limit} {unit}",
-                    field_name(field)
-                )
-            }
-            ReadFault::SecondFalls { .. } => write!(f, "second is less than in the record before"),
+            ReadFault::NotNumber { field, .. } => write_no_number(f, field),
+            ReadFault::TooLarge { field, unit, .. } => write_limit(f, field, unit),
+            ReadFault::SecondFalls { .. } => write!(f, "{FALL}"),
             ReadFault::TooManyFixes => write!(f, "more than {FIX_LIMIT} records after the header"),
-            ReadFault::NoFixes => write!(f, "no record after the header is used"),
+            ReadFault::NoFixes => write!(f, "no record after the header, or none that is used"),
             ReadFault::Gone => write!(f, "the fixes could not be handed on"),
             ReadFault::BadUse { .. } => write!(f, "use is neither 0 nor 1"),
         }
