@@ -4,7 +4,7 @@ use range_estimator::{Row, Rows};
 use range_fixes::Name;
 use range_lanes::Extent;
 use range_plane::{Point, Polygon, Scale};
-use range_report::report;
+use range_report::{report, report_parts};
 use range_stats::PercentRow;
 use range_tables::{Analysis, Animal, Animals, OverlapRow, Overlaps, Percents};
 use std::alloc::Global;
@@ -88,9 +88,8 @@ fn segment(alloc: Global) -> Result<Animal, Fail> {
     })
 }
 
-#[test]
-fn reports_two_animals(rt: HostRuntime) -> Result<(), Fail> {
-    let alloc = rt.alloc();
+// Two animals, each with fixes in the other's polygon.
+fn two_animals(alloc: Global) -> Result<Analysis, Fail> {
     let animals = vec![in alloc; square(alloc)?, segment(alloc)?]?;
     let first = OverlapRow {
         animal: 0,
@@ -105,13 +104,61 @@ fn reports_two_animals(rt: HostRuntime) -> Result<(), Fail> {
         fixes: 3,
     };
     let overlaps = vec![in alloc; first, second]?;
-    let analysis = Analysis {
+    Ok(Analysis {
         animals: Animals::new(animals),
         overlaps: Overlaps::new(overlaps),
         unit: Scale::Metre,
-    };
+    })
+}
+
+#[test]
+fn reports_two_animals(rt: HostRuntime) -> Result<(), Fail> {
+    let alloc = rt.alloc();
+    let analysis = two_animals(alloc)?;
     let text = report(&rt, alloc, &analysis).ok().ok_or("memory")?;
     assert_eq!(rt; text.as_slice(), REPORT);
+    Ok(())
+}
+
+// The parts of a report, one after the other.
+#[test]
+fn parts_of_two_animals(rt: HostRuntime) -> Result<(), Fail> {
+    let alloc = rt.alloc();
+    let analysis = two_animals(alloc)?;
+    let mut text = Vec::new(alloc);
+    for part in report_parts(&rt, alloc, &analysis).ok().ok_or("memory")? {
+        text.extend_from_slice(&part)?;
+    }
+    assert_eq!(rt; text.as_slice(), REPORT);
+    Ok(())
+}
+
+// The rows of one animal, more than a part has, are counted on from part to part.
+#[test]
+fn rows_of_two_parts(rt: HostRuntime) -> Result<(), Fail> {
+    let alloc = rt.alloc();
+    let mut rows = Vec::new(alloc);
+    let mut lines = Vec::from_slice(alloc, b"animal,A,fixes,8193\nbox,A,0,0,0,0\n")?;
+    for n in 1..=8193u64 {
+        rows.push(row(n - 1, 1, 0))?;
+        let line = format!(in alloc; "row,A,{n},{},1,0\n", n - 1)?;
+        lines.extend_from_slice(line.as_bytes())?;
+    }
+    lines.extend_from_slice(b"corner,A,1,0,0\nend,1\n")?;
+    let animal = Animal {
+        name: Name::new(b"A".to_vec(alloc)?),
+        extent: extent(0, 0, 0, 0),
+        rows: Rows::new(rows),
+        polygon: polygon(alloc, &[(0, 0)])?,
+        percents: Percents::new(Vec::new(alloc)),
+    };
+    let analysis = Analysis {
+        animals: Animals::new(vec![in alloc; animal]?),
+        overlaps: Overlaps::new(Vec::new(alloc)),
+        unit: Scale::Metre,
+    };
+    let text = report(&rt, alloc, &analysis).ok().ok_or("memory")?;
+    assert!(rt; text.as_slice() == lines.as_slice());
     Ok(())
 }
 

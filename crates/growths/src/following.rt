@@ -62,8 +62,8 @@ pub(crate) fn follow_files<R: Runtime + Wait + Threads + Sync>(
     }
     let answer = judge(rt, alloc, all, &LEVELS, Scale::Metre);
     print_analysis(rt, "judge", &answer)?;
-    match answer {
-        Ok(analysis) => print_report(rt, alloc, &analysis),
+    match &answer {
+        Ok(analysis) => print_report(rt, alloc, analysis),
         Err(_) => Ok(()),
     }
 }

@@ -2,6 +2,7 @@
 #![tactic(auto)]
 
 mod lines;
+mod parts;
 mod writing;
 
-pub use writing::report;
+pub use writing::{report, report_parts};

@@ -1,9 +1,9 @@
 // The lines of a report.
 
-ghost use Rattle.std.specs.Prelude.{◌≡◌, ◌++◌, ◌<◌, All, OnOk, codes, length, map};
+ghost use Rattle.std.specs.Prelude.{◌≡◌, ◌+◌, ◌++◌, ◌<◌, ◌^◌, All, OnOk, codes, length, map};
 ghost use Rattle.std.specs.List.{flat_map};
 ghost use Rattle.range_tables.specs.Names.{name_at};
-ghost use Rattle.range_report.specs.Report.{animal_line, box_line, corner_line, end_line, numbered, overlap_line, percent_line, point_text, row_line};
+ghost use Rattle.range_report.specs.Report.{animal_line, box_line, corner_line, end_line, lines_from, overlap_line, percent_line, point_text, row_line};
 
 use itoa::{Buffer, Integer};
 use range_estimator::Row;
@@ -92,16 +92,18 @@ fn push_row<A: Allocator>(
     Ok(())
 }
 
-// Appends the lines of rows, counted from 1.
+// Appends the lines of rows, of which the first has this place, counted from 0.
 pub(crate) fn push_rows<A: Allocator>(
     text: &mut Vec<u8, A>,
     name: &[u8],
+    from: usize,
     rows: &[Row],
 ) -> Result<(), AllocError>
-    ensures { OnOk result (text.new.items ≡ text.old.items ++ numbered (row_line name.now) rows.now) }
+    requires { from + length rows.now < 2 ^ 64 }
+    ensures { OnOk result (text.new.items ≡ text.old.items ++ lines_from (row_line name.now) (from + 1) rows.now) }
 {
     for (i, row) in rows.iter().enumerate() {
-        push_row(text, name, i + 1, *row)?;
+        push_row(text, name, from + i + 1, *row)?;
     }
     Ok(())
 }
@@ -123,16 +125,18 @@ fn push_corner<A: Allocator>(
     Ok(())
 }
 
-// Appends the lines of corners, counted from 1.
+// Appends the lines of corners, of which the first has this place, counted from 0.
 pub(crate) fn push_corners<A: Allocator>(
     text: &mut Vec<u8, A>,
     name: &[u8],
+    from: usize,
     corners: &[Point],
 ) -> Result<(), AllocError>
-    ensures { OnOk result (text.new.items ≡ text.old.items ++ numbered (corner_line name.now) corners.now) }
+    requires { from + length corners.now < 2 ^ 64 }
+    ensures { OnOk result (text.new.items ≡ text.old.items ++ lines_from (corner_line name.now) (from + 1) corners.now) }
 {
     for (i, corner) in corners.iter().enumerate() {
-        push_corner(text, name, i + 1, *corner)?;
+        push_corner(text, name, from + i + 1, *corner)?;
     }
     Ok(())
 }

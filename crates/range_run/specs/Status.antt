@@ -4,11 +4,14 @@ use Rattle.range_analysis.specs.declared.fault.AnalyseFault.TheVariants as analy
 use Rattle.range_run.specs.declared.fault.RunFault.{RunFault}
 use Rattle.range_run.specs.declared.fault.RunFault.TheVariants as runs
 
+abbrev pub fault_status : RunFault → ℕ
+fault_status (runs.Analyse (analyses.File file fault)) = 1
+fault_status (runs.Analyse (analyses.SameAnimal first second animal)) = 1
+fault_status (runs.Analyse (analyses.LineCut file)) = 5
+fault_status (runs.Analyse analyses.OutOfMemory) = 3
+fault_status runs.OutOfMemory = 3
+fault_status runs.Write = 4
+
 abbrev pub status_of : Result (Unit {0}) RunFault → ℕ
 status_of (Ok _) = 0
-status_of (Err (runs.Analyse (analyses.File file fault))) = 1
-status_of (Err (runs.Analyse (analyses.SameAnimal first second))) = 1
-status_of (Err (runs.Analyse (analyses.LineCut file))) = 5
-status_of (Err (runs.Analyse analyses.OutOfMemory)) = 3
-status_of (Err runs.OutOfMemory) = 3
-status_of (Err runs.Write) = 4
+status_of (Err fault) = fault_status fault

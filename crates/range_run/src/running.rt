@@ -7,11 +7,11 @@ ghost use Rattle.range_stats.specs.Levels.{IsLevel};
 ghost use Rattle.range_run.specs.Run.{Explains, WritesPrefix, WritesReport};
 
 use crate::fault::RunFault;
-use crate::output::write_text;
+use crate::output::write_parts;
 use range_analysis::analyse;
 use range_plan::Options;
 use range_pump::FreeGate;
-use range_report::report;
+use range_report::report_parts;
 use std::alloc::Global;
 use std::io::{Read, Write};
 use std::sync::Wait;
@@ -40,8 +40,8 @@ pub fn run<R: Wait + Threads + Sync, S: Read + Send + Drop, W: Write>(
         Ok(analysis) => analysis,
         Err(fault) => return Err(RunFault::Analyse(fault)),
     };
-    let Ok(text) = report(rt, alloc, &analysis) else {
+    let Ok(parts) = report_parts(rt, alloc, &analysis) else {
         return Err(RunFault::OutOfMemory);
     };
-    write_text(out, text.as_slice())
+    write_parts(out, parts)
 }

@@ -1,4 +1,4 @@
-use Rattle.std.proofs.Common.{refl, ◌∙◌}
+use Rattle.std.proofs.Common.{refl}
 use Rattle.range_run.proofs.Written.{explained, writes_prefix, writes_report}
 use Rattle.range_run.proofs.running.run.Goals as goal
 
@@ -7,11 +7,11 @@ returns-in-Err-clause-unwritten g c = λ _. refl
 
 pub returns-clause-report : goal.returns-clause-report
 returns-clause-report g c =
-    writes_report _ _ _ _ _ _ _ c.in-Ok.analysis _ c.as_slice-levels.ensures.value (c.as_slice.ensures.value ∙ c.in-Ok-report.ensures) c.in-Ok.ensures.analysis c.write_text.ensures.whole
+    writes_report _ _ _ _ _ _ _ c.in-Ok.analysis _ c.as_slice-levels.ensures.value c.in-Ok-report_parts.ensures c.in-Ok.ensures.analysis c.write_parts.ensures.whole
 
 pub returns-clause-prefix : goal.returns-clause-prefix
 returns-clause-prefix g c =
-    writes_prefix _ _ _ _ _ _ _ c.in-Ok.analysis _ _ c.as_slice-levels.ensures.value (c.as_slice.ensures.value ∙ c.in-Ok-report.ensures) c.in-Ok.ensures.analysis c.write_text.ensures.prefix
+    writes_prefix _ _ _ _ _ _ _ c.in-Ok.analysis _ _ c.as_slice-levels.ensures.value c.in-Ok-report_parts.ensures c.in-Ok.ensures.analysis c.write_parts.ensures.prefix
 
 pub returns-in_default-clause-fault : goal.returns-in_default-clause-fault
 returns-in_default-clause-fault g c =
@@ -20,7 +20,7 @@ returns-in_default-clause-fault g c =
 
 pub returns-clause-fault : goal.returns-clause-fault
 returns-clause-fault g c =
-    explained _ _ _ _ c.in-Ok.analysis _ c.as_slice-levels.ensures.value c.in-Ok.ensures.analysis c.write_text.ensures.fault
+    explained _ _ _ _ c.in-Ok.analysis _ c.as_slice-levels.ensures.value c.in-Ok.ensures.analysis c.write_parts.ensures.fault
 
 pub returns-in-Err-clause-fault : goal.returns-in-Err-clause-fault
 returns-in-Err-clause-fault g c = c.in-Err.ensures.fault
