@@ -1,5 +1,6 @@
 // Tests of sources that are analysed: in every plan, with names of every length, and with faults.
 
+use crate::files::same_animal;
 use crate::tables::{FOX_TABLES, HARE_TABLES, expect_animals, overlap};
 use pieces::Pieces;
 use range_analysis::{AnalyseFault, analyse};
@@ -206,17 +207,14 @@ fn one_of_eight_sources(rt: HostRuntime) -> Result<(), Fail> {
     for (text, file, fault) in cases {
         let expected = AnalyseFault::File { file, fault };
         assert!(rt;
-            one_of_eight(&rt, rt.alloc(), text, file)? == Some(expected),
+            one_of_eight(&rt, rt.alloc(), text, file)?.as_ref() == Some(&expected),
             "{expected}"
         );
     }
-    let same = AnalyseFault::SameAnimal {
-        first: 2,
-        second: 6,
-    };
+    let same = same_animal(rt.alloc(), 2, 6, b"C")?;
     let text = b"animal,second,easting,northing\nC,0,0,0\n";
     assert!(rt;
-        one_of_eight(&rt, rt.alloc(), text, 6)? == Some(same),
+        one_of_eight(&rt, rt.alloc(), text, 6)?.as_ref() == Some(&same),
         "{same}"
     );
     Ok(())

@@ -1,6 +1,6 @@
 // Tests of why files have no analysis.
 
-use crate::files::{File, judged};
+use crate::files::{File, judged, same_animal};
 use pieces::Pieces;
 use range_analysis::{AnalyseFault, judge};
 use range_collect::Followed;
@@ -42,37 +42,38 @@ fn fault_of<R: Wait + Threads + Sync + Abort>(
     Ok(judged(rt, alloc, &all, &[])?.err())
 }
 
+// Checks that files of one fix have no analysis for this reason.
+fn expect_fault<R: Wait + Threads + Sync + Abort>(
+    rt: &R,
+    alloc: Global,
+    files: &[(Said, bool)],
+    fault: AnalyseFault,
+) -> Result<(), Fail> {
+    assert!(rt; fault_of(rt, alloc, files)? == Some(fault));
+    Ok(())
+}
+
 #[test]
 fn order_of_faults(rt: HostRuntime) -> Result<(), Fail> {
+    let alloc = rt.alloc();
     let of_file = |file, fault| AnalyseFault::File { file, fault };
     let line_cut = |file| AnalyseFault::LineCut { file };
-    let cases: [(&[(Said, bool)], AnalyseFault); 9] = [
-        (&[(EMPTY, false)], line_cut(0)),
-        (&[(HEADER, true), (A, false)], line_cut(1)),
-        (&[(A, false), (A, false)], line_cut(0)),
-        (&[(A, true), (A, true), (B, false)], line_cut(2)),
-        (&[(A, false), (MEMORY, true)], AnalyseFault::OutOfMemory),
-        (
-            &[(HEADER, true), (MEMORY, false)],
-            AnalyseFault::OutOfMemory,
-        ),
-        (
-            &[(HEADER, true), (EMPTY, true)],
-            of_file(0, ReadFault::BadHeader),
-        ),
-        (
-            &[(A, true), (EMPTY, true), (A, true)],
-            of_file(1, ReadFault::NoFixes),
-        ),
-        (
-            &[(A, true), (A, true), (HEADER, true)],
-            of_file(2, ReadFault::BadHeader),
-        ),
-    ];
-    for (files, fault) in cases {
-        assert!(rt; fault_of(&rt, rt.alloc(), files)? == Some(fault));
-    }
-    Ok(())
+    let memory = AnalyseFault::OutOfMemory;
+    expect_fault(&rt, alloc, &[(EMPTY, false)], line_cut(0))?;
+    expect_fault(&rt, alloc, &[(HEADER, true), (A, false)], line_cut(1))?;
+    expect_fault(&rt, alloc, &[(A, false), (A, false)], line_cut(0))?;
+    let files = [(A, true), (A, true), (B, false)];
+    expect_fault(&rt, alloc, &files, line_cut(2))?;
+    expect_fault(&rt, alloc, &[(A, false), (MEMORY, true)], memory)?;
+    let memory = AnalyseFault::OutOfMemory;
+    expect_fault(&rt, alloc, &[(HEADER, true), (MEMORY, false)], memory)?;
+    let header = of_file(0, ReadFault::BadHeader);
+    expect_fault(&rt, alloc, &[(HEADER, true), (EMPTY, true)], header)?;
+    let empty = of_file(1, ReadFault::NoFixes);
+    let files = [(A, true), (EMPTY, true), (A, true)];
+    expect_fault(&rt, alloc, &files, empty)?;
+    let header = of_file(2, ReadFault::BadHeader);
+    expect_fault(&rt, alloc, &[(A, true), (A, true), (HEADER, true)], header)
 }
 
 // Each fault of one of eight files is answered as that file's, whichever it is.
@@ -110,7 +111,7 @@ fn one_of_eight_files(rt: HostRuntime) -> Result<(), Fail> {
             }
             let expected = AnalyseFault::File { file, fault };
             let said = fault_of(&rt, rt.alloc(), &files)?;
-            assert!(rt; said == Some(expected), "{expected}");
+            assert!(rt; said.as_ref() == Some(&expected), "{expected}");
         }
     }
     Ok(())
@@ -142,48 +143,54 @@ fn header_whose_taker_is_gone(rt: HostRuntime) -> Result<(), Fail> {
 // Names are compared by their bytes.
 #[test]
 fn repeats(rt: HostRuntime) -> Result<(), Fail> {
-    let cases: [(&[&[u8]], Option<(u32, u32)>); 6] = [
-        (&[b"A", b"B", b"A"], Some((0, 2))),
+    let cases: [(&[&[u8]], Option<(u32, u32, &[u8])>); 6] = [
+        (&[b"A", b"B", b"A"], Some((0, 2, b"A"))),
         (&[b"A", b"B"], None),
         (&[b"A", b"a", b"AA", b"", b"BA"], None),
-        (&[b"A", b"B", b"B", b"A"], Some((1, 2))),
-        (&[b"AB", b"B", b"C", b"AB", b"B"], Some((0, 3))),
-        (&[b"A", b"A", b"A"], Some((0, 1))),
+        (&[b"A", b"B", b"B", b"A"], Some((1, 2, b"B"))),
+        (&[b"AB", b"B", b"C", b"AB", b"B"], Some((0, 3, b"AB"))),
+        (&[b"A", b"A", b"A"], Some((0, 1, b"A"))),
     ];
     for (names, repeat) in cases {
         let mut files = Vec::new(rt.alloc());
         for name in names {
             files.push((Ok(*name), true))?;
         }
-        let fault = repeat.map(|(first, second)| AnalyseFault::SameAnimal { first, second });
+        let fault = match repeat {
+            Some((first, second, name)) => Some(same_animal(rt.alloc(), first, second, name)?),
+            None => None,
+        };
         assert!(rt; fault_of(&rt, rt.alloc(), &files)? == fault);
     }
     Ok(())
 }
 
+// Checks what is said of a fault.
+fn expect_text(
+    rt: &impl Abort,
+    alloc: Global,
+    fault: &AnalyseFault,
+    text: &str,
+) -> Result<(), Fail> {
+    assert!(rt; format!(in alloc; "{fault}")?.as_str() == text);
+    Ok(())
+}
+
 #[test]
 fn texts(rt: HostRuntime) -> Result<(), Fail> {
+    let alloc = rt.alloc();
+    expect_text(&rt, alloc, &AnalyseFault::OutOfMemory, "out of memory")?;
+    let cut = AnalyseFault::LineCut { file: 3 };
+    expect_text(
+        &rt,
+        alloc,
+        &cut,
+        "the fixes of file 3 were not all handed on",
+    )?;
     let fault = ReadFault::NoFixes;
-    let cases = [
-        (AnalyseFault::OutOfMemory, "out of memory"),
-        (
-            AnalyseFault::LineCut { file: 3 },
-            "the fixes of file 3 were not all handed on",
-        ),
-        (
-            AnalyseFault::File { file: 1, fault },
-            "file 1: no record after the header is used",
-        ),
-        (
-            AnalyseFault::SameAnimal {
-                first: 0,
-                second: 2,
-            },
-            "files 0 and 2 have the same animal",
-        ),
-    ];
-    for (fault, text) in cases {
-        assert!(rt; format!(in rt.alloc(); "{fault}")?.as_str() == text);
-    }
-    Ok(())
+    let empty = AnalyseFault::File { file: 1, fault };
+    let text = "file 1: no record after the header, or none that is used";
+    expect_text(&rt, alloc, &empty, text)?;
+    let same = same_animal(alloc, 0, 2, b"A")?;
+    expect_text(&rt, alloc, &same, "files 0 and 2 have the same animal")
 }

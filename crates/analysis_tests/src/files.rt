@@ -1,6 +1,7 @@
 // Files that were followed, made by hand.
 
-ghost use Rattle.std.specs.Prelude.{◌≤◌, IfOk, length};
+ghost use Rattle.range_fixes.specs.declared.fault.ReadFault.TheVariants.{Gone};
+ghost use Rattle.std.specs.Prelude.{◌≢◌, ◌≤◌, Err, IfOk, length};
 
 use range_analysis::{AnalyseFault, judge};
 use range_collect::Followed;
@@ -22,6 +23,21 @@ pub(crate) struct File {
     pub(crate) said: Result<&'static [u8], ReadFault>,
     pub(crate) places: &'static [(u64, i64, i64)],
     pub(crate) mark: bool,
+}
+
+// The fault of two files that both have this animal.
+pub(crate) fn same_animal(
+    alloc: Global,
+    first: u32,
+    second: u32,
+    animal: &[u8],
+) -> Result<AnalyseFault, Fail> {
+    let animal = Name::new(Vec::from_slice(alloc, animal)?);
+    Ok(AnalyseFault::SameAnimal {
+        first,
+        second,
+        animal,
+    })
 }
 
 // More fixes than a file here has.
@@ -54,16 +70,23 @@ fn feeder<R: Wait + Abort>(rt: &R, alloc: Global, mark: bool) -> Result<Feeder, 
     Ok(feeder)
 }
 
+// What a reader said that handed every block on.
+fn read(alloc: Global, said: Result<&[u8], ReadFault>) -> Result<Result<Name, ReadFault>, Fail>
+    ensures { IfOk result (λ read. read ≢ Err Gone) }
+{
+    match said {
+        Ok(bytes) => Ok(Ok(Name::new(Vec::from_slice(alloc, bytes)?))),
+        Err(ReadFault::Gone) => Err(Fail::from("no such file")),
+        Err(fault) => Ok(Err(fault)),
+    }
+}
+
 // What is known of a file.
 fn followed<R: Wait + Abort>(rt: &R, alloc: Global, file: File) -> Result<Followed, Fail> {
     let feeder = feeder(rt, alloc, file.mark)?;
     let marked = feeder.closed();
     let estimator = estimator(alloc, file.places)?;
-    let read = match file.said {
-        Ok(bytes) => Ok(Name::new(Vec::from_slice(alloc, bytes)?)),
-        Err(ReadFault::Gone) => return Err(Fail::from("no such file")),
-        Err(fault) => Err(fault),
-    };
+    let read = read(alloc, file.said)?;
     Ok(Followed {
         feeder,
         read,

@@ -56,7 +56,7 @@ fn reports_and_refusals(rt: HostRuntime) {
     expect(&rt, &["a.csv", "b.csv"], &[LINES_A, LINES_B, a_first], "");
     expect(&rt, &["b.csv", "a.csv"], &[LINES_B, LINES_A, b_first], "");
     expect(&rt, &["b.csv"], &[LINES_B, one], "");
-    let same = "a.csv and a.csv have the same animal";
+    let same = "a.csv and a.csv have the same animal, A";
     expect(&rt, &["a.csv", "a.csv"], &[], same);
     let fields = "cut.csv: record 1: 3 fields where 4 are wanted";
     expect(&rt, &["a.csv", "cut.csv"], &[], fields);

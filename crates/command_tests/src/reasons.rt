@@ -67,7 +67,8 @@ fn reads(rt: HostRuntime) {
     }
 }
 
-// The reason of a failed write of the report and of the help.
+// The reason of a failed write of the report and of the help. The parts of the report are written one by one: its
+// 5th, 16th and 24th writes are shorter.
 #[test]
 fn writes(rt: HostRuntime) {
     let cases = [
@@ -75,11 +76,11 @@ fn writes(rt: HostRuntime) {
         (BROKEN_PIPE, "standard output: Broken pipe", true),
     ];
     for (number, text, is_left) in cases {
-        for words in [[].as_slice(), &["--help"]] {
-            for before in [0, 1, 31] {
+        for (words, late) in [([].as_slice(), 236), (&["--help"], 248)] {
+            for (before, length) in [(0, 0), (1, 8), (31, late)] {
                 let failures = Failures::one_after(before, number);
                 let (held, is_closed, told) = outcome_of(&rt, words, Failures::none(), failures);
-                assert!(rt; held.len() == 8 * before && is_closed == is_left);
+                assert!(rt; held.len() == length && is_closed == is_left);
                 let (status, line) = told.expect(&rt, "a refusal");
                 assert!(rt; status == 4 && line.as_str() == text);
             }
@@ -107,7 +108,7 @@ fn flush(rt: HostRuntime) {
 // interrupted sixteen times has failed.
 #[test]
 fn interrupted(rt: HostRuntime) {
-    for before in [0, 5, 11] {
+    for (before, length) in [(0, 0), (5, 33), (11, 81)] {
         for (count, are_failed) in [(1, false), (15, false), (16, true)] {
             let failures = Failures {
                 before,
@@ -127,11 +128,7 @@ fn interrupted(rt: HostRuntime) {
                 told.is_some_and(|(status, line)| status == 4 && line.as_str() == text)
                     == are_failed
             );
-            let length = if are_failed {
-                8 * before
-            } else {
-                REPORT_A.len()
-            };
+            let length = if are_failed { length } else { REPORT_A.len() };
             assert!(rt; held.len() == length && REPORT_A.starts_with(held.as_slice()));
         }
     }

@@ -3,7 +3,7 @@
 use crate::line::{line, texts};
 use range_analysis::AnalyseFault;
 use range_command::{Output, Refusal, obey};
-use range_fixes::ReadFault;
+use range_fixes::{Name, ReadFault};
 use range_run::RunFault;
 use std::alloc::Global;
 use std::fs::File;
@@ -58,9 +58,12 @@ fn words(rt: HostRuntime) {
         ),
         (
             &["--percent", "50,x"],
-            "part 2 of the levels is not a whole number from 1 to 100",
+            "--percent: level 2 is not a whole number from 1 to 100",
         ),
-        (&["--percent", "1,2,3,4,5,6,7,8,9"], "more than 8 levels"),
+        (
+            &["--percent", "1,2,3,4,5,6,7,8,9"],
+            "--percent: more than 8 levels",
+        ),
     ];
     for (words, text) in cases {
         expect_refused(&rt, words, 2, text);
@@ -119,7 +122,8 @@ fn files(rt: HostRuntime) {
 #[test]
 fn many_files(rt: HostRuntime) {
     let words = vec![in rt.alloc(); "/no/such.csv"; 65].expect(&rt, "memory");
-    expect_refused(&rt, words.as_slice(), 2, "more than 64 files");
+    let text = "more than 64 files; docs/HERDS.md says how to run more";
+    expect_refused(&rt, words.as_slice(), 2, text);
 }
 
 #[test]
@@ -133,72 +137,86 @@ fn help_is_written(rt: HostRuntime) {
     assert!(rt; help.ends_with(b"says why.\n"));
 }
 
-// The faults of runs over two files, and of one over standard input.
 #[test]
-fn runs(rt: HostRuntime) {
+fn version_is_written(rt: HostRuntime) {
+    let alloc = rt.alloc();
+    let words = line(&rt, alloc, &["--version", "/no/such.csv"]);
+    let mut out = Output::new(Vec::new(alloc));
+    assert!(rt; obey(&rt, words.as_slice(), b"".as_slice(), &mut out).is_ok());
+    assert!(rt; out.writer().as_slice().starts_with(b"homerange 1.0.0 ("));
+}
+
+// A run over these files that ends with this fault is told by this text and this status.
+fn expect_run<R: Abort>(rt: &R, alloc: Global, paths: &[&str], fault: RunFault, told: (u8, &str)) {
+    let (status, text) = told;
+    let refused = Refusal::Run {
+        files: texts(rt, alloc, paths),
+        fault,
+        reason: None,
+    };
+    expect_told(rt, alloc, &refused, status, text);
+}
+
+// The faults of a run over two files, and of one over standard input.
+#[test]
+fn faults_of_files(rt: HostRuntime) {
     let alloc = rt.alloc();
     let fields = ReadFault::WrongFieldCount {
         rec: 5,
         found: 3,
         wanted: 4,
     };
-    let same = AnalyseFault::SameAnimal {
-        first: 0,
-        second: 1,
-    };
+    let of_file = |file, fault| RunFault::Analyse(AnalyseFault::File { file, fault });
+    let text = "a\\tb.csv: record 5: 3 fields where 4 are wanted";
+    let paths = ["b.csv", "a\tb.csv"];
+    expect_run(&rt, alloc, &paths, of_file(1, fields), (1, text));
+    let text = "standard input: no record after the header, or none that is used";
+    expect_run(&rt, alloc, &[], of_file(0, ReadFault::NoFixes), (1, text));
+}
+
+// The name of an animal in two files, as it is shown in one line.
+#[test]
+fn same_animals(rt: HostRuntime) {
+    let alloc = rt.alloc();
     let cases = [
         (
-            ["b.csv", "a\tb.csv"].as_slice(),
-            RunFault::Analyse(AnalyseFault::File {
-                file: 1,
-                fault: fields,
-            }),
-            1,
-            "a\\tb.csv: record 5: 3 fields where 4 are wanted",
+            "Jörð\\".as_bytes(),
+            "b.csv and a\\tb.csv have the same animal, Jörð\\\\",
         ),
         (
-            &["b.csv", "a\tb.csv"],
-            RunFault::Analyse(same),
-            1,
-            "b.csv and a\\tb.csv have the same animal",
+            "\u{202e}fox".as_bytes(),
+            "b.csv and a\\tb.csv have the same animal, \\u{202e}fox",
         ),
         (
-            &["b.csv", "c.csv"],
-            RunFault::Analyse(AnalyseFault::LineCut { file: 0 }),
-            5,
-            "b.csv: its fixes were not all handed on",
+            b"fox\xFF",
+            "b.csv and a\\tb.csv have the same animal, fox\\xff",
         ),
-        (
-            &[],
-            RunFault::Analyse(AnalyseFault::File {
-                file: 0,
-                fault: ReadFault::NoFixes,
-            }),
-            1,
-            "standard input: no record after the header is used",
-        ),
-        (
-            &["b.csv"],
-            RunFault::Analyse(AnalyseFault::OutOfMemory),
-            3,
-            "out of memory, or a thread could not be started",
-        ),
-        (
-            &[],
-            RunFault::OutOfMemory,
-            3,
-            "out of memory, or a thread could not be started",
-        ),
-        (&[], RunFault::Write, 4, "the report could not be written"),
     ];
-    for (paths, fault, status, text) in cases {
-        let refused = Refusal::Run {
-            files: texts(&rt, alloc, paths),
-            fault,
-            reason: None,
+    for (name, text) in cases {
+        let same = AnalyseFault::SameAnimal {
+            first: 0,
+            second: 1,
+            animal: Name::new(Vec::from_slice(alloc, name).expect(&rt, "memory")),
         };
-        expect_told(&rt, alloc, &refused, status, text);
+        let paths = ["b.csv", "a\tb.csv"];
+        expect_run(&rt, alloc, &paths, RunFault::Analyse(same), (1, text));
     }
+}
+
+// The faults of runs in which no file is at fault.
+#[test]
+fn other_faults(rt: HostRuntime) {
+    let alloc = rt.alloc();
+    let paths = ["b.csv", "c.csv"];
+    let cut = RunFault::Analyse(AnalyseFault::LineCut { file: 0 });
+    let text = "b.csv: its fixes were not all handed on";
+    expect_run(&rt, alloc, &paths, cut, (5, text));
+    let memory = RunFault::Analyse(AnalyseFault::OutOfMemory);
+    let text = "out of memory, or a thread could not be started";
+    expect_run(&rt, alloc, &paths, memory, (3, text));
+    expect_run(&rt, alloc, &[], RunFault::OutOfMemory, (3, text));
+    let text = "the report could not be written";
+    expect_run(&rt, alloc, &[], RunFault::Write, (4, text));
 }
 
 // Names have at most the 32 bytes that the help tells.

@@ -2,7 +2,7 @@
 
 use crate::options::options;
 use range_analysis::AnalyseFault;
-use range_fixes::ReadFault;
+use range_fixes::{Name, ReadFault};
 use range_plane::Scale;
 use range_run::{RunFault, run, status};
 use std::alloc::Global;
@@ -264,6 +264,7 @@ fn two_files(rt: HostRuntime) {
     let same = AnalyseFault::SameAnimal {
         first: 0,
         second: 1,
+        animal: Name::new(Vec::from_slice(alloc, b"A").expect(&rt, "memory")),
     };
     let empty = AnalyseFault::File {
         file: 0,

@@ -7,6 +7,9 @@ use range_words::WordFault;
 use std::alloc::Global;
 use std::process::Abort;
 
+// What `--version` says: the name, the version, and the kit with its logic as `rt version` says it.
+const VERSION: &str = "homerange 1.0.0 (rattle-kit-13b logic dac8208d650f15bf)\n";
+
 // Words say this: so many files, these levels, and this block, depth and workers; the unit is the metre.
 fn expect<R: Abort>(rt: &R, alloc: Global, words: &[&str], said: (usize, &[u8], (u32, u32, u32))) {
     let (files, levels, plan) = said;
@@ -73,7 +76,7 @@ fn paths_are_kept(rt: HostRuntime) {
     assert!(rt; files[1].as_str() == "a b.csv" && files[2].as_str() == "b.csv");
 }
 
-// Words that `clap` refuses by something else than its help.
+// Words that `clap` refuses by something else than its help and the version.
 #[test]
 fn bad_words(rt: HostRuntime) {
     let alloc = rt.alloc();
@@ -95,8 +98,8 @@ fn bad_words(rt: HostRuntime) {
         &["--unit=d"],
         &["--unit", "m", "--unit", "m"],
         &["--unit", "km", "--percent", "0"],
-        &["--version"],
         &["--bogus", "--help"],
+        &["--bogus", "--version"],
     ];
     for words in cases {
         let refused = read(&rt, alloc, words);
@@ -143,26 +146,30 @@ fn sixty_four_files(rt: HostRuntime) {
     assert!(rt; read.files.len() == 64);
 }
 
-// The help names every option with its default, and is asked for before a word that is bad.
+// The help names every option with its default, in lines of 80 columns, and is asked for before a word that is bad.
 #[test]
 fn help(rt: HostRuntime) {
     let alloc = rt.alloc();
     let parts = [
-        "Usage: homerange [--percent LIST] [--unit UNIT] [--block N] [--depth N] [--workers N] [FILE ...]\n",
-        "m for metres, dm for decimetres [default: m]",
-        "1 to 8 whole numbers from 1 to 100 [default: 50,95,100]",
-        "1 to 1024 [default: 256]",
-        "1 to 64 [default: 4]",
-        "1 to 8 [default: 2]",
+        "Usage: homerange [--percent LIST] [--unit UNIT] [--block N] [--depth N]\n",
+        " [--workers N] [FILE ...]\n",
+        "m for metres, dm for decimetres\n",
+        " [default: m]\n",
+        "1 to 8 whole numbers\n",
+        " from 1 to 100, separated by commas [default: 50,95,100]\n",
+        "\n\nSpeed:\n      --block <N> ",
+        "1 to 1024 [default: 256]\n      --depth <N> ",
+        "1 to 64 [default: 4]\n      --workers <N> ",
+        "1 to 8 [default: 2]\n\n",
+        "  -V, --version ",
         "Files to read, 64 at most",
         "animal,second,easting,northing and",
         "animal,second,easting,northing,use each",
         "1 to 32 bytes",
         "0 to 1099511627776",
-        "metres from 0 to 16777216,",
-        "decimetres from 0 to 134217728\n",
-        "unit,dm ",
-        "1 to 1048576 such lines",
+        "0 to\n              16777216, or with --unit dm whole decimetres from 0 to\n              134217728\n",
+        "  unit,dm\n",
+        "1\n  to 1048576 such lines",
         "use       1, or 0 for",
         "(p*n + 99)/100",
     ];
@@ -175,5 +182,25 @@ fn help(rt: HostRuntime) {
         for part in parts {
             assert!(rt; text.contains(part), "{part}");
         }
+        for line in text.lines() {
+            assert!(rt; line.chars().count() <= 80, "{line}");
+        }
+    }
+}
+
+// The version is asked for as help is, and its text is one line.
+#[test]
+fn version(rt: HostRuntime) {
+    let alloc = rt.alloc();
+    for words in [
+        ["--version"].as_slice(),
+        &["-V"],
+        &["--block", "1", "--version", "--bogus"],
+    ] {
+        let refused = read(&rt, alloc, words);
+        assert!(rt;
+            matches!(&refused, Err(WordFault::Version(text)) if text.as_str() == VERSION),
+            "{words:?}"
+        );
     }
 }

@@ -38,7 +38,7 @@ module _ {A : Type 0} {clone : Ghosts A} (sources : List (Option Reading)) (foll
   none_of_entries OutOfMemory given none = tt
   none_of_entries (LineCut file) given none = absurd none
   none_of_entries (File file fault) given none = (entries_of followed, given, none)
-  none_of_entries (SameAnimal first second) given none = (entries_of followed, given, none)
+  none_of_entries (SameAnimal first second animal) given none = (entries_of followed, given, none)
 
   -- what judging the files says of the sources
   pub outcome : (levels : List ℕ) (unit : Scale) (why : Option AnalyseFault) (result : Result Analysis AnalyseFault) → lost followed ≡ why

@@ -2,6 +2,7 @@
 use Rattle.std.specs.Prelude.{◌≡◌, ℕ, ⊤, List, length, map, Some, None}
 use Rattle.std.specs.List.{AllZip}
 use Rattle.range_plane.specs.declared.scale.Scale.{Scale}
+use Rattle.range_tables.specs.Names.{name_at}
 use Rattle.range_tables.specs.Tables.{IsAnimal, IsOverlap, pairs}
 use Rattle.range_tables.specs.declared.analysis.Analysis.{Analysis}
 use Rattle.range_tables.specs.declared.animal.Animal.{Animal}
@@ -28,4 +29,5 @@ abbrev pub HasNoAnalysis : List Entry → AnalyseFault → Type 0
 HasNoAnalysis entries OutOfMemory = ⊤
 HasNoAnalysis entries (LineCut file) = ⊥
 HasNoAnalysis entries (File file fault) = first_bad entries ≡ Some (File file fault)
-HasNoAnalysis entries (SameAnimal first second) = (first_bad entries ≡ None) × IsFirstRepeat (names_of entries) (Some (first, second))
+HasNoAnalysis entries (SameAnimal first second animal) =
+    (first_bad entries ≡ None) × IsFirstRepeat (names_of entries) (Some (first, second)) × (animal ≡ name_at (names_of entries) first)

@@ -3,28 +3,37 @@
 ghost use Rattle.std.specs.Prelude.{◌≡◌};
 ghost use Rattle.range_analysis.specs.declared.fault.AnalyseFault.TheVariants as faults;
 
-use range_fixes::ReadFault;
+use range_fixes::{Name, ReadFault};
 use range_plane::OutOfMemory;
 use std::alloc::AllocError;
 use thiserror::Error;
 
 /// Why files have no analysis. Files are numbered from 0.
-#[derive(Clone, Copy, PartialEq, Eq, Debug, Error)]
+#[derive(PartialEq, Eq, Debug, Drop, Error)]
 pub enum AnalyseFault {
     /// A growth was refused for want of memory.
     #[error("out of memory")]
     OutOfMemory,
     /// Not all fixes of a file, and the mark after them, were handed on.
     #[error("the fixes of file {file} were not all handed on")]
-    LineCut { file: u32 },
+    LineCut {
+        file: u32,
+    },
     /// A file cannot be read to its end. This is the first such file; the fault is neither want of memory
     /// nor `Gone`.
     #[error("file {file}: {fault}")]
-    File { file: u32, fault: ReadFault },
-    /// Two files have the same animal. `second` is the first file whose animal stands in an earlier one, and
-    /// `first` is that one.
+    File {
+        file: u32,
+        fault: ReadFault,
+    },
+    /// Two files have the same animal. `second` is the first file whose animal stands in an earlier one,
+    /// `first` is that one, and `animal` the name in both.
     #[error("files {first} and {second} have the same animal")]
-    SameAnimal { first: u32, second: u32 },
+    SameAnimal {
+        first: u32,
+        second: u32,
+        animal: Name,
+    },
 }
 
 impl From<OutOfMemory> for AnalyseFault {

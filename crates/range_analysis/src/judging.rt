@@ -4,7 +4,8 @@ ghost use Rattle.std.specs.Prelude.{◌≡◌, ◌≤◌, false, true, All, Err,
 ghost use Rattle.range_plan.specs.Limits.{file_limit};
 ghost use Rattle.range_stats.specs.Levels.{IsLevel};
 ghost use Rattle.range_analysis.specs.Analysis.{HasNoAnalysis, IsAnalysis};
-ghost use Rattle.range_analysis.specs.Entries.{bad, entries_of, entry_of, first_bad, good, lost};
+ghost use Rattle.range_analysis.specs.Entries.{bad, entries_of, entry_of, first_bad, good, lost, names_of};
+ghost use Rattle.range_analysis.specs.Names.{IsFirstRepeat};
 ghost use Rattle.range_analysis.specs.Tracks.{entries_in};
 
 use crate::fault::AnalyseFault;
@@ -54,6 +55,21 @@ fn tracks(alloc: Global, followed: Vec<Followed>) -> Result<Vec<Track>, AnalyseF
     Ok(tracks)
 }
 
+// The fault of files of which those at these places have one animal.
+fn same_animal(mut tracks: Vec<Track>, first: usize, second: usize) -> AnalyseFault
+    requires files { vec_len tracks ≤ file_limit }
+    requires good { first_bad (entries_in tracks.items) ≡ None }
+    requires repeat { IsFirstRepeat (names_of (entries_in tracks.items)) (Some (first, second)) }
+    ensures { HasNoAnalysis (entries_in tracks.items) result }
+{
+    let animal = tracks.swap_remove(second).name;
+    AnalyseFault::SameAnimal {
+        first: first as u32,
+        second: second as u32,
+        animal,
+    }
+}
+
 /// The analysis of 1 to [`FILE_LIMIT`](range_plan::FILE_LIMIT) files that were followed, with a percent
 /// polygon of each animal at each of the levels. The unit is that of the files' coordinates.
 ///
@@ -81,10 +97,7 @@ pub fn judge<R: Threads + Sync>(
     }
     let tracks = tracks(alloc, followed)?;
     if let Some((first, second)) = first_repeat(alloc, &tracks)? {
-        return Err(AnalyseFault::SameAnimal {
-            first: first as u32,
-            second: second as u32,
-        });
+        return Err(same_animal(tracks, first, second));
     }
     Ok(tabulate(rt, alloc, tracks, levels, unit)?)
 }

@@ -29,14 +29,14 @@ sources_of read input = sources_over (input read.options.plan.unit) read.files.i
 abbrev pub Reports : Words → Input → Option (List ℕ) → Option (List ℕ) → Type 0
 Reports read input old new = WritesReport (sources_of read input) read.options.levels.items read.options.plan.unit old new
 
--- the words ask for help, and this is its text
-abbrev pub AskForHelp : List Text → String Global → Type 0
-AskForHelp said text = IsRefusalOf said (words.Help text)
+-- the words ask for help or for the version, and this is its text
+abbrev pub AskFor : List Text → String Global → Type 0
+AskFor said text = IsRefusalOf said (words.Help text) ⊎ IsRefusalOf said (words.Version text)
 
--- the words are good and their report was written, or they ask for help and it was
+-- the words are good and their report was written, or they ask for help or for the version and it was
 abbrev pub IsObeyed : List Text → Input → Option (List ℕ) → Option (List ℕ) → Type 0
 IsObeyed said input old new =
-    ((read : Words) × AreWordsOf said read × Reports read input old new) ⊎ ((text : String Global) × AskForHelp said text × Appends old new (string_bytes text))
+    ((read : Words) × AreWordsOf said read × Reports read input old new) ⊎ ((text : String Global) × AskFor said text × Appends old new (string_bytes text))
 
 -- the path is one of the files
 abbrev pub IsFileOf : List (String Global) → String Global → Type 0
@@ -54,10 +54,10 @@ IsOfFiles files refusals.OutOfMemory = ⊤
 IsOfFiles files (refusals.Unopened path reason) = IsFileOf files path
 IsOfFiles files refusal = ⊥
 
--- help could not be written
-abbrev pub IsOfHelp : Refusal → Type 0
-IsOfHelp (refusals.Unwritten reason) = ⊤
-IsOfHelp refusal = ⊥
+-- what the words ask for could not be written
+abbrev pub IsOfReply : Refusal → Type 0
+IsOfReply (refusals.Unwritten reason) = ⊤
+IsOfReply refusal = ⊥
 
 -- words are not the program's, or memory is wanted
 abbrev pub IsOfBadWords : Refusal → Type 0
@@ -73,9 +73,10 @@ IsOfRun read input (refusals.Run files fault reason) =
     (files ≡ read.files) × Explains (sources_of read input) read.options.levels.items read.options.plan.unit fault
 IsOfRun read input refusal = ⊥
 
--- a fault of words that is told by itself: not a wish for help, and not what `clap` says
+-- a fault of words that is told by itself: not a wish for help or for the version, and not what `clap` says
 abbrev pub IsPlain : WordFault → Type 0
 IsPlain (words.Help text) = ⊥
+IsPlain (words.Version text) = ⊥
 IsPlain (words.BadWords text) = ⊥
 IsPlain fault = ⊤
 
@@ -85,5 +86,5 @@ IsTold said input refusals.OutOfMemory = ⊤
 IsTold said input (refusals.NotText word) = ⊥
 IsTold said input (refusals.BadWords line) = (text : String Global) × IsRefusalOf said (words.BadWords text)
 IsTold said input (refusals.Words fault) = IsPlain fault × IsRefusalOf said fault
-IsTold said input (refusals.Unwritten reason) = (text : String Global) × AskForHelp said text
+IsTold said input (refusals.Unwritten reason) = (text : String Global) × AskFor said text
 IsTold said input refusal = (read : Words) × AreWordsOf said read × IsOfRun read input refusal

@@ -1,4 +1,4 @@
-//! A command line that is obeyed: the help, or a run over the files of its words, or a refusal that is
+//! A command line that is obeyed: the help or the version, or a run over the files of its words, or a refusal that is
 //! told in one line and a status.
 #![tactic(auto)]
 

@@ -4,7 +4,7 @@ ghost use Rattle.std.specs.Prelude.{◌≡◌, ◌≢◌, IfErr, List, OnOk, map
 ghost use Rattle.std.specs.Io.KnownBytes.{Appends};
 ghost use Rattle.clap.specs.Words.{Text};
 ghost use Rattle.range_fixes.specs.Reading.{reading_from};
-ghost use Rattle.range_command.specs.Obeying.{IsObeyed, IsOfHelp, IsTold};
+ghost use Rattle.range_command.specs.Obeying.{IsObeyed, IsOfReply, IsTold};
 ghost use Rattle.range_command.specs.Status.{refusal_status};
 
 use crate::bad_words::bad_words;
@@ -22,9 +22,9 @@ use std::rt::Files;
 use std::sync::Wait;
 use std::thread::Threads;
 
-/// Does what the words of the environment's command line ask for: writes the help, or runs over the files that
-/// they name, or over the input where they name none. The first word, the program's name, is not read. Nothing
-/// is written with a status other than 0 and 4.
+/// Does what the words of the environment's command line ask for: writes the help or the version, or
+/// runs over the files that they name, or over the input where they name none. The first word, the program's
+/// name, is not read. Nothing is written with a status other than 0 and 4.
 pub fn program<
     R: Wait + Threads + Sync + Files<File = File> + AllocGlobal,
     E: Env,
@@ -51,16 +51,17 @@ pub fn obey<
     let alloc = rt.alloc();
     match read_words(alloc, words) {
         Ok(words) => run_over(rt, words, input, out),
-        Err(WordFault::Help(text)) => write_help(alloc, text.as_str(), out),
+        Err(WordFault::Help(text)) => write_reply(alloc, text.as_str(), out),
+        Err(WordFault::Version(text)) => write_reply(alloc, text.as_str(), out),
         Err(WordFault::BadWords(text)) => Err(bad_words(alloc, words, text.as_str())),
         Err(fault) => Err(Refusal::Words(fault)),
     }
 }
 
-// Writes the help.
-fn write_help<W: Write>(alloc: Global, text: &str, out: &mut Output<W>) -> Result<(), Refusal>
-    ensures help { OnOk result (Appends (W.contents out.old.writer) (W.contents out.new.writer) text.now) }
-    ensures refusal { IfErr result IsOfHelp }
+// Writes the help or the version.
+fn write_reply<W: Write>(alloc: Global, text: &str, out: &mut Output<W>) -> Result<(), Refusal>
+    ensures text { OnOk result (Appends (W.contents out.old.writer) (W.contents out.new.writer) text.now) }
+    ensures refusal { IfErr result IsOfReply }
 {
     if write_text(out, text.as_bytes()).is_ok() {
         return Ok(());

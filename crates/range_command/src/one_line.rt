@@ -22,6 +22,20 @@ impl fmt::Display for OneLine<'_> {
     }
 }
 
+/// The name of an animal that is shown in one line: as its text, or where it is not UTF-8 by its bytes as Rust
+/// writes them.
+#[derive(Clone, Copy)]
+pub(crate) struct OneLineName<'a>(pub(crate) &'a [u8]);
+
+impl fmt::Display for OneLineName<'_> {
+    fn fmt<W: fmt::Write>(&self, f: &mut fmt::Formatter<W>) -> fmt::Result {
+        match str::from_utf8(self.0) {
+            Ok(text) => write!(f, "{}", OneLine(text)),
+            Err(_) => write!(f, "{}", self.0.escape_ascii()),
+        }
+    }
+}
+
 // Whether the character controls, ends a line, or sets the direction of what stands beside it.
 fn is_unseen(character: char) -> bool {
     character.is_control()

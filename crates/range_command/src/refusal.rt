@@ -5,10 +5,10 @@ ghost use Rattle.range_command.specs.Obeying.{IsUnopened};
 ghost use Rattle.range_command.specs.Status.{refusal_status};
 ghost use Rattle.range_command.specs.declared.refusal.Refusal.TheVariants as refusals;
 
-use crate::one_line::OneLine;
+use crate::one_line::{OneLine, OneLineName};
 use range_analysis::AnalyseFault;
-use range_fixes::ReadFault;
-use range_run::{RunFault, status};
+use range_fixes::{Name, ReadFault};
+use range_run::RunFault;
 use range_stats::{LEVEL_COUNT_LIMIT, LEVEL_LIMIT, LevelFault};
 use range_words::WordFault;
 use std::alloc::{AllocError, Global};
@@ -27,14 +27,14 @@ pub enum Refusal {
     BadWords {
         line: String,
     },
-    /// The words are refused for another reason than this and a wish for help.
+    /// The words are refused for another reason than this and a wish for help or the version.
     Words(WordFault),
     /// A file cannot be opened to be read, for this reason of the system's.
     Unopened {
         path: String,
         reason: String,
     },
-    /// The help could not be written, for this reason of the system's if it gave one.
+    /// The help or the version could not be written, for this reason of the system's if it gave one.
     Unwritten {
         reason: Option<String>,
     },
@@ -67,7 +67,7 @@ impl Refusal {
     }
 
     /// The status with which the program ends: 1 for a file that cannot be opened, 2 for words that are
-    /// refused, 3 for want of memory, 4 for help that cannot be written, and that of the run where there was one.
+    /// refused, 3 for want of memory, 4 for help or a version that cannot be written, and that of the run where there was one.
     pub fn status(&self) -> u8
         ensures { result ≡ refusal_status self.now }
     {
@@ -76,7 +76,7 @@ impl Refusal {
             Refusal::NotText { .. } | Refusal::BadWords { .. } | Refusal::Words(_) => 2,
             Refusal::Unopened { .. } => 1,
             Refusal::Unwritten { .. } => 4,
-            Refusal::Run { fault, .. } => status(&Err(*fault)),
+            Refusal::Run { fault, .. } => fault.status(),
         }
     }
 }
@@ -107,12 +107,12 @@ impl fmt::Display for Refusal {
             Refusal::Unopened { path, reason } => {
                 write!(f, "{}: {reason}", OneLine(path.as_str()))
             }
-            Refusal::Unwritten { reason } => write_output(f, "the help", reason),
+            Refusal::Unwritten { reason } => write_output(f, "the help or the version", reason),
             Refusal::Run {
                 files,
                 fault,
                 reason,
-            } => write_run(f, files.as_slice(), *fault, reason),
+            } => write_run(f, files.as_slice(), fault, reason),
         }
     }
 }
@@ -124,12 +124,12 @@ fn write_words<W: fmt::Write>(f: &mut fmt::Formatter<W>, fault: &WordFault) -> f
             let part = u64::from(*index) + 1;
             write!(
                 f,
-                "part {part} of the levels is not a whole number from 1 to {LEVEL_LIMIT}"
+                "--percent: level {part} is not a whole number from 1 to {LEVEL_LIMIT}"
             )
         }
         WordFault::BadLevels(LevelFault::TooMany) => write!(
             f,
-            "more than {LEVEL_COUNT_LIMIT} levels"
+            "--percent: more than {LEVEL_COUNT_LIMIT} levels"
         ),
         _ => write!(f, "{fault}"),
     }
@@ -159,7 +159,7 @@ fn write_output<W: fmt::Write>(
 fn write_run<W: fmt::Write>(
     f: &mut fmt::Formatter<W>,
     files: &[String],
-    fault: RunFault,
+    fault: &RunFault,
     reason: &Option<String>,
 ) -> fmt::Result {
     match fault {
@@ -169,11 +169,22 @@ fn write_run<W: fmt::Write>(
     }
 }
 
+// Which files have the same animal, and which that is.
+fn write_same_animal<W: fmt::Write>(
+    f: &mut fmt::Formatter<W>,
+    first: OneLine<'_>,
+    second: OneLine<'_>,
+    animal: &Name,
+) -> fmt::Result {
+    let animal = OneLineName(animal.as_slice());
+    write!(f, "{first} and {second} have the same animal, {animal}")
+}
+
 // Why the files have no analysis.
 fn write_analysis<W: fmt::Write>(
     f: &mut fmt::Formatter<W>,
     files: &[String],
-    fault: AnalyseFault,
+    fault: &AnalyseFault,
     reason: &Option<String>,
 ) -> fmt::Result {
     match (fault, reason) {
@@ -184,7 +195,7 @@ fn write_analysis<W: fmt::Write>(
             write!(
                 f,
                 "{}: its fixes were not all handed on",
-                name_of(files, file)
+                name_of(files, *file)
             )
         }
         (
@@ -193,15 +204,17 @@ fn write_analysis<W: fmt::Write>(
                 fault: ReadFault::Read,
             },
             Some(reason),
-        ) => { write!(f, "{}: {reason}", name_of(files, file)) }
+        ) => { write!(f, "{}: {reason}", name_of(files, *file)) }
         (AnalyseFault::File { file, fault }, _) => {
-            write!(f, "{}: {fault}", name_of(files, file))
+            write!(f, "{}: {fault}", name_of(files, *file))
         }
-        (AnalyseFault::SameAnimal { first, second }, _) => write!(
-            f,
-            "{} and {} have the same animal",
-            name_of(files, first),
-            name_of(files, second)
-        ),
+        (
+            AnalyseFault::SameAnimal {
+                first,
+                second,
+                animal,
+            },
+            _,
+        ) => write_same_animal(f, name_of(files, *first), name_of(files, *second), animal),
     }
 }

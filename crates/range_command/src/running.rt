@@ -49,7 +49,7 @@ pub(crate) fn run_over<
     match outcome {
         Ok(()) => Ok(()),
         Err(fault) => {
-            let error = error_of(fault, places.as_slice(), out.failure());
+            let error = error_of(&fault, places.as_slice(), out.failure());
             let reason = known_reason(alloc, error);
             Err(Refusal::Run {
                 files,
@@ -86,7 +86,7 @@ fn alone<S: Drop>(alloc: Global, source: S) -> Result<Vec<S>, AllocError>
 
 // The error behind the fault: that of the read or of the write that failed, where it is known.
 fn error_of(
-    fault: RunFault,
+    fault: &RunFault,
     places: &[AtomicI32],
     written: Option<io::Error>,
 ) -> Option<io::Error> {
@@ -98,7 +98,7 @@ fn error_of(
                 fault: ReadFault::Read,
             },
         ) => {
-            let number = places.get(file as usize)?.load(Ordering::Relaxed);
+            let number = places.get(*file as usize)?.load(Ordering::Relaxed);
             if number == 0 {
                 return None;
             }

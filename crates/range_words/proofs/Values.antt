@@ -12,7 +12,7 @@ use Rattle.clap.specs.declared.error.ErrorKind.{ErrorKind}
 use Rattle.clap.specs.declared.error.ErrorKind.TheVariants as kind
 use Rattle.range_words.specs.WordList.{IsRefusal, SpeaksFor}
 use Rattle.range_words.specs.declared.words.WordFault.{WordFault}
-use Rattle.range_words.specs.declared.words.WordFault.TheVariants.{OutOfMemory, Help, BadWords, TooManyFiles, BadLevels}
+use Rattle.range_words.specs.declared.words.WordFault.TheVariants.{OutOfMemory, Help, Version, BadWords, TooManyFiles, BadLevels}
 use Rattle.range_words.proofs.Entries.{no_minus}
 
 abbrev value_of : List ℕ → ℕ
@@ -53,6 +53,8 @@ pub refusal_is : (k : ErrorKind) (kinds : Kinds) (rows : List Row) (fault : Word
 refusal_is k kinds rows OutOfMemory among speaks = tt
 refusal_is k kinds rows (Help text) (inl e) speaks = cc
 refusal_is k kinds rows (Help text) (inr among) speaks = subst (λ (x : ErrorKind). IsAmong x kinds) speaks among
+refusal_is k kinds rows (Version text) (inl e) speaks = cc
+refusal_is k kinds rows (Version text) (inr among) speaks = subst (λ (x : ErrorKind). IsAmong x kinds) speaks among
 refusal_is k kinds rows (BadWords text) (inl e) speaks = absurd (speaks.1 e)
 refusal_is k kinds rows (BadWords text) (inr among) speaks = inl (k, among, speaks.0)
 refusal_is k kinds rows TooManyFiles among speaks = absurd speaks

@@ -1,8 +1,9 @@
 -- The command line: which words the program knows, and what `clap` finds in the words that are given.
-use Rattle.std.specs.Prelude.{◌≡◌, ℕ, pos, List, [], codes, Option, Some, None, unwrap_or, if◌then◌else◌}
+use Rattle.std.specs.Prelude.{◌≡◌, ℕ, pos, List, [], codes, true, Option, Some, None, unwrap_or, if◌then◌else◌}
 use Rattle.std.specs.Option.{option_map_or}
 use Rattle.std.specs.Str.{bytes_eq}
 use Rattle.std.specs.Str.Parse.{digits_value, without_leading_plus}
+use Rattle.clap.specs.Simple.{on_top}
 use Rattle.clap.specs.Words.{App, IsSignedIn, Row, Rule, Text, all_of, first_of, found_of, matches_of, new_app, new_rule, one_of, one_text, with_rule}
 use Rattle.clap.specs.declared.builder.ArgAction.TheVariants.{Append}
 use Rattle.clap.specs.declared.builder.ValueParser.TheVariants as value_parser
@@ -22,10 +23,14 @@ number_rule name limit = record (option_rule name) { parser = Some (value_parser
 abbrev pub files_rule : Rule
 files_rule = record (new_rule (codes "FILE")) { action = Some Append; value_names = 1 }
 
+-- the program by its name; it has a version, and so the flags `-V` and `--version`
+abbrev pub program : App
+program = on_top (λ top. record top { has_version = true }) (new_app (codes "homerange"))
+
 -- the options in the order of their places, and then the files
 abbrev pub homerange : App
 homerange =
-    let percent = with_rule (new_app (codes "homerange")) (option_rule (codes "percent")) in
+    let percent = with_rule program (option_rule (codes "percent")) in
     let block = with_rule percent (number_rule (codes "block") block_limit) in
     let depth = with_rule block (number_rule (codes "depth") depth_limit) in
     let workers = with_rule depth (number_rule (codes "workers") worker_limit) in

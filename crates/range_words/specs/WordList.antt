@@ -9,7 +9,7 @@ use Rattle.range_stats.specs.declared.level.LevelFault.TheVariants as level_faul
 use Rattle.range_words.specs.CommandLine.{files_in, found_in, homerange, levels_in, number_in, unit_in}
 use Rattle.range_words.specs.declared.words.Words.{Words}
 use Rattle.range_words.specs.declared.words.WordFault.{WordFault}
-use Rattle.range_words.specs.declared.words.WordFault.TheVariants.{OutOfMemory, Help, BadWords, TooManyFiles, BadLevels}
+use Rattle.range_words.specs.declared.words.WordFault.TheVariants.{OutOfMemory, Help, Version, BadWords, TooManyFiles, BadLevels}
 
 -- the words say this, where `clap` finds these rows
 pub record AreFrom (rows : List Row) (words : Words) : Type 0 where
@@ -33,12 +33,17 @@ IsFilesRefusal rows OutOfMemory = ⊤
 IsFilesRefusal rows TooManyFiles = file_limit < length (files_in rows)
 IsFilesRefusal rows fault = ⊥
 
+-- neither help nor the version is asked for
+abbrev pub IsNoWish : ErrorKind → Type 0
+IsNoWish k = (k ≢ kind.DisplayHelp) × (k ≢ kind.DisplayVersion)
+
 -- why words are refused, where `clap` refuses them by these kinds, or else finds these rows: by `clap`, then for
 -- the unit, then for the files, and last for the levels
 abbrev pub IsRefusal : Kinds → List Row → WordFault → Type 0
 IsRefusal kinds rows OutOfMemory = ⊤
 IsRefusal kinds rows (Help text) = IsAmong kind.DisplayHelp kinds
-IsRefusal kinds rows (BadWords text) = ((k : ErrorKind) × IsAmong k kinds × (k ≢ kind.DisplayHelp)) ⊎ ((kinds ≡ []) × (unit_in rows ≡ None))
+IsRefusal kinds rows (Version text) = IsAmong kind.DisplayVersion kinds
+IsRefusal kinds rows (BadWords text) = ((k : ErrorKind) × IsAmong k kinds × IsNoWish k) ⊎ ((kinds ≡ []) × (unit_in rows ≡ None))
 IsRefusal kinds rows TooManyFiles = (kinds ≡ []) × IsSome (unit_in rows) × (file_limit < length (files_in rows))
 IsRefusal kinds rows (BadLevels fault) =
     (kinds ≡ []) × IsSome (unit_in rows) × (length (files_in rows) ≤ file_limit) × IsRefusedFor fault (parts (levels_in rows)) × (fault ≢ level_fault.OutOfMemory)
@@ -50,5 +55,6 @@ IsRefusalOf words fault = IsRefusal (fault_of homerange words) (found_in words) 
 abbrev pub SpeaksFor : ErrorKind → WordFault → Type 0
 SpeaksFor k OutOfMemory = ⊤
 SpeaksFor k (Help text) = k ≡ kind.DisplayHelp
-SpeaksFor k (BadWords text) = (k ≢ kind.DisplayHelp) × (k ≢ kind.OutOfMemory)
+SpeaksFor k (Version text) = k ≡ kind.DisplayVersion
+SpeaksFor k (BadWords text) = IsNoWish k × (k ≢ kind.OutOfMemory)
 SpeaksFor k fault = ⊥

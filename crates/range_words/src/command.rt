@@ -1,11 +1,12 @@
 // The words that the program knows, and what `clap` finds in those that are given.
 
 ghost use Rattle.std.specs.Prelude.{◌≡◌, ◌≤◌, IfOk, codes, false, map, string_bytes};
-ghost use Rattle.clap.specs.Words.{FailsBy, app_of, fault_of, found_of, new_app, rows_of, rule_of};
+ghost use Rattle.clap.specs.Words.{FailsBy, app_of, fault_of, found_of, rows_of, rule_of};
 ghost use Rattle.range_plan.specs.Limits.{block_limit, depth_limit, worker_limit};
-ghost use Rattle.range_words.specs.CommandLine.{HasNumber, files_rule, found_in, homerange, number_rule, option_rule};
+ghost use Rattle.range_words.specs.CommandLine.{HasNumber, files_rule, found_in, homerange, program, number_rule, option_rule};
 
-use crate::help::{ABOUT, HelpTexts, USAGE};
+use crate::help::{ABOUT, HelpTexts, SPEED, USAGE};
+use crate::version::VERSION;
 use clap::{Arg, ArgAction, ArgMatches, Command, Error, value_parser};
 use range_plan::{BLOCK_LIMIT, DEPTH_LIMIT, WORKER_LIMIT};
 use std::alloc::{AllocError, Global};
@@ -21,7 +22,7 @@ fn text_option<'a>(alloc: Global, name: &'a str, value: &'a str, help: &'a str) 
         .help(help)
 }
 
-// An option whose value is a number from 1 to a limit.
+// An option whose value is a number from 1 to a limit, which changes the time alone.
 fn number_option<'a>(alloc: Global, name: &'a str, limit: u32, help: &'a str) -> Arg<'a>
     ensures rule { rule_of result ≡ number_rule name.entry.now limit }
     ensures local { result.global ≡ false }
@@ -30,6 +31,7 @@ fn number_option<'a>(alloc: Global, name: &'a str, limit: u32, help: &'a str) ->
         .long(name)
         .value_name("N")
         .value_parser(value_parser!(u32).range(1..=i64::from(limit)))
+        .help_heading(SPEED)
         .help(help)
 }
 
@@ -44,11 +46,12 @@ fn files_argument<'a>(alloc: Global, help: &'a str) -> Arg<'a>
         .help(help)
 }
 
-// The program and the texts of its help.
+// The program, its version and the texts of its help.
 fn program<'a>(alloc: Global, after_help: &'a str) -> Command<'a>
-    ensures { app_of result ≡ new_app (codes "homerange") }
+    ensures { app_of result ≡ program }
 {
     Command::new(alloc, "homerange")
+        .version(VERSION)
         .about(ABOUT)
         .override_usage(USAGE)
         .after_help(after_help)

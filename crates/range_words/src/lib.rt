@@ -4,6 +4,7 @@
 mod command;
 mod defaults;
 mod help;
+mod version;
 mod words;
 
 pub use words::{WordFault, Words, read_words};

@@ -36,15 +36,18 @@ pub enum WordFault {
     /// Help was asked for. This is its text.
     #[error("{0}")]
     Help(String),
+    /// The version was asked for. This is its text.
+    #[error("{0}")]
+    Version(String),
     /// The words are not the program's: an option that it does not have, or has not in this form, a number
     /// outside its range, or another unit than `m` and `dm`. This says so in several lines, as `clap` does.
     #[error("{0}")]
     BadWords(String),
     /// There are more files than [`FILE_LIMIT`].
-    #[error("more than {FILE_LIMIT} files")]
+    #[error("more than {FILE_LIMIT} files; docs/HERDS.md says how to run more")]
     TooManyFiles,
     /// The levels are no list of levels.
-    #[error("the levels are not 1 to {LEVEL_COUNT_LIMIT} whole numbers from 1 to {LEVEL_LIMIT}, separated by commas")]
+    #[error("--percent: the levels are not 1 to {LEVEL_COUNT_LIMIT} whole numbers from 1 to {LEVEL_LIMIT}, separated by commas")]
     BadLevels(LevelFault),
 }
 
@@ -109,6 +112,7 @@ fn refusal(alloc: Global, error: &Error) -> WordFault
     match error.kind() {
         ErrorKind::OutOfMemory => WordFault::OutOfMemory,
         ErrorKind::DisplayHelp => WordFault::Help(text),
+        ErrorKind::DisplayVersion => WordFault::Version(text),
         _ => WordFault::BadWords(text),
     }
 }

@@ -1,21 +1,5 @@
-use Rattle.std.proofs.Common.{length, arith, ap}
 use Rattle.range_analysis.proofs.Tabled.{tabled}
-use Rattle.range_analysis.proofs.Tracking.{repeat_within, tracks_count}
 use Rattle.range_analysis.proofs.judging.judge.Goals as goal
-
-pub overflow_cast-result : goal.overflow_cast-result
-overflow_cast-result g c =
-    let within = repeat_within _ _ _ (rw c.in-Some-2.is at c.in_ok-first.ensures) in
-    let count = tracks_count _ _ c.in_ok-tracks.ensures.tracks in
-    let same = ap length c.deref-2.ensures.value in
-    omega (arith, within.0, count, same, c.args.followed.ok.0, c.requires.files.1)
-
-pub overflow_cast-result-in-Some-2 : goal.overflow_cast-result-in-Some-2
-overflow_cast-result-in-Some-2 g c =
-    let within = repeat_within _ _ _ (rw c.in-Some-2.is at c.in_ok-first.ensures) in
-    let count = tracks_count _ _ c.in_ok-tracks.ensures.tracks in
-    let same = ap length c.deref-2.ensures.value in
-    omega (arith, within.1, count, same, c.args.followed.ok.0, c.requires.files.1)
 
 pub returns-clause-judged : goal.returns-clause-judged
 returns-clause-judged g c whole =

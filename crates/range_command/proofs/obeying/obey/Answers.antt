@@ -18,7 +18,12 @@ returns-in-Ok-clause-told g c =
 pub returns-in-Err-Help-clause-done : goal.returns-in-Err-Help-clause-done
 returns-in-Err-Help-clause-done g c =
     let asked = subst (IsRefusalOf (map string_bytes c.args.words.now)) c.in-Err-Help.field-0-is c.in-Err-Help.ensures.err in
-    on_ok_weaker c.write_help.result (λ written. inr (c.in-Err-Help.text, asked, search rules)) c.write_help.ensures.help
+    on_ok_weaker c.write_reply.result (λ written. inr (c.in-Err-Help.text, inl asked, search rules)) c.write_reply.ensures.text
+
+pub returns-in-Err-Version-clause-done : goal.returns-in-Err-Version-clause-done
+returns-in-Err-Version-clause-done g c =
+    let asked = subst (IsRefusalOf (map string_bytes c.args.words.now)) c.in-Err-Version.field-0-is c.in-Err-Version.ensures.err in
+    on_ok_weaker c.write_reply-in-Err-Version.result (λ written. inr (c.in-Err-Version.text, inr asked, search rules)) c.write_reply-in-Err-Version.ensures.text
 
 pub returns-in-Err-BadWords-clause-done : goal.returns-in-Err-BadWords-clause-done
 returns-in-Err-BadWords-clause-done g c = search rules
