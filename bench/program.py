@@ -10,20 +10,17 @@ and `rustc --edition 2024 -O`.
 
 import argparse
 import filecmp
-import multiprocessing
 import os
 import pathlib
-import statistics
 import subprocess
 import tempfile
-import time
 from dataclasses import dataclass
 
-import polygon
 import programs
+import timing
 
 # The curves: how many corners they have, and the limit of their coordinates.
-CURVES = {"curve": (227264, 1 << 24), "fine-curve": (900000, 1 << 27)}
+CURVES = {"curve": (227264, timing.METRES), "fine-curve": (900000, timing.DECIMETRES)}
 EIGHT = tuple(f"part{i}" for i in range(8))
 HERD = tuple(f"herd{i}" for i in range(64))
 PEERS = {"vectors": (), "trees": ("--trees",)}
@@ -89,18 +86,8 @@ def make_files(maker, names, folder):
     """Writes the files of these names, and those that are made with them."""
     for curve, (count, limit) in CURVES.items():
         if any(name.startswith(curve) for name in names):
-            text = "".join(f"{e},{n}\n" for e, n in polygon.corners(count, margin=0, limit=limit))
-            programs.output([maker, "curve", folder, curve], text)
+            timing.make_curves(maker, curve, count, limit, folder)
     programs.output([maker, "tracks", folder], "")
-
-
-def make_apart(*words):
-    """Makes files in a process of its own, since a run's peak counts what the process that starts it held."""
-    making = multiprocessing.Process(target=make_files, args=words)
-    making.start()
-    making.join()
-    if making.exitcode:
-        raise SystemExit("files were not made")
 
 
 def commands_of(case, proved, plain):
@@ -123,23 +110,6 @@ def compare(case, commands, folder):
         report.unlink()
 
 
-def measured(command, folder):
-    """The milliseconds that a command takes, those of its processor time, and the MB that it holds at most."""
-    start = time.perf_counter()
-    running = subprocess.Popen(command, cwd=folder, stdout=subprocess.DEVNULL)
-    _, status, usage = os.wait4(running.pid, 0)
-    took = time.perf_counter() - start
-    if status:
-        raise SystemExit(f"{command} ended with {status}")
-    return took * 1000, (usage.ru_utime + usage.ru_stime) * 1000, usage.ru_maxrss / 1024
-
-
-def medians(commands, folder, turns):
-    """Of each command the medians of its time, processor time and peak; the commands take turns."""
-    runs = [[measured(command, folder) for command in commands] for _ in range(turns)]
-    return [tuple(map(statistics.median, zip(*command))) for command in zip(*runs)]
-
-
 def row(case, found):
     """The line of a table, blank where a peer was not run."""
     *plain, proved = found
@@ -156,12 +126,12 @@ def main():
     with tempfile.TemporaryDirectory() as folder:
         plain = programs.plain("program_plain.rs", folder)
         maker = programs.plain("program_files.rs", folder)
-        make_apart(maker, {name for case in words.cases for name in case.files}, folder)
+        timing.apart(make_files, maker, {name for case in words.cases for name in case.files}, folder)
         print("The reports are the same in:" if words.compare else HEAD)
         for case in words.cases:
             commands = commands_of(case, proved, plain)
             compare(case, commands, folder)
-            found = [] if words.compare else medians(commands, folder, words.turns or case.turns)
+            found = [] if words.compare else timing.medians(commands, folder, words.turns or case.turns)
             print(row(case, found) if found else case.name, flush=True)
 
 

@@ -1,0 +1,46 @@
+"""What the benches of the whole program share: files that are made, and programs that are timed in turns."""
+
+import multiprocessing
+import os
+import statistics
+import subprocess
+import time
+
+import polygon
+import programs
+
+# The limits of coordinates in metres and in decimetres.
+METRES = 1 << 24
+DECIMETRES = 1 << 27
+
+
+def make_curves(maker, name, count, limit, folder):
+    """Writes the files of a curve of so many corners, whose fixes come in three orders."""
+    text = "".join(f"{e},{n}\n" for e, n in polygon.corners(count, margin=0, limit=limit))
+    programs.output([maker, "curve", folder, name], text)
+
+
+def apart(make, *words):
+    """Makes files in a process of its own, since a run's peak counts what the process that starts it held."""
+    making = multiprocessing.Process(target=make, args=words)
+    making.start()
+    making.join()
+    if making.exitcode:
+        raise SystemExit("files were not made")
+
+
+def measured(command, folder):
+    """The milliseconds that a command takes, those of its processor time, and the MB that it holds at most."""
+    start = time.perf_counter()
+    running = subprocess.Popen(command, cwd=folder, stdout=subprocess.DEVNULL)
+    _, status, usage = os.wait4(running.pid, 0)
+    took = time.perf_counter() - start
+    if status:
+        raise SystemExit(f"{command} ended with {status}")
+    return took * 1000, (usage.ru_utime + usage.ru_stime) * 1000, usage.ru_maxrss / 1024
+
+
+def medians(commands, folder, turns):
+    """Of each command the medians of its time, processor time and peak; the commands take turns."""
+    runs = [[measured(command, folder) for command in commands] for _ in range(turns)]
+    return [tuple(map(statistics.median, zip(*command))) for command in zip(*runs)]
