@@ -126,7 +126,7 @@ fn parts_of_two_animals(rt: HostRuntime) -> Result<(), Fail> {
     let alloc = rt.alloc();
     let analysis = two_animals(alloc)?;
     let mut text = Vec::new(alloc);
-    for part in report_parts(&rt, alloc, &analysis).ok().ok_or("memory")? {
+    for part in report_parts(&rt, alloc, analysis).ok().ok_or("memory")? {
         text.extend_from_slice(&part)?;
     }
     assert_eq!(rt; text.as_slice(), REPORT);

@@ -3,14 +3,14 @@
 ghost use Rattle.std.specs.Prelude.{◌≡◌, ◌+◌, ◌^◌, ◌++◌, ◌<◌, IfOk, OnOk, drop, length, take};
 ghost use Rattle.std.specs.List.{AllZip, flat_map};
 ghost use Rattle.range_report.specs.Parts.{part_lines, tail_text, text_of};
-ghost use Rattle.range_report.specs.Report.{report_text, unit_line};
+ghost use Rattle.range_report.specs.Report.{animal_text, report_text, unit_line};
 
 use crate::lines::{
     push_box, push_corners, push_end, push_head, push_overlaps, push_percents, push_rows,
 };
 use crate::parts::{Lines, PART_LINES, Part, parts_of};
 use range_plane::{OutOfMemory, Scale};
-use range_tables::Analysis;
+use range_tables::{Analysis, Animal};
 use rayon::prelude::*;
 use std::alloc::{AllocError, Allocator};
 use std::thread::Threads;
@@ -98,24 +98,29 @@ fn part_texts<R: Threads + Sync, A: Allocator + Clone + Copy + Send + Sync>(
         .collect::<Result<Vec<Vec<u8, A>, A>, AllocError>>(rt, alloc)?
 }
 
-// How many bytes the texts have.
-fn length_of<A: Allocator>(texts: &[Vec<u8, A>]) -> usize {
-    let mut length: usize = 0;
-    for text in texts {
-        length = length.saturating_add(text.len());
-    }
-    length
+// The lines of an animal, in parts that several threads write.
+fn animal_texts<R: Threads + Sync, A: Allocator + Clone + Copy + Send + Sync>(
+    rt: &R,
+    alloc: A,
+    animal: &Animal,
+) -> Result<Vec<Vec<u8, A>, A>, AllocError>
+    ensures { IfOk result (λ texts. flat_map (λ text. text.items) texts.items ≡ animal_text animal.now) }
+{
+    let parts = parts_of(alloc, animal)?;
+    part_texts(rt, alloc, &parts)
 }
 
-// Appends the texts, one after the other. Each is let go as soon as it is there.
-fn push_texts<A: Allocator>(
-    text: &mut Vec<u8, A>,
-    texts: Vec<Vec<u8, A>, A>,
+// Appends the lines of animals, in parts. Each animal is let go once its lines are there.
+fn push_animals<R: Threads + Sync, A: Allocator + Clone + Copy + Send + Sync>(
+    rt: &R,
+    alloc: A,
+    texts: &mut Vec<Vec<u8, A>, A>,
+    animals: Vec<Animal>,
 ) -> Result<(), AllocError>
-    ensures { OnOk result (text.new.items ≡ text.old.items ++ flat_map (λ part. part.items) texts.items) }
+    ensures { OnOk result (flat_map (λ text. text.items) texts.new.items ≡ flat_map (λ text. text.items) texts.old.items ++ flat_map animal_text animals.items) }
 {
-    for part in texts {
-        text.extend_from_slice(&part)?;
+    for animal in animals {
+        texts.append(&mut animal_texts(rt, alloc, &animal)?)?;
     }
     Ok(())
 }
@@ -136,8 +141,22 @@ fn tail_of<A: Allocator>(alloc: A, analysis: &Analysis) -> Result<Vec<u8, A>, Al
     Ok(text)
 }
 
+// Appends the texts, one after the other. Each is let go as soon as it is there.
+fn push_texts<A: Allocator>(
+    text: &mut Vec<u8, A>,
+    texts: Vec<Vec<u8, A>, A>,
+) -> Result<(), AllocError>
+    ensures { OnOk result (text.new.items ≡ text.old.items ++ flat_map (λ part. part.items) texts.items) }
+{
+    for part in texts {
+        text.extend_from_slice(&part)?;
+    }
+    Ok(())
+}
+
 /// The report of an analysis in parts, of which some may be empty: one after the other, they are what [`report`]
-/// gives, and together they have one copy of its text. Several threads make them.
+/// gives. Several threads make them. Each animal is let go once its lines are there, so that memory never holds
+/// all rows beside all text.
 ///
 /// # Errors
 ///
@@ -146,15 +165,17 @@ fn tail_of<A: Allocator>(alloc: A, analysis: &Analysis) -> Result<Vec<u8, A>, Al
 pub fn report_parts<R: Threads + Sync, A: Allocator + Clone + Copy + Send + Sync>(
     rt: &R,
     alloc: A,
-    analysis: &Analysis,
+    analysis: Analysis,
 ) -> Result<Vec<Vec<u8, A>, A>, OutOfMemory>
-    ensures { IfOk result (λ parts. flat_map (λ part. part.items) parts.items ≡ report_text analysis.now) }
+    ensures { IfOk result (λ parts. flat_map (λ part. part.items) parts.items ≡ report_text analysis) }
 {
-    let parts = parts_of(alloc, analysis.animals.as_slice())?;
-    let mut texts = part_texts(rt, alloc, &parts)?;
     let head = Vec::from_slice(alloc, head_of(analysis.unit))?;
-    texts.insert(0, head)?;
-    texts.push(tail_of(alloc, analysis)?)?;
+    let tail = tail_of(alloc, &analysis)?;
+    let Analysis { animals, .. } = analysis;
+    let mut texts = Vec::new(alloc);
+    texts.push(head)?;
+    push_animals(rt, alloc, &mut texts, animals.into_vec())?;
+    texts.push(tail)?;
     Ok(texts)
 }
 
@@ -169,6 +190,7 @@ pub fn report_parts<R: Threads + Sync, A: Allocator + Clone + Copy + Send + Sync
 /// - Then, for each ordered pair of different animals, `overlap,A,B,count,fixes`: how many of A's fixes lie
 ///   in B's polygon, and how many fixes A has.
 /// - Last `end,ANIMALS`, the number of animals.
+#[tactic(auto, unfolding(crate::specs::Report::report_text))]
 pub fn report<R: Threads + Sync, A: Allocator + Clone + Copy + Send + Sync>(
     rt: &R,
     alloc: A,
@@ -176,8 +198,10 @@ pub fn report<R: Threads + Sync, A: Allocator + Clone + Copy + Send + Sync>(
 ) -> Result<Vec<u8, A>, OutOfMemory>
     ensures { IfOk result (λ text. text.items ≡ report_text analysis.now) }
 {
-    let parts = report_parts(rt, alloc, analysis)?;
-    let mut text = Vec::with_capacity(alloc, length_of(&parts))?;
-    push_texts(&mut text, parts)?;
+    let mut text = Vec::from_slice(alloc, head_of(analysis.unit))?;
+    for animal in analysis.animals.as_slice() {
+        push_texts(&mut text, animal_texts(rt, alloc, animal)?)?;
+    }
+    text.extend_from_slice(&tail_of(alloc, analysis)?)?;
     Ok(text)
 }

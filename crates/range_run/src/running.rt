@@ -40,7 +40,7 @@ pub fn run<R: Wait + Threads + Sync, S: Read + Send + Drop, W: Write>(
         Ok(analysis) => analysis,
         Err(fault) => return Err(RunFault::Analyse(fault)),
     };
-    let Ok(parts) = report_parts(rt, alloc, &analysis) else {
+    let Ok(parts) = report_parts(rt, alloc, analysis) else {
         return Err(RunFault::OutOfMemory);
     };
     write_parts(out, parts)

@@ -66,6 +66,14 @@ impl Animals {
     {
         self.animals.as_slice()
     }
+
+    /// The animals, each to be let go when it is done with.
+    pub fn into_vec(self) -> Vec<Animal>
+        ensures { result.items ≡ self }
+    {
+        let Animals { animals } = self;
+        animals
+    }
 }
 
 /// Rows of overlap.
