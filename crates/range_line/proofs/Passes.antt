@@ -148,18 +148,18 @@ popped p q m t e = taking_of q (let v = view p in record v { taken = v.taken ++ 
   λ k u h. ⊎_elim (λ (x : At (taken_by p) k u). t.of_line k u x) (λ (x : (k ≡ length (taken_by p)) × (m ≡ u)). subst (λ (y : Message). Contains (files_known p) y.file) x.1 e.1) (at_end (taken_by p) m u k h),
 )
 
--- what a receive leaves, whether a message came or not
-pub received : {E : Type 0} (Z : Type 0) (p q : LinePass) (r : Result Message E) → IsTaking p → MatchResult r (λ m. Takes (view p) m (view q)) (λ _. (view q ≡ view p) × Z) → IsTaking q
-received Z p q (Ok m) t e = popped p q m t e
-received Z p q (Err _) t e = taking_of q (view p) e.0 (t.shows, t.lawful, t.of_line)
+-- what a receive leaves, whether a message came or not: where none came, what is known then has it that nothing changed
+pub received : {E N : Type 0} (p q : LinePass) (none : N → view q ≡ view p) (r : Result Message E) → IsTaking p → MatchResult r (λ m. Takes (view p) m (view q)) (λ _. N) → IsTaking q
+received p q none (Ok m) t e = popped p q m t e
+received p q none (Err _) t e = taking_of q (view p) (none e) (t.shows, t.lawful, t.of_line)
 
 pub received_files : {E : Type 0} (Z : Type 0) (p q : LinePass) (r : Result Message E) → MatchResult r (λ m. Takes (view p) m (view q)) (λ _. (view q ≡ view p) × Z) → files_known q ≡ files_known p
 received_files Z p q (Ok m) e = ap (λ (v : PassView). v.files) e.0
 received_files Z p q (Err _) e = ap (λ (v : PassView). v.files) e.0
 
-pub received_of_line : {E : Type 0} (Z : Type 0) (p q : LinePass) (r : Result Message E) → MatchResult r (λ m. Takes (view p) m (view q)) (λ _. (view q ≡ view p) × Z) → IfSome (result_ok r) (λ m. Contains (files_known p) m.file)
-received_of_line Z p q (Ok m) e = e.1
-received_of_line Z p q (Err _) e = tt
+pub received_of_line : {E : Type 0} (N : Type 0) (p q : LinePass) (r : Result Message E) → MatchResult r (λ m. Takes (view p) m (view q)) (λ _. N) → IfSome (result_ok r) (λ m. Contains (files_known p) m.file)
+received_of_line N p q (Ok m) e = e.1
+received_of_line N p q (Err _) e = tt
 
 -- a feeder's pass once it has ended
 pub ended_of : (p q : LinePass) (depth file : ℕ) (closed : Bool) (fixes : ℕ) → IsFeeding p depth file closed fixes → view q ≡ after_ending (view p) → view q ≡ feeder_pass depth (first_known p) file (sent_by p) closed false

@@ -11,7 +11,8 @@ ghost use Rattle.range_line.specs.Passes.{after_joining_all, line_from, line_of,
 ghost use Rattle.range_line.specs.Rule.{after_opening, feeder_pass, taker_pass, IsRest};
 
 use crate::message::{Block, Body, Message};
-use crate::rule::{Ends, LineRule, Opening, Opens, PassView, Sends, Takes};
+use crate::rule::{Ends, LineRule, Opening, Opens, PassView, Takes};
+use crate::waiting::send;
 use crossbeam_channel::{Pass, RuledSender};
 use range_plane::{Fix, OutOfMemory};
 use std::alloc::{Allocator, Global};
@@ -119,15 +120,12 @@ impl<A: Allocator + Clone> Feeder<A> {
     {
         let count = block.len() as u64;
         let message = self.next_message(Body::Block(Block::new(block)));
-        match self.sender.send_as::<Sends, R>(rt, &mut self.pass, message) {
+        match send(rt, &self.sender, &mut self.pass, message) {
             Ok(()) => {
                 self.sent_fixes += count;
                 Ok(())
             }
-            Err(error) => {
-                let Message { body, .. } = error.into_inner();
-                Err(body.into_fixes())
-            }
+            Err(Message { body, .. }) => Err(body.into_fixes()),
         }
     }
 
@@ -139,7 +137,7 @@ impl<A: Allocator + Clone> Feeder<A> {
         ensures sent { MatchBool result (self.new ≡ after_send self.old the_mark) (self.new ≡ self.old) }
     {
         let mark = self.next_message(Body::Mark);
-        match self.sender.send_as::<Sends, R>(rt, &mut self.pass, mark) {
+        match send(rt, &self.sender, &mut self.pass, mark) {
             Ok(()) => {
                 self.closed = true;
                 true

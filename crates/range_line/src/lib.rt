@@ -9,6 +9,7 @@ mod message;
 mod rule;
 mod settling;
 mod taker;
+mod waiting;
 
 pub use feeder::Feeder;
 pub use laws::{

@@ -8,12 +8,15 @@ ghost use Rattle.range_line.specs.Messages.{IsLawful};
 
 use crate::feeder::{Feeder, LinePass};
 use crate::message::Message;
-use crate::rule::{LineRule, PassView, Takes};
+use crate::rule::{LineRule, PassView};
+use crate::waiting::take;
 use crossbeam_channel::{RuledReceiver, bounded_with};
 use range_plane::OutOfMemory;
 use std::alloc::{Allocator, Global};
 use std::marker::Model;
 use std::sync::Wait;
+
+pub(crate) type Receiver<A> = RuledReceiver<Message, PassView, LineRule, A>;
 
 /// The end of a line that takes what its feeders send.
 ///
@@ -21,7 +24,7 @@ use std::sync::Wait;
 /// were taken, and whether the line has ended.
 #[derive(Drop)]
 pub struct Taker<A: Allocator + Clone = Global> {
-    pub(crate) receiver: RuledReceiver<Message, PassView, LineRule, A>,
+    pub(crate) receiver: Receiver<A>,
     pub(crate) pass: LinePass,
     pub(crate) ended: bool,
 }
@@ -86,6 +89,6 @@ impl<A: Allocator + Clone> Taker<A> {
         ensures of_line { IfSome result (λ m. Contains self.old.files m.file) }
         ensures lawful { (file : ℕ) → IsLawful self.new.taken file }
     {
-        self.receiver.recv_as::<Takes, R>(rt, &mut self.pass).ok()
+        take(rt, &self.receiver, &mut self.pass).ok()
     }
 }

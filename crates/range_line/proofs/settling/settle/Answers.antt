@@ -17,7 +17,7 @@ try_recv_as-requires-clause-rule g c = let t = c.end_all.ensures.taker.0 in (pop
 pub compare-requires-clause-taker : goal.compare-requires-clause-taker
 compare-requires-clause-taker g c =
     let r = c.try_recv_as in
-    (received _ c.end_all.new.pass r.new.pass r.result c.end_all.ensures.taker.0 r.ensures.rule, r.ensures.channel.0.2)
+    (received c.end_all.new.pass r.new.pass (λ kept. kept.0) r.result c.end_all.ensures.taker.0 r.ensures.rule, r.ensures.channel.0.2)
 
 pub compare-requires-clause-line : goal.compare-requires-clause-line
 compare-requires-clause-line g c k f at =
@@ -41,7 +41,7 @@ invariant_of-taker g c =
     let q = r.new.pass in
     let last = c.compare.new.pass in
     let same = c.compare.ensures.pass in
-    let t = received _ c.end_all.new.pass q r.result c.end_all.ensures.taker.0 r.ensures.rule in
+    let t = received c.end_all.new.pass q (λ kept. kept.0) r.result c.end_all.ensures.taker.0 r.ensures.rule in
     (seat_of_line (receives_on c.taker.inside.receiver) q last r.ensures.channel.0 same.2 same.1, taking_of last (view q) same.0 (t.shows, t.lawful, t.of_line))
 
 pub returns-clause-taken : goal.returns-clause-taken
@@ -72,7 +72,7 @@ returns-clause-of_line g c =
 pub returns-clause-lawful : goal.returns-clause-lawful
 returns-clause-lawful g c file =
     let r = c.try_recv_as in
-    let t = received _ c.end_all.new.pass r.new.pass r.result c.end_all.ensures.taker.0 r.ensures.rule in
+    let t = received c.end_all.new.pass r.new.pass (λ kept. kept.0) r.result c.end_all.ensures.taker.0 r.ensures.rule in
     subst (λ l. IsLawful l file) (sym (ap (λ (v : PassView). v.taken) c.compare.ensures.pass.0)) (t.lawful file)
 
 pub returns-clause-line : goal.returns-clause-line
