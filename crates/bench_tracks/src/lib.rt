@@ -1,6 +1,9 @@
 //! Points for the benches: the tracks of made-up animals, the same in each run.
 #![tactic(auto)]
 
+ghost use Rattle.std.specs.Prelude.{◌≡◌, IfOk};
+ghost use Rattle.std.specs.List.Sorted.{IsPermutation};
+
 use range_plane::{Columns, OutOfMemory, Point};
 use std::alloc::{AllocError, Global};
 
@@ -90,7 +93,9 @@ pub fn read_points(alloc: Global, text: &str) -> Result<Vec<Point>, AllocError> 
 }
 
 /// The points in columns.
-pub fn columns_of(alloc: Global, points: &[Point]) -> Result<Columns, OutOfMemory> {
+pub fn columns_of(alloc: Global, points: &[Point]) -> Result<Columns, OutOfMemory>
+    ensures { IfOk result (λ columns. columns.points ≡ points.now) }
+{
     let mut columns = Columns::new(alloc);
     for p in points {
         columns.push(*p)?;
@@ -99,7 +104,9 @@ pub fn columns_of(alloc: Global, points: &[Point]) -> Result<Columns, OutOfMemor
 }
 
 /// Puts the points into another order (Fisher and Yates 1938).
-pub fn shuffle(points: &mut [Point]) {
+pub fn shuffle(points: &mut [Point])
+    ensures { IsPermutation points.old points.new }
+{
     let mut seed = 1;
     for i in (1..points.len()).rev() {
         seed = next(seed);
