@@ -1,5 +1,6 @@
 -- Members of lists by their places.
-use Rattle.std.proofs.Common.{◌≡◌, ◌≢◌, refl, sym, ap, subst, ◌∙◌, ℕ, zero, suc, ◌+◌, ◌<◌, List, [], ◌∷◌, ◌++◌, length, map, set, slice_get, Some, option_map, All, ◌⊎◌, inl, inr, arith, get_or}
+use Rattle.std.proofs.Common.{◌≡◌, ◌≢◌, refl, sym, ap, subst, ◌∙◌, ℕ, zero, suc, ◌+◌, ◌<◌, ◌≤◌, List, [], ◌∷◌, ◌++◌, length, take, drop, map, set, slice_get, Some, option_map, All, ◌⊎◌, inl, inr, arith, get_or, length-append}
+use Rattle.std.proofs.lemmas.List.{length-drop, length-take-le}
 use Rattle.std.proofs.lemmas.List.FromFn.{length-map-range_with_len, get_or-map-range_with_len}
 use Rattle.std.proofs.lemmas.Option.{get_or_from_slice_get, none-some, same_Some, slice_get-get_or, slice_get-map, slice_get_within}
 use Rattle.std.specs.List.{range_with_len}
@@ -68,6 +69,11 @@ set_or_kept (z ∷ xs) zero y (suc place) x is = inr (λ e. absurd (omega (arith
 set_or_kept (z ∷ xs) (suc i) y zero x is = inr (λ e. absurd (omega (arith, e)), is)
 set_or_kept (z ∷ xs) (suc i) y (suc place) x is =
     elim (set_or_kept xs i y place x is) [ inl k ↦ inl (ap suc k.0, k.1) | inr k ↦ inr (λ e. k.0 (omega (arith, e)), k.1) ]
+
+-- ---- a list in which one member took the place of a run of them
+pub replaced_length : {X : Type 0} (xs : List X) (x : X) (from to : ℕ) → from ≤ to → to ≤ length xs → length (take from xs ++ x ∷ drop to xs) + to ≡ length xs + from + 1
+replaced_length xs x from to order within =
+    omega (arith, length-append (take from xs) (x ∷ drop to xs), length-take-le from xs (omega arith), length-drop to xs)
 
 -- ---- two lists, place by place
 pub same_places : {X : Type 0} (xs ys : List X) → length xs ≡ length ys → ((place : ℕ) (x y : X) → slice_get xs place ≡ Some x → slice_get ys place ≡ Some y → x ≡ y) → xs ≡ ys

@@ -1,5 +1,5 @@
 -- Places in blocks, and where a point falls among points that rise.
-use Rattle.std.proofs.Common.{◌≡◌, sym, ap, subst, ℕ, zero, suc, ◌+◌, ◌-◌, ◌*◌, ◌<◌, ◌≤◌, ◌<ℤ◌, ◌≤ℤ◌, ◌⊎◌, inl, inr, List, [], ◌∷◌, length, get_or, arith, eq-or-lt_of_le}
+use Rattle.std.proofs.Common.{◌≡◌, sym, ap, subst, ℕ, zero, suc, ◌+◌, ◌-◌, ◌*◌, ◌/◌, ◌<◌, ◌≤◌, ◌<ℤ◌, ◌≤ℤ◌, ◌⊎◌, inl, inr, List, [], ◌∷◌, length, get_or, arith, eq-or-lt_of_le}
 use Rattle.std.proofs.lemmas.Bool.{cases_lt}
 use Rattle.std.proofs.lemmas.List.{append-nil, get_or_read}
 use Rattle.range_plane.specs.Edges.{at}
@@ -172,6 +172,17 @@ halved f n p low size half step c b some le (inl h) =
 halved f n p low size half step c b some le (inr h) =
     stepped f n p low size (low + step) (size - half) (low + half) c b (omega (arith, some, le)) (omega (arith, h.0, le)) (omega (arith, h.0, le))
     (λ k. subst (λ (x : ℕ). rank (f x) <ℤ rank p) (let e : low ≡ low + step = omega (arith, h.0) in e) (b.passed (omega (arith, h.0, k)))) (λ _. h.1)
+
+-- the step of a search in two lists, one of which may have no more than one point left
+pub halved_or_done : (f : ℕ → Position) (n : ℕ) (p : Position) (low size step : ℕ) → Rises f n → IsBetween f n p low size → Counts f p (low + size / 2) (size / 2) step → IsBetween f n p (low + step) (size - size / 2)
+halved_or_done f n p low size step c b o =
+    elim (cases_lt 0 (size / 2)) [
+      | inl some ↦ halved f n p low size (size / 2) step c b some (omega arith) o
+      | inr none ↦
+          let nothing : step ≡ 0 = elim o [ inl k ↦ omega (arith, k.0, none) | inr k ↦ k.0 ] in
+          subst (λ (s : ℕ × ℕ). IsBetween f n p s.0 s.1)
+          (λ i. ((let e : low ≡ low + step = omega (arith, nothing) in e) i, (let e : size ≡ size - size / 2 = omega (arith, none) in e) i)) b
+    ]
 
 pub falls_last : (L : List Position) (p : Position) (low size step : ℕ) → IsRising L → size ≤ 1 → IsBetween (at L) (length L) p low size → Counts (at L) p low 1 step → FallsAt L p (low + step)
 falls_last L p low size step c h b (inl k) =

@@ -110,6 +110,7 @@ impl<A: Allocator> Chain<A> {
         requires { i < length self.now.blocks }
         ensures points { result.now ≡ block self.now.blocks i }
         ensures some { 0 < length (block self.now.blocks i) }
+        ensures only { length self.now.blocks ≡ 1 → joined self.now.blocks ≡ result.now }
     {
         self.shelf.points_of(i)
     }
@@ -217,6 +218,7 @@ impl<A: Allocator> Chain<A> {
         requires within { 0 < place self.now.blocks c }
         ensures stands { Stands self.now.blocks result }
         ensures place { place self.now.blocks result + 1 ≡ place self.now.blocks c }
+        ensures within { place self.now.blocks result < length (joined self.now.blocks) }
     {
         if c.within > 0 {
             Cursor {

@@ -8,9 +8,9 @@ use Rattle.range_plane.specs.Order.{rank, rank_base}
 use Rattle.range_plane.specs.Plane.{Position, IsAtMost, IsWithinLimits, origin}
 use Rattle.integers_and_lists.proofs.Integers.{linear}
 use Rattle.integers_and_lists.proofs.Numbered.{by_one_number}
+use Rattle.integers_and_lists.proofs.Places.{replaced_length}
 use Rattle.range_chain.specs.Blocks.{replaced}
 use Rattle.range_chain.specs.Chain.{IsRising}
-use Rattle.range_chain.proofs.Joins.{length-replaced}
 use Rattle.range_hull.specs.declared.side.Side.{Side}
 use Rattle.range_hull.specs.Chain.{bend, IsChain, IsWithin, on_corner, on_chord, BeginsAs, EndsAs, Extends}
 use Rattle.range_hull.proofs.Bends.{bend_rotate, bend_flip, bend_back, bend_from, bend_to, bend_outer, bend_inner, dents_later, dents_earlier, lifted, chord_left, chord_right}
@@ -107,7 +107,7 @@ spot L p from to m h k lt =
       | inr g ↦ elim (eq-or-lt_of_le g) [
         | inl e ↦ new (sym e) (ap (at (replaced L p from to)) (sym e) ∙ at-here L p from to h k)
         | inr r ↦
-            let n = length-replaced L p from to h k in
+            let n = replaced_length L p from to h k in
             let x : ℕ = m + to - from - 1 in
             let e : m + to ≡ x + from + 1 = omega (arith, r) in
             right x r (omega (arith, r)) (omega (arith, r)) e (at-right L p from to m x h k e (omega (arith, r)))
@@ -229,12 +229,12 @@ past-right {side} {L} {p} {from} {place} {to} c t m s k =
 kept-corner-left : {side : Side} {L : List Position} {p : Position} {from place to : ℕ} → IsPlaced side L p from place to → (q : Position) (i : ℕ) → i < from → q ≡ at L i → IsWithin side (replaced L p from to) q
 kept-corner-left {side} {L} {p} {from} {place} {to} t q i h e =
     let fits : from ≤ to = omega (arith, t.low, t.high) in
-    on_corner i (omega (arith, length-replaced L p from to fits t.within, t.within)) (e ∙ sym (at-left L p from to i fits t.within h))
+    on_corner i (omega (arith, replaced_length L p from to fits t.within, t.within)) (e ∙ sym (at-left L p from to i fits t.within h))
 
 kept-corner-right : {side : Side} {L : List Position} {p : Position} {from place to : ℕ} → IsPlaced side L p from place to → (q : Position) (i : ℕ) → to ≤ i → i < length L → q ≡ at L i → IsWithin side (replaced L p from to) q
 kept-corner-right {side} {L} {p} {from} {place} {to} t q i h k e =
     let fits : from ≤ to = omega (arith, t.low, t.high) in
-    on_corner (i + from + 1 - to) (omega (arith, length-replaced L p from to fits t.within)) (e ∙ sym (at-right L p from to (i + from + 1 - to) i fits t.within (omega arith) h))
+    on_corner (i + from + 1 - to) (omega (arith, replaced_length L p from to fits t.within)) (e ∙ sym (at-right L p from to (i + from + 1 - to) i fits t.within (omega arith) h))
 
 -- a chord of the new chain, named by its ends
 chord : {side : Side} (M : List Position) (q a b : Position) (i j : ℕ) → at M i ≡ a → at M j ≡ b → i < j → j < length M → rank a ≤ℤ rank q → rank q ≤ℤ rank b → pos 0 ≤ℤ bend side a b q → IsWithin side M q
@@ -246,12 +246,12 @@ chord {side} M q a b i j e f ij k aq qb h =
 in-left : {side : Side} {L : List Position} {p : Position} {from place to : ℕ} → IsChain side L → IsPlaced side L p from place to → (q : Position) → 0 < from → rank (at L (from - 1)) ≤ℤ rank q → rank q ≤ℤ rank p → pos 0 ≤ℤ bend side (at L (from - 1)) p q → IsWithin side (replaced L p from to) q
 in-left {side} {L} {p} {from} {place} {to} c t q s wq qp h =
     let fits : from ≤ to = omega (arith, t.low, t.high) in
-    chord (replaced L p from to) q (at L (from - 1)) p (from - 1) from (at-left L p from to (from - 1) fits t.within (omega arith)) (at-here L p from to fits t.within) (omega arith) (omega (arith, length-replaced L p from to fits t.within, t.within)) wq qp h
+    chord (replaced L p from to) q (at L (from - 1)) p (from - 1) from (at-left L p from to (from - 1) fits t.within (omega arith)) (at-here L p from to fits t.within) (omega arith) (omega (arith, replaced_length L p from to fits t.within, t.within)) wq qp h
 
 in-right : {side : Side} {L : List Position} {p : Position} {from place to : ℕ} → IsChain side L → IsPlaced side L p from place to → (q : Position) → to < length L → rank p ≤ℤ rank q → rank q ≤ℤ rank (at L to) → pos 0 ≤ℤ bend side p (at L to) q → IsWithin side (replaced L p from to) q
 in-right {side} {L} {p} {from} {place} {to} c t q s pq qz h =
     let fits : from ≤ to = omega (arith, t.low, t.high) in
-    chord (replaced L p from to) q p (at L to) from (from + 1) (at-here L p from to fits t.within) (at-right L p from to (from + 1) to fits t.within (omega arith) (omega arith)) (omega arith) (omega (arith, length-replaced L p from to fits t.within)) pq qz h
+    chord (replaced L p from to) q p (at L to) from (from + 1) (at-here L p from to fits t.within) (at-right L p from to (from + 1) to fits t.within (omega arith) (omega arith)) (omega arith) (omega (arith, replaced_length L p from to fits t.within)) pq qz h
 
 -- a corner, kept or not
 corner-stays : {side : Side} {L : List Position} {p : Position} {from place to : ℕ} → IsChain side L → IsPlaced side L p from place to → (q : Position) (i : ℕ) → i < length L → q ≡ at L i → IsWithin side (replaced L p from to) q
@@ -283,7 +283,7 @@ chord-left : {side : Side} {L : List Position} {p : Position} {from place to : �
 chord-left {side} {L} {p} {from} {place} {to} c t q i j ij k iq qj h s qw =
     let fits : from ≤ to = omega (arith, t.low, t.high) in
     let M = replaced L p from to in
-    let n = length-replaced L p from to fits t.within in
+    let n = replaced_length L p from to fits t.within in
     let iw : i < from - 1 = stands-before c i (from - 1) (omega arith) (omega (arith, linear)) in
     elim (cases_lt j from) [
       | inl l ↦ chord M q (at L i) (at L j) i j (at-left L p from to i fits t.within (omega (arith, l))) (at-left L p from to j fits t.within l) ij (omega (arith, t.within, l)) iq qj h
@@ -294,7 +294,7 @@ chord-right : {side : Side} {L : List Position} {p : Position} {from place to : 
 chord-right {side} {L} {p} {from} {place} {to} c t q i j ij k iq qj h s zq =
     let fits : from ≤ to = omega (arith, t.low, t.high) in
     let M = replaced L p from to in
-    let n = length-replaced L p from to fits t.within in
+    let n = replaced_length L p from to fits t.within in
     let zj : to < j = stands-before c to j s (omega (arith, linear)) in
     let ej = at-right L p from to (j + from + 1 - to) j fits t.within (omega arith) (omega arith) in
     elim (cases_lt i to) [
@@ -323,7 +323,7 @@ stays_within c t q (on_chord i j ij k iq qj h) = chord-stays c t q i j ij k iq q
 new_within : {side : Side} {L : List Position} {p : Position} {from place to : ℕ} → IsPlaced side L p from place to → IsWithin side (replaced L p from to) p
 new_within {side} {L} {p} {from} {place} {to} t =
     let fits : from ≤ to = omega (arith, t.low, t.high) in
-    on_corner from (omega (arith, length-replaced L p from to fits t.within)) (sym (at-here L p from to fits t.within))
+    on_corner from (omega (arith, replaced_length L p from to fits t.within)) (sym (at-here L p from to fits t.within))
 
 -- a point that does not lie outside of the chain at its place
 pub inside_within : {side : Side} {L : List Position} {p : Position} {place : ℕ} → 0 < place → place < length L → rank (at L (place - 1)) <ℤ rank p → rank p <ℤ rank (at L place) → bend side (at L (place - 1)) p (at L place) ≤ℤ pos 0 → IsWithin side L p
@@ -369,7 +369,7 @@ first-replaced {side} {L} {p} {from} {place} {to} c t =
 last-replaced : {side : Side} {L : List Position} {p : Position} {from place to : ℕ} → IsChain side L → IsPlaced side L p from place to → EndsAs L p (replaced L p from to)
 last-replaced {side} {L} {p} {from} {place} {to} c t =
     let fits : from ≤ to = omega (arith, t.low, t.high) in
-    let n = length-replaced L p from to fits t.within in
+    let n = replaced_length L p from to fits t.within in
     elim (cases_lt to (length L)) [
       | inl l ↦ inr (at-right L p from to (length (replaced L p from to) - 1) (length L - 1) fits t.within (omega (arith, l)) (omega (arith, l)), omega (arith, l), (let u : rank p <ℤ rank (at L (length L - 1)) = elim (cases_lt (length L - 1) place) [ inl b ↦ absurd (let v : place ≡ length L = omega (arith, b, t.high, t.within) in omega (arith, t.high, l)) | inr b ↦ t.after (length L - 1) b (omega (arith, l)) ] in omega (arith, linear)))
       | inr g ↦ inl (ap (at (replaced L p from to)) (let e : length (replaced L p from to) - 1 ≡ from = omega (arith, g, t.within) in e) ∙ at-here L p from to fits t.within, λ s. elim (cases_lt place (length L)) [ inl b ↦ absurd (omega (arith, t.stops b, g)) | inr b ↦ t.before (length L - 1) (omega (arith, b, s)) ])

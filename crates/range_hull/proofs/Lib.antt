@@ -3,5 +3,4 @@ pub mod Bends
 pub mod Beyond
 pub mod Chains
 pub mod Hulls
-pub mod Searching
 pub mod Spots

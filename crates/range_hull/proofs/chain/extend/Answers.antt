@@ -1,9 +1,9 @@
 use Rattle.std.proofs.Common.{ℕ, List, subst, sym, length, ap, ◌∙◌, ◌-◌, pos, ◌+ℤ◌, arith}
 use Rattle.range_plane.specs.Edges.{at}
 use Rattle.range_plane.specs.Plane.{Position}
+use Rattle.integers_and_lists.proofs.Places.{replaced_length}
 use Rattle.range_chain.specs.Blocks.{joined}
 use Rattle.range_chain.specs.Chain.{place}
-use Rattle.range_chain.proofs.Joins.{length-replaced}
 use Rattle.range_hull.specs.Area.{swept, signed, open_edge}
 use Rattle.range_hull.specs.Chain.{Extends}
 use Rattle.range_hull.proofs.Area.{Grows, grown, not_grown}
@@ -43,7 +43,7 @@ returns-clause-chain g c = subst (λ (M : List Position). Extends c.args.side (j
 pub returns-clause-turns : goal.returns-clause-turns
 returns-clause-turns g c =
     let bs = c.args.chain.now.blocks in
-    let size = length-replaced (joined bs) c.args.p (place bs c.kept_before-from.result) (place bs c.kept_after-to.result) (omega (arith, c.kept_before-from.ensures.bound, c.kept_after-to.ensures.bound)) c.kept_after-to.ensures.within in
+    let size = replaced_length (joined bs) c.args.p (place bs c.kept_before-from.result) (place bs c.kept_after-to.result) (omega (arith, c.kept_before-from.ensures.bound, c.kept_after-to.ensures.bound)) c.kept_after-to.ensures.within in
     omega (arith, size, ap length c.replace_run.ensures.points, c.if-not-lies_outside.ensures.turns, c.kept_before-from.ensures.turns, c.kept_after-to.ensures.turns)
 
 pub returns-clause-swept : goal.returns-clause-swept

@@ -4,25 +4,22 @@ use Rattle.range_plane.specs.Plane.{Position}
 use Rattle.integers_and_lists.proofs.Integers.{linear}
 use Rattle.range_chain.specs.Blocks.{joined}
 use Rattle.range_chain.specs.Chain.{place}
-use Rattle.range_chain.proofs.Places.{place_within}
 use Rattle.range_hull.specs.Area.{swept_after}
 use Rattle.range_hull.specs.Chain.{bend}
 use Rattle.range_hull.proofs.Area.{after-step}
 use Rattle.range_hull.proofs.chain.kept_after.Goals as goal
 
 pub loop-side-init : goal.loop-side-init
-loop-side-init g c =
-    let within = place_within c.args.chain.now.blocks c.args.c c.requires.stands in (
-      c.requires.stands,
-      omega arith,
-      within,
-      (λ h. h),
-      (λ h. absurd (omega (arith, h))),
-      omega arith,
-      (λ h. refl),
-      (λ h. refl),
-      omega arith,
-    )
+loop-side-init g c = (
+  c.requires.stands,
+  omega arith,
+  (λ h. h),
+  (λ h. absurd (omega (arith, h))),
+  omega arith,
+  (λ h. refl),
+  (λ h. refl),
+  omega arith,
+)
 
 pub loop-side-preserved : goal.loop-side-preserved
 loop-side-preserved g c =
@@ -43,13 +40,12 @@ loop-side-preserved g c =
     let gained = c.if-not-dents.ensures.gained in (
       c.next-next.ensures.stands,
       omega (arith, more, i.1),
-      omega (arith, within),
       (λ h. within),
       (λ h.
           subst (λ (n : ℕ). bend side p (at L (n - 1)) (at L n) ≤ℤ pos 0) more
           (subst (λ (n : ℕ). bend side p (at L n) (at L (k + 1)) ≤ℤ pos 0) (let e : k ≡ k + 1 - 1 = omega arith in e) dent)),
-      omega (arith, more, i.5, c.if-not-dents.ensures.turns),
-      (λ h. omega (arith, linear, gained, value, after-step side L p k (omega (arith, more, within)), i.6 h, ap (swept_after side L p) more)),
+      omega (arith, more, i.4, c.if-not-dents.ensures.turns),
+      (λ h. omega (arith, linear, gained, value, after-step side L p k (omega (arith, more, within)), i.5 h, ap (swept_after side L p) more)),
       (λ z. absurd (omega (arith, z, i.1, more, within))),
-      omega (arith, i.8, c.if-not-dents.ensures.turns),
+      omega (arith, i.7, c.if-not-dents.ensures.turns),
     )

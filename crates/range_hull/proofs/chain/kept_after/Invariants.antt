@@ -13,7 +13,6 @@ invariant-loop-side g l =
     let k = place l.chain.blocks l.kept in
     Stands l.chain.blocks l.kept
     × (i ≤ k)
-    × (k ≤ length L)
     × (i < length L → k < length L)
     × (i < k → bend l.side l.p (at L (k - 1)) (at L k) ≤ℤ pos 0)
     × (l.tally.turns + i ≤ l.initial.tally.turns + k)

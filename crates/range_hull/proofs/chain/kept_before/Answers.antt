@@ -4,19 +4,10 @@ use Rattle.range_plane.specs.Plane.{Position}
 use Rattle.integers_and_lists.proofs.Integers.{linear}
 use Rattle.range_chain.specs.Blocks.{joined}
 use Rattle.range_chain.specs.Chain.{place}
-use Rattle.range_chain.proofs.Places.{place_within}
 use Rattle.range_hull.specs.Area.{swept_before}
 use Rattle.range_hull.specs.Chain.{bend}
 use Rattle.range_hull.proofs.Area.{before-step}
 use Rattle.range_hull.proofs.chain.kept_before.Goals as goal
-
-pub get-before-requires-clause-within : goal.get-before-requires-clause-within
-get-before-requires-clause-within g c =
-    omega (arith, place_within c.args.chain.now.blocks c.loop-side.kept c.loop-side.invariant.0, c.previous-last.ensures.place, c.previous.ensures.place)
-
-pub get-requires-clause-within : goal.get-requires-clause-within
-get-requires-clause-within g c =
-    omega (arith, place_within c.args.chain.now.blocks c.loop-side.kept c.loop-side.invariant.0, c.previous-last.ensures.place)
 
 pub loop-side-preserved : goal.loop-side-preserved
 loop-side-preserved g c =
@@ -29,7 +20,7 @@ loop-side-preserved g c =
     let i = c.loop-side.invariant in
     let last : m + 1 ≡ k = c.previous-last.ensures.place in
     let first : place bs c.previous.result + 1 ≡ m = c.previous.ensures.place in
-    let within : k ≤ length L = place_within bs c.loop-side.kept i.0 in
+    let within : k ≤ length L = omega (arith, last, c.previous-last.ensures.within) in
     let before = c.get-before.ensures ∙ ap (at L) (let e : place bs c.previous.result ≡ k - 2 = omega (arith, last, first) in e) in
     let here = c.get.ensures ∙ ap (at L) (let e : m ≡ k - 1 = omega (arith, last) in e) in
     let value : bend side c.get-before.result c.get.result p ≡ bend side (at L (k - 2)) (at L (k - 1)) p =

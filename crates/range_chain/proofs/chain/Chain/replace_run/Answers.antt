@@ -1,8 +1,8 @@
 use Rattle.std.proofs.Common.{◌≡◌, ◌∙◌, sym, ap, subst, ◌≤◌, length, List, arith}
 use Rattle.range_plane.specs.Plane.{Position}
+use Rattle.integers_and_lists.proofs.Places.{replaced_length}
 use Rattle.range_chain.specs.Blocks.{capacity_of, joined}
 use Rattle.range_chain.specs.Chain.{Content, Stands, place}
-use Rattle.range_chain.proofs.Joins.{length-replaced}
 use Rattle.range_chain.proofs.Places.{place_within}
 use Rattle.range_chain.proofs.chain.Chain.replace_run.Goals as goal
 
@@ -27,7 +27,7 @@ invariant_of-self g c =
     let within : place bs to ≤ length (joined bs) = place_within bs to stands in
     let counted = c.self.invariant.counted in
     let e = c.replace_between.ensures in
-    let size = length-replaced (joined bs) c.args.p (place bs from) (place bs to) (omega (arith, c.run_len-removed.ensures)) within in
+    let size = replaced_length (joined bs) c.args.p (place bs from) (place bs to) (omega (arith, c.run_len-removed.ensures)) within in
     record {
       cut = e.cut;
       counted = omega (arith, ap length e.points, size, counted, within, c.run_len-removed.ensures);
