@@ -1,5 +1,7 @@
 # Rscript check.R REPORT FILE ..: recomputes the row and percent lines of a report from the files, by base R's chull, and
-# says of each animal how many agree. The fixes of a column use that has 0 are left out.
+# says of each animal how many agree. The fixes of a column use that has 0 are left out. Numbers are doubles, which are
+# exact below 2^53: enough for some thousand fixes over some tens of kilometres.
+if (!l10n_info()[["UTF-8"]]) invisible(Sys.setlocale("LC_CTYPE", "C.UTF-8"))
 doubled <- function(e, n) {
   h <- rev(chull(e, n))
   e <- e[h] - e[h[1]]; n <- n[h] - n[h[1]]; after <- c(seq_along(h)[-1], 1)
@@ -18,5 +20,6 @@ for (file in words[-1]) {
   good <- sum(lengths(kept) == as.numeric(percents[, 4]) &
     sapply(kept, function(k) doubled(e[k], n[k])) == as.numeric(percents[, 6]))
   even <- sum(sapply(seq_len(count), function(k) doubled(e[1:k], n[1:k])) == as.numeric(rows[, 6]))
+  if (NROW(rows) != count) even <- 0
   cat(fixes$animal[1], even, "of", count, "rows and", good, "of", nrow(percents), "percent lines agree\n")
 }

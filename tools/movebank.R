@@ -2,27 +2,36 @@
 say <- function(...) message("split: ", ...)
 refuse <- function(...) { say(...); quit(status = 1) }
 
+# The lines with \001 for each quote that does not begin or end a field, since R takes a quote anywhere for one.
+hide_quotes <- function(lines, sign) {
+  quoted <- paste0("(?<![^", sign, "\n])\"[^\"]*+(?:\"\"[^\"]*+)*+\"(*SKIP)(*F)|(?<=[^", sign, "\n])\"")
+  text <- gsub(quoted, "\001", paste(lines, collapse = "\n"), perl = TRUE, useBytes = TRUE)
+  `Encoding<-`(strsplit(text, "\n", fixed = TRUE, useBytes = TRUE)[[1]], "UTF-8")
+}
+
 # The rows with their titles, all text, and which sign stands before decimals.
 read_table <- function(path) {
-  lines <- readLines(path, encoding = "UTF-8", warn = FALSE)
-  if (!all(validUTF8(lines))) refuse(path, " cannot be read as text in UTF-8")
+  lines <- if (file.exists(path)) readLines(path, encoding = "UTF-8", warn = FALSE)
+  if (is.null(lines) || !all(validUTF8(lines))) refuse(path, " cannot be read as text in UTF-8")
+  if (!any(nzchar(lines))) lines <- "none"  # a title that is none of an export's
   if (startsWith(lines[1], "\ufeff")) lines[1] <- substring(lines[1], 2)
-  semicolons <- grepl("^[^,]*;", lines[1])
-  sign <- if (semicolons) ";" else ","
+  sign <- if (grepl("^[^,]*;", lines[1])) ";" else ","
+  if (any(grepl("\"", lines, fixed = TRUE))) lines <- hide_quotes(lines, sign)
   fields <- na.omit(count.fields(textConnection(lines), sep = sign, quote = "\"", comment.char = ""))
   bad <- which(fields[-1] != fields[1])[1]
   if (!is.na(bad)) refuse("record ", bad, ": ", fields[bad + 1], " fields where ", fields[1], " are wanted")
-  table <- read.csv(text = lines, sep = sign, colClasses = "character", na.strings = "", check.names = FALSE)
-  names(table) <- gsub("[ ._]", "-", tolower(names(table)))
+  table <- tryCatch(read.csv(text = lines, sep = sign, colClasses = "character", na.strings = "", check.names = FALSE),
+                    warning = function(fault) refuse(path, ": a quote has no end"))
+  names(table) <- gsub("[ ._]", "-", tolower(trimws(names(table), whitespace = "[ \t]")))
   if (!all(c("individual-local-identifier", "timestamp") %in% names(table)))
     refuse("there are no columns individual-local-identifier and timestamp")
   table$record <- seq_len(nrow(table))
-  list(rows = table, point = if (semicolons) "[.,]" else "[.]")
+  list(rows = table, point = if (sign == ";") "[.,]" else "[.]")
 }
 
 text_of <- function(rows, title) {
   text <- rows[[title]]
-  if (is.null(text)) rep("", nrow(rows)) else ifelse(is.na(text), "", text)
+  if (is.null(text)) rep("", nrow(rows)) else chartr("\001", "\"", ifelse(is.na(text), "", text))
 }
 
 # What a column holds, "" where it holds nothing; what is not of this form is refused.
@@ -46,8 +55,7 @@ moments <- function(rows) {
   time <- as.POSIXct(plain, format = "%Y-%m-%d %H:%M:%S", tz = "UTC")
   bad <- which(is.na(time) | as.numeric(time) < 0 | format(time, "%Y-%m-%d %H:%M:%S") != plain)[1]
   if (!is.na(bad)) refuse("record ", rows$record[bad], ": timestamp is '", text[bad], "', which is no time since 1970")
-  rest <- as.numeric(paste0("0", sub("Z", "", sub("^[^.]*", "", text))))
-  data.frame(second = as.numeric(time), rest = rest)
+  data.frame(second = as.numeric(time), rest = as.numeric(sub("Z", "", sub("^[^.]*", "0", text))))
 }
 
 # The fixes that have coordinates, in the file's order, and the animals of all.
@@ -59,13 +67,13 @@ read_export <- function(path) {
   fixes <- data.frame(record = rows$record, name = text_of(rows, "individual-local-identifier"),
     zone = text_of(rows, "utm-zone"), x = number("utm-easting"), y = number("utm-northing"),
     lon = number("location-long"), lat = number("location-lat"))
-  fixes$grid <- !is.na(fixes$x + fixes$y)
-  fixes$degrees <- !is.na(fixes$lon + fixes$lat)
+  fixes$grid <- !is.na(fixes$x + fixes$y); fixes$degrees <- !is.na(fixes$lon + fixes$lat)
   found <- fixes$grid | fixes$degrees
   rows <- rows[found, ]
   flag <- function(title) toupper(matched(rows, title, "true|false|TRUE|FALSE", "true or false"))
   used <- flag("visible") != "FALSE" & flag("manually-marked-outlier") != "TRUE"
   need(rows, fixes$name[found] != "", ": there is no individual-local-identifier")
+  whole <- list(fixes = cbind(fixes[found, ], used = used, moments(rows)), animals = unique(fixes$name))
   if (!all(found)) say(sum(!found), " records have no coordinates: left out")
-  list(fixes = cbind(fixes[found, ], used = used, moments(rows)), animals = unique(fixes$name))
+  whole
 }

@@ -1,5 +1,5 @@
 """Reads a Movebank export for split.py. What cannot be right is refused: one line on standard error, status 1."""
-import csv, io, re, sys
+import csv, io, pathlib, re, sys
 from datetime import datetime
 from typing import NamedTuple, Optional
 ANIMAL, TIME = "individual-local-identifier", "timestamp"
@@ -23,14 +23,14 @@ def refuse(text):
 def read_table(path):
     """The columns' titles, the rows, and what stands before decimals, of a table with commas or semicolons."""
     try:
-        with open(path, encoding="utf-8-sig", newline="") as file:
-            text = file.read()
+        text = pathlib.Path(path).read_text("utf-8-sig")
     except (OSError, UnicodeDecodeError) as fault:
         refuse(f"{path} cannot be read as text in UTF-8: {fault}")
     semicolons = re.match("[^,\r\n]*;", text) is not None
-    rows = csv.reader(io.StringIO(text, newline=""), delimiter=";" if semicolons else ",")
-    titles, *rows = list(filter(None, rows)) or [[]]
-    return [re.sub("[ ._]", "-", title.lower()) for title in titles], rows, "[.,]" if semicolons else "[.]"
+    rows = list(filter(None, csv.reader(io.StringIO(f"{text}\nend", newline=""), delimiter=";" if semicolons else ",")))
+    rows.pop() == ["end"] or refuse(f"{path}: a quote has no end")
+    titles, *rows = rows or [[]]
+    return [re.sub("[ ._]", "-", title.strip(" \t").lower()) for title in titles], rows, "[.,]" if semicolons else "[.]"
 
 
 def parse(number, row, point):
@@ -74,6 +74,6 @@ def read(path):
     {ANIMAL, TIME} <= {*titles} or refuse(f"there are no columns {ANIMAL} and {TIME}")
     for number, row in enumerate(rows, 1):
         len(row) == len(titles) or refuse(f"record {number}: {len(row)} fields where {len(titles)} are wanted")
-    rows = [dict(zip(titles, row)) for row in rows]
+    rows = [dict(zip(titles[::-1], row[::-1])) for row in rows]
     records = [parse(number, row, point) for number, row in enumerate(rows, 1)]
     return [record for record in records if record], [row[ANIMAL] for row, record in zip(rows, records) if not record]

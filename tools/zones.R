@@ -1,6 +1,6 @@
 # Places of the fixes of an export in metres of one UTM zone, for split.R: by the rules of zones.py.
 ranked <- function(zones) {
-  counts <- table(zones)
+  counts <- table(zones, exclude = NULL)
   counts <- counts[order(-as.vector(counts), names(counts), method = "radix")]
   list(zone = names(counts)[1], several = length(counts) > 1,
        fixes = paste(ifelse(names(counts) == "", "none", names(counts)), as.vector(counts), collapse = ", "))

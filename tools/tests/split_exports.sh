@@ -45,6 +45,13 @@ Jäger _Q_,$(stamp '2024-05-01 00:30:00'),562000,5134001
 Jäger _Q_,$(stamp '2024-05-01 01:00:00'),562001,5134003
 END
 
+# Titles with blanks beside them, a title twice, of which the first counts, and names with a line break and a quote.
+printf '%s\r\n' 'individual-local-identifier, timestamp,utm-easting,utm-northing,utm-zone,visible ,visible' \
+    '"a' 'b",2024-05-01 00:00:00,1,2,33N,true,false' 'c 5",2024-05-01 00:00:00,1,2,33N,true,false' | split_to 0
+for name in a_b 'c 5_'; do
+    printf '%s\n' animal,second,easting,northing "$name,$(stamp '2024-05-01 00:00:00'),1,2" | makes "$name.csv"
+done
+
 # Names: slash, comma, quote, apostrophe, NA, export, 34 bytes; T..Z; more than 32 bits of seconds.
 split_to 0 <<END
 $head_line
