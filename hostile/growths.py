@@ -1,12 +1,17 @@
-"""Refuses each growth and each start of a thread in turn, of the program `growths` and of `homerange`.
+"""Refuses each growth and each start of a thread in turn, of `homerange` and of the program `growths`.
 
-A run of N growths is made N times, the k-th with its k-th growth refused, by `refuse.c`, which is preloaded. How
-threads meet decides which growth is the k-th, so a sweep ends at a k that no growth of its run reaches. Each
-line of `growths` has to be as with ample memory, or to say that its call wanted memory and what that may leave.
-`homerange` has to end with status 3 and its one line, nothing written, or as with ample memory. Prints what was
-swept and how often each answer came, and stops at an answer that is neither. Needs `rt` and `cc`.
+    python3 growths.py HOMERANGE [GROWTHS] [--sweeps N]
+
+HOMERANGE and GROWTHS are the built programs (`rt ci` leaves both in `crates/NAME/out/NAME`). A run of N growths is
+made N times, the k-th with its k-th growth refused, by `refuse.c`, which is preloaded. How threads meet decides which
+growth is the k-th, so a sweep ends at a k that no growth of its run reaches, and `growths`, in which they meet in more
+ways, is swept several times (`--sweeps`; all that was ever looked at were 50). Each line of `growths` has to be as with
+ample memory, or to say that its call wanted memory and what that may leave. `homerange` has to end with status 3 and its
+one line, nothing written, or as with ample memory. Prints what was swept and how often each answer came; the last line
+is 'N passed, M failed', of commands that were swept. Needs `cc`.
 """
 
+import argparse
 import collections
 import pathlib
 import re
@@ -14,11 +19,10 @@ import struct
 import subprocess
 import tempfile
 
-TOP = pathlib.Path(__file__).resolve().parent.parent
+REFUSE = pathlib.Path(__file__).resolve().parent / "refuse.c"
 FILE_A = "animal,second,easting,northing\nA,0,0,0\nA,60,10,0\nA,120,10,10\nA,180,0,10\nA,240,5,5\n"
 FILE_B = "animal,second,easting,northing\nB,0,5,5\nB,60,10,5\nB,120,20,5\n"
 SIZES = (5, 3)
-TURNS = 50
 MEMORY = ("homerange: out of memory\n", "homerange: out of memory, or a thread could not be started\n")
 STOPPED = "an estimator stopped"
 FOLLOWED = re.compile("follow (whole|memory) ")
@@ -38,12 +42,8 @@ COMMANDS = (
 )
 
 
-def built(crate):
-    """The program of a crate, built by `rt`, which runs it once: `--help` makes `homerange` end well without a file."""
-    folder = TOP / "crates" / crate
-    words = ["rt", "run", "--", "--help"]
-    subprocess.run(words, cwd=folder, stdin=subprocess.DEVNULL, capture_output=True, check=True)
-    return str(folder / "out" / crate)
+class Wrong(Exception):
+    """An answer that no run with one refused growth may give."""
 
 
 def run(command, folder, refused):
@@ -67,7 +67,7 @@ def sweep(command, folder, answer_of):
             return answers, refused - 1
         answer = answer_of(found[:3], ample[:3])
         if answer is None:
-            raise SystemExit(f"{' '.join(command)}: growth {refused} refused: {found}, and not {ample}")
+            raise Wrong(f"growth {refused} refused: {found}, and not {ample}")
         answers[answer] += 1
 
 
@@ -107,29 +107,56 @@ def growths_answer(found, ample):
     return f"{'follow' if troubled else wants[0].split()[0]} wanted memory"
 
 
-def told(name, answers, growths):
+def sweep_growths(command, folder, sweeps):
+    """All sweeps of `growths` together, one of which has to meet an estimator that stopped alone."""
+    total, swept = collections.Counter(), 0
+    for _ in range(sweeps):
+        answers, count = sweep(command, folder, growths_answer)
+        total, swept = total + answers, swept + count
+    if not total[STOPPED]:
+        raise Wrong("no sweep met an estimator that stopped alone")
+    return total, swept
+
+
+def is_well(name, swept, *given):
+    """Sweeps, says what came of it, and returns whether each answer was one that may be."""
+    try:
+        answers, growths = swept(*given)
+    except Wrong as wrong:
+        print(f"failed: {name}: {wrong}")
+        return False
     counts = ", ".join(f"{answer} {count}" for answer, count in sorted(answers.items()))
     print(f"{name}: {growths} growths: {counts}")
+    return True
+
+
+def words():
+    parser = argparse.ArgumentParser(description=__doc__.split("\n\n")[0])
+    parser.add_argument("homerange", type=pathlib.Path, help="the built program")
+    parser.add_argument("growths", nargs="?", type=pathlib.Path, help="the built program growths, left out if not given")
+    parser.add_argument("--sweeps", type=int, default=2, help="how often growths is swept")
+    return parser.parse_args()
 
 
 def main():
-    growths, homerange = built("growths"), built("homerange")
+    asked = words()
     with tempfile.TemporaryDirectory() as room:
         folder = pathlib.Path(room)
         files = {"a.csv": FILE_A, "b.csv": FILE_B, "bad.csv": FILE_A + "A,300,x,5\n"}
         for name, text in files.items():
             (folder / name).write_text(text)
-        library = ["cc", "-O2", "-shared", "-fPIC", TOP / "hostile" / "refuse.c", "-o", folder / "refuse.so"]
-        subprocess.run(library, check=True)
-        total, swept = collections.Counter(), 0
-        for _ in range(TURNS):
-            answers, count = sweep([growths], folder, growths_answer)
-            total, swept = total + answers, swept + count
-        told(f"growths, {TURNS} sweeps", total, swept)
-        if not total[STOPPED]:
-            raise SystemExit("no sweep met an estimator that stopped alone")
-        for words in COMMANDS:
-            told(f"homerange {words}", *sweep([homerange, *words.split()], folder, homerange_answer))
+        subprocess.run(["cc", "-O2", "-shared", "-fPIC", REFUSE, "-o", folder / "refuse.so"], check=True)
+        homerange = str(asked.homerange.resolve())
+        found = [
+            is_well(f"homerange {words}", sweep, [homerange, *words.split()], folder, homerange_answer)
+            for words in COMMANDS
+        ]
+        if asked.growths:
+            name = f"growths, {asked.sweeps} sweeps"
+            found.append(is_well(name, sweep_growths, [str(asked.growths.resolve())], folder, asked.sweeps))
+    skipped = "" if asked.growths else ", 1 skipped"
+    print(f"{found.count(True)} passed, {found.count(False)} failed{skipped}")
+    raise SystemExit(not all(found))
 
 
 if __name__ == "__main__":

@@ -2,7 +2,8 @@
 # evidence.sh REPORT WORD ..: a run of homerange with these words, its report in the file REPORT, and beside it
 # REPORT.sha256, which ties the report to the words, the program and the files that were read.
 #
-# sha256sum -c REPORT.sha256 checks all of them. HOMERANGE names another program than this repository's.
+# sha256sum -c REPORT.sha256 checks all of them. The program is that of program.sh: the release, or one that was built
+# here, whose log is then put beside the report. HOMERANGE names another one.
 set -eu
 fail() {
     echo "evidence.sh: $1" >&2
@@ -12,7 +13,7 @@ fail() {
 [ $# -ge 2 ] || fail 'give the name of the report, and then the words of homerange'
 report=$1
 shift
-for made in "$report" "$report.sha256"; do
+for made in "$report" "$report.sha256" "$report.build.log"; do
     [ ! -e "$made" ] || fail "$made is there already"
 done
 top=$(cd "$(dirname "$0")/.." && pwd)
@@ -35,27 +36,38 @@ files() {
 
 files "$@" >"$mine.files"
 [ -s "$mine.files" ] || fail 'name at least one file'
-# The program, built from the sources as they stand where it is the repository's.
 if [ -z "${HOMERANGE:-}" ]; then
-    "$top/homerange" --help >/dev/null
-    program=$top/crates/homerange/out/homerange
+    program=$("$top/tools/program.sh") || fail 'there is no program'
 else
     program=$(command -v "$HOMERANGE") || fail "there is no program $HOMERANGE"
 fi
+
+# What the repository's program was made from: the commit, whether the sources differ from it, and sums of them and of
+# the logic.
+made_from() {
+    if commit=$(git -C "$top" rev-parse HEAD 2>/dev/null); then
+        changed=$(git -C "$top" status --porcelain -- crates crates.txt)
+        echo "# commit: $commit${changed:+, changed}"
+    else
+        echo '# commit: not known, since the sources are in no clone'
+    fi
+    sed 's/ /: /; s/^/# /' "${program%/*}/SOURCES"
+}
+
 tr '\n' '\0' <"$mine.files" | xargs -0 sha256sum -- >"$mine.inputs"
 "$program" "$@" >"$mine.report"
 sha256sum --quiet -c "$mine.inputs" || fail 'a file changed while it was read'
 mv "$mine.report" "$report"
-[ -n "${HOMERANGE:-}" ] || cp "$top/crates/homerange/out/build.log" "$report.build.log"
 {
     printf '# words:' && printf " '%s'" "$@" && echo
     echo "# made: $(date -u +%Y-%m-%dT%H:%M:%SZ)"
-    if [ -z "${HOMERANGE:-}" ]; then
-        echo "# sources: commit $(git -C "$top" rev-parse HEAD)$(git -C "$top" diff --quiet HEAD || echo ', changed')"
-        echo "# toolchain: $(rt version)"
-    fi
+    [ -n "${HOMERANGE:-}" ] || made_from
     sha256sum "$program" "$report"
-    [ -n "${HOMERANGE:-}" ] || sha256sum "$report.build.log"
+    log=${program%/*}/build.log
+    if [ -z "${HOMERANGE:-}" ] && [ -f "$log" ]; then
+        cp "$log" "$report.build.log"
+        sha256sum "$report.build.log"
+    fi
     cat "$mine.inputs"
 } >"$mine.sums"
 mv "$mine.sums" "$report.sha256"

@@ -20,8 +20,9 @@ read_table <- function(path) {
   fields <- na.omit(count.fields(textConnection(lines), sep = sign, quote = "\"", comment.char = ""))
   bad <- which(fields[-1] != fields[1])[1]
   if (!is.na(bad)) refuse("record ", bad, ": ", fields[bad + 1], " fields where ", fields[1], " are wanted")
+  open <- function(fault) refuse(path, ": a quote has no end")
   table <- tryCatch(read.csv(text = lines, sep = sign, colClasses = "character", na.strings = "", check.names = FALSE),
-                    warning = function(fault) refuse(path, ": a quote has no end"))
+                    warning = open, error = open)
   names(table) <- gsub("[ ._]", "-", tolower(trimws(names(table), whitespace = "[ \t]")))
   if (!all(c("individual-local-identifier", "timestamp") %in% names(table)))
     refuse("there are no columns individual-local-identifier and timestamp")

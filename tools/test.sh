@@ -1,24 +1,23 @@
 #!/bin/sh
-# Tests the scripts of this folder, in a folder of its own that it removes. Run by hand:
+# Tests the scripts, and the program run for real, in a folder of its own that it removes.
 #
-#     tools/test.sh [PROGRAM]
+#     tools/test.sh [PROGRAM [PART ..]]
 #
-# PROGRAM is the built homerange (if left out, the repository's ./homerange, which it builds first).
-# Needs python3, sha256sum and man. Tests that need something else are left out where it is not there, and said so:
-# Rscript (Debian's r-base-core; projection also r-cran-sf), pyproj (else a stand-in), snakemake, gnuplot.
-# The last line is 'N passed, M failed'; the status is 0 where none failed.
+# PROGRAM is the program (if left out, that of tools/program.sh), and a PART a file of tools/tests without its `.sh` (if
+# left out, all). Needs python3 and sha256sum. Tests that need something else are skipped where it is not there, and said
+# so: all of it is installed by tools/setup.sh. The last line is 'N passed, M failed', with ', K skipped' behind it where
+# some were; the status is 0 where none failed.
 set -u
 tools=$(cd "$(dirname "$0")" && pwd)
+# shellcheck disable=SC2034
 top=${tools%/*}
-if [ $# -eq 0 ]; then
-    "$top/homerange" --help >/dev/null || exit
-    set -- "$top/crates/homerange/out/homerange"
-fi
+[ $# -gt 0 ] || set -- "$("$tools/program.sh")" || exit
 HOMERANGE=$(readlink -f -- "$1")
 export HOMERANGE
+shift
 work=$(mktemp -d)
 trap 'rm -rf "$work"' EXIT
-touch "$work/passed" "$work/failed"
+touch "$work/passed" "$work/failed" "$work/skipped"
 
 # Counts a test with this name, passed where the command holds. Counts stand in files, since it may run in a pipe.
 holds() {
@@ -33,22 +32,31 @@ holds() {
     fi
 }
 
-left_out() {
-    echo "left out: $1"
+# Counts what is left out for want of something.
+skip() {
+    echo "skipped: $1" | tee -a "$work/skipped"
 }
 
-# Whether a command is there; where it is not, says what is left out.
+# Whether a command is there; where it is not, says what is skipped.
 is_here() {
     command -v "$1" >/dev/null || {
-        left_out "$2: no $1"
+        skip "$2: no $1"
         return 1
     }
 }
 
-for part in "$tools"/tests/*.sh; do
+if [ $# -eq 0 ]; then
+    for part in "$tools"/tests/*.sh; do
+        part=${part##*/}
+        set -- "$@" "${part%.sh}"
+    done
+fi
+for part in "$@"; do
     cd "$work" || exit 1
     # shellcheck source=/dev/null
-    . "$part"
+    . "$tools/tests/$part.sh"
 done
-echo "$(wc -l <"$work/passed") passed, $(wc -l <"$work/failed") failed"
+said="$(wc -l <"$work/passed") passed, $(wc -l <"$work/failed") failed"
+[ ! -s "$work/skipped" ] || said="$said, $(wc -l <"$work/skipped") skipped"
+echo "$said"
 [ ! -s "$work/failed" ]

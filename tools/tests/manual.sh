@@ -1,5 +1,5 @@
 # Tests the manual page: that it is laid out without a warning, within 80 columns, and names each option of the help.
-# The help has to be as narrow, and the version to name the toolchain.
+# The help has to be as narrow, and the version to name the toolchain's logic.
 # shellcheck shell=sh disable=SC2154
 
 if is_here man 'the manual page'; then
@@ -14,7 +14,7 @@ fi
 "$HOMERANGE" --help >help
 holds 'the help is within 80 columns' [ -z "$(awk 'length > 80' help)" ]
 "$HOMERANGE" --version >version
-holds 'the version is one line' grep -qx 'homerange [0-9.]* (rattle-kit-.*)' version
+holds 'the version is one line' grep -qx 'homerange [0-9.]* (logic [0-9a-f]*)' version
 if is_here rt 'the version beside that of the toolchain'; then
-    holds 'the version names the toolchain' grep -qF "($(rt version))" version
+    holds "the version names the toolchain's logic" grep -qF "($(rt version | sed 's/.* logic/logic/'))" version
 fi

@@ -6,7 +6,7 @@ if is_here Rscript 'split.R'; then
     splitters='python r'
 fi
 if ! python3 -c 'import pyproj' 2>/dev/null; then
-    left_out 'projection by pyproj: a stand-in of the tests projects'
+    skip 'projection by pyproj: a stand-in of the tests projects'
     export PYTHONPATH="$tools/tests"
 fi
 stamp() { date -u -d "$1" +%s; }

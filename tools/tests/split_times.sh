@@ -39,5 +39,5 @@ END
     printf '%s\n' "$degrees" 'a,2024-05-01 00:30:00,15,0' | split_to 0 --zone 33S
     printf '%s\n' animal,second,easting,northing "a,$(stamp '2024-05-01 00:30:00'),500000,10000000" | makes a.csv
 else
-    left_out 'projection: no sf in R'
+    skip 'projection: no sf in R'
 fi

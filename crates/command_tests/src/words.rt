@@ -7,8 +7,8 @@ use range_words::WordFault;
 use std::alloc::Global;
 use std::process::Abort;
 
-// What `--version` says: the name, the version, and the kit with its logic as `rt version` says it.
-const VERSION: &str = "homerange 1.0.0 (rattle-kit-13b logic dac8208d650f15bf)\n";
+// What `--version` says: the name, the version, and the sum of the logic, as `rt version` says it.
+const VERSION: &str = "homerange 1.0.0 (logic dac8208d650f15bf)\n";
 
 // Words say this: so many files, these levels, and this block, depth and workers; the unit is the metre.
 fn expect<R: Abort>(rt: &R, alloc: Global, words: &[&str], said: (usize, &[u8], (u32, u32, u32))) {

@@ -1,0 +1,77 @@
+#!/bin/sh
+# build.sh [--anew]: proves the program and the crates that it stands on, with `rt`, and leaves it in
+# out/, with build.log, what the prover said, and SOURCES, the sums of what it was made from.
+#
+# The crates are proved side by side, on a copy. What this machine has proved before, here or in another clone, is not
+# proved again, but with --anew. The status is 70 where the program could not be built.
+set -u
+top=$(cd "$(dirname "$0")/.." && pwd)
+# shellcheck source=tools/sources.sh
+. "$top/tools/sources.sh"
+out=$top/out
+room=
+
+say() {
+    printf 'homerange: %s\n' "$1" >&2
+}
+
+fail() {
+    [ ! -f "$room/log" ] || mv -f "$room/log" "$out/build.log"
+    say "the program cannot be built: $1"
+    exit 70
+}
+
+# Ends what still runs, and removes the copy.
+clear_room() {
+    trap '' HUP INT TERM
+    kill "${job:-}" 2>/dev/null && wait "$job"
+    rm -rf "$room"
+}
+
+# Copies what the program is built from.
+copy() {
+    mkdir -p "$room/copy/.git" && cp "$top/HANDLES" "$room/copy" && program_crates >"$room/copy/crates.txt" || return
+    for name in $(program_names); do
+        mkdir -p "$room/copy/crates/$name" || return
+        for part in src specs proofs stdin stdout; do
+            [ ! -e "$top/crates/$name/$part" ] ||
+                cp -R "$top/crates/$name/$part" "$room/copy/crates/$name" || return
+        done
+    done
+}
+
+command -v rt >/dev/null || fail 'rt, the command of the Rattle toolchain, is not on PATH'
+mkdir -p "$out" 2>/dev/null
+[ -w "$out" ] || fail "$out cannot be written"
+# Of calls side by side one builds, and the others wait for it.
+exec 9<"$out"
+if ! flock -n 9; then
+    say 'another call builds the program: waiting for it'
+    flock 9
+    ! is_of "$out" "$(sum_of_sources)" || exit 0
+fi
+room=$(mktemp -d) || fail 'there is no room for a copy'
+trap clear_room EXIT
+trap 'exit 129' HUP
+trap 'exit 130' INT
+trap 'exit 143' TERM
+copy || fail 'its sources cannot be copied'
+sum=$(top=$room/copy sum_of_sources)
+say 'building the proved program; the first time takes half an hour'
+begin=$(date +%s)
+: >"$room/log"
+(cd "$room/copy" && exec rt ci "$@") </dev/null >>"$room/log" 2>&1 9<&- &
+job=$!
+tail -n +1 -f --pid="$job" "$room/log" 9<&- | sed -u -n 's/^rt: \(.* proved\)$/homerange: \1/p' >&2 &
+wait "$job"
+status=$?
+job=
+made=$room/copy/crates/homerange/out/homerange
+if [ "$status" -ne 0 ] || [ ! -x "$made" ]; then
+    fail "$(sed -n 's/^rt: \(FAILED: .*\)/\1, /p' "$room/log")the log is $out/build.log"
+fi
+rm -f "$out/SOURCES"
+mv -f "$room/log" "$out/build.log"
+mv -f "$made" "$out/homerange" || fail "$out cannot be written"
+printf 'sources %s\nlogic %s\n' "$sum" "$(rt version | sed 's/.* logic //')" >"$out/SOURCES"
+say "built in $(($(date +%s) - begin)) s"

@@ -1,0 +1,44 @@
+#!/bin/sh
+# release.sh [--check]: builds the program and makes the release of it: the folder release with homerange, SOURCES (the
+# sum of what it was made from, and of the logic that it was proved in) and SHA256SUMS (of it and its manual page).
+#
+# With --check it changes nothing. The status is 0 where the release is whole, of these sources and of the logic that is
+# here, and, byte for byte, the program that is built of them now.
+set -eu
+top=$(cd "$(dirname "$0")/.." && pwd)
+# shellcheck source=tools/sources.sh
+. "$top/tools/sources.sh"
+release=$top/release
+
+fail() {
+    echo "release.sh: $1" >&2
+    exit 1
+}
+
+# The program that is built of these sources, and not the release.
+build() {
+    built=$(HOMERANGE_BUILD=1 "$top/tools/program.sh")
+    built=${built%/*}
+}
+
+check() {
+    is_of "$release" "$(sum_of_sources)" || fail 'the release is not that of these sources: tools/release.sh makes it'
+    (cd "$top" && sha256sum --quiet -c release/SHA256SUMS) || fail 'the release is not that of its sums'
+    build
+    cmp "$built/SOURCES" "$release/SOURCES" || fail 'the release is of another logic'
+    cmp "$built/homerange" "$release/homerange" || fail 'the release is not what these sources build'
+    echo 'release.sh: the release is what these sources build, byte for byte'
+}
+
+case $*: in
+    --check:) check ;;
+    :)
+        build
+        mkdir -p "$release"
+        install -m 755 "$built/homerange" "$release/homerange"
+        install -m 644 "$built/SOURCES" "$release/SOURCES"
+        cd "$top"
+        sha256sum release/homerange docs/homerange.1 >release/SHA256SUMS
+        ;;
+    *) fail 'it takes --check alone' ;;
+esac

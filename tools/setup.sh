@@ -1,0 +1,10 @@
+#!/bin/sh
+# setup.sh: installs, as root, what ./test uses of Debian's packages, beside the toolchain.
+#
+# Packages of Python are for Debian's own, /usr/bin/python3.
+set -eu
+export DEBIAN_FRONTEND=noninteractive
+# Before this no package is found.
+apt-get -q update
+apt-get -q -y --no-install-recommends install \
+    gcc libc6-dev gnuplot-nox man-db python3 python3-pandas python3-pyproj r-base-core r-cran-sf shellcheck snakemake

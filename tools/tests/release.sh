@@ -1,0 +1,73 @@
+# Which program ./homerange runs, in a copy of the repository whose `rt` stands in for the toolchain's: it is quick, and
+# the program that it makes only says that it was built.
+# shellcheck shell=sh disable=SC2154,SC2016
+
+rm -rf house stand-in
+mkdir house stand-in
+# A copy of what the program is built from, and of what runs it.
+(cd "$top" && find crates.txt HANDLES homerange release tools docs/homerange.1 crates/*/src crates/*/specs \
+    crates/*/proofs crates/homerange/std* -type f -print0 | xargs -0 cp --parents -t "$work/house") 2>/dev/null
+cat >stand-in/rt <<'END'
+#!/bin/sh
+[ "$1" != version ] || { echo 'stand-in logic 0'; exit; }
+[ ! -e "$STAND_IN/fails" ] || { echo 'rt: FAILED: range_plane'; exit 1; }
+mkdir -p crates/homerange/out
+printf '#!/bin/sh\necho "built: $*"\n' >crates/homerange/out/homerange
+chmod +x crates/homerange/out/homerange
+echo 'rt: homerange proved'
+echo '1 passed, 0 failed'
+END
+chmod +x stand-in/rt
+export STAND_IN="$work/stand-in"
+
+# Whether the house's program writes this of the version, after it told something with this text, or nothing.
+answers() {
+    (cd house && PATH="$work/stand-in:$PATH" ./homerange --version) >written 2>told
+    [ "$(cat written)" = "$1" ] || return
+    if [ -n "$2" ]; then grep -qF -- "$2" told; else [ ! -s told ]; fi
+}
+checked() {
+    PATH="$work/stand-in:$PATH" house/tools/release.sh --check
+}
+fails() {
+    ! "$@"
+}
+version=$("$HOMERANGE" --version)
+
+holds 'the release answers at once' answers "$version" ''
+holds 'a release of another logic and program does not pass' fails checked
+rm -rf house/out
+printf '\n// An edit.\n' >>house/crates/range_plane/src/lib.rt
+holds 'an edit is not answered by the release' answers 'built: --version' 'homerange: homerange proved'
+holds 'what was built answers the next call' answers 'built: --version' ''
+holds 'a release of other sources does not pass' fails checked
+echo '// Another.' >>house/crates/range_words/src/version.rt
+: >stand-in/fails
+holds 'an edit is not answered by what was built before' answers '' 'FAILED: range_plane'
+(cd house && PATH="$work/stand-in:$PATH" ./homerange --version) 2>told
+holds 'a build that fails has status 70' [ $? -eq 70 ]
+rm stand-in/fails house/crates/range_plane/src/lib.rt house/crates/range_words/src/version.rt
+(cd "$top" && cp --parents crates/range_plane/src/lib.rt crates/range_words/src/version.rt "$work/house")
+rm -rf house/out
+holds 'sources as they were are answered by the release' answers "$version" ''
+export HOMERANGE_BUILD=1
+holds 'a build that is asked for' answers 'built: --version' 'building the proved program'
+unset HOMERANGE_BUILD
+holds 'what was built goes before the release' answers 'built: --version' ''
+rm -rf house/out
+printf '#!/none\n' >house/release/homerange
+holds 'a release that does not run here' answers 'built: --version' 'the release does not run on this machine'
+holds 'a release with a changed byte does not pass' fails checked
+
+# A release that is made anew passes, until a byte of it, of its sums or of the manual page changes.
+rm -rf house/release
+holds 'a release is made' env PATH="$work/stand-in:$PATH" house/tools/release.sh
+holds 'a release that was made passes' checked
+for file in release/homerange release/SOURCES release/SHA256SUMS docs/homerange.1; do
+    cp "house/$file" saved
+    printf 'x' >>"house/$file"
+    holds "a release beside a changed $file does not pass" fails checked
+    cp saved "house/$file"
+done
+holds 'a release as it was passes again' checked
+rm -rf house stand-in
