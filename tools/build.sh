@@ -31,13 +31,13 @@ clear_room() {
 # Copies what the program is built from.
 copy() {
     mkdir -p "$room/copy/.git" && cp "$top/HANDLES" "$room/copy" && program_crates >"$room/copy/crates.txt" || return
-    for name in $(program_names); do
-        mkdir -p "$room/copy/crates/$name" || return
+    while read -r name _; do
+        name=crates/${name%:}
+        mkdir -p "$room/copy/$name" || return
         for part in src specs proofs stdin stdout; do
-            [ ! -e "$top/crates/$name/$part" ] ||
-                cp -R "$top/crates/$name/$part" "$room/copy/crates/$name" || return
+            [ ! -e "$top/$name/$part" ] || cp -R "$top/$name/$part" "$room/copy/$name" || return
         done
-    done
+    done <"$room/copy/crates.txt"
 }
 
 command -v rt >/dev/null || fail 'rt, the command of the Rattle toolchain, is not on PATH'
@@ -48,7 +48,8 @@ exec 9<"$out"
 if ! flock -n 9; then
     say 'another call builds the program: waiting for it'
     flock 9
-    ! is_of "$out" "$(sum_of_sources)" || exit 0
+    sum_sources
+    ! is_of_sum "$out" || exit 0
 fi
 room=$(mktemp -d) || fail 'there is no room for a copy'
 trap clear_room EXIT
@@ -56,7 +57,7 @@ trap 'exit 129' HUP
 trap 'exit 130' INT
 trap 'exit 143' TERM
 copy || fail 'its sources cannot be copied'
-sum=$(top=$room/copy sum_of_sources)
+sum=$(top=$room/copy && sum_sources && echo "$sum")
 say 'building the proved program; the first time takes half an hour'
 begin=$(date +%s)
 : >"$room/log"

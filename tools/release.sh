@@ -17,13 +17,20 @@ fail() {
 
 # The program that is built of these sources, and not the release.
 build() {
-    built=$(HOMERANGE_BUILD=1 "$top/tools/program.sh")
-    built=${built%/*}
+    HOMERANGE_BUILD=1
+    find_program || exit
+    built=${program%/*}
+}
+
+# The sums of the release and its manual page, as they stand.
+sums() {
+    (cd "$top" && sha256sum release/homerange docs/homerange.1)
 }
 
 check() {
-    is_of "$release" "$(sum_of_sources)" || fail 'the release is not that of these sources: tools/release.sh makes it'
-    (cd "$top" && sha256sum --quiet -c release/SHA256SUMS) || fail 'the release is not that of its sums'
+    sum_sources
+    is_of_sum "$release" || fail 'the release is not that of these sources: tools/release.sh makes it'
+    sums | cmp - "$release/SHA256SUMS" || fail 'the release is not that of its sums'
     build
     cmp "$built/SOURCES" "$release/SOURCES" || fail 'the release is of another logic'
     cmp "$built/homerange" "$release/homerange" || fail 'the release is not what these sources build'
@@ -37,8 +44,7 @@ case $*: in
         mkdir -p "$release"
         install -m 755 "$built/homerange" "$release/homerange"
         install -m 644 "$built/SOURCES" "$release/SOURCES"
-        cd "$top"
-        sha256sum release/homerange docs/homerange.1 >release/SHA256SUMS
+        sums >"$release/SHA256SUMS"
         ;;
     *) fail 'it takes --check alone' ;;
 esac
