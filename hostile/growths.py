@@ -134,7 +134,7 @@ def words():
     parser = argparse.ArgumentParser(description=__doc__.split("\n\n")[0])
     parser.add_argument("homerange", type=pathlib.Path, help="the built program")
     parser.add_argument("growths", nargs="?", type=pathlib.Path, help="the built program growths, left out if not given")
-    parser.add_argument("--sweeps", type=int, default=2, help="how often growths is swept")
+    parser.add_argument("--sweeps", type=int, default=10, help="how often growths is swept, 10 times if left out")
     return parser.parse_args()
 
 

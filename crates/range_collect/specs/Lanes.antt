@@ -1,5 +1,5 @@
 -- What is known of the files of one line, and of all lines.
-use Rattle.std.specs.Prelude.{◌≡◌, ℕ, ◌+◌, ◌*◌, ◌<◌, ◌≤◌, List, [], ◌∷◌, ◌++◌, length, slice_get, Some, Option, Bool, false, All}
+use Rattle.std.specs.Prelude.{◌≡◌, ℕ, ◌+◌, ◌*◌, ◌<◌, ◌≤◌, List, [], ◌∷◌, ◌++◌, length, slice_get, Some, Option, Bool, All}
 use Rattle.std.specs.declared.clone.Clone.{Ghosts}
 use Rattle.range_plan.specs.Limits.{file_limit}
 use Rattle.range_fixes.specs.Reading.{Reading}
@@ -13,10 +13,6 @@ use Rattle.range_collect.specs.declared.followed.Followed.{Followed}
 -- the first file of a line, and the step to the next
 abbrev pub AreNumbers : ℕ → ℕ → Type 0
 AreNumbers first step = (first < file_limit) × (1 ≤ step) × (step ≤ file_limit)
-
--- the feeder has sent nothing and its line has not ended
-abbrev pub IsNew : FeederView → Type 0
-IsNew f = (f.closed ≡ false) × (f.ended ≡ false) × (f.sent ≡ [])
 
 -- what is known of the ends of a file that were looked at
 pub record IsSeen (feeder : FeederView) (e : Estimation) (mark : Bool) : Type 0 where

@@ -6,13 +6,13 @@ ghost use Rattle.range_plan.specs.Limits.{file_limit};
 ghost use Rattle.range_collect.specs.Lanes.{IsLane};
 
 use crate::numbers::Numbers;
-use crate::pumps::{join_pumps, start_pumps};
 use crate::worker::Worker;
 use range_fixes::{Name, ReadFault};
 use range_line::{Feeder, open_line};
 use range_plan::Plan;
 use range_plane::OutOfMemory;
 use range_pump::Gate;
+use range_pump_threads::{join_pumps, start_pumps};
 use std::alloc::{Allocator, Global};
 use std::io::Read;
 use std::sync::Wait;

@@ -10,8 +10,6 @@ mod lines;
 mod merging;
 mod numbers;
 mod pairing;
-mod pumps;
-mod stack;
 mod worker;
 
 pub use followed::Followed;

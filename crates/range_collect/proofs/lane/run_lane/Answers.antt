@@ -3,7 +3,7 @@ use Rattle.std.proofs.lemmas.List.Elements.{All-map}
 use Rattle.std.proofs.lemmas.List.FromFn.{length-map-range_with_len}
 use Rattle.range_fixes.specs.Reading.{reading_from}
 use Rattle.range_line.specs.Lines.{files_from, first_file, new_feeder, Line, TakerView}
-use Rattle.range_collect.specs.Lanes.{IsNew}
+use Rattle.range_pump_threads.specs.Fresh.{IsNew}
 use Rattle.range_collect.proofs.Lanes.{pumped_at}
 use Rattle.integers_and_lists.proofs.Places.{map_length}
 use Rattle.range_collect.proofs.lane.run_lane.Goals as goal

@@ -5,7 +5,7 @@ use Rattle.std.proofs.lemmas.List.{length_push}
 use Rattle.range_fixes.specs.Reading.{reading_from}
 use Rattle.range_pump.specs.Pump.{IsPumped}
 use Rattle.integers_and_lists.proofs.Places.{threes_pushed}
-use Rattle.range_collect.proofs.pumps.join_pumps.Goals as goal
+use Rattle.range_pump_threads.proofs.pumps.join_pumps.Goals as goal
 
 pub loop-handle-preserved : goal.loop-handle-preserved
 loop-handle-preserved g c =

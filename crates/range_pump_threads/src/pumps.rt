@@ -4,7 +4,7 @@ ghost use Rattle.std.specs.Prelude.{◌≡◌, ℕ, ◌≤◌, [], All, IfOk, On
 ghost use Rattle.range_fixes.specs.Reading.{reading_from};
 ghost use Rattle.range_plan.specs.Limits.{block_limit};
 ghost use Rattle.range_line.specs.Lines.{FeederView};
-ghost use Rattle.range_collect.specs.Lanes.{IsNew};
+ghost use Rattle.range_pump_threads.specs.Fresh.{IsNew};
 ghost use Rattle.range_pump.specs.Pump.{IsPumped, Read as ReadView};
 
 use crate::stack::small_stack;
@@ -19,12 +19,12 @@ use std::snapshot::Snapshot;
 use std::sync::Wait;
 use std::thread::{Promise, PromisedHandle, Scope, Threads};
 
-// What the thread of a pump promises of what it gives back.
+/// What the thread of a pump promises of what it gives back: it is of this source and this feeder, by this plan.
 #[derive(Drop)]
-pub(crate) struct PumpOf<S: Drop, A: Allocator + Clone> {
-    source: Snapshot<S>,
-    feeder: Snapshot<Feeder<A>>,
-    plan: Plan,
+pub struct PumpOf<S: Drop, A: Allocator + Clone> {
+    pub source: Snapshot<S>,
+    pub feeder: Snapshot<Feeder<A>>,
+    pub plan: Plan,
 }
 
 impl<S: Read + Drop, A: Allocator + Clone> Promise<Pumped<A>> for PumpOf<S, A> {
@@ -34,7 +34,8 @@ impl<S: Read + Drop, A: Allocator + Clone> Promise<Pumped<A>> for PumpOf<S, A> {
     ghost kept_by = { λ p r. IsPumped (reading_from S.remaining p.plan.unit p.source.value) p.plan.block p.feeder.value r.feeder r.read };
 }
 
-pub(crate) type PumpHandle<S, A> = PromisedHandle<Pumped<A>, PumpOf<S, A>>;
+/// A pump that was started.
+pub type PumpHandle<S, A> = PromisedHandle<Pumped<A>, PumpOf<S, A>>;
 
 // Starts a pump in a thread of the scope.
 fn start_pump<
@@ -75,9 +76,13 @@ fn start_pump<
     }
 }
 
-// Starts a pump for each source and its feeder. Whatever it answers, the threads that it started are those
-// of the handles.
-pub(crate) fn start_pumps<
+/// Starts a pump for each source and its feeder, in threads of the scope. Whatever it answers, the threads that it
+/// started are those of the handles.
+///
+/// # Errors
+///
+/// Where a thread cannot be started; the pumps before it run.
+pub fn start_pumps<
     's,
     E,
     R: Wait + Threads + Sync,
@@ -113,8 +118,8 @@ pub(crate) fn start_pumps<
     Ok(())
 }
 
-// Waits for pumps, and gives their feeders and what they say of their files, in their order.
-pub(crate) fn join_pumps<R: Threads, S: Read + Drop, A: Allocator + Clone>(
+/// Waits for pumps, and gives their feeders and what they say of their files, in their order.
+pub fn join_pumps<R: Threads, S: Read + Drop, A: Allocator + Clone>(
     rt: &R,
     handles: Vec<PumpHandle<S, A>, A>,
     feeders: &mut Vec<Feeder<A>, A>,

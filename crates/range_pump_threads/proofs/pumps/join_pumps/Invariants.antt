@@ -3,7 +3,7 @@ use Rattle.std.specs.Vec.Iter.{into_iter_items}
 use Rattle.range_fixes.specs.Reading.{reading_from}
 use Rattle.range_line.specs.Lines.{FeederView}
 use Rattle.range_pump.specs.Pump.{IsPumped, Read}
-use Rattle.range_collect.proofs.pumps.join_pumps.Given as goal
+use Rattle.range_pump_threads.proofs.pumps.join_pumps.Given as goal
 
 abbrev pub invariant-loop-handle : goal.invariant-loop-handle
 invariant-loop-handle g l = record {

@@ -1,7 +1,7 @@
 use Rattle.std.proofs.Common.{◌≡◌, ◌+◌, ◌≤◌, ◌++◌, All, map, vec_len, vec_capacity, length}
 use Rattle.std.specs.Vec.Iter.{into_iter_items}
-use Rattle.range_collect.specs.Lanes.{IsNew}
-use Rattle.range_collect.proofs.pumps.start_pumps.Given as goal
+use Rattle.range_pump_threads.specs.Fresh.{IsNew}
+use Rattle.range_pump_threads.proofs.pumps.start_pumps.Given as goal
 
 abbrev pub invariant-loop-source : goal.invariant-loop-source
 invariant-loop-source g l = record {
