@@ -35,11 +35,19 @@ fails() {
 version=$("$HOMERANGE" --version)
 
 holds 'the release answers at once' answers "$version" ''
+printf '%s\n' animal,second,easting,northing a,0,1,1 >one.csv
+holds 'evidence of the release' env -u HOMERANGE house/tools/evidence.sh released.txt one.csv
+holds 'its sources and logic' [ "$(sed 's/^/# /; s/ /: /2' "$top/release/SOURCES")" = "$(grep -e '^# sources' -e '^# logic' released.txt.sha256)" ]
+holds 'its sums hold' sha256sum -c released.txt.sha256
+holds 'no log of a build' [ ! -e released.txt.build.log ]
 holds 'a release of another logic and program does not pass' fails checked
 rm -rf house/out
 printf '\n// An edit.\n' >>house/crates/range_plane/src/lib.rt
 holds 'an edit is not answered by the release' answers 'built: --version' 'homerange: homerange proved'
 holds 'what was built answers the next call' answers 'built: --version' ''
+holds 'evidence of what was built' env -u HOMERANGE PATH="$work/stand-in:$PATH" house/tools/evidence.sh built.txt one.csv
+holds 'its log' grep -qx 'rt: homerange proved' built.txt.build.log
+holds 'sums of what was built hold' sha256sum -c built.txt.sha256
 holds 'a release of other sources does not pass' fails checked
 echo '// Another.' >>house/crates/range_words/src/version.rt
 : >stand-in/fails
