@@ -179,18 +179,14 @@ fn expect_text(
 #[test]
 fn texts(rt: HostRuntime) -> Result<(), Fail> {
     let alloc = rt.alloc();
-    expect_text(&rt, alloc, &AnalyseFault::OutOfMemory, "out of memory")?;
+    let text = "out of memory, or a thread could not be started";
+    expect_text(&rt, alloc, &AnalyseFault::OutOfMemory, text)?;
     let cut = AnalyseFault::LineCut { file: 3 };
-    expect_text(
-        &rt,
-        alloc,
-        &cut,
-        "the fixes of file 3 were not all handed on",
-    )?;
+    expect_text(&rt, alloc, &cut, "its fixes were not all handed on")?;
     let fault = ReadFault::NoFixes;
     let empty = AnalyseFault::File { file: 1, fault };
-    let text = "file 1: no record after the header, or none that is used";
+    let text = "no record after the header, or none that is used";
     expect_text(&rt, alloc, &empty, text)?;
     let same = same_animal(alloc, 0, 2, b"A")?;
-    expect_text(&rt, alloc, &same, "files 0 and 2 have the same animal")
+    expect_text(&rt, alloc, &same, "have the same animal")
 }

@@ -195,10 +195,10 @@ fn same_animals(rt: HostRuntime) {
     for (name, text) in cases {
         let same = AnalyseFault::SameAnimal {
             first: 0,
-            second: 1,
+            second: 2,
             animal: Name::new(Vec::from_slice(alloc, name).expect(&rt, "memory")),
         };
-        let paths = ["b.csv", "a\tb.csv"];
+        let paths = ["b.csv", "c.csv", "a\tb.csv"];
         expect_run(&rt, alloc, &paths, RunFault::Analyse(same), (1, text));
     }
 }
@@ -208,13 +208,13 @@ fn same_animals(rt: HostRuntime) {
 fn other_faults(rt: HostRuntime) {
     let alloc = rt.alloc();
     let paths = ["b.csv", "c.csv"];
-    let cut = RunFault::Analyse(AnalyseFault::LineCut { file: 0 });
-    let text = "b.csv: its fixes were not all handed on";
+    let cut = RunFault::Analyse(AnalyseFault::LineCut { file: 1 });
+    let text = "c.csv: its fixes were not all handed on";
     expect_run(&rt, alloc, &paths, cut, (5, text));
     let memory = RunFault::Analyse(AnalyseFault::OutOfMemory);
     let text = "out of memory, or a thread could not be started";
     expect_run(&rt, alloc, &paths, memory, (3, text));
-    expect_run(&rt, alloc, &[], RunFault::OutOfMemory, (3, text));
+    expect_run(&rt, alloc, &[], RunFault::OutOfMemory, (3, "out of memory"));
     let text = "the report could not be written";
     expect_run(&rt, alloc, &[], RunFault::Write, (4, text));
 }

@@ -8,27 +8,28 @@ use range_plane::OutOfMemory;
 use std::alloc::AllocError;
 use thiserror::Error;
 
-/// Why files have no analysis. Files are numbered from 0.
+/// Why files have no analysis. Files are numbered from 0. The text says what is wrong, without the files that it is
+/// wrong with, since only who opened them knows what they are called.
 #[derive(PartialEq, Eq, Debug, Drop, Error)]
 pub enum AnalyseFault {
-    /// A growth was refused for want of memory.
-    #[error("out of memory")]
+    /// A growth was refused for want of memory, or the start of a thread.
+    #[error("out of memory, or a thread could not be started")]
     OutOfMemory,
     /// Not all fixes of a file, and the mark after them, were handed on.
-    #[error("the fixes of file {file} were not all handed on")]
+    #[error("its fixes were not all handed on")]
     LineCut {
         file: u32,
     },
     /// A file cannot be read to its end. This is the first such file; the fault is neither want of memory
     /// nor `Gone`.
-    #[error("file {file}: {fault}")]
+    #[error("{fault}")]
     File {
         file: u32,
         fault: ReadFault,
     },
     /// Two files have the same animal. `second` is the first file whose animal stands in an earlier one,
     /// `first` is that one, and `animal` the name in both.
-    #[error("files {first} and {second} have the same animal")]
+    #[error("have the same animal")]
     SameAnimal {
         first: u32,
         second: u32,

@@ -2,6 +2,7 @@
 //! told in one line and a status.
 #![tactic(auto)]
 
+mod answering;
 mod bad_words;
 mod files;
 mod obeying;
@@ -13,6 +14,7 @@ mod running;
 mod source;
 mod words;
 
-pub use obeying::{obey, program};
+pub use answering::answer;
+pub use obeying::{obey, obey_with_gate, program};
 pub use output::Output;
 pub use refusal::Refusal;

@@ -12,6 +12,7 @@ use crate::output::Output;
 use crate::refusal::{Refusal, known_reason};
 use crate::running::run_over;
 use crate::words::command_words;
+use range_pump::{FreeGate, Gate};
 use range_run::write_text;
 use range_words::{WordFault, read_words};
 use std::alloc::Global;
@@ -48,9 +49,23 @@ pub fn obey<
     ensures told { IfErr result (IsTold (map string_bytes words.now) (λ unit. reading_from S.remaining unit input)) }
     ensures unwritten { IfErr result (λ refusal. refusal_status refusal ≢ 4 → out.new ≡ out.old) }
 {
+    obey_with_gate(rt, words, input, &FreeGate, out)
+}
+
+/// The same through a gate, which hears of the messages on the lines as `analyse` says.
+pub fn obey_with_gate<
+    R: Wait + Threads + Sync + Files<File = File> + AllocGlobal,
+    S: Read + Send + Drop,
+    W: Write,
+    G: Gate,
+>(rt: &R, words: &[String], input: S, gate: &G, out: &mut Output<W>) -> Result<(), Refusal>
+    ensures done { OnOk result (IsObeyed (map string_bytes words.now) (λ unit. reading_from S.remaining unit input) (W.contents out.old.writer) (W.contents out.new.writer)) }
+    ensures told { IfErr result (IsTold (map string_bytes words.now) (λ unit. reading_from S.remaining unit input)) }
+    ensures unwritten { IfErr result (λ refusal. refusal_status refusal ≢ 4 → out.new ≡ out.old) }
+{
     let alloc = rt.alloc();
     match read_words(alloc, words) {
-        Ok(words) => run_over(rt, words, input, out),
+        Ok(words) => run_over(rt, words, input, gate, out),
         Err(WordFault::Help(text)) => write_reply(alloc, text.as_str(), out),
         Err(WordFault::Version(text)) => write_reply(alloc, text.as_str(), out),
         Err(WordFault::BadWords(text)) => Err(bad_words(alloc, words, text.as_str())),

@@ -7,7 +7,7 @@ ghost use Rattle.range_command.specs.declared.refusal.Refusal.TheVariants as ref
 
 use crate::one_line::{OneLine, OneLineName};
 use range_analysis::AnalyseFault;
-use range_fixes::{Name, ReadFault};
+use range_fixes::ReadFault;
 use range_run::RunFault;
 use range_stats::{LEVEL_COUNT_LIMIT, LEVEL_LIMIT, LevelFault};
 use range_words::WordFault;
@@ -107,7 +107,12 @@ impl fmt::Display for Refusal {
             Refusal::Unopened { path, reason } => {
                 write!(f, "{}: {reason}", OneLine(path.as_str()))
             }
-            Refusal::Unwritten { reason } => write_output(f, "the help or the version", reason),
+            Refusal::Unwritten {
+                reason: Some(reason),
+            } => write!(f, "standard output: {reason}"),
+            Refusal::Unwritten { reason: None } => {
+                write!(f, "the help or the version could not be written")
+            }
             Refusal::Run {
                 files,
                 fault,
@@ -143,18 +148,6 @@ fn name_of(files: &[String], file: u32) -> OneLine<'_> {
     })
 }
 
-// What could not be written, or why, if the system said so.
-fn write_output<W: fmt::Write>(
-    f: &mut fmt::Formatter<W>,
-    what: &str,
-    reason: &Option<String>,
-) -> fmt::Result {
-    match reason {
-        Some(reason) => write!(f, "standard output: {reason}"),
-        None => write!(f, "{what} could not be written"),
-    }
-}
-
 // Why the run over the files has no report.
 fn write_run<W: fmt::Write>(
     f: &mut fmt::Formatter<W>,
@@ -162,22 +155,11 @@ fn write_run<W: fmt::Write>(
     fault: &RunFault,
     reason: &Option<String>,
 ) -> fmt::Result {
-    match fault {
-        RunFault::Analyse(fault) => write_analysis(f, files, fault, reason),
-        RunFault::OutOfMemory => write!(f, "out of memory, or a thread could not be started"),
-        RunFault::Write => write_output(f, "the report", reason),
+    match (fault, reason) {
+        (RunFault::Analyse(fault), _) => write_analysis(f, files, fault, reason),
+        (RunFault::Write, Some(reason)) => write!(f, "standard output: {reason}"),
+        (_, _) => write!(f, "{fault}"),
     }
-}
-
-// Which files have the same animal, and which that is.
-fn write_same_animal<W: fmt::Write>(
-    f: &mut fmt::Formatter<W>,
-    first: OneLine<'_>,
-    second: OneLine<'_>,
-    animal: &Name,
-) -> fmt::Result {
-    let animal = OneLineName(animal.as_slice());
-    write!(f, "{first} and {second} have the same animal, {animal}")
 }
 
 // Why the files have no analysis.
@@ -187,34 +169,31 @@ fn write_analysis<W: fmt::Write>(
     fault: &AnalyseFault,
     reason: &Option<String>,
 ) -> fmt::Result {
+    match fault {
+        AnalyseFault::OutOfMemory => write!(f, "{fault}"),
+        AnalyseFault::LineCut { file } => write!(f, "{}: {fault}", name_of(files, *file)),
+        AnalyseFault::File { file, fault } => write_file(f, name_of(files, *file), *fault, reason),
+        AnalyseFault::SameAnimal {
+            first,
+            second,
+            animal,
+        } => {
+            let (first, second) = (name_of(files, *first), name_of(files, *second));
+            let animal = OneLineName(animal.as_slice());
+            write!(f, "{first} and {second} {fault}, {animal}")
+        }
+    }
+}
+
+// Why a file cannot be read, for the system's reason where it gave one.
+fn write_file<W: fmt::Write>(
+    f: &mut fmt::Formatter<W>,
+    name: OneLine<'_>,
+    fault: ReadFault,
+    reason: &Option<String>,
+) -> fmt::Result {
     match (fault, reason) {
-        (AnalyseFault::OutOfMemory, _) => {
-            write!(f, "out of memory, or a thread could not be started")
-        }
-        (AnalyseFault::LineCut { file }, _) => {
-            write!(
-                f,
-                "{}: its fixes were not all handed on",
-                name_of(files, *file)
-            )
-        }
-        (
-            AnalyseFault::File {
-                file,
-                fault: ReadFault::Read,
-            },
-            Some(reason),
-        ) => { write!(f, "{}: {reason}", name_of(files, *file)) }
-        (AnalyseFault::File { file, fault }, _) => {
-            write!(f, "{}: {fault}", name_of(files, *file))
-        }
-        (
-            AnalyseFault::SameAnimal {
-                first,
-                second,
-                animal,
-            },
-            _,
-        ) => write_same_animal(f, name_of(files, *first), name_of(files, *second), animal),
+        (ReadFault::Read, Some(reason)) => write!(f, "{name}: {reason}"),
+        (_, _) => write!(f, "{name}: {fault}"),
     }
 }

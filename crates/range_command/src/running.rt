@@ -13,7 +13,8 @@ use crate::refusal::{Refusal, known_reason};
 use crate::source::Source;
 use range_analysis::AnalyseFault;
 use range_fixes::ReadFault;
-use range_run::{RunFault, run};
+use range_pump::Gate;
+use range_run::{RunFault, run_with_gate};
 use range_words::Words;
 use std::alloc::{AllocError, Global};
 use std::fs::File;
@@ -24,12 +25,13 @@ use std::sync::Wait;
 use std::sync::atomic::{AtomicI32, Ordering};
 use std::thread::Threads;
 
-/// Runs over the files of the words, or over the input where they name none.
+/// Runs over the files of the words, or over the input where they name none, through a gate.
 pub(crate) fn run_over<
     R: Wait + Threads + Sync + Files<File = File> + AllocGlobal,
     S: Read + Send + Drop,
     W: Write,
->(rt: &R, words: Words, input: S, out: &mut Output<W>) -> Result<(), Refusal>
+    G: Gate,
+>(rt: &R, words: Words, input: S, gate: &G, out: &mut Output<W>) -> Result<(), Refusal>
     requires files { vec_len words.files ≤ file_limit }
     requires levels { All IsLevel words.options.levels.items }
     ensures done { OnOk result (Reports words (λ unit. reading_from S.remaining unit input) (W.contents out.old.writer) (W.contents out.new.writer)) }
@@ -41,10 +43,10 @@ pub(crate) fn run_over<
     let places = places(alloc, files.len().max(1))?;
     let outcome = if files.is_empty() {
         let sources = alone(alloc, Source::new(input, &places[0]))?;
-        run(rt, alloc, sources, &options, out)
+        run_with_gate(rt, alloc, sources, gate, &options, out)
     } else {
         let sources = open_all(rt, alloc, files.as_slice(), places.as_slice())?;
-        run(rt, alloc, sources, &options, out)
+        run_with_gate(rt, alloc, sources, gate, &options, out)
     };
     match outcome {
         Ok(()) => Ok(()),

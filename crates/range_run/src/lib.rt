@@ -7,4 +7,4 @@ mod running;
 
 pub use fault::{RunFault, status};
 pub use output::write_text;
-pub use running::run;
+pub use running::{run, run_with_gate};

@@ -10,7 +10,7 @@ use crate::fault::RunFault;
 use crate::output::write_parts;
 use range_analysis::analyse;
 use range_plan::Options;
-use range_pump::FreeGate;
+use range_pump::{FreeGate, Gate};
 use range_report::report_parts;
 use std::alloc::Global;
 use std::io::{Read, Write};
@@ -35,8 +35,29 @@ pub fn run<R: Wait + Threads + Sync, S: Read + Send + Drop, W: Write>(
     ensures unwritten { IfErr result (λ fault. fault ≢ RunFault.Write → out.new ≡ out.old) }
     ensures fault { IfErr result (Explains (map (reading_from S.remaining options.now.plan.unit) sources.items) options.now.levels.items options.now.plan.unit) }
 {
+    run_with_gate(rt, alloc, sources, &FreeGate, options, out)
+}
+
+/// The same through a gate, which hears of the messages on the lines as [`analyse`] says.
+pub fn run_with_gate<R: Wait + Threads + Sync, S: Read + Send + Drop, W: Write, G: Gate>(
+    rt: &R,
+    alloc: Global,
+    sources: Vec<S>,
+    gate: &G,
+    options: &Options,
+    out: &mut W,
+) -> Result<(), RunFault>
+    requires sources { (1 ≤ vec_len sources) × (vec_len sources ≤ file_limit) }
+    requires levels { All IsLevel options.now.levels.items }
+    ensures report { OnOk result (WritesReport (map (reading_from S.remaining options.now.plan.unit) sources.items) options.now.levels.items options.now.plan.unit
+        (W.contents out.old) (W.contents out.new)) }
+    ensures prefix { result ≡ Err RunFault.Write → WritesPrefix (map (reading_from S.remaining options.now.plan.unit) sources.items) options.now.levels.items options.now.plan.unit
+        (W.contents out.old) (W.contents out.new) }
+    ensures unwritten { IfErr result (λ fault. fault ≢ RunFault.Write → out.new ≡ out.old) }
+    ensures fault { IfErr result (Explains (map (reading_from S.remaining options.now.plan.unit) sources.items) options.now.levels.items options.now.plan.unit) }
+{
     let levels = options.levels.as_slice();
-    let analysis = match analyse(rt, alloc, sources, &FreeGate, options.plan, levels) {
+    let analysis = match analyse(rt, alloc, sources, gate, options.plan, levels) {
         Ok(analysis) => analysis,
         Err(fault) => return Err(RunFault::Analyse(fault)),
     };

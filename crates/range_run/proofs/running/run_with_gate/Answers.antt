@@ -1,6 +1,6 @@
 use Rattle.std.proofs.Common.{refl}
 use Rattle.range_run.proofs.Written.{explained, writes_prefix, writes_report}
-use Rattle.range_run.proofs.running.run.Goals as goal
+use Rattle.range_run.proofs.running.run_with_gate.Goals as goal
 
 pub returns-in-Err-clause-unwritten : goal.returns-in-Err-clause-unwritten
 returns-in-Err-clause-unwritten g c = λ _. refl

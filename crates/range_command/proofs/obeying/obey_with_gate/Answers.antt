@@ -4,7 +4,7 @@ use Rattle.range_fixes.specs.Reading.{reading_from}
 use Rattle.range_words.specs.WordList.{IsRefusalOf}
 use Rattle.range_command.specs.Obeying.{IsOfRun, IsTold}
 use Rattle.range_command.proofs.Sources.{told_of_run}
-use Rattle.range_command.proofs.obeying.obey.Goals as goal
+use Rattle.range_command.proofs.obeying.obey_with_gate.Goals as goal
 
 pub returns-in-Ok-clause-done : goal.returns-in-Ok-clause-done
 returns-in-Ok-clause-done g c = on_ok_weaker c.run_over.result (λ written. inl (c.in-Ok.words, c.in-Ok.ensures.ok, written)) c.run_over.ensures.done
