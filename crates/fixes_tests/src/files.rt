@@ -36,15 +36,15 @@ pub(crate) fn too_large(rec: u32, field: u32) -> ReadFault {
 }
 
 // Reads a source in metres to its end.
-pub(crate) fn outcome(rt: &impl Abort, alloc: Global, source: Pieces<'_>) -> Outcome {
+pub(crate) fn outcome<R: Read + Drop>(rt: &impl Abort, alloc: Global, source: R) -> Outcome {
     outcome_in(rt, alloc, source, Scale::Metre)
 }
 
 // Reads a source in this unit to its end.
-pub(crate) fn outcome_in(
+pub(crate) fn outcome_in<R: Read + Drop>(
     rt: &impl Abort,
     alloc: Global,
-    source: Pieces<'_>,
+    source: R,
     unit: Scale,
 ) -> Outcome {
     let mut reader = FixReader::new(alloc, source, unit);

@@ -1,9 +1,13 @@
-//! Tests of the reader of fixes: whole, cut, hostile and failing files, records that are left out, both
-//! units, and the texts of faults.
+//! Tests of the reader of fixes: whole, cut, hostile and failing files, bad records by their place, records
+//! that are left out, what is read past the limit, both units, and the texts of faults.
 #![tactic(auto)]
 
 #[cfg(test)]
+mod bad_records;
+#[cfg(test)]
 mod files;
+#[cfg(test)]
+mod past_the_limit;
 #[cfg(test)]
 mod texts;
 #[cfg(test)]

@@ -5,7 +5,8 @@ use pieces::Pieces;
 use range_fixes::ReadFault;
 use range_plane::Scale;
 
-// What a file with these coordinates gives: its fix, or the field that is past the limit of the unit.
+// What a file with these coordinates gives, however it is cut into reads: its fix, or the field that is past
+// the limit of the unit.
 #[test]
 fn limits(rt: HostRuntime) {
     let alloc = rt.alloc();
@@ -28,15 +29,15 @@ fn limits(rt: HostRuntime) {
     for (record, unit, expected) in cases {
         let mut text = Vec::from_slice(alloc, HEADER).expect(&rt, "memory");
         text.extend_from_slice(record).expect(&rt, "memory");
-        let source = Pieces::new(text.as_slice(), 8192);
-        let found = outcome_in(&rt, alloc, source, unit);
         let rec = 1;
-        assert!(rt;
-            found
-                == match expected {
-                    Ok(at) => (1, Some(at), None),
-                    Err(field) => (0, None, Some(ReadFault::TooLarge { rec, field, unit })),
-                }
-        );
+        let expected = match expected {
+            Ok(at) => (1, Some(at), None),
+            Err(field) => (0, None, Some(ReadFault::TooLarge { rec, field, unit })),
+        };
+        for most in [1, 3, 8192] {
+            let source = Pieces::new(text.as_slice(), most);
+            let found = outcome_in(&rt, alloc, source, unit);
+            assert!(rt; found == expected, "by {most} bytes");
+        }
     }
 }

@@ -1,6 +1,6 @@
 // What the reader answers to files that say of each record whether its fix is used.
 
-use crate::files::{Outcome, expect, outcome, too_large};
+use crate::files::{Outcome, expect, outcome};
 use pieces::Pieces;
 use range_fixes::ReadFault;
 use range_plane::FIX_LIMIT;
@@ -52,7 +52,7 @@ fn expect_faults(rt: &impl Abort, alloc: Global, cases: &[(&[u8], u32, ReadFault
     }
 }
 
-// What is wrong with one record, also with one that is left out.
+// What is wrong with the column itself, and with how many fields there are.
 #[test]
 fn faults_of_fields(rt: HostRuntime) {
     let bad = |rec| ReadFault::BadUse { rec };
@@ -70,11 +70,7 @@ fn faults_of_fields(rt: HostRuntime) {
         (b"A,0,0,0", 0, wrong(1, 4)),
         (b"A,0,0,0,1,1", 0, wrong(1, 6)),
         (b"A,0,0,0,0\nA,0,0,0\n", 0, wrong(2, 4)),
-        (b"A,0,x,0,0", 0, number(1, 2)),
         (b"A,0,x,0,2", 0, number(1, 2)),
-        (b"A,0,16777217,0,0", 0, too_large(1, 2)),
-        (b"A,1099511627777,0,0,0", 0, too_large(1, 1)),
-        (b",0,0,0,0", 0, ReadFault::BadName { rec: 1 }),
     ];
     expect_faults(&rt, rt.alloc(), &cases);
 }
@@ -139,27 +135,35 @@ fn cut_files(rt: HostRuntime) {
     }
 }
 
-// As many records as a file may have, of which the first alone is used, or none; one more, good or not; and
-// records without end.
+// As many records as a file may have, of which the first alone is used, or none, or all; one more, good or
+// not; and records without end.
 #[test]
 fn most_records(rt: HostRuntime) {
     let none = HEADER;
     let one = b"animal,second,easting,northing,use\nA,0,5,6,1\n".as_slice();
     let unused = b"A,0,0,0,0\n".as_slice();
+    let used = b"A,0,0,0,1\n".as_slice();
     let limit = u64::from(FIX_LIMIT);
     let many = Some(ReadFault::TooManyFixes);
     let first = Some((5, 6));
     let cases = [
-        (one, limit - 1, b"".as_slice(), (1, first, None)),
-        (one, limit, b"", (1, first, many)),
-        (one, limit - 1, b"x", (1, first, many)),
-        (one, u64::MAX, b"", (1, first, many)),
-        (none, limit, b"", (0, None, Some(ReadFault::NoFixes))),
-        (none, u64::MAX, b"", (0, None, many)),
+        (one, unused, limit - 1, b"".as_slice(), (1, first, None)),
+        (one, unused, limit, b"", (1, first, many)),
+        (one, unused, limit - 1, b"x", (1, first, many)),
+        (one, unused, u64::MAX, b"", (1, first, many)),
+        (
+            none,
+            unused,
+            limit,
+            b"",
+            (0, None, Some(ReadFault::NoFixes)),
+        ),
+        (none, unused, u64::MAX, b"", (0, None, many)),
+        (none, used, limit, unused, (FIX_LIMIT, Some((0, 0)), many)),
     ];
-    for (text, times, rest, expected) in cases {
+    for (text, again, times, rest, expected) in cases {
         for most in [1, 3, 8192] {
-            let source = Pieces::repeated(text, unused, times, rest, most);
+            let source = Pieces::repeated(text, again, times, rest, most);
             let found = outcome(&rt, rt.alloc(), source);
             assert!(rt; found == expected, "by {most} bytes");
         }
