@@ -68,12 +68,23 @@ fn rows(rt: HostRuntime) {
     }
 }
 
+// The corners are those handed in, in their order, and have this doubled area.
 #[test]
 fn corners_and_area(rt: HostRuntime) {
-    let triangle = polygon_of(&rt, rt.alloc(), &TRIANGLE);
-    assert!(rt; triangle.corners().len() == 3 && triangle.area2() == 16);
-    let pentagon = polygon_of(&rt, rt.alloc(), &PENTAGON);
-    assert_eq!(rt; pentagon.corners().last(), Some(&Point { e: 2, n: 4 }));
+    let cases = [
+        ([].as_slice(), 0),
+        (&[(3, 4)], 0),
+        (&[(2, 1), (6, 3)], 0),
+        (&[(0, 0), (1, 0), (0, 1)], 1),
+        (&TRIANGLE, 16),
+        (&PENTAGON, 19),
+    ];
+    for (corners, area2) in cases {
+        let polygon = polygon_of(&rt, rt.alloc(), corners);
+        let expected = points_of(&rt, rt.alloc(), corners);
+        assert!(rt; polygon.corners() == expected.as_slice(), "{corners:?}");
+        assert!(rt; polygon.area2() == area2, "{corners:?}");
+    }
 }
 
 #[test]

@@ -1,6 +1,8 @@
 // Tests of marks, counts, boxes and sums.
 
-use crate::points::{DECIMETRE_LIMITS, columns_of, parabola, plain_of, point, points_of};
+use crate::points::{
+    DECIMETRE_LIMITS, METRE_LIMITS, columns_of, parabola, plain_of, point, points_of,
+};
 use range_lanes::{Extent, count_inside, extremes, mark_inside, sums};
 use range_plane::{COORDINATE_LIMIT, Columns, Polygon};
 use std::alloc::Global;
@@ -100,6 +102,27 @@ fn extremes_and_sums(rt: HostRuntime) {
     }
 }
 
+// The box and both sums of the first points of a line along the eastings, and of one that also rises: of
+// none, of less than go through the lanes at once, and of two such blocks and one point more.
+#[test]
+fn extremes_and_sums_along_lines(rt: HostRuntime) {
+    let cases = [
+        (0, 0, 0, None, (0, 0)),
+        (1, 0, 0, Some(extent(0, 0, 0, 0)), (0, 0)),
+        (7, 0, 0, Some(extent(0, 0, 6, 0)), (21, 0)),
+        (8, 0, 0, Some(extent(0, 0, 7, 0)), (28, 0)),
+        (9, 0, 0, Some(extent(0, 0, 8, 0)), (36, 0)),
+        (17, 0, 0, Some(extent(0, 0, 16, 0)), (136, 0)),
+        (17, 5, 3, Some(extent(0, 5, 16, 53)), (136, 493)),
+    ];
+    for (points, start, rise, extent, expected) in cases {
+        let cols = line(&rt, rt.alloc(), points, start, rise);
+        assert!(rt; cols.len() < 100);
+        assert_eq!(rt; extremes(&cols), extent, "{points}");
+        assert_eq!(rt; sums(&cols), expected, "{points}");
+    }
+}
+
 #[test]
 fn marks_of_a_square(rt: HostRuntime) {
     let square = polygon(&rt, rt.alloc(), &[(0, 0), (10, 0), (10, 10), (0, 10)]);
@@ -113,13 +136,16 @@ fn marks_of_a_square(rt: HostRuntime) {
 
 const FAR_TRIANGLE: [(i64, i64); 3] = [(0, 0), (FAR, 0), (FAR, FAR)];
 
+// The triangle below the diagonal covers the points on it, and none of those one above.
 #[test]
 fn diagonals_at_the_limits(rt: HostRuntime) {
-    let triangle = polygon(&rt, rt.alloc(), &FAR_TRIANGLE);
     let diagonal = line(&rt, rt.alloc(), 9, 0, 1);
-    assert_eq!(rt; count_inside(&triangle, &diagonal), 9);
     let above = line(&rt, rt.alloc(), 9, 1, 1);
-    assert_eq!(rt; count_inside(&triangle, &above), 0);
+    for limits in [METRE_LIMITS, DECIMETRE_LIMITS] {
+        let triangle = polygon(&rt, rt.alloc(), &limits[..3]);
+        assert_eq!(rt; count_inside(&triangle, &diagonal), 9);
+        assert_eq!(rt; count_inside(&triangle, &above), 0);
+    }
 }
 
 #[test]
