@@ -83,11 +83,11 @@ impl Gate for Counting {
 }
 
 // What these sources come to by this plan, at three levels.
-fn analysed<R: Wait + Threads + Sync + Abort>(
+fn analysed<R: Wait + Threads + Sync + Abort, G: Gate>(
     rt: &R,
     alloc: Global,
     sources: Vec<Pieces<'_>>,
-    gate: &Counting,
+    gate: &G,
     plan: Plan,
 ) -> Result<Analysis, AnalyseFault> {
     assert!(rt; !sources.is_empty() && sources.len() <= 64, "sources");
@@ -233,6 +233,57 @@ fn failing_source(rt: HostRuntime) -> Result<(), Fail> {
         let (file, fault) = (1, ReadFault::Read);
         let expected = AnalyseFault::File { file, fault };
         assert!(rt; answer.err() == Some(expected), "after {reads} reads");
+    }
+    Ok(())
+}
+
+// Holds the messages of one file back until one of another file was taken, and keeps whether that came.
+#[derive(Drop)]
+struct Holding {
+    held: u32,
+    has_taken: AtomicBool,
+    has_held: AtomicBool,
+}
+
+impl Gate for Holding {
+    fn before_send(&self, file: u32, _place: u64) {
+        if file != self.held {
+            return;
+        }
+        for _turn in 0..MOST_TURNS {
+            if self.has_taken.load(Ordering::SeqCst) {
+                self.has_held.store(true, Ordering::SeqCst);
+                return;
+            }
+            thread::yield_now();
+        }
+    }
+
+    fn after_take(&self, file: u32, _place: u64) {
+        if file != self.held {
+            self.has_taken.store(true, Ordering::SeqCst);
+        }
+    }
+}
+
+// Of two files without a byte the first is told, also where the second ends first.
+#[test]
+fn two_empty_sources(rt: HostRuntime) -> Result<(), Fail> {
+    for (block, depth, workers) in [(1, 1, 1), (256, 4, 2), (1024, 64, 8)] {
+        for held in [0, 1] {
+            let plan = Plan::new(block, depth, workers, Scale::Metre).ok_or("no plan")?;
+            let sources = vec![in rt.alloc(); Pieces::new(b"", 8192), Pieces::new(b"", 1)]?;
+            let gate = Holding {
+                held,
+                has_taken: AtomicBool::new(false),
+                has_held: AtomicBool::new(false),
+            };
+            let answer = analysed(&rt, rt.alloc(), sources, &gate, plan);
+            let (file, fault) = (0, ReadFault::NoHeader);
+            let expected = AnalyseFault::File { file, fault };
+            assert!(rt; answer.err() == Some(expected), "file {held} is held");
+            assert!(rt; gate.has_held.load(Ordering::SeqCst), "file {held} is held");
+        }
     }
     Ok(())
 }
