@@ -5,7 +5,7 @@ use crate::runs::{FILE_A, REPORT_A, run_over};
 use pieces::Pieces;
 use range_analysis::AnalyseFault;
 use range_fixes::ReadFault;
-use range_run::{RunFault, status};
+use range_run::{RunFault, status, write_text};
 use std::alloc::Global;
 use std::process::Abort;
 use std::sync::Wait;
@@ -52,37 +52,73 @@ fn failing_reads(rt: HostRuntime) {
     }
 }
 
-// A source that repeats a record without end has more fixes than a file may have.
+// A source that repeats a record without end has more fixes than a file may have, however it is cut into reads.
 #[test]
 fn endless_source(rt: HostRuntime) {
     let header = b"animal,second,easting,northing\n";
-    let source = Pieces::repeated(header, b"A,0,0,0\n", u64::MAX, b"", 4096);
-    let mut out = Vec::new(rt.alloc());
-    let outcome = run_over(&rt, rt.alloc(), source, &mut out);
-    assert!(rt; outcome == refusal(ReadFault::TooManyFixes) && out.is_empty());
+    for most in [1, 3, 8192] {
+        let source = Pieces::repeated(header, b"A,0,0,0\n", u64::MAX, b"", most);
+        let mut out = Vec::new(rt.alloc());
+        let outcome = run_over(&rt, rt.alloc(), source, &mut out);
+        assert!(rt; outcome == refusal(ReadFault::TooManyFixes) && out.is_empty());
+    }
 }
 
-// An output of so many bytes a write fails at each of its writes in turn, and the last time at none: it holds a
-// beginning of the report, and with each write more of it. No write goes past the end of a part, of which the
-// report has five, of 33, 83, 64, 63 and 6 bytes.
+// Where the parts of the report end. Each part is a write of its own.
+const ENDS: [usize; 5] = [33, 116, 180, 243, 249];
+
+// How many bytes of the report stand in an output of so many bytes a write, after so many writes.
+fn written(most: usize, writes: usize) -> usize {
+    let mut length = 0usize;
+    for _ in 0..writes {
+        if let Some(end) = ENDS.iter().find(|end| length < **end) {
+            length = length.saturating_add(most).min(*end);
+        }
+    }
+    length
+}
+
+// An output of so many bytes a write fails at each of its writes in turn, and the last time at none: it holds
+// what the writes before were given.
 #[test]
 fn failing_writes(rt: HostRuntime) {
     let alloc = rt.alloc();
     for (most, writes) in [(1, 249), (10, 28), (249, 5)] {
-        let mut length = 0;
         for before in 0..=writes {
             let failures = Failures::one_after(before, NUMBER);
             let mut out = Output::new(Vec::new(alloc), most, failures);
             let outcome = run_over(&rt, alloc, FILE_A, &mut out);
             let held = out.held.as_slice();
-            assert!(rt; REPORT_A.starts_with(held) && held.len() <= before * most);
-            assert!(rt; before == 0 || held.len() > length);
-            length = held.len();
+            assert!(rt; REPORT_A.starts_with(held) && held.len() == written(most, before));
             if before == writes {
-                assert!(rt; outcome == Ok(()) && length == REPORT_A.len() && out.flushes == 1);
+                assert!(rt; outcome == Ok(()) && held == REPORT_A && out.flushes == 1);
             } else {
                 assert!(rt; outcome == Err(RunFault::Write) && status(&outcome) == 4);
             }
+        }
+    }
+}
+
+// The same of a text that is written as one: each write but the last gives all bytes that the output takes.
+#[test]
+fn failing_writes_of_a_text(rt: HostRuntime) {
+    for (most, writes) in [(1, 249), (10, 25), (249, 1)] {
+        for before in 0..=writes {
+            let failures = Failures::one_after(before, NUMBER);
+            let mut out = Output::new(Vec::new(rt.alloc()), most, failures);
+            let outcome = write_text(&mut out, REPORT_A);
+            let is_whole = before == writes;
+            let length = REPORT_A.len().min(most.saturating_mul(before));
+            assert!(rt; out.held.as_slice() == &REPORT_A[..length]);
+            assert!(rt;
+                outcome
+                    == if is_whole {
+                        Ok(())
+                    } else {
+                        Err(RunFault::Write)
+                    }
+            );
+            assert!(rt; !is_whole || out.flushes == 1);
         }
     }
 }

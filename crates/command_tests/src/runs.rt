@@ -287,3 +287,29 @@ fn two_files(rt: HostRuntime) {
         }
     }
 }
+
+// The status of each end that a run may have.
+#[test]
+fn statuses(rt: HostRuntime) {
+    let same = AnalyseFault::SameAnimal {
+        first: 0,
+        second: 1,
+        animal: Name::new(Vec::from_slice(rt.alloc(), b"A").expect(&rt, "memory")),
+    };
+    let (file, fault) = (1, ReadFault::NoFixes);
+    let cases = [
+        (Ok(()), 0),
+        (
+            Err(RunFault::Analyse(AnalyseFault::File { file, fault })),
+            1,
+        ),
+        (Err(RunFault::Analyse(same)), 1),
+        (Err(RunFault::Analyse(AnalyseFault::OutOfMemory)), 3),
+        (Err(RunFault::OutOfMemory), 3),
+        (Err(RunFault::Write), 4),
+        (Err(RunFault::Analyse(AnalyseFault::LineCut { file })), 5),
+    ];
+    for (outcome, expected) in cases {
+        assert_eq!(rt; status(&outcome), expected);
+    }
+}
