@@ -82,6 +82,13 @@ const FALLING: [(i64, i64); 9] = [
     (1, 90),
 ];
 
+// Checks the box and both sums of few points.
+fn expect_box(rt: &impl Abort, cols: &Columns, extent: Option<Extent>, expected: (u64, u64)) {
+    assert!(rt; cols.len() < 100);
+    assert_eq!(rt; extremes(cols), extent);
+    assert_eq!(rt; sums(cols), expected);
+}
+
 #[test]
 fn extremes_and_sums(rt: HostRuntime) {
     let cases = [
@@ -96,14 +103,24 @@ fn extremes_and_sums(rt: HostRuntime) {
     ];
     for (places, extent, expected) in cases {
         let cols = columns_of(&rt, rt.alloc(), places);
-        assert!(rt; cols.len() < 100);
-        assert_eq!(rt; extremes(&cols), extent);
-        assert_eq!(rt; sums(&cols), expected);
+        expect_box(&rt, &cols, extent, expected);
     }
 }
 
+// The points from the last to the first.
+fn turned(rt: &impl Abort, alloc: Global, cols: &Columns) -> Columns {
+    let mut turned = Columns::new(alloc);
+    for i in 0..cols.len() {
+        turned
+            .push(cols.at(cols.len() - 1 - i))
+            .expect(rt, "memory");
+    }
+    turned
+}
+
 // The box and both sums of the first points of a line along the eastings, and of one that also rises: of
-// none, of less than go through the lanes at once, and of two such blocks and one point more.
+// none, of less than go through the lanes at once, of two such blocks, and of one point more. They are the
+// same from the other end.
 #[test]
 fn extremes_and_sums_along_lines(rt: HostRuntime) {
     let cases = [
@@ -112,14 +129,14 @@ fn extremes_and_sums_along_lines(rt: HostRuntime) {
         (7, 0, 0, Some(extent(0, 0, 6, 0)), (21, 0)),
         (8, 0, 0, Some(extent(0, 0, 7, 0)), (28, 0)),
         (9, 0, 0, Some(extent(0, 0, 8, 0)), (36, 0)),
+        (16, 5, 3, Some(extent(0, 5, 15, 50)), (120, 440)),
         (17, 0, 0, Some(extent(0, 0, 16, 0)), (136, 0)),
         (17, 5, 3, Some(extent(0, 5, 16, 53)), (136, 493)),
     ];
     for (points, start, rise, extent, expected) in cases {
         let cols = line(&rt, rt.alloc(), points, start, rise);
-        assert!(rt; cols.len() < 100);
-        assert_eq!(rt; extremes(&cols), extent, "{points}");
-        assert_eq!(rt; sums(&cols), expected, "{points}");
+        expect_box(&rt, &cols, extent, expected);
+        expect_box(&rt, &turned(&rt, rt.alloc(), &cols), extent, expected);
     }
 }
 
