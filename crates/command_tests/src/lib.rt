@@ -1,8 +1,10 @@
 //! Tests of command lines: what words say, and which are refused; the reports of runs, byte for byte and in
-//! every plan, sources and outputs that fail at each call; the words that the system gives; and the line and
-//! the status of each refusal.
+//! every plan, sources and outputs that fail at each call; the words that the system gives; the line and the
+//! status of each refusal; and what the program answers to whole command lines.
 #![tactic(auto)]
 
+#[cfg(test)]
+mod answers;
 #[cfg(test)]
 mod failing;
 #[cfg(test)]
@@ -15,6 +17,8 @@ mod herd;
 mod line;
 #[cfg(test)]
 mod options;
+#[cfg(test)]
+mod plans;
 #[cfg(test)]
 mod reasons;
 #[cfg(test)]

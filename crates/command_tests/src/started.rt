@@ -11,7 +11,7 @@ use std::thread::Threads;
 
 // A command line of these words, of which the first is the program's name.
 #[derive(Drop)]
-struct Line<'a>(&'a [&'a [u8]]);
+pub(crate) struct Line<'a>(pub(crate) &'a [&'a [u8]]);
 
 impl Env for Line<'_> {
     fn arg(&self, i: usize, buf: &mut [u8]) -> Result<usize, FillError> {

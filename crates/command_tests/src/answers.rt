@@ -1,0 +1,107 @@
+// What the program answers to whole command lines: its status, its report and its line of fault.
+
+use crate::failing::{Failures, Output};
+use crate::runs::{FILE_A, REPORT_A};
+use crate::started::Line;
+use range_command::answer;
+use std::fs::File;
+use std::process::Abort;
+use std::rt::Files;
+use std::sync::Wait;
+use std::thread::Threads;
+
+// A command line over an input is answered by this status and this line, and by file A's report where it is whole.
+fn expect<R: Wait + Threads + Sync + Files<File = File> + AllocGlobal + Abort>(
+    rt: &R,
+    words: &[&[u8]],
+    input: &[u8],
+    status: u8,
+    line: &str,
+) {
+    let alloc = rt.alloc();
+    let mut out = range_command::Output::new(Vec::new(alloc));
+    let mut errors = Vec::new(alloc);
+    let answered = answer(rt, &Line(words), input, &mut out, &mut errors);
+    assert!(rt; answered == status, "{answered}");
+    assert!(rt; errors.as_slice() == line.as_bytes());
+    let report = if status == 0 { REPORT_A } else { b"" };
+    assert!(rt; out.writer().as_slice() == report);
+}
+
+#[test]
+fn reports(rt: HostRuntime) {
+    let all = [
+        b"homerange".as_slice(),
+        b"--percent",
+        b"50,95,100",
+        b"--unit",
+        b"m",
+        b"--block",
+        b"2",
+        b"--depth",
+        b"3",
+        b"--workers",
+        b"1",
+    ];
+    for words in [&all[..1], all.as_slice()] {
+        expect(&rt, words, FILE_A, 0, "");
+    }
+}
+
+// No word is left out, wherever it stands, and none ends the line.
+#[test]
+fn refused_words(rt: HostRuntime) {
+    let line = "homerange: unexpected argument '--bogus' found\n";
+    let late = [
+        b"homerange".as_slice(),
+        b"--percent",
+        b"50",
+        b"--unit",
+        b"m",
+        b"--block",
+        b"2",
+        b"--depth",
+        b"3",
+        b"--workers",
+        b"1",
+        b"--bogus",
+    ];
+    for words in [
+        [b"homerange".as_slice(), b"--bogus"].as_slice(),
+        &[b"homerange", b"", b"--bogus"],
+        late.as_slice(),
+    ] {
+        expect(&rt, words, FILE_A, 2, line);
+    }
+    let line = "homerange: word 1 of the command line is not UTF-8\n";
+    expect(&rt, &[b"homerange", b"\xFF"], FILE_A, 2, line);
+}
+
+#[test]
+fn refused_files(rt: HostRuntime) {
+    let line = "homerange: /no/such/fox.csv: No such file or directory\n";
+    expect(&rt, &[b"homerange", b"/no/such/fox.csv"], FILE_A, 1, line);
+    let fox = b"animal,second,easting,northing\nfox,1,2,3\nfox,1.5,2,3\n";
+    let line =
+        "homerange: standard input: record 2: second is not a whole number: no point, sign, space or exponent\n";
+    expect(&rt, &[b"homerange"], fox, 1, line);
+}
+
+// An output that fails is told, but not where it is a pipe whose reader has gone.
+#[test]
+fn refusing_outputs(rt: HostRuntime) {
+    let alloc = rt.alloc();
+    let full = "homerange: standard output: No space left on device\n";
+    for (number, line) in [(28, full), (32, "")] {
+        for words in [
+            [b"homerange".as_slice()].as_slice(),
+            &[b"homerange", b"--help"],
+        ] {
+            let failures = Failures::one_after(1, number);
+            let mut out = range_command::Output::new(Output::new(Vec::new(alloc), 8, failures));
+            let mut errors = Vec::new(alloc);
+            let status = answer(&rt, &Line(words), FILE_A, &mut out, &mut errors);
+            assert!(rt; status == 4 && errors.as_slice() == line.as_bytes());
+        }
+    }
+}
