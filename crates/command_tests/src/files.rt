@@ -60,6 +60,12 @@ fn reports_and_refusals(rt: HostRuntime) {
     expect(&rt, &["a.csv", "a.csv"], &[], same);
     let fields = "cut.csv: record 1: 3 fields where 4 are wanted";
     expect(&rt, &["a.csv", "cut.csv"], &[], fields);
+    // Linux gives no byte of this file, for a reason of its own.
+    let memory = "/proc/self/mem";
+    let reason = "/proc/self/mem: Input/output error";
+    expect(&rt, &["a.csv", memory], &[], reason);
+    expect(&rt, &[memory, "cut.csv"], &[], reason);
+    expect(&rt, &["a.csv", "cut.csv", memory], &[], fields);
     let missing = "missing.csv: No such file or directory";
     expect(&rt, &["a.csv", "missing.csv", "cut.csv"], &[], missing);
     for (path, _) in files {
