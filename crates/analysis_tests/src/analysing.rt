@@ -2,6 +2,7 @@
 
 use crate::files::same_animal;
 use crate::tables::{FOX_TABLES, HARE_TABLES, expect_animals, overlap};
+use bad_files::{BadFile, bad_records, files_without_fix, too_many_records};
 use pieces::Pieces;
 use range_analysis::{AnalyseFault, analyse};
 use range_fixes::ReadFault;
@@ -164,59 +165,111 @@ fn names_and_unit(rt: HostRuntime) -> Result<(), Fail> {
     Ok(())
 }
 
-// Files of one fix each of the animals A to H, but that this text stands for the one at this place.
-fn one_of_eight<R: Wait + Threads + Sync + Abort>(
-    rt: &R,
-    alloc: Global,
-    text: &[u8],
-    place: u32,
-) -> Result<Option<AnalyseFault>, Fail> {
+// The bytes of eight files of one fix each, of the animals A to H.
+fn eight_texts(alloc: Global) -> Result<Vec<Vec<u8>>, Fail> {
     let mut texts = Vec::new(alloc);
     for name in [b"A", b"B", b"C", b"D", b"E", b"F", b"G", b"H"] {
         texts.push(text_of(alloc, name)?)?;
     }
+    Ok(texts)
+}
+
+// Why eight files have no analysis, of which these stand at their places and all others are good.
+fn fault_of_eight<R: Wait + Threads + Sync + Abort>(
+    rt: &R,
+    alloc: Global,
+    bad: &[(u32, BadFile)],
+) -> Result<Option<AnalyseFault>, Fail> {
+    let texts = eight_texts(alloc)?;
     let mut sources = Vec::new(alloc);
     for (file, good) in texts.iter().enumerate() {
-        let text = if file == place as usize {
-            text
-        } else {
-            good.as_slice()
-        };
-        sources.push(Pieces::new(text, 8192))?;
+        let found = bad.iter().find(|(place, _)| *place as usize == file);
+        sources.push(match found {
+            Some((_, bad)) => bad.source(),
+            None => Pieces::new(good.as_slice(), 8192),
+        })?;
     }
     let plan = Plan::new(2, 4, 3, Scale::Decimetre).ok_or("no plan")?;
     Ok(analysed(rt, alloc, sources, &Counting::new(3), plan).err())
 }
 
-// One file of eight that cannot be read to its end, or has the name of another.
+// Checks that the first of these bad files is answered, with its fault.
+fn expect_first<R: Wait + Threads + Sync + Abort>(
+    rt: &R,
+    alloc: Global,
+    bad: &[(u32, BadFile)],
+) -> Result<(), Fail> {
+    let (file, first) = *bad.first().ok_or("no bad file")?;
+    let fault = first.fault;
+    let expected = AnalyseFault::File { file, fault };
+    let said = fault_of_eight(rt, alloc, bad)?;
+    assert!(rt; said.as_ref() == Some(&expected), "{expected}");
+    Ok(())
+}
+
+// Each fault is answered as that of its file, which stands at each place in turn.
 #[test]
-fn one_of_eight_sources(rt: HostRuntime) -> Result<(), Fail> {
-    let (rec, field, unit) = (1, 2, Scale::Decimetre);
-    let number = ReadFault::NotNumber { rec, field };
-    let large = ReadFault::TooLarge { rec, field, unit };
-    let cases = [
-        (b"".as_slice(), 6, ReadFault::NoHeader),
-        (b"animal,second,easting,northing\n", 0, ReadFault::NoFixes),
-        (b"animal,second,easting,northing\nA,0,x,0\n", 7, number),
-        (
-            b"animal,second,easting,northing\nA,0,134217729,0\n",
-            6,
-            large,
-        ),
-    ];
-    for (text, file, fault) in cases {
-        let expected = AnalyseFault::File { file, fault };
-        assert!(rt;
-            one_of_eight(&rt, rt.alloc(), text, file)?.as_ref() == Some(&expected),
-            "{expected}"
-        );
+fn one_bad_source(rt: HostRuntime) -> Result<(), Fail> {
+    let unit = Scale::Decimetre;
+    let (records, files) = (bad_records(3, unit), files_without_fix());
+    let mut place = 0u32;
+    for file in records.iter().chain(files.iter()) {
+        expect_first(&rt, rt.alloc(), &[(place, *file)])?;
+        place = (place + 3) % 8;
     }
-    let same = same_animal(rt.alloc(), 2, 6, b"C")?;
-    let text = b"animal,second,easting,northing\nC,0,0,0\n";
-    assert!(rt;
-        one_of_eight(&rt, rt.alloc(), text, 6)?.as_ref() == Some(&same),
-        "{same}"
+    expect_first(&rt, rt.alloc(), &[(5, too_many_records())])
+}
+
+// Of two bad files, also of one source that fails, the first is answered.
+#[test]
+fn two_bad_sources(rt: HostRuntime) -> Result<(), Fail> {
+    let (firsts, lasts) = (
+        bad_records(3, Scale::Decimetre),
+        bad_records(0, Scale::Decimetre),
     );
+    let following = lasts.iter().skip(1).chain(lasts.iter().take(1));
+    for (&first, &last) in firsts.iter().zip(following) {
+        expect_first(&rt, rt.alloc(), &[(2, first), (6, last)])?;
+    }
+    Ok(())
+}
+
+// What six files come to by this plan, of which the fourth and the last have one animal, and one may be bad.
+fn fault_of_six<R: Wait + Threads + Sync + Abort>(
+    rt: &R,
+    alloc: Global,
+    bad: Option<BadFile>,
+) -> Result<Option<AnalyseFault>, Fail> {
+    let mut texts = Vec::new(alloc);
+    for name in [b"fox".as_slice(), b"foxes", b"fo", b"hare", b"owl", b"hare"] {
+        texts.push(text_of(alloc, name)?)?;
+    }
+    let mut sources = Vec::new(alloc);
+    for (file, good) in texts.iter().enumerate() {
+        sources.push(match bad {
+            Some(bad) if file == 4 => bad.source(),
+            _ => Pieces::new(good.as_slice(), 8192),
+        })?;
+    }
+    let plan = Plan::new(2, 4, 2, Scale::Decimetre).ok_or("no plan")?;
+    Ok(analysed(rt, alloc, sources, &Counting::new(2), plan).err())
+}
+
+// An animal that stands in an earlier file is told where no file is bad.
+#[test]
+fn same_animal_in_sources(rt: HostRuntime) -> Result<(), Fail> {
+    let alloc = rt.alloc();
+    let same = same_animal(alloc, 3, 5, b"hare")?;
+    assert!(rt;
+        fault_of_six(&rt, alloc, None)? == Some(same),
+        "no bad file"
+    );
+    for bad in bad_records(1, Scale::Decimetre) {
+        let (file, fault) = (4, bad.fault);
+        let expected = AnalyseFault::File { file, fault };
+        let said = fault_of_six(&rt, alloc, Some(bad))?;
+        assert!(rt; said.as_ref() == Some(&expected), "{expected}");
+    }
     Ok(())
 }
 

@@ -1,6 +1,7 @@
 // Tests of why files have no analysis.
 
 use crate::files::{File, judged, same_animal};
+use bad_files::{bad_records, files_without_fix};
 use pieces::Pieces;
 use range_analysis::{AnalyseFault, judge};
 use range_collect::Followed;
@@ -73,48 +74,46 @@ fn order_of_faults(rt: HostRuntime) -> Result<(), Fail> {
     let files = [(A, true), (EMPTY, true), (A, true)];
     expect_fault(&rt, alloc, &files, empty)?;
     let header = of_file(2, ReadFault::BadHeader);
-    expect_fault(&rt, alloc, &[(A, true), (A, true), (HEADER, true)], header)
+    expect_fault(&rt, alloc, &[(A, true), (A, true), (HEADER, true)], header)?;
+    let memory = AnalyseFault::OutOfMemory;
+    let files = [(A, true), (A, true), (B, false), (MEMORY, true)];
+    expect_fault(&rt, alloc, &files, memory)
 }
 
-// Each fault of one of eight files is answered as that file's, whichever it is.
-#[test]
-fn one_of_eight_files(rt: HostRuntime) -> Result<(), Fail> {
-    let (rec, field, unit) = (7, 2, Scale::Decimetre);
-    let (found, wanted) = (3, 5);
-    let faults = [
-        ReadFault::Read,
-        ReadFault::NoHeader,
-        ReadFault::BadHeader,
-        ReadFault::WrongFieldCount { rec, found, wanted },
-        ReadFault::BadName { rec },
-        ReadFault::OtherAnimal { rec },
-        ReadFault::NotNumber { rec, field },
-        ReadFault::TooLarge { rec, field, unit },
-        ReadFault::SecondFalls { rec },
-        ReadFault::TooManyFixes,
-        ReadFault::NoFixes,
-        ReadFault::BadUse { rec },
-    ];
+// Checks that the fault of one of eight files is answered as that file's, whichever it is, also where the last
+// has another fault.
+fn expect_of_file<R: Wait + Threads + Sync + Abort>(
+    rt: &R,
+    alloc: Global,
+    fault: ReadFault,
+) -> Result<(), Fail> {
     let names = [b"A".as_slice(), b"B", b"C", b"D", b"E", b"F", b"G", b"H"];
-    for fault in faults {
-        for file in [0u32, 6, 7] {
-            let mut files = Vec::new(rt.alloc());
-            for (place, name) in names.iter().enumerate() {
-                files.push((
-                    if place == file as usize {
-                        Err(fault)
-                    } else {
-                        Ok(*name)
-                    },
-                    true,
-                ))?;
-            }
-            let expected = AnalyseFault::File { file, fault };
-            let said = fault_of(&rt, rt.alloc(), &files)?;
-            assert!(rt; said.as_ref() == Some(&expected), "{expected}");
+    for (file, last) in [(0u32, A), (3, HEADER), (6, EMPTY), (7, Err(fault))] {
+        let mut files = Vec::new(alloc);
+        for (place, name) in names.iter().enumerate() {
+            let said = match place {
+                _ if place == file as usize => Err(fault),
+                7 => last,
+                _ => Ok(*name),
+            };
+            files.push((said, true))?;
         }
+        let expected = AnalyseFault::File { file, fault };
+        let said = fault_of(rt, alloc, &files)?;
+        assert!(rt; said.as_ref() == Some(&expected), "{expected}");
     }
     Ok(())
+}
+
+#[test]
+fn one_of_eight_files(rt: HostRuntime) -> Result<(), Fail> {
+    for file in bad_records(6, Scale::Decimetre) {
+        expect_of_file(&rt, rt.alloc(), file.fault)?;
+    }
+    for file in files_without_fix() {
+        expect_of_file(&rt, rt.alloc(), file.fault)?;
+    }
+    expect_of_file(&rt, rt.alloc(), ReadFault::TooManyFixes)
 }
 
 // A header alone, pumped on a line whose taker is gone: its mark was handed back, so its line was cut.
@@ -143,13 +142,18 @@ fn header_whose_taker_is_gone(rt: HostRuntime) -> Result<(), Fail> {
 // Names are compared by their bytes.
 #[test]
 fn repeats(rt: HostRuntime) -> Result<(), Fail> {
-    let cases: [(&[&[u8]], Option<(u32, u32, &[u8])>); 6] = [
+    let cases: [(&[&[u8]], Option<(u32, u32, &[u8])>); 8] = [
         (&[b"A", b"B", b"A"], Some((0, 2, b"A"))),
         (&[b"A", b"B"], None),
         (&[b"A", b"a", b"AA", b"", b"BA"], None),
         (&[b"A", b"B", b"B", b"A"], Some((1, 2, b"B"))),
         (&[b"AB", b"B", b"C", b"AB", b"B"], Some((0, 3, b"AB"))),
         (&[b"A", b"A", b"A"], Some((0, 1, b"A"))),
+        (
+            &[b"fox", b"foxes", b"fo", b"hare", b"owl", b"hare"],
+            Some((3, 5, b"hare")),
+        ),
+        (&[b"fox", b"foxes", b"fo", b"hare", b"owl", b"har"], None),
     ];
     for (names, repeat) in cases {
         let mut files = Vec::new(rt.alloc());

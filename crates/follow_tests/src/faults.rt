@@ -1,162 +1,97 @@
-// Tests of faults: each of the reader through a pump and through `follow`, and sources that fail.
+// Tests of faults: files with each fault of their reader beside others, and sources that fail.
 
-use crate::checks::{begin_with, is_cut, is_name};
-use crate::files::SQUARE;
+use crate::checks::{begin_with, expect_whole, follow_all, is_cut, is_name};
+use crate::files::{LINE, SQUARE};
 use crate::plans::follow_one;
+use bad_files::{BadFile, bad_records, files_without_fix};
 use pieces::Pieces;
+use range_collect::Followed;
 use range_fixes::ReadFault;
-use range_line::open_line;
 use range_plan::Plan;
 use range_plane::Scale;
-use range_pump::{FreeGate, pump};
+use range_pump::FreeGate;
 use std::alloc::Global;
 use std::process::Abort;
 use std::sync::Wait;
 use std::thread::Threads;
 
-// The source of a text that comes to this fault: one that fails within the header, one of records without
-// end, or the text alone.
-fn source_of(text: &'static [u8], fault: ReadFault) -> Pieces<'static> {
-    match fault {
-        ReadFault::Read => Pieces::failing(text, 8, 3),
-        ReadFault::TooManyFixes => { Pieces::repeated(text, b"A,0,0,0,0\n", u64::MAX, b"", 8192) }
-        _ => Pieces::new(text, 8192),
-    }
+// Checks that the file has its fault as it is, and that the mark and the fixes before it were sent and taken.
+fn expect_bad(rt: &impl Abort, followed: &Followed, file: BadFile) {
+    let (fixes, fault) = (file.fixes, file.fault);
+    assert!(rt; is_cut(followed, fault, fixes as usize), "{fault}");
+    let rows = followed.estimator.rows();
+    assert!(rt;
+        rows.iter().all(|row| row.second == 7 && row.corners == 1 && row.area2 == 0),
+        "the rows before: {fault}"
+    );
 }
 
-// Checks that a pump and `follow` say this of the text, in blocks of two; so many fixes are before the fault
-// and are sent and taken, and then the mark.
-fn expect_fault<R: Wait + Threads + Sync + Abort>(
+// Follows a bad file between two good ones, which are as they would be alone.
+fn expect_between<R: Wait + Threads + Sync + Abort>(
     rt: &R,
     alloc: Global,
-    text: &'static [u8],
-    unit: Scale,
-    fixes: usize,
-    fault: ReadFault,
+    file: BadFile,
+    plan: Plan,
 ) {
-    let (mut feeders, _taker) = open_line(alloc, 0, 1, 1, 4).expect(rt, "memory");
-    let feeder = feeders.pop().expect(rt, "a feeder");
-    let pumped = pump(
-        rt,
-        alloc,
-        source_of(text, fault),
-        feeder,
-        &FreeGate,
-        2,
-        unit,
-    );
-    let said = pumped.read.err();
-    assert!(rt; said == Some(fault), "through a pump: {fault}");
-    assert!(rt; pumped.feeder.closed(), "the mark: {fault}");
-    assert!(rt;
-        pumped.feeder.sent_fixes() == fixes as u64,
-        "fixes: {fault}"
-    );
-    let plan = Plan::new(2, 4, 2, unit).expect(rt, "a plan");
-    let followed = follow_one(rt, alloc, source_of(text, fault), plan);
-    assert!(rt; is_cut(&followed, fault, fixes), "followed: {fault}");
+    let sources = vec![in alloc;
+        Pieces::new(SQUARE.text, 8192),
+        file.source(),
+        Pieces::new(LINE.text, 8192),
+    ];
+    let all = follow_all(rt, alloc, sources.expect(rt, "memory"), &FreeGate, plan);
+    assert!(rt; all.len() == 3, "results");
+    expect_whole(rt, alloc, &all[0], SQUARE);
+    expect_bad(rt, &all[1], file);
+    expect_whole(rt, alloc, &all[2], LINE);
 }
 
-// Each fault in which the record has no number.
-#[test]
-fn faults_of_files(rt: HostRuntime) {
-    let cases = [
-        (SQUARE.text, ReadFault::Read),
-        (b"".as_slice(), ReadFault::NoHeader),
-        (
-            b"Animal,second,easting,northing\nA,0,0,0\n",
-            ReadFault::BadHeader,
-        ),
-        (b"animal,second,easting,northing\n", ReadFault::NoFixes),
-        (
-            b"animal,second,easting,northing,use\nA,0,0,0,0\n",
-            ReadFault::NoFixes,
-        ),
-        (
-            b"animal,second,easting,northing,use\n",
-            ReadFault::TooManyFixes,
-        ),
+// Follows two bad files with a good one between them, each of which has its own fault.
+fn expect_around<R: Wait + Threads + Sync + Abort>(
+    rt: &R,
+    alloc: Global,
+    first: BadFile,
+    last: BadFile,
+    plan: Plan,
+) {
+    let sources = vec![in alloc;
+        first.source(),
+        Pieces::new(SQUARE.text, 8192),
+        last.source(),
     ];
-    for (text, fault) in cases {
-        expect_fault(&rt, rt.alloc(), text, Scale::Metre, 0, fault);
+    let all = follow_all(rt, alloc, sources.expect(rt, "memory"), &FreeGate, plan);
+    assert!(rt; all.len() == 3, "results");
+    expect_bad(rt, &all[0], first);
+    expect_whole(rt, alloc, &all[1], SQUARE);
+    expect_bad(rt, &all[2], last);
+}
+
+// In blocks that end before the fault, at it, and behind it.
+#[test]
+fn a_bad_file_between_others(rt: HostRuntime) {
+    for (block, depth, workers) in [(1, 1, 1), (2, 4, 2), (3, 1, 1), (1024, 64, 2)] {
+        for unit in [Scale::Metre, Scale::Decimetre] {
+            let plan = Plan::new(block, depth, workers, unit).expect(&rt, "a plan");
+            for file in bad_records(4, unit) {
+                expect_between(&rt, rt.alloc(), file, plan);
+            }
+            for file in files_without_fix() {
+                expect_between(&rt, rt.alloc(), file, plan);
+            }
+        }
     }
 }
 
-// Each fault of a record but numbers that are too large: the record's number and what else a fault says come
-// through as the reader gives them.
+// Each fault beside the next one, so also a source that fails beside a bad record, on one line and on two.
 #[test]
-fn faults_of_records(rt: HostRuntime) {
-    let wrong = |rec, found, wanted| ReadFault::WrongFieldCount { rec, found, wanted };
-    let name = |rec| ReadFault::BadName { rec };
-    let other = |rec| ReadFault::OtherAnimal { rec };
-    let number = |rec, field| ReadFault::NotNumber { rec, field };
-    let falls = |rec| ReadFault::SecondFalls { rec };
-    let bad_use = |rec| ReadFault::BadUse { rec };
-    let cases = [
-        (
-            b"animal,second,easting,northing\nA,0,1,2\nA,0,3\n".as_slice(),
-            1,
-            wrong(2, 3, 4),
-        ),
-        (
-            b"animal,second,easting,northing,use\nA,0,1,2,1\nA,0,1,2\n",
-            1,
-            wrong(2, 4, 5),
-        ),
-        (b"animal,second,easting,northing\n,0,0,0\n", 0, name(1)),
-        (
-            b"animal,second,easting,northing\nA,0,0,0\nB,0,0,0\n",
-            1,
-            other(2),
-        ),
-        (
-            b"animal,second,easting,northing\nA,0,0,0\nA,0,0,0\nA,0,0,x\n",
-            2,
-            number(3, 3),
-        ),
-        (
-            b"animal,second,easting,northing\nA,7,0,0\nA,7,0,0\nA,6,0,0\n",
-            2,
-            falls(3),
-        ),
-        (
-            b"animal,second,easting,northing,use\nA,0,0,0,1\nA,0,0,0,2\n",
-            1,
-            bad_use(2),
-        ),
-    ];
-    for (text, fixes, fault) in cases {
-        expect_fault(&rt, rt.alloc(), text, Scale::Metre, fixes, fault);
-    }
-}
-
-// A number past its limit comes through with the unit that the file was read in.
-#[test]
-fn faults_of_units(rt: HostRuntime) {
-    let (m, dm) = (Scale::Metre, Scale::Decimetre);
-    let cases = [
-        (
-            b"animal,second,easting,northing\nA,0,0,0\nA,0,16777217,0\n".as_slice(),
-            m,
-            1,
-            (2, 2),
-        ),
-        (
-            b"animal,second,easting,northing\nA,0,16777217,0\nA,0,0,134217729\n",
-            dm,
-            1,
-            (2, 3),
-        ),
-        (
-            b"animal,second,easting,northing\nA,1099511627777,0,0\n",
-            dm,
-            0,
-            (1, 1),
-        ),
-    ];
-    for (text, unit, fixes, (rec, field)) in cases {
-        let fault = ReadFault::TooLarge { rec, field, unit };
-        expect_fault(&rt, rt.alloc(), text, unit, fixes, fault);
+fn two_bad_files(rt: HostRuntime) {
+    let unit = Scale::Decimetre;
+    let (firsts, lasts) = (bad_records(2, unit), bad_records(3, unit));
+    for workers in [1, 2] {
+        let plan = Plan::new(2, 1, workers, unit).expect(&rt, "a plan");
+        let following = lasts.iter().skip(1).chain(lasts.iter().take(1));
+        for (&first, &last) in firsts.iter().zip(following) {
+            expect_around(&rt, rt.alloc(), first, last, plan);
+        }
     }
 }
 

@@ -36,9 +36,9 @@ struct Calls {
 }
 
 impl Calls {
-    fn new(case: Case, plan: Plan) -> Calls {
+    fn new(fixes: u64, plan: Plan) -> Calls {
         Calls {
-            fixes: case.rows.len() as u64,
+            fixes,
             block: u64::from(plan.block),
             depth: u64::from(plan.depth),
             sends: AtomicU64::new(0),
@@ -172,7 +172,8 @@ fn expect_meeting<R: Wait + Threads + Sync + Abort>(
 ) {
     let mut files = Vec::new(alloc);
     for &case in cases {
-        assert!(rt; files.push(Calls::new(case, plan)).is_ok(), "memory");
+        let calls = Calls::new(case.rows.len() as u64, plan);
+        assert!(rt; files.push(calls).is_ok(), "memory");
     }
     let meeting = Meeting::new(calls, files);
     let all = follow_all(rt, alloc, sources_of(rt, alloc, cases), &meeting, plan);
@@ -203,6 +204,31 @@ fn a_pump_and_its_worker_at_once(rt: HostRuntime) {
             let plan = plan(&rt, 1, depth, workers);
             expect_meeting(&rt, rt.alloc(), &[SQUARE], calls, plan);
         }
+    }
+}
+
+// Checks that a pump comes as far ahead of a worker that is at its first message as this plan's line is deep.
+fn expect_ahead<R: Wait + Threads + Sync + Abort>(rt: &R, alloc: Global, plan: Plan) {
+    let fixes = 100;
+    let ahead = u64::from(plan.depth.saturating_add(1));
+    let calls = [Call::BeforeSend(0, ahead), Call::AfterTake(0, 0)];
+    let (mut files, mut sources) = (Vec::new(alloc), Vec::new(alloc));
+    assert!(rt; files.push(Calls::new(fixes, plan)).is_ok(), "memory");
+    let header = b"animal,second,easting,northing\n".as_slice();
+    let source = Pieces::repeated(header, b"A,0,0,0\n", fixes, b"", 8192);
+    assert!(rt; sources.push(source).is_ok(), "memory");
+    let meeting = Meeting::new(calls, files);
+    for followed in &follow_all(rt, alloc, sources, &meeting, plan) {
+        assert!(rt; is_whole(followed, fixes as usize), "the end");
+    }
+    assert!(rt; meeting.has_met(), "ahead by {ahead}");
+    assert!(rt; meeting.has_heard_all(), "each call in its turn");
+}
+
+#[test]
+fn a_pump_ahead_by_the_depth(rt: HostRuntime) {
+    for depth in [1, 5, 63, 64] {
+        expect_ahead(&rt, rt.alloc(), plan(&rt, 1, depth, 1));
     }
 }
 

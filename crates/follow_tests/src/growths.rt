@@ -3,11 +3,14 @@
 use crate::checks::{begin_with, is_name, plan};
 use crate::files::{Case, LINE, SQUARE, sources_of};
 use range_collect::{Followed, follow};
+use range_plan::Plan;
 use range_pump::Gate;
 use refusing::Refusing;
 use std::alloc::Global;
 use std::process::Abort;
+use std::sync::Wait;
 use std::sync::atomic::{AtomicUsize, Ordering};
+use std::thread::Threads;
 
 // More growths than a run here makes.
 const MANY_GROWTHS: u32 = 1000;
@@ -33,11 +36,11 @@ impl Gate for Watching<'_> {
 }
 
 // Whether the file was handed on whole, and its estimator has all rows, or has stopped and has those of the
-// blocks before, which are done with, each of two fixes.
+// blocks before, which are done with and have so many fixes.
 fn holds_first(followed: &Followed<&Refusing<Global>>, case: Case, done: usize) -> bool {
     let found = followed.estimator.rows();
     let ends_right = if followed.estimator.stopped() {
-        found.len() < case.rows.len() && found.len() == done.saturating_mul(2)
+        found.len() < case.rows.len() && found.len() == done
     } else {
         found.len() == case.rows.len()
     };
@@ -54,11 +57,13 @@ fn stopped_of(
     rt: &impl Abort,
     all: &[Followed<&Refusing<Global>>],
     done: &[AtomicUsize; 2],
+    plan: Plan,
 ) -> u32 {
     assert!(rt; all.len() == 2, "results");
     let mut stopped = 0u32;
     for ((followed, case), done) in all.iter().zip([SQUARE, LINE]).zip(done) {
-        let done = done.load(Ordering::SeqCst);
+        let blocks = done.load(Ordering::SeqCst);
+        let done = blocks.saturating_mul(plan.block as usize);
         assert!(rt; holds_first(followed, case, done), "the file and its rows");
         if followed.estimator.stopped() {
             stopped = stopped.wrapping_add(1);
@@ -68,36 +73,43 @@ fn stopped_of(
 }
 
 // In a run that is refused a growth, either there are no results, or one estimator has stopped; both come.
-#[test]
-fn each_growth_is_refused(rt: HostRuntime) {
+fn expect_refusals<R: Wait + Threads + Sync + Abort>(rt: &R, alloc: Global, plan: Plan) {
     let (mut without, mut with) = (0u32, 0u32);
     for number in 1..MANY_GROWTHS {
-        let alloc = Refusing::new(rt.alloc(), number);
+        let refusing = Refusing::new(alloc, number);
         let done = [AtomicUsize::new(0), AtomicUsize::new(0)];
         let gate = Watching {
-            alloc: &alloc,
+            alloc: &refusing,
             done,
         };
-        let sources = sources_of(&rt, rt.alloc(), &[SQUARE, LINE]);
+        let sources = sources_of(rt, alloc, &[SQUARE, LINE]);
         assert!(rt; sources.len() == 2);
-        match follow(&rt, &alloc, rt.alloc(), sources, &gate, plan(&rt, 2, 4, 2)) {
+        match follow(rt, &refusing, alloc, sources, &gate, plan) {
             Ok(all) => {
-                let stopped = stopped_of(&rt, &all, &gate.done);
+                let stopped = stopped_of(rt, &all, &gate.done, plan);
                 assert!(rt;
-                    stopped == u32::from(alloc.has_refused()),
+                    stopped == u32::from(refusing.has_refused()),
                     "stopped estimators"
                 );
                 with = with.wrapping_add(stopped);
             }
             Err(_) => {
-                assert!(rt; alloc.has_refused(), "at growth {number}");
+                assert!(rt; refusing.has_refused(), "at growth {number}");
                 without = without.wrapping_add(1);
             }
         }
-        if !alloc.has_refused() {
+        if !refusing.has_refused() {
             assert!(rt; without > 10 && with > 10, "{without} and {with} growths");
             return;
         }
     }
     assert!(rt; false, "no run without a refusal");
+}
+
+// Also where the line holds less than what comes behind the block that stops an estimator: all of it is taken.
+#[test]
+fn each_growth_is_refused(rt: HostRuntime) {
+    for (block, depth, workers) in [(2, 4, 2), (1, 1, 1)] {
+        expect_refusals(&rt, rt.alloc(), plan(&rt, block, depth, workers));
+    }
 }

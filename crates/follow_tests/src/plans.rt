@@ -88,48 +88,6 @@ fn tested_by_block(rt: HostRuntime) {
     }
 }
 
-// The fixes before a fault are sent and taken, and the mark.
-#[test]
-fn file_with_a_fault(rt: HostRuntime) {
-    let text = SQUARE.text.strip_suffix(b",5\n").expect(&rt, "a suffix");
-    for (block, depth) in [(1, 1), (2, 4), (1024, 64)] {
-        let followed = follow_one(
-            &rt,
-            rt.alloc(),
-            Pieces::new(text, 8192),
-            plan(&rt, block, depth, 2),
-        );
-        let fault = ReadFault::WrongFieldCount {
-            rec: 5,
-            found: 3,
-            wanted: 4,
-        };
-        assert!(rt;
-            is_cut(&followed, fault, 4),
-            "the fault and the fixes before it"
-        );
-    }
-}
-
-// A fault of one file is not the others'.
-#[test]
-fn faults_side_by_side(rt: HostRuntime) {
-    let alloc = rt.alloc();
-    let mut sources = Vec::new(alloc);
-    for text in [
-        b"".as_slice(),
-        SQUARE.text,
-        b"animal,second,easting,northing\n",
-    ] {
-        assert!(rt; sources.push(Pieces::new(text, 8192)).is_ok(), "memory");
-    }
-    let all = follow_all(&rt, alloc, sources, &FreeGate, plan(&rt, 2, 1, 2));
-    assert!(rt; all.len() == 3, "results");
-    assert!(rt; is_cut(&all[0], ReadFault::NoHeader, 0), "the first file");
-    expect_whole(&rt, alloc, &all[1], SQUARE);
-    assert!(rt; is_cut(&all[2], ReadFault::NoFixes, 0), "the last file");
-}
-
 // The header, records of one fix, and the rest.
 fn repeated(times: u64, rest: &'static [u8]) -> Pieces<'static> {
     let header = b"animal,second,easting,northing\n".as_slice();

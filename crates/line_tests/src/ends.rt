@@ -5,6 +5,7 @@ ghost use Rattle.range_line.specs.Lines.{AreForFiles, AreOfLine};
 
 use crate::messages::{are_fixes, fixes, is_block, is_mark};
 use range_line::{Feeder, Settled, Taker, open_line, settle};
+use range_plan::BLOCK_LIMIT;
 use range_plane::OutOfMemory;
 use std::alloc::Global;
 use std::process::Abort;
@@ -194,5 +195,26 @@ fn three_feeders(rt: HostRuntime) -> Result<(), Fail> {
         are_ends(&settled, &[(1, 1, false), (3, 1, true), (5, 0, true)]),
         "the feeders"
     );
+    Ok(())
+}
+
+// A mark is sent behind a block of each number of fixes, up to the most, and taken.
+#[test]
+fn a_mark_behind_each_number_of_fixes(rt: HostRuntime) -> Result<(), Fail> {
+    for count in 1..=BLOCK_LIMIT as usize {
+        let (mut feeders, mut taker) = open_line(rt.alloc(), 3, 1, 1, 2)?;
+        let mut feeder = feeders.pop().ok_or("no feeder")?;
+        let block = fixes(rt.alloc(), 60, count)?;
+        assert!(rt; feeder.send(&rt, block).is_ok(), "{count} fixes");
+        assert!(rt; feeder.close(&rt), "the mark after {count}");
+        assert!(rt;
+            is_block(&taker.take(&rt), 3, 0, 60, count),
+            "a block of {count}"
+        );
+        assert!(rt;
+            is_mark(&taker.take(&rt), 3, count as u64),
+            "the mark after {count}"
+        );
+    }
     Ok(())
 }

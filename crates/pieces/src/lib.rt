@@ -14,6 +14,7 @@ pub struct Pieces<'a> {
     rest: &'a [u8],
     most: usize,
     reads: u64,
+    is_broken_off: bool,
 }
 
 impl<'a> Pieces<'a> {
@@ -37,6 +38,7 @@ impl<'a> Pieces<'a> {
             rest,
             most,
             reads: u64::MAX,
+            is_broken_off: false,
         }
     }
 
@@ -49,6 +51,15 @@ impl<'a> Pieces<'a> {
             rest: b"",
             most,
             reads,
+            is_broken_off: false,
+        }
+    }
+
+    /// The bytes of a text and of another so many times. Where they end, each read fails.
+    pub fn broken_off(text: &'a [u8], again: &'a [u8], times: u64) -> Pieces<'a> {
+        Pieces {
+            is_broken_off: true,
+            ..Pieces::repeated(text, again, times, b"", 8192)
         }
     }
 
@@ -74,6 +85,9 @@ impl Read for Pieces<'_> {
         }
         self.reads -= 1;
         self.refill();
+        if self.is_broken_off && self.text.is_empty() {
+            return Err(io::Error::from(io::ErrorKind::PermissionDenied));
+        }
         let n = self.most.min(buf.len());
         self.text.read(&mut buf[..n])
     }

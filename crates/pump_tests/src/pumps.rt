@@ -70,9 +70,9 @@ impl Gate for Expecting {
     fn after_take(&self, _file: u32, _place: u64) {}
 }
 
-// The ends of a new line of this depth, from 1 to 4.
+// The ends of a new line of this depth, from 1 to 8.
 pub(crate) fn open_one(alloc: Global, depth: usize) -> Result<(Feeder, Taker), Fail>
-    requires depth { (1 ≤ depth) × (depth ≤ 4) }
+    requires depth { (1 ≤ depth) × (depth ≤ 8) }
     ensures feeder { IfOk result (λ r. (r.0.closed ≡ false) × (r.0.ended ≡ false) × (r.0.sent ≡ [])) }
     ensures taker { IfOk result (λ r. r.1.ended ≡ false) }
 {
@@ -124,7 +124,7 @@ fn is_at(body: &Body, easting: i64) -> bool {
 }
 
 // Whether this is the mark after so many fixes.
-fn is_mark(taken: &Option<Message>, place: u64) -> bool {
+pub(crate) fn is_mark(taken: &Option<Message>, place: u64) -> bool {
     match taken {
         Some(message) => {
             message.file == FILE && message.place == place && matches!(message.body, Body::Mark)
@@ -226,17 +226,6 @@ fn units(rt: HostRuntime) -> Result<(), Fail> {
     let block = taker.take(&rt).ok_or("no block")?;
     assert!(rt; is_at(&block.body, 16_777_217), "the block");
     assert!(rt; is_mark(&taker.take(&rt), 1), "the mark");
-    Ok(())
-}
-
-#[test]
-fn header_alone(rt: HostRuntime) -> Result<(), Fail> {
-    let (feeder, mut taker) = open_one(rt.alloc(), 4)?;
-    let (gate, source) = (Expecting::new(&[0]), Pieces::new(HEADER, 8192));
-    let pumped = pump(&rt, rt.alloc(), source, feeder, &gate, 2, Scale::Metre);
-    assert!(rt; ends(&pumped, 0, true, ReadFault::NoFixes), "the fault");
-    assert!(rt; gate.is_met(), "calls");
-    assert!(rt; is_mark(&taker.take(&rt), 0), "the mark");
     Ok(())
 }
 
