@@ -31,6 +31,7 @@ COMMANDS = (
     "a.csv",
     "a.csv b.csv",
     "--block 1 --depth 1 --workers 8 a.csv b.csv",
+    "--block 1 --depth 1 --workers 1 a.csv b.csv",
     "--percent 50 --unit dm a.csv",
     "--block 0",
     "--percent 0 a.csv",

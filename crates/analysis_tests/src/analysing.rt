@@ -215,7 +215,7 @@ fn one_bad_source(rt: HostRuntime) -> Result<(), Fail> {
     let mut place = 0u32;
     for file in records.iter().chain(files.iter()) {
         expect_first(&rt, rt.alloc(), &[(place, *file)])?;
-        place = (place + 3) % 8;
+        place = place.wrapping_add(3) % 8;
     }
     expect_first(&rt, rt.alloc(), &[(5, too_many_records())])
 }

@@ -1,6 +1,6 @@
 //! Tests of judging, over results that no run of threads gives at will; of the tables that it makes; of
-//! sources that are analysed in every plan; and of reports, over analyses that are made by hand, each growth
-//! refused in turn.
+//! sources that are analysed in every plan, and with each fault; and of reports, over analyses that are made
+//! by hand, each growth refused in turn.
 #![tactic(auto)]
 
 #[cfg(test)]

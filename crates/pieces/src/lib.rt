@@ -5,7 +5,7 @@ use std::io;
 use std::io::Read;
 
 /// For tests alone: gives the bytes of a text, then those of another so many times, and then the rest, at
-/// most so many at a read. After so many reads it fails. It tells no bytes.
+/// most so many at a read. After so many reads, or where its bytes end, it fails. It tells no bytes.
 #[derive(Drop)]
 pub struct Pieces<'a> {
     text: &'a [u8],
@@ -14,6 +14,7 @@ pub struct Pieces<'a> {
     rest: &'a [u8],
     most: usize,
     reads: u64,
+    // Whether a read fails where the bytes end.
     is_broken_off: bool,
 }
 
