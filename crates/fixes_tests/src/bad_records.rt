@@ -43,9 +43,9 @@ fn text_of(rt: &impl Abort, alloc: Global, form: Form, before: u32, record: &[u8
     for _ in 0..before {
         text.extend_from_slice(form.good).expect(rt, "memory");
     }
-    for part in [record, form.end, form.good] {
-        text.extend_from_slice(part).expect(rt, "memory");
-    }
+    text.extend_from_slice(record).expect(rt, "memory");
+    text.extend_from_slice(form.end).expect(rt, "memory");
+    text.extend_from_slice(form.good).expect(rt, "memory");
     text
 }
 
@@ -53,13 +53,9 @@ fn text_of(rt: &impl Abort, alloc: Global, form: Form, before: u32, record: &[u8
 fn expect_bad_records(rt: &impl Abort, alloc: Global, form: Form) {
     for before in [0u32, 1, 4] {
         let records = bad_records(before.saturating_add(1), form.fields);
-        let bad = if before == 0 {
-            &records[..8]
-        } else {
-            records.as_slice()
-        };
+        let count = if before == 0 { 8 } else { records.len() };
         let last = if before == 0 { None } else { Some((0, 0)) };
-        for &(record, fault) in bad {
+        for &(record, fault) in &records[..count] {
             let text = text_of(rt, alloc, form, before, record);
             expect(rt, alloc, text.as_slice(), (before, last, Some(fault)));
         }
