@@ -1,5 +1,5 @@
 #!/bin/sh
-# Tests the scripts, and the program run for real, in a folder of its own that it removes.
+# Tests the scripts, what pages quote, and the program run for real, in a folder of its own that it removes.
 #
 #     tools/test.sh [PROGRAM [PART ..]]
 #
