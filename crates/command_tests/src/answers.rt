@@ -66,13 +66,9 @@ fn refused_words(rt: HostRuntime) {
         b"1",
         b"--bogus",
     ];
-    for words in [
-        [b"homerange".as_slice(), b"--bogus"].as_slice(),
-        &[b"homerange", b"", b"--bogus"],
-        late.as_slice(),
-    ] {
-        expect(&rt, words, FILE_A, 2, line);
-    }
+    expect(&rt, &[b"homerange", b"--bogus"], FILE_A, 2, line);
+    expect(&rt, &[b"homerange", b"", b"--bogus"], FILE_A, 2, line);
+    expect(&rt, late.as_slice(), FILE_A, 2, line);
     let line = "homerange: word 1 of the command line is not UTF-8\n";
     expect(&rt, &[b"homerange", b"\xFF"], FILE_A, 2, line);
 }

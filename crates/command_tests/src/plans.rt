@@ -122,10 +122,7 @@ fn workers(rt: HostRuntime) {
     let alloc = rt.alloc();
     let gate = Holding::new(1, 1);
     let options = options(&rt, alloc, &[50], (1, 1, 2), Scale::Metre);
-    let mut sources = Vec::new(alloc);
-    for text in [NINE, OTHER] {
-        assert!(rt; sources.push(text).is_ok(), "memory");
-    }
+    let sources = vec![in alloc; NINE, OTHER].expect(&rt, "memory");
     let mut out = Vec::new(alloc);
     let outcome = run_with_gate(&rt, alloc, sources, &gate, &options, &mut out);
     assert!(rt; outcome.is_ok() && gate.held.load(Ordering::SeqCst) > 0);

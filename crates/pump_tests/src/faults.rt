@@ -52,14 +52,16 @@ fn expect_pumped<R: Wait + Abort>(
         ends(&pumped, fixes, true, fault),
         "{fault}, in blocks of {block}"
     );
-    let mut place = 0;
-    while place < file.fixes {
+    for number in 0..file.fixes {
+        let place = number.saturating_mul(block);
+        if place >= file.fixes {
+            break;
+        }
         let count = block.min(file.fixes - place);
         assert!(rt;
             is_good_block(&taker.take(rt), place, count),
             "{fault}: the block at {place} of {block}"
         );
-        place += count;
     }
     assert!(rt; is_mark(&taker.take(rt), fixes), "{fault}: the mark");
     Ok(())
