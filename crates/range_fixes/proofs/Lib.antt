@@ -3,3 +3,4 @@ pub mod LawFacts
 pub mod ProgressFacts
 pub mod ReadingFacts
 pub mod RecordFacts
+pub mod TakenFacts

@@ -1,5 +1,5 @@
 -- How far a reader of fixes is.
-use Rattle.std.specs.Prelude.{◌≡◌, ◌⊎◌, ◌≤◌, ◌<◌, ◌+◌, ℕ, Bool, true, false, List, length, drop, slice_get, Option, Some, None, Result, Ok, Err, IsSome, IfSome, ◌==◌, if◌then◌else◌}
+use Rattle.std.specs.Prelude.{◌≡◌, ◌⊎◌, ◌≤◌, ◌<◌, ◌+◌, ℕ, Bool, true, false, List, length, drop, slice_get, Option, Some, None, Result, Ok, Err, IsSome, IfSome, IsSomeAnd, ⊤, ◌≢◌, ◌==◌, if◌then◌else◌}
 use Rattle.range_plane.specs.declared.fix.Fix.{Fix}
 use Rattle.range_fixes.specs.declared.fault.ReadFault.{ReadFault}
 use Rattle.range_fixes.specs.declared.fault.ReadFault.TheVariants as faults
@@ -11,6 +11,8 @@ pub record Progress : Type 0 where
   pub animal : Option (List ℕ)
   -- how many records below the header were read
   pub read : ℕ
+  -- how many records below the header are left, where the source tells its bytes
+  pub left : Option ℕ
   -- every call from here on answers this fault
   pub fault : Option ReadFault
   -- every call from here on answers that there is no fix
@@ -57,8 +59,19 @@ pub record GivesFix (old new : Progress) : Type 0 where
   pub goes_on : new.ended ≡ false
   pub unhurt : new.stopped ≡ false
 
+-- so many were taken of the records that were left
+abbrev pub Taken : Option ℕ → ℕ → Option ℕ → Type 0
+Taken None count after = ⊤
+Taken (Some before) count after = IsSomeAnd after (λ left. before ≡ count + left)
+
+-- what an answer leaves of the records, of which so many were taken for it: none where there is no fix
+abbrev pub Leaves : Option ℕ → ℕ → Result (Option Fix) ReadFault → Option ℕ → Type 0
+Leaves before count (Ok (Some fix)) after = Taken before count after
+Leaves before count (Ok None) after = IfSome before (λ n. n ≡ count)
+Leaves before count (Err fault) after = fault ≢ faults.NoFixes → Taken before count after
+
 -- what an answer leaves
 abbrev pub Moves : Progress → Result (Option Fix) ReadFault → Progress → Type 0
 Moves old (Ok (Some fix)) new = GivesFix old new
-Moves old (Ok None) new = (new ≡ record old { ended = true; read = new.read; ahead = new.ahead }) × (0 < old.count)
-Moves old (Err fault) new = new ≡ record old { fault = Some fault; stopped = new.stopped; read = new.read; ahead = new.ahead }
+Moves old (Ok None) new = (new ≡ record old { ended = true; read = new.read; left = new.left; ahead = new.ahead }) × (0 < old.count)
+Moves old (Err fault) new = new ≡ record old { fault = Some fault; stopped = new.stopped; read = new.read; left = new.left; ahead = new.ahead }

@@ -1,5 +1,5 @@
 -- A reader of fixes, by its progress.
-use Rattle.std.specs.Prelude.{◌≡◌, ◌≢◌, ⊤, ◌≤◌, ◌<◌, ◌+◌, ℕ, Bool, true, false, List, Option, Some, None, IfSome, IsSome, IsTrue, option_map, ◌==◌, if◌then◌else◌}
+use Rattle.std.specs.Prelude.{◌≡◌, ◌≢◌, ⊤, ◌≤◌, ◌<◌, ◌+◌, ℕ, Bool, true, false, List, length, drop, Option, Some, None, IfSome, IsSome, IsTrue, option_map, ◌==◌, if◌then◌else◌}
 use Rattle.range_plane.specs.Fix.{fix_limit, second_limit}
 use Rattle.range_plane.specs.declared.scale.Scale.{Scale}
 use Rattle.range_fixes.specs.declared.fault.ReadFault.{ReadFault}
@@ -28,12 +28,18 @@ has_ended Going = false
 has_ended Ended = true
 has_ended (Failed fault) = false
 
+-- the records that are left below the header
+abbrev pub below : Option Bool → Option (List Record) → Option (List Record)
+below None left = option_map (λ records. drop 1 records) left
+below (Some has_use) left = left
+
 -- the progress of a reader, by its parts
 abbrev pub progress_by : Scale → Stage → Option Bool → ℕ → ℕ → Option Previous → Option (List Record) → Bool → Progress
 progress_by unit stage header read count previous left stopped = record {
   count = count;
   animal = if count == 0 then None else option_map (λ p. p.animal) previous;
   read = read;
+  left = option_map length (below header left);
   fault = fault_of stage;
   ended = has_ended stage;
   stopped = stopped;

@@ -1,11 +1,11 @@
 // The fixes of a source, one at a time.
 
-ghost use Rattle.std.specs.Prelude.{◌≡◌, ◌≢◌, ◌⊎◌, ◌+◌, ◌<◌, ◌≤◌, ◌↔◌, Ok, Err, Some, None, true, false, IfSome, IfErr, OnOk, IfOk, IsSome, IsTrue, MatchOption, option_map};
+ghost use Rattle.std.specs.Prelude.{◌≡◌, ◌≢◌, ◌⊎◌, ◌+◌, ◌-◌, ◌<◌, ◌≤◌, ◌↔◌, Ok, Err, Some, None, true, false, IfSome, IfErr, OnErr, OnOk, IfOk, [], length, IsSome, IsTrue, MatchOption, option_map};
 ghost use Rattle.range_plane.specs.Fix.{fix_limit, second_limit};
 ghost use Rattle.range_fixes.specs.Field.{is_name};
-ghost use Rattle.range_fixes.specs.Progress.{Answers, IsHurt, Moves, Reads, is_of_text};
+ghost use Rattle.range_fixes.specs.Progress.{Answers, IsHurt, Leaves, Moves, Reads, Taken, is_of_text};
 ghost use Rattle.range_fixes.specs.Reading.{Reading, no_more, passed_after, reading_from, reading_of};
-ghost use Rattle.range_fixes.specs.Reader.{HeaderFits, IsWithin};
+ghost use Rattle.range_fixes.specs.Reader.{HeaderFits, IsWithin, below};
 ghost use Rattle.range_fixes.specs.Steps.{Gives, KeepsAnimal, Leads, Takes, rest_of};
 
 use crate::checks::{Checked, checked_in, header_of, name_of};
@@ -63,6 +63,7 @@ fn take_header<R: Read + Drop>(records: &mut Records<R>) -> Result<bool, ReadFau
     ensures going { OnOk result (records.new.stopped ≡ false) }
     ensures header { IfOk result (λ has_use. (unit : Scale) → Leads (option_map (reading_of unit) records.old.left)
         (option_map (rest_of unit (Some has_use) 0 0 None) records.new.left)) }
+    ensures below { IfOk result (λ _. Leads (below None records.old.left) records.new.left) }
     ensures fault { IfErr result (λ fault. (unit : Scale) → is_of_text fault ≡ true
         → Leads (option_map (reading_of unit) records.old.left) (Some (no_more None (Some fault)))) }
     ensures own { IfErr result (λ fault. fault ≢ ReadFault.Gone) }
@@ -92,6 +93,10 @@ fn take_record<R: Read + Drop>(
     ensures going { OnOk result (records.new.stopped ≡ false) }
     ensures read { IfOk result (λ o. MatchOption o (read.new ≡ read.old) (λ one. (read.new ≡ read.old + 1) × (read.new ≤ fix_limit) × (one.fix.second ≤ second_limit))) }
     ensures limit { (read.old ≤ read.new) × (read.new ≤ fix_limit + 1) }
+    ensures taken { read.old < read.new → Taken (option_map length records.old.left) 1 (option_map length records.new.left) }
+    ensures none { result ≡ Ok None → IfSome records.old.left (λ left. left ≡ []) }
+    ensures one { read.new ≤ read.old + 1 }
+    ensures failed { read.new ≡ read.old → OnErr result (records.new.stopped ≡ true) }
     ensures takes { Takes (option_map (passed_after unit has_use read.old previous.old) records.old.left)
         unit has_use read.old result previous.new records.new.left }
     ensures named { IfOk result (λ o. IfSome o (λ one. IsSome previous.new)) }
@@ -130,6 +135,8 @@ fn take_next<R: Read + Drop>(
     ensures going { OnOk result (records.new.stopped ≡ false) }
     ensures read { IfOk result (λ o. IfSome o (λ fix. (read.old < read.new) × (read.new ≤ fix_limit) × (fix.second ≤ second_limit))) }
     ensures limit { (read.old ≤ read.new) × (read.new ≤ fix_limit + 1) }
+    ensures taken { read.old < read.new → records.new.stopped ≡ false
+        → Leaves (option_map length (below header.old records.old.left)) (read.new - read.old) result (option_map length records.new.left) }
     ensures gives { Gives (option_map (rest_of unit header.old read.old given previous.old) records.old.left)
         unit given result header.new read.new previous.new records.new.left }
     ensures header { HeaderFits header.new read.new given previous.new }
@@ -195,6 +202,9 @@ impl<R: Read + Drop> FixReader<R> {
         ensures moves { Moves self.old result self.new }
         ensures limit { self.new.count ≤ fix_limit }
         ensures records { (self.new.count ≤ self.new.read) × (self.old.read ≤ self.new.read) × (self.new.read ≤ fix_limit + 1) }
+        // Where records were read, so many were taken of those that the source has.
+        ensures taken { self.old.read < self.new.read → self.new.stopped ≡ false
+            → Leaves self.old.left (self.new.read - self.old.read) result self.new.left }
         ensures second { IfOk result (λ o. IfSome o (λ fix. fix.second ≤ second_limit)) }
         // Of each reading that the reader goes through, it gives the next fix or what ends it.
         ensures reads { (r : Reading) → Reads self.old r → Reads self.new r }

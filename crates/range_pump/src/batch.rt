@@ -1,6 +1,6 @@
 // The fixes of a reader, read a block at a time.
 
-ghost use Rattle.std.specs.Prelude.{◌≡◌, ◌≢◌, ◌<◌, ◌≤◌, Ok, None, Some, true, false, length, IfErr};
+ghost use Rattle.std.specs.Prelude.{◌≡◌, ◌≢◌, ◌⊎◌, ◌<◌, ◌≤◌, Ok, None, Some, true, false, length, IfErr};
 ghost use Rattle.range_plane.specs.Fix.{fix_limit};
 ghost use Rattle.range_fixes.specs.Progress.{is_of_text};
 ghost use Rattle.range_pump.specs.Feeding.{EndsAfter, GivesNext};
@@ -24,6 +24,7 @@ pub(crate) fn read_block<S: Read + Drop>(
     ensures full { result.1 ≡ Ok true → length result.0.items ≡ size }
     ensures end { result.1 ≡ Ok false → (0 < reader.new.count) × EndsAfter reader.old reader.new.count None }
     ensures fault { IfErr result.1 (λ fault. is_of_text fault ≡ true → EndsAfter reader.old reader.new.count (Some fault)) }
+    ensures told { IfErr result.1 (λ fault. (reader.new.fault ≡ Some fault) ⊎ ((fault ≡ ReadFault.OutOfMemory) × (reader.new ≡ reader.old))) }
     ensures own { IfErr result.1 (λ fault. fault ≢ ReadFault.Gone) }
 {
     let Ok(mut fixes) = Vec::with_capacity(alloc, size as usize) else {

@@ -1,9 +1,10 @@
 // The thread that reads a file.
 
-ghost use Rattle.std.specs.Prelude.{◌≡◌, ◌≢◌, ◌+◌, ◌<◌, ◌≤◌, [], false, length, Err, Some, IfErr, IfOk, MatchBool, OnOk};
+ghost use Rattle.std.specs.Prelude.{◌≡◌, ◌≢◌, ◌⊎◌, ◌+◌, ◌<◌, ◌≤◌, [], false, length, Err, Some, None, Option, IfErr, IfSome, IfOk, MatchBool, OnOk};
 ghost use Rattle.range_plane.specs.Fix.{fix_limit};
 ghost use Rattle.range_plan.specs.Limits.{block_limit};
-ghost use Rattle.range_fixes.specs.Reading.{reading_from};
+ghost use Rattle.range_fixes.specs.Progress.{Reads};
+ghost use Rattle.range_fixes.specs.Reading.{Reading, reading_from};
 ghost use Rattle.range_line.specs.Messages.{joined};
 ghost use Rattle.range_pump.specs.Feeding.{after_block, IsFed};
 ghost use Rattle.range_pump.specs.Pump.{IsPumped};
@@ -61,26 +62,26 @@ fn send_block<R: Wait, A: Allocator + Clone, G: Gate>(
     }
 }
 
-// Sends the fixes of a source in blocks, and gives the animal's name.
+// Sends the fixes of a reader in blocks, and gives the animal's name.
 fn send_fixes<R: Wait, S: Read + Drop, A: Allocator + Clone, G: Gate>(
     rt: &R,
     alloc: Global,
-    source: S,
+    reader: &mut FixReader<S>,
     feeder: &mut Feeder<A>,
     gate: &G,
     block: u32,
-    unit: Scale,
 ) -> Result<Name, ReadFault>
     requires block { (1 ≤ block) × (block ≤ block_limit) }
     requires feeder { (feeder.old.closed ≡ false) × (feeder.old.ended ≡ false) × (feeder.old.sent ≡ []) }
-    ensures { IsFed (reading_from S.remaining unit source) block feeder.old feeder.new result }
+    requires reader { (reader.old.count ≡ 0) × (reader.old.fault ≡ None) }
+    ensures fed { (source : Option Reading) → IfSome source (Reads reader.old) → IsFed source block feeder.old feeder.new result }
+    ensures told { IfErr result (λ fault. (reader.new.fault ≡ Some fault) ⊎ (fault ≡ ReadFault.OutOfMemory) ⊎ (fault ≡ ReadFault.Gone)) }
 {
-    let mut reader = FixReader::new(alloc, source, unit);
     loop {
-        let (fixes, more) = read_block(alloc, &mut reader, block);
+        let (fixes, more) = read_block(alloc, reader, block);
         send_block(rt, feeder, gate, fixes)?;
         if !more? {
-            return name_of(alloc, &reader);
+            return name_of(alloc, reader);
         }
     }
 }
@@ -112,7 +113,8 @@ pub fn pump<R: Wait, S: Read + Drop, A: Allocator + Clone, G: Gate>(
     requires feeder { (feeder.closed ≡ false) × (feeder.ended ≡ false) × (feeder.sent ≡ []) }
     ensures { IsPumped (reading_from S.remaining unit source) block feeder result.feeder result.read }
 {
-    let read = send_fixes(rt, alloc, source, &mut feeder, gate, block, unit);
+    let mut reader = FixReader::new(alloc, source, unit);
+    let read = send_fixes(rt, alloc, &mut reader, &mut feeder, gate, block);
     if !is_gone(&read) {
         gate.before_send(feeder.file(), feeder.sent_fixes());
         feeder.close(rt);

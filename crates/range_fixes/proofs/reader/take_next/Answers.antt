@@ -1,6 +1,7 @@
 use Rattle.std.proofs.Common.{◌<◌, arith, rules}
 use Rattle.std.proofs.lemmas.Result.{err_from_is_err_and}
 use Rattle.range_fixes.proofs.ReadingFacts.{leads-end, leads-far, later-end}
+use Rattle.range_fixes.proofs.TakenFacts.{taken-at-fault}
 use Rattle.range_fixes.proofs.reader.take_next.Goals as goal
 use Rattle.range_fixes.proofs.reader.take_next.Goals.{in-Some, in-None+in_ok-has_use-in-None}
 
@@ -11,6 +12,13 @@ pub returns-in_err-one-clause-gives : goal.returns-in_err-one-clause-gives
 returns-in_err-one-clause-gives g c =
     let p = err_from_is_err_and c.from_residual-in_err-one.result c.from_residual-in_err-one.ensures.1 in
     rw (p.1, p.2) (λ text. leads-far _ _ _ c.loop-one.invariant.unused (leads-end c.args.given _ _ _ (c.in_err-one.ensures.takes text)))
+
+pub returns-in_err-one-clause-taken : goal.returns-in_err-one-clause-taken
+returns-in_err-one-clause-taken g c =
+    let p = err_from_is_err_and c.from_residual-in_err-one.result c.from_residual-in_err-one.ensures.1 in
+    let inv = c.loop-one.invariant in
+    let step = c.in_err-one.ensures in
+    λ more going. rw (p.1, p.2) (λ other. taken-at-fault _ _ _ _ _ _ _ inv.taken step.taken step.failed inv.count.0 step.limit.0 step.one going)
 
 pub returns-then-given-eq0-clause-gives : goal.returns-then-given-eq0-clause-gives
 returns-then-given-eq0-clause-gives g c =

@@ -1,15 +1,16 @@
-use Rattle.std.proofs.Common.{◌-◌, ◌≤◌, ℕ}
+use Rattle.std.proofs.Common.{◌-◌, ◌≤◌, ℕ, Option, IfSome}
 use Rattle.range_plane.specs.Fix.{fix_limit}
-use Rattle.range_fixes.specs.Reading.{reading_from}
+use Rattle.range_fixes.specs.Progress.{Reads}
+use Rattle.range_fixes.specs.Reading.{Reading}
 use Rattle.range_pump.proofs.Feedings.{IsUnderWay}
 use Rattle.range_pump.proofs.pumping.send_fixes.Given as goal
 
-abbrev pub invariant-loop-reader : goal.invariant-loop-reader
-invariant-loop-reader g l = record {
+abbrev pub invariant-loop-more : goal.invariant-loop-more
+invariant-loop-more g l = record {
   limit : l.reader.count ≤ fix_limit;
   count : ℕ;
-  way : IsUnderWay (reading_from g.S.Read.remaining l.fn.unit l.fn.source) l.block l.fn.feeder l.reader l.feeder count;
+  way : (source : Option Reading) → IfSome source (Reads l.fn.reader) → IsUnderWay source l.block l.fn.feeder l.reader l.feeder count;
 }
 
-abbrev pub decreases-loop-reader : goal.decreases-loop-reader
-decreases-loop-reader g l = fix_limit - l.reader.count
+abbrev pub decreases-loop-more : goal.decreases-loop-more
+decreases-loop-more g l = fix_limit - l.reader.count
