@@ -8,7 +8,7 @@ use Rattle.range_hull.specs.Area.{swept}
 use Rattle.range_hull.specs.Chain.{IsChain}
 use Rattle.range_hull.specs.Tally.{Count}
 
--- what contracts see of a hull: its corners as a polygon lists them, how many points were inserted and skipped, how often `turn` was evaluated, and how many inserts there is room for
+-- what contracts see of a hull: its corners as a polygon lists them, how many points were inserted and skipped, how often inserts evaluated `turn`, and how many inserts there is room for
 pub record Hull : Type 0 where
   pub corners : List Position
   pub inserted : ℕ

@@ -1,4 +1,4 @@
--- How many turns a hull evaluates, and what they bring.
+-- How many turns a hull's inserts evaluate, and what they bring.
 use Rattle.std.specs.Prelude.{ℕ, ◌*◌}
 use Rattle.range_plane.specs.Fix.{fix_limit}
 
@@ -6,7 +6,7 @@ use Rattle.range_plane.specs.Fix.{fix_limit}
 abbrev pub most_turns : ℕ
 most_turns = 8 * fix_limit
 
--- how often `turn` was evaluated, and the doubled area within the chains
+-- how often inserts evaluated `turn`, and the doubled area within the chains
 pub record Count : Type 0 where
   pub turns : ℕ
   pub area : ℕ

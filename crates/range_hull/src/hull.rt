@@ -167,7 +167,7 @@ impl<A: Allocator> OnlineHull<A> {
         self.tally.area()
     }
 
-    /// How often `turn` was evaluated, for a decision or for an area.
+    /// How often inserts evaluated `turn`, for a decision or for an area. What `covers` evaluates is not counted.
     pub fn turns(&self) -> u64
         ensures value { result ≡ self.now.turns }
         ensures bound { result ≤ 8 * self.now.inserted }

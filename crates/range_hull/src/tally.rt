@@ -1,4 +1,4 @@
-// The turns that a hull evaluates, counted, and the area that they bring it.
+// The turns that a hull's inserts evaluate, counted, and the area that they bring it.
 
 ghost use Rattle.std.specs.Bool.{OnFalse, OnTrue};
 ghost use Rattle.std.specs.Int.RustNames.{unsigned_abs};
@@ -11,7 +11,7 @@ use crate::side::Side;
 use range_plane::Point;
 use std::marker::Model;
 
-// How often `turn` was evaluated, and the doubled area within the chains. Each turn that changes a chain
+// How often inserts evaluated `turn`, and the doubled area within the chains. Each turn that changes a chain
 // is the doubled area of the triangle that the chain gains.
 #[derive(Drop)]
 pub(crate) struct Tally {
