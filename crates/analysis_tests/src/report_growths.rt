@@ -1,11 +1,11 @@
-// A report is refused each of its growths in turn.
+// A report, whole and in parts, is refused each of its growths in turn.
 
 use crate::reports::{extent, percent, polygon, row};
 use range_estimator::Rows;
 use range_fixes::Name;
 use range_lanes::Extent;
 use range_plane::Scale;
-use range_report::report;
+use range_report::{report, report_parts};
 use range_tables::{Analysis, Animal, Animals, OverlapRow, Overlaps, Percents};
 use refusing::Refusing;
 use std::alloc::Global;
@@ -73,6 +73,27 @@ fn each_growth_is_refused(rt: HostRuntime) -> Result<(), Fail> {
         let answer = report(&rt, &alloc, &analysis);
         assert_eq!(rt; answer.is_err(), alloc.has_refused(), "growth {number}");
         if let Ok(text) = answer {
+            assert_eq!(rt; text.as_slice(), REPORT);
+            assert!(rt; number > LEAST_GROWTHS, "growths");
+            return Ok(());
+        }
+    }
+    assert!(rt; false, "no run without a refusal");
+    Ok(())
+}
+
+#[test]
+fn each_growth_of_parts_is_refused(rt: HostRuntime) -> Result<(), Fail> {
+    for number in 1..MANY_GROWTHS {
+        let analysis = long_analysis(rt.alloc())?;
+        let alloc = Refusing::new(rt.alloc(), number);
+        let answer = report_parts(&rt, &alloc, analysis);
+        assert_eq!(rt; answer.is_err(), alloc.has_refused(), "growth {number}");
+        if let Ok(parts) = answer {
+            let mut text = Vec::new(rt.alloc());
+            for part in &parts {
+                text.extend_from_slice(part.as_slice())?;
+            }
             assert_eq!(rt; text.as_slice(), REPORT);
             assert!(rt; number > LEAST_GROWTHS, "growths");
             return Ok(());

@@ -122,7 +122,7 @@ fn files(rt: HostRuntime) {
 #[test]
 fn many_files(rt: HostRuntime) {
     let words = vec![in rt.alloc(); "/no/such.csv"; 65].expect(&rt, "memory");
-    let text = "more than 64 files; docs/HERDS.md says how to run more";
+    let text = "more than 64 files; MORE FILES in the manual page says how to run more";
     expect_refused(&rt, words.as_slice(), 2, text);
 }
 
@@ -217,6 +217,18 @@ fn other_faults(rt: HostRuntime) {
     expect_run(&rt, alloc, &[], RunFault::OutOfMemory, (3, "out of memory"));
     let text = "the report could not be written";
     expect_run(&rt, alloc, &[], RunFault::Write, (4, text));
+}
+
+// A help or a version that the system does not take is told by its reason, where it gave one.
+#[test]
+fn unwritten(rt: HostRuntime) {
+    let alloc = rt.alloc();
+    let full = String::from_str(alloc, "No space left on device").expect(&rt, "memory");
+    let text = "standard output: No space left on device";
+    let refused = Refusal::Unwritten { reason: Some(full) };
+    expect_told(&rt, alloc, &refused, 4, text);
+    let text = "the help or the version could not be written";
+    expect_told(&rt, alloc, &Refusal::Unwritten { reason: None }, 4, text);
 }
 
 // Names have at most the 32 bytes that the help tells.

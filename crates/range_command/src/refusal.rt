@@ -9,7 +9,6 @@ use crate::one_line::{OneLine, OneLineName};
 use range_analysis::AnalyseFault;
 use range_fixes::ReadFault;
 use range_run::RunFault;
-use range_stats::{LEVEL_COUNT_LIMIT, LEVEL_LIMIT, LevelFault};
 use range_words::WordFault;
 use std::alloc::{AllocError, Global};
 use std::{fmt, io};
@@ -103,7 +102,7 @@ impl fmt::Display for Refusal {
                 write!(f, "word {word} of the command line is not UTF-8")
             }
             Refusal::BadWords { line } => write!(f, "{line}"),
-            Refusal::Words(fault) => write_words(f, fault),
+            Refusal::Words(fault) => write!(f, "{fault}"),
             Refusal::Unopened { path, reason } => {
                 write!(f, "{}: {reason}", OneLine(path.as_str()))
             }
@@ -119,24 +118,6 @@ impl fmt::Display for Refusal {
                 reason,
             } => write_run(f, files.as_slice(), fault, reason),
         }
-    }
-}
-
-// What is wrong with the words.
-fn write_words<W: fmt::Write>(f: &mut fmt::Formatter<W>, fault: &WordFault) -> fmt::Result {
-    match fault {
-        WordFault::BadLevels(LevelFault::BadLevel { index }) => {
-            let part = u64::from(*index) + 1;
-            write!(
-                f,
-                "--percent: level {part} is not a whole number from 1 to {LEVEL_LIMIT}"
-            )
-        }
-        WordFault::BadLevels(LevelFault::TooMany) => write!(
-            f,
-            "--percent: more than {LEVEL_COUNT_LIMIT} levels"
-        ),
-        _ => write!(f, "{fault}"),
     }
 }
 

@@ -5,14 +5,18 @@ ghost use Rattle.std.specs.Str.Parse.{digits_value};
 ghost use Rattle.range_stats.specs.Levels.{IsLevel, IsRefusedFor, is_number, level_count_limit, level_in, parts};
 
 use std::alloc::Allocator;
+use thiserror::Error;
 
-/// Why a text is no list of levels.
-#[derive(Clone, Copy, PartialEq, Eq, Debug)]
+/// Why a text is no list of levels. Its text counts the levels from 1.
+#[derive(Clone, Copy, PartialEq, Eq, Debug, Error)]
 pub enum LevelFault {
+    #[error("out of memory")]
     OutOfMemory,
     /// The part at this place, counted from 0, is no number from 1 to 100.
+    #[error("level {part} is not a whole number from 1 to {LEVEL_LIMIT}", part = u64::from(*index) + 1)]
     BadLevel { index: u32 },
     /// There are more than eight parts, and the first eight are good.
+    #[error("more than {LEVEL_COUNT_LIMIT} levels")]
     TooMany,
 }
 

@@ -15,7 +15,7 @@ use clap::error::ErrorKind;
 use clap::{ArgMatches, Error};
 use range_plan::{BLOCK_LIMIT, DEPTH_LIMIT, FILE_LIMIT, Options, Plan, WORKER_LIMIT};
 use range_plane::Scale;
-use range_stats::{LEVEL_COUNT_LIMIT, LEVEL_LIMIT, LevelFault, levels};
+use range_stats::{LevelFault, levels};
 use std::alloc::{AllocError, Global};
 use thiserror::Error as ErrorText;
 
@@ -44,10 +44,10 @@ pub enum WordFault {
     #[error("{0}")]
     BadWords(String),
     /// There are more files than [`FILE_LIMIT`].
-    #[error("more than {FILE_LIMIT} files; docs/HERDS.md says how to run more")]
+    #[error("more than {FILE_LIMIT} files; MORE FILES in the manual page says how to run more")]
     TooManyFiles,
     /// The levels are no list of levels.
-    #[error("--percent: the levels are not 1 to {LEVEL_COUNT_LIMIT} whole numbers from 1 to {LEVEL_LIMIT}, separated by commas")]
+    #[error("--percent: {0}")]
     BadLevels(LevelFault),
 }
 
