@@ -6,9 +6,10 @@ HOMERANGE and GROWTHS are the built programs (`rt ci` leaves both in `crates/NAM
 made N times, the k-th with its k-th growth refused, by `refuse.c`, which is preloaded. How threads meet decides which
 growth is the k-th, so a sweep ends at a k that no growth of its run reaches, and `growths`, in which they meet in more
 ways, is swept several times (`--sweeps`; all that was ever looked at were 50). Each line of `growths` has to be as with
-ample memory, or to say that its call wanted memory and what that may leave. `homerange` has to end with status 3 and its
-one line, nothing written, or as with ample memory. Prints what was swept and how often each answer came; the last line
-is 'N passed, M failed', of commands that were swept. Needs `cc`.
+ample memory, or to say that its call wanted memory and what that may leave, and each call has to say so in some run.
+`homerange` has to end with status 3 and its one line, nothing written, which has to come at least once, or as with ample
+memory. Prints what was swept and how often each answer came; the last line is 'N passed, M failed', of commands that
+were swept. Needs `cc`.
 """
 
 import argparse
@@ -25,8 +26,10 @@ FILE_B = "animal,second,easting,northing\nB,0,5,5\nB,60,10,5\nB,120,20,5\n"
 SIZES = (5, 3)
 MEMORY = ("homerange: out of memory\n", "homerange: out of memory, or a thread could not be started\n")
 STOPPED = "an estimator stopped"
+WANTED = "want of memory"
+MET = {STOPPED, *(f"{call} wanted memory" for call in ("next", "pump", "follow", "judge", "report", "analyse"))}
 FOLLOWED = re.compile("follow (whole|memory) ")
-WANTS = re.compile("next [0-5] memory true (true|false)|(pump|follow|judge|report|analyse) memory|pump memory [0-5] true")
+WANTS = re.compile("next (0 memory true false|[1-5] memory true true)|(pump|follow|judge|report|analyse) memory|pump memory [0-5] true")
 COMMANDS = (
     "a.csv",
     "a.csv b.csv",
@@ -74,8 +77,16 @@ def sweep(command, folder, answer_of):
 
 def homerange_answer(found, ample):
     if found[:2] == (3, "") and found[2] in MEMORY:
-        return "want of memory"
+        return WANTED
     return "as ample" if found == ample else None
+
+
+def sweep_homerange(command, folder):
+    """A sweep of `homerange`, which has to meet want of memory."""
+    answers, swept = sweep(command, folder, homerange_answer)
+    if not answers[WANTED]:
+        raise Wrong("no growth was wanted")
+    return answers, swept
 
 
 def is_followed(line, size):
@@ -109,13 +120,13 @@ def growths_answer(found, ample):
 
 
 def sweep_growths(command, folder, sweeps):
-    """All sweeps of `growths` together, one of which has to meet an estimator that stopped alone."""
+    """All sweeps of `growths` together, in which each call has to want memory, and an estimator to stop alone."""
     total, swept = collections.Counter(), 0
     for _ in range(sweeps):
         answers, count = sweep(command, folder, growths_answer)
         total, swept = total + answers, swept + count
-    if not total[STOPPED]:
-        raise Wrong("no sweep met an estimator that stopped alone")
+    if missing := MET - total.keys():
+        raise Wrong(f"no sweep met: {', '.join(sorted(missing))}")
     return total, swept
 
 
@@ -149,7 +160,7 @@ def main():
         subprocess.run(["cc", "-O2", "-shared", "-fPIC", REFUSE, "-o", folder / "refuse.so"], check=True)
         homerange = str(asked.homerange.resolve())
         found = [
-            is_well(f"homerange {words}", sweep, [homerange, *words.split()], folder, homerange_answer)
+            is_well(f"homerange {words}", sweep_homerange, [homerange, *words.split()], folder)
             for words in COMMANDS
         ]
         if asked.growths:
