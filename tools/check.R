@@ -1,25 +1,81 @@
-# Rscript check.R REPORT FILE ..: recomputes the row and percent lines of a report from the files, by base R's chull, and
-# says of each animal how many agree. The fixes of a column use that has 0 are left out. Numbers are doubles, which are
-# exact below 2^53: enough for some thousand fixes over some tens of kilometres.
+# Rscript check.R [--percent LIST] [--unit UNIT] REPORT FILE ..: recomputes the row and percent lines of a report from the
+# files, by base R's chull, and says of each animal how many agree; the status is 0 where all do. The levels and the unit
+# are those of the report where they are not given, and are said. The fixes of a column use that has 0 are left out.
+# Numbers are doubles, which are exact below 2^53: enough for some thousand fixes over some tens of kilometres.
 if (!l10n_info()[["UTF-8"]]) invisible(Sys.setlocale("LC_CTYPE", "C.UTF-8"))
-doubled <- function(e, n) {
-  h <- rev(chull(e, n))
-  e <- e[h] - e[h[1]]; n <- n[h] - n[h[1]]; after <- c(seq_along(h)[-1], 1)
-  sum(e * n[after] - e[after] * n)
+
+# The corners and the doubled area of the polygon of some fixes.
+polygon_of <- function(east, north) {
+  corner <- rev(chull(east, north))
+  e <- east[corner] - east[corner[1]]
+  n <- north[corner] - north[corner[1]]
+  after <- c(seq_along(corner)[-1], 1)
+  c(length(unique(complex(real = e, imaginary = n))), sum(e * n[after] - e[after] * n))
 }
-words <- commandArgs(trailingOnly = TRUE)
-fields <- strsplit(readLines(words[1], encoding = "UTF-8"), ",")
-lines_of <- function(kind, name) do.call(rbind, Filter(function(f) f[1] == kind && f[2] == name, fields))
-for (file in words[-1]) {
-  fixes <- read.csv(file, na.strings = "", colClasses = c(animal = "character"))
+
+# The numbers of the lines of a kind of an animal, a line a row.
+numbers_of <- function(fields, kind, name) {
+  lines <- Filter(function(field) length(field) == 6 && field[1] == kind && field[2] == name, fields)
+  matrix(as.numeric(unlist(lapply(lines, `[`, 3:6))), ncol = 4, byrow = TRUE)
+}
+
+# The number, the second, the corners and the doubled area of each row.
+wanted_rows <- function(fixes) {
+  t(sapply(seq_len(nrow(fixes)), function(n)
+    c(n, fixes$second[n], polygon_of(fixes$easting[1:n], fixes$northing[1:n]))))
+}
+
+# The level, how many fixes are kept, the corners and the doubled area of each percent line.
+wanted_percents <- function(fixes, levels) {
+  count <- nrow(fixes)
+  far <- (count * fixes$easting - sum(fixes$easting))^2 + (count * fixes$northing - sum(fixes$northing))^2
+  t(sapply(levels, function(level) {
+    kept <- order(far)[seq_len(ceiling(level * count / 100))]
+    c(level, length(kept), polygon_of(fixes$easting[kept], fixes$northing[kept]))
+  }))
+}
+
+# How many lines agree, where none is missing and none too many.
+agreeing <- function(found, wanted) {
+  if (nrow(found) != nrow(wanted)) return(0)
+  sum(rowSums(found == wanted) == ncol(wanted))
+}
+
+read_fixes <- function(path) {
+  fixes <- read.csv(path, na.strings = "", colClasses = c(animal = "character"), fileEncoding = "UTF-8-BOM")
   if (!is.null(fixes$use)) fixes <- fixes[fixes$use == 1, ]
-  e <- as.numeric(fixes$easting); n <- as.numeric(fixes$northing); count <- length(e)
-  far <- (count * e - sum(e))^2 + (count * n - sum(n))^2
-  percents <- lines_of("percent", fixes$animal[1]); rows <- lines_of("row", fixes$animal[1])
-  kept <- lapply(as.numeric(percents[, 3]), function(p) order(far)[seq_len(ceiling(p * count / 100))])
-  good <- sum(lengths(kept) == as.numeric(percents[, 4]) &
-    sapply(kept, function(k) doubled(e[k], n[k])) == as.numeric(percents[, 6]))
-  even <- sum(sapply(seq_len(count), function(k) doubled(e[1:k], n[1:k])) == as.numeric(rows[, 6]))
-  if (NROW(rows) != count) even <- 0
-  cat(fixes$animal[1], even, "of", count, "rows and", good, "of", nrow(percents), "percent lines agree\n")
+  for (column in c("second", "easting", "northing")) fixes[[column]] <- as.numeric(fixes[[column]])
+  fixes
 }
+
+# The value of an option, which is taken out of the words.
+option <- function(name) {
+  at <- match(name, words)
+  if (is.na(at)) return(NULL)
+  value <- words[at + 1]
+  words <<- words[-c(at, at + 1)]
+  value
+}
+
+words <- commandArgs(trailingOnly = TRUE)
+levels <- option("--percent")
+unit <- option("--unit")
+lines <- readLines(words[1], encoding = "UTF-8")
+fields <- strsplit(lines, ",", fixed = TRUE)
+tracks <- lapply(words[-1], read_fixes)
+in_report <- if (lines[1] == "unit,dm") "dm" else "m"
+units <- sum(startsWith(lines, "unit,"))
+if (is.null(unit)) unit <- in_report
+levels <- if (is.null(levels)) numbers_of(fields, "percent", tracks[[1]]$animal[1])[, 1] else
+  as.numeric(strsplit(levels, ",", fixed = TRUE)[[1]])
+right <- unit == in_report && units == (unit == "dm") && length(levels) > 0
+if (!right) cat("the report's unit or levels are not those that are wanted\n")
+cat("in", if (in_report == "dm") "decimetres," else "metres,", "at the levels", paste0(paste(levels, collapse = ","), "\n"))
+for (fixes in tracks) {
+  name <- fixes$animal[1]
+  rows <- agreeing(numbers_of(fields, "row", name), wanted_rows(fixes))
+  percents <- agreeing(numbers_of(fields, "percent", name), wanted_percents(fixes, levels))
+  right <- right && rows == nrow(fixes) && percents == length(levels)
+  cat(name, rows, "of", nrow(fixes), "rows and", percents, "of", length(levels), "percent lines agree\n")
+}
+if (!right) quit(status = 1)

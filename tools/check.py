@@ -1,9 +1,13 @@
 #!/usr/bin/env python3
-"""check.py REPORT FILE ..: recomputes each line of a report from the files, by another method than the program's, and
-says how many lines agree; the status is 0 where all do and none is missing. A polygon is wrapped: from the westernmost
-point go to the one that has no other on its right, and so on. Covering is tested at each edge, and distances from the
-mean are exact fractions. It is meant for some thousand fixes."""
-import csv, itertools, sys
+"""check.py [--percent LIST] [--unit UNIT] REPORT FILE ..: recomputes each line of a report from the files, by another
+method than the program's, and says how many lines agree; the status is 0 where all do and none is missing. A polygon is
+wrapped: from the westernmost point go to the one that has no other on its right, and so on. Covering is tested at each
+edge, and distances from the mean are exact fractions. It is meant for some thousand fixes."""
+
+import argparse
+import csv
+import itertools
+import sys
 from fractions import Fraction
 
 
@@ -57,23 +61,61 @@ def lines_of(name, fixes, levels):
 
 
 def read(path):
-    """The seconds and points of a file's used fixes, behind the animal's name."""
+    """The animal of a file, and the seconds and points of its used fixes."""
     with open(path, encoding="utf-8-sig", newline="") as file:
         rows = [row for row in csv.DictReader(file) if row.get("use", "1") == "1"]
     return rows[0]["animal"], [(int(row["second"]), (int(row["easting"]), int(row["northing"]))) for row in rows]
 
 
-with open(sys.argv[1], encoding="utf-8") as file:
-    found = [line for line in file.read().splitlines() if line != "unit,dm"]
-animals = dict(map(read, sys.argv[2:]))
-first = f"percent,{next(iter(animals))},"
-levels = [int(line[len(first):].split(",")[0]) for line in found if line.startswith(first)]
-wanted = [line for name, fixes in animals.items() for line in lines_of(name, fixes, levels)]
-ranges = {name: wrap([point for _, point in fixes]) for name, fixes in animals.items()}
-for name, other in itertools.permutations(animals, 2):
-    count = sum(covers(ranges[other], point) for _, point in animals[name])
-    wanted.append(f"overlap,{name},{other},{count},{len(animals[name])}")
-wanted.append(f"end,{len(animals)}")
-agree = sum(line == other for line, other in zip(wanted, found))
-print(f"{agree} of {len(wanted)} lines agree; the report has {len(found)}")
-sys.exit(not agree == len(wanted) == len(found))
+def wanted_lines(animals, levels, unit):
+    """The lines of the report that has these animals."""
+    if unit == "dm":
+        yield "unit,dm"
+    for name, fixes in animals.items():
+        yield from lines_of(name, fixes, levels)
+    ranges = {name: wrap([point for _, point in fixes]) for name, fixes in animals.items()}
+    for name, other in itertools.permutations(animals, 2):
+        count = sum(covers(ranges[other], point) for _, point in animals[name])
+        yield f"overlap,{name},{other},{count},{len(animals[name])}"
+    yield f"end,{len(animals)}"
+
+
+def levels_of(lines, name):
+    """The levels that the report has for an animal."""
+    first = f"percent,{name},"
+    return [int(line[len(first):].split(",")[0]) for line in lines if line.startswith(first)]
+
+
+def read_words():
+    options = argparse.ArgumentParser(description=__doc__)
+    options.add_argument("report")
+    options.add_argument("files", metavar="FILE", nargs="+", help="the files of the run, in its order")
+    options.add_argument("--percent", metavar="LIST", help="the levels that were asked for [default: as in the report]")
+    options.add_argument("--unit", choices=("m", "dm"), help="the unit that was asked for [default: as in the report]")
+    return options.parse_args()
+
+
+def main():
+    words = read_words()
+    try:
+        with open(words.report, encoding="utf-8") as file:
+            found = file.read().splitlines()
+        animals = dict(map(read, words.files))
+    except OSError as fault:
+        sys.exit(f"check.py: {fault.filename}: {fault.strerror}")
+    unit = words.unit or ("dm" if found[:1] == ["unit,dm"] else "m")
+    listed = words.percent.split(",") if words.percent else levels_of(found, next(iter(animals)))
+    levels = list(map(int, listed))
+    wanted = list(wanted_lines(animals, levels, unit))
+    for number, (line, other) in enumerate(itertools.zip_longest(wanted, found), 1):
+        if line != other:
+            print(f"line {number} is {other or 'missing'}, and not {line or 'there'}")
+            break
+    agree = sum(line == other for line, other in zip(wanted, found))
+    print(f"in {'decimetres' if unit == 'dm' else 'metres'}, at the levels {','.join(map(str, levels))}")
+    print(f"{agree} of {len(wanted)} lines agree; the report has {len(found)}")
+    sys.exit(not agree == len(wanted) == len(found))
+
+
+if __name__ == "__main__":
+    main()

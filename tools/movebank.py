@@ -1,79 +1,188 @@
-"""Reads a Movebank export for split.py. What cannot be right is refused: one line on standard error, status 1."""
-import csv, io, pathlib, re, sys
+"""Reads a Movebank export for split.py: the rows, the records that have coordinates, and how many were left out."""
+
+import csv
+import io
+import pathlib
+import re
+from collections import Counter
 from datetime import datetime
-from typing import NamedTuple, Optional
-ANIMAL, TIME = "individual-local-identifier", "timestamp"
-TIME_FORM = r"([0-9]{4}-[0-9]{2}-[0-9]{2})[ T]([0-9]{2}:[0-9]{2})(:[0-9]{2})?(\.[0-9]+)?Z?"
+from typing import Iterable, NamedTuple, NoReturn, Optional
+
+ANIMAL, TIME, SENSOR, ZONE = "individual-local-identifier", "timestamp", "sensor-type", "utm-zone"
+OUTLIERS = ("manually-marked-outlier", "algorithm-marked-outlier", "import-marked-outlier")
+TRUTH = "true|false|TRUE|FALSE|True|False"
+TIME_FORM = r"([0-9]{4}-[0-9]{2}-[0-9]{2})([ T]([0-9]{2}:[0-9]{2})(:[0-9]{2})?(\.[0-9]+)?(Z|[+]00(:?00)?)?)?"
+THOUSANDS = r"-?[0-9]{1,3}([.][0-9]{3})+"
+
+
+class ExportFault(Exception):
+    """What cannot be right in an export, in one line."""
 
 
 class Record(NamedTuple):
+    """A row that has coordinates and an animal."""
+
     number: int  # that of the line below the header is 1; blank lines are not counted
     animal: str
-    time: tuple  # whole seconds since 1970 in UTC, and the rest of a second
+    time: tuple[int, float]  # whole seconds since 1970 in UTC, and the rest of a second
     used: bool  # the export has it neither as invisible nor as an outlier
-    grid: Optional[tuple]  # UTM easting and northing in metres
+    sensor: str
+    grid: Optional[tuple[float, float]]  # UTM easting and northing in metres
     zone: str  # that of the grid, such as 33N
-    degrees: Optional[tuple]  # longitude and latitude
+    degrees: Optional[tuple[float, float]]  # longitude and latitude
 
 
-def refuse(text):
-    sys.exit(f"split: {text}")
+class Export(NamedTuple):
+    """What an export holds."""
+
+    records: list[Record]  # in the file's order
+    animals: set[str]  # those of all rows
+    left_out: Counter[str]  # how many rows are no record, by why
 
 
-def read_table(path):
-    """The columns' titles, the rows, and what stands before decimals, of a table with commas or semicolons."""
+class Table(NamedTuple):
+    """The rows of an export by their titles, all text."""
+
+    titles: list[str]
+    rows: list[dict[str, str]]
+    semicolons: bool  # which stand between fields, as Excel has them where commas stand before decimals
+
+
+def refuse(text: str) -> NoReturn:
+    raise ExportFault(text)
+
+
+def read_text(path: str) -> str:
     try:
-        text = pathlib.Path(path).read_text("utf-8-sig")
-    except (OSError, UnicodeDecodeError) as fault:
-        refuse(f"{path} cannot be read as text in UTF-8: {fault}")
+        content = pathlib.Path(path).read_bytes()
+    except OSError:
+        refuse(f"{path} cannot be read")
+    if b"\0" in content:
+        refuse(f"{path} is no text: it has a byte 0")
+    try:
+        return content.decode("utf-8-sig")
+    except UnicodeDecodeError:
+        refuse(f"{path} is no text in UTF-8")
+
+
+def read_table(path: str) -> Table:
+    """The table of an export. Titles are in small letters, with hyphens for what R and others write in their place."""
+    text = read_text(path)
     semicolons = re.match("[^,\r\n]*;", text) is not None
-    rows = list(filter(None, csv.reader(io.StringIO(f"{text}\nend", newline=""), delimiter=";" if semicolons else ",")))
-    rows.pop() == ["end"] or refuse(f"{path}: a quote has no end")
-    titles, *rows = rows or [[]]
-    return [re.sub("[ ._]", "-", title.strip(" \t").lower()) for title in titles], rows, "[.,]" if semicolons else "[.]"
+    reader = csv.reader(io.StringIO(f"{text}\nend", newline=""), delimiter=";" if semicolons else ",")
+    rows = [row for row in reader if row]
+    if rows.pop() != ["end"]:
+        refuse(f"{path}: a quote has no end")
+    header, *rows = rows or [[]]
+    titles = [re.sub("[ ._]", "-", title.strip(" \t").lower()) for title in header]
+    if not {ANIMAL, TIME} <= {*titles}:
+        refuse(f"there are no columns {ANIMAL} and {TIME}")
+    for number, row in enumerate(rows, 1):
+        if len(row) != len(titles):
+            refuse(f"record {number}: {len(row)} fields where {len(titles)} are wanted")
+    # Of two columns with one title the first counts.
+    return Table(titles, [dict(zip(titles[::-1], row[::-1])) for row in rows], semicolons)
 
 
-def parse(number, row, point):
-    """The record of a row, None where it has no coordinates."""
+class Row:
+    """A row whose fields are read by their form; what has another is refused."""
 
-    def find(title, form, wanted):
-        text = row.get(title, "")
-        if text in ("", "NA"):
+    def __init__(self, number: int, fields: dict[str, str], semicolons: bool) -> None:
+        self.number, self.fields = number, fields
+        self.point = "[.,]" if semicolons else "[.]"
+        self.semicolons = semicolons
+
+    def refuse(self, text: str) -> NoReturn:
+        refuse(f"record {self.number}{text}")
+
+    def text(self, title: str) -> str:
+        """What a column holds, nothing for NA."""
+        text = self.fields.get(title, "")
+        return "" if text == "NA" else text
+
+    def find(self, title: str, form: str, wanted: str) -> Optional[re.Match[str]]:
+        text = self.text(title)
+        if text == "":
             return None
-        return re.fullmatch(form, text) or refuse(f"record {number}: {title} is '{text}' and not {wanted}")
+        return re.fullmatch(form, text) or self.refuse(f": {title} is '{text}' and not {wanted}")
 
-    def is_true(title):
-        found = find(title, "true|false|TRUE|FALSE", "true or false")
-        return found and found[0].lower() == "true"
+    def number_of(self, title: str) -> Optional[float]:
+        found = self.find(title, f"-?0*[0-9]{{1,12}}({self.point}[0-9]+)?", "a number of up to 12 digits")
+        if found and self.semicolons and title.startswith("utm-") and re.fullmatch(THOUSANDS, found[0]):
+            self.refuse(f": {title} is '{found[0]}', whose point may stand before thousands: export without it")
+        return float(found[0].replace(",", ".")) if found else None
 
-    def pair(*titles):
-        found = [find(title, f"-?[0-9]+({point}[0-9]+)?", "a number") for title in titles]
-        return tuple(float(text[0].replace(",", ".")) for text in found) if all(found) else None
+    def pair(self, first: str, second: str) -> Optional[tuple[float, float]]:
+        """Two numbers, where both are there."""
+        one, other = self.number_of(first), self.number_of(second)
+        return None if one is None or other is None else (one, other)
 
-    def time():
-        day, minute, second, rest = (find(TIME, TIME_FORM, "a UTC time such as 2024-05-01 00:30:04")
-                                     or refuse(f"record {number}: there is no {TIME}")).groups("")
+    def is_true(self, title: str) -> Optional[bool]:
+        found = self.find(title, TRUTH, "true or false")
+        return found[0].lower() == "true" if found else None
+
+    def is_used(self) -> bool:
+        visible = self.is_true("visible")
+        return visible is not False and not any([self.is_true(title) for title in OUTLIERS])
+
+    def time(self) -> tuple[int, float]:
+        found = self.find(TIME, TIME_FORM, "a UTC time such as 2024-05-01 00:30:04")
+        if found is None:
+            self.refuse(f": there is no {TIME}")
+        day, _, minute, second, rest, *_ = found.groups("")
         try:
-            since = (datetime.fromisoformat(f"{day} {minute}{second or ':00'}") - datetime(1970, 1, 1)).total_seconds()
+            time = datetime.fromisoformat(f"{day} {minute or '00:00'}{second or ':00'}")
+            since = int((time - datetime(1970, 1, 1)).total_seconds())
         except ValueError:
             since = -1
-        since >= 0 or refuse(f"record {number}: {TIME} is '{row[TIME]}', which is no time since 1970")
-        return int(since), float(rest or 0)
-
-    grid, degrees = pair("utm-easting", "utm-northing"), pair("location-long", "location-lat")
-    if grid is degrees is None:
-        return None
-    row[ANIMAL] or refuse(f"record {number}: there is no {ANIMAL}")
-    used = is_true("visible") is not False and not is_true("manually-marked-outlier")
-    return Record(number, row[ANIMAL], time(), used, grid, row.get("utm-zone", ""), degrees)
+        if since < 0:
+            self.refuse(f": {TIME} is '{found[0]}', which is no time since 1970")
+        return since, float(rest or 0)
 
 
-def read(path):
-    """The records that have coordinates, in the file's order, and the animal of each that has none."""
-    titles, rows, point = read_table(path)
-    {ANIMAL, TIME} <= {*titles} or refuse(f"there are no columns {ANIMAL} and {TIME}")
-    for number, row in enumerate(rows, 1):
-        len(row) == len(titles) or refuse(f"record {number}: {len(row)} fields where {len(titles)} are wanted")
-    rows = [dict(zip(titles[::-1], row[::-1])) for row in rows]
-    records = [parse(number, row, point) for number, row in enumerate(rows, 1)]
-    return [record for record in records if record], [row[ANIMAL] for row, record in zip(rows, records) if not record]
+def parse(row: Row, skip_unnamed: bool) -> "Record | str":
+    """The record of a row, or why it is none."""
+    grid, degrees = row.pair("utm-easting", "utm-northing"), row.pair("location-long", "location-lat")
+    zero = degrees == (0, 0)
+    if zero:
+        degrees = None
+    if grid is None and degrees is None:
+        return "records have longitude and latitude 0" if zero else "records have no coordinates"
+    animal = row.fields[ANIMAL]
+    if not animal and skip_unnamed:
+        return "records have no animal"
+    if not animal:
+        row.refuse(f": there is no {ANIMAL}, and --skip-unnamed leaves such records out")
+    used = row.is_used()
+    return Record(row.number, animal, row.time(), used, row.text(SENSOR), grid, row.text(ZONE), degrees)
+
+
+def read(path: str, skip_unnamed: bool = False) -> Export:
+    """What an export holds. The fault of the first record that has one is the one that is told."""
+    table = read_table(path)
+    parsed = [parse(Row(number, fields, table.semicolons), skip_unnamed) for number, fields in enumerate(table.rows, 1)]
+    return Export(
+        [record for record in parsed if isinstance(record, Record)],
+        {fields[ANIMAL] for fields in table.rows if fields[ANIMAL]},
+        Counter(reason for reason in parsed if isinstance(reason, str)),
+    )
+
+
+def ranked(words: Iterable[str]) -> tuple[str, str]:
+    """The most frequent word, and each word with its count, as text."""
+    order = sorted(Counter(words).items(), key=lambda item: (-item[1], item[0]))
+    return order[0][0], ", ".join(f"{word or 'none'} {count}" for word, count in order)
+
+
+def of_sensors(records: list[Record], wanted: Optional[str]) -> list[Record]:
+    """The records of the wanted sensors; of all, where the used ones are of one."""
+    found = {record.sensor for record in records if record.used}
+    if wanted is None and len(found) > 1:
+        first, counts = ranked(record.sensor for record in records if record.used)
+        refuse(f"fixes are of several sensors ({counts}): name those to take, such as --sensor {first or 'none'}")
+    if wanted is None:
+        return records
+    names = {"" if name == "none" else name for name in wanted.split(",")}
+    for name in sorted(names.difference(record.sensor for record in records)):
+        refuse(f"--sensor: no fix is of {name or 'none'}")
+    return [record for record in records if record.sensor in names]

@@ -1,57 +1,142 @@
 # Makes files for homerange from a Movebank export, by the rules of split.py and with the same bytes:
-#     Rscript split.R [--unit dm] [--zone 33N] [--mark] [--into FOLDER] export.csv
+#     Rscript split.R [--unit dm] [--zone 33N] [--sensor gps] [--mark] [--skip-unnamed] [--into FOLDER] export.csv
 if (!l10n_info()[["UTF-8"]]) invisible(Sys.setlocale("LC_CTYPE", "C.UTF-8"))
-words <- unlist(lapply(commandArgs(trailingOnly = TRUE), function(word)
-  if (grepl("^--[a-z]+=", word)) c(sub("=.*", "", word), sub("^[^=]*=", "", word)) else word))
-option <- function(name, value) {
-  at <- match(name, words)
-  if (is.na(at)) return(value)
-  if (at == length(words)) stop(name, " wants a value")
-  value <- words[at + 1]; words <<- words[-c(at, at + 1)]
-  value
-}
-unit <- option("--unit", "m"); wanted <- option("--zone", NA); into <- option("--into", "tracks")
-mark <- "--mark" %in% words
-path <- setdiff(words, "--mark")
-if (length(path) != 1) stop("one export is wanted")
-scale <- c(m = 1, dm = 10)[[unit]]; limit <- c(m = 16777216, dm = 134217728)[[unit]]
+units <- list(m = c(scale = 1, limit = 16777216), dm = c(scale = 10, limit = 134217728))
 script <- sub("^--file=", "", grep("^--file=", commandArgs(), value = TRUE)[1])
 folder <- dirname(gsub("~+~", " ", script, fixed = TRUE))  # a blank, as Rscript hands it on
-source(file.path(folder, "movebank.R")); source(file.path(folder, "zones.R"))
-if (!is.na(wanted) && !grepl("^([1-9]|[1-5][0-9]|60)[NS]$", wanted)) refuse("--zone: ", wanted, " is no zone as 33N")
-if (file.exists(into)) refuse(into, " is there already: remove it, or name another by --into")
+source(file.path(folder, "movebank.R"))
+source(file.path(folder, "zones.R"))
 
-whole <- read_export(path)
-export <- whole$fixes
-if (any(!export$used)) say(sum(!export$used), " outliers: ", if (mark) "use 0" else "left out")
-export <- export[mark | export$used, ]
-for (name in sort(setdiff(whole$animals, export$name), method = "radix")) say("no fix of '", name, "' is left: no file")
-place <- places(export, wanted)
-spot <- floor(scale * place + 0.5); inside <- rowSums(is.finite(place) & spot >= 0 & spot <= limit) == 2
-need(export, inside | !export$used, sprintf(
-  ": %.2f east and %.2f north is off the grid, which goes from 0 to %.0f metres",
-  place[, 1], place[, 2], limit %/% scale)[!inside & export$used][1])
-if (!all(inside)) say(sum(!inside), " outliers off the grid: left out")
-export$spot <- sprintf("%.0f,%.0f", spot[, 1], spot[, 2]); export <- export[inside, ]
-export$clean <- gsub("[\\x01-\\x1f\\x7f/\\\\,\"]", "_", export$name, perl = TRUE)
-while (any(long <- nchar(export$clean, "bytes") > 32)) export$clean[long] <- sub(".$", "", export$clean[long])
-known <- unique(export[c("name", "clean")]); twice <- known$clean[duplicated(known$clean)]
-if (length(twice)) { same <- known$name[known$clean == twice[1]]
-  refuse("animals '", same[1], "' and '", same[2], "' would both be named ", twice[1]) }
-dir.create(into, recursive = TRUE)
-for (name in known$clean) {
-  track <- export[export$clean == name, ]; old <- track$name[1]
+# What was said, on standard error and for the record.
+said <- character()
+say <- function(...) {
+  said <<- c(said, paste0(...))
+  message("split: ", ...)
+}
+
+# What is wrong with the call, as split.py says it.
+misuse <- function(...) {
+  message("split: ", ...)
+  quit(status = 2)
+}
+
+# The words of the call, by name.
+read_words <- function(words) {
+  found <- list(export = character(), unit = "m", zone = NA, sensor = NA, into = "tracks", mark = FALSE,
+                "skip-unnamed" = FALSE)
+  unknown <- character()
+  while (length(words)) {
+    word <- words[1]
+    words <- words[-1]
+    name <- sub("=.*", "", sub("^--", "", word))
+    given <- grepl("=", word, fixed = TRUE)
+    if (!startsWith(word, "-")) {
+      if (length(found$export)) unknown <- c(unknown, word) else found$export <- word
+    } else if (name %in% c("mark", "skip-unnamed")) {
+      if (given) misuse("argument --", name, ": ignored explicit argument '", sub("^[^=]*=", "", word), "'")
+      found[[name]] <- TRUE
+    } else if (startsWith(word, "--") && name %in% c("unit", "zone", "sensor", "into")) {
+      if (!given && (!length(words) || startsWith(words[1], "-"))) misuse("argument --", name, ": expected one argument")
+      found[[name]] <- if (given) sub("^[^=]*=", "", word) else words[1]
+      if (!given) words <- words[-1]
+    } else unknown <- c(unknown, word)
+  }
+  if (!found$unit %in% names(units))
+    misuse("argument --unit: invalid choice: '", found$unit, "' (choose from 'm', 'dm')")
+  if (!length(found$export)) misuse("the following arguments are required: export")
+  if (length(unknown)) misuse("unrecognized arguments: ", paste(unknown, collapse = " "))
+  found
+}
+
+# The records to write, once it is said what was left out.
+chosen <- function(words) {
+  export <- read_export(words$export, words$`skip-unnamed`)
+  for (reason in names(export$left_out))
+    if (export$left_out[reason] > 0) say(export$left_out[reason], " ", reason, ": left out")
+  records <- of_sensors(export$fixes, words$sensor)
+  others <- nrow(export$fixes) - nrow(records)
+  if (others) say(others, " records of other sensors: left out")
+  if (!all(records$used)) say(sum(!records$used), " outliers: ", if (words$mark) "use 0" else "left out")
+  records <- records[words$mark | records$used, ]
+  for (name in sort(setdiff(export$animals, records$name), method = "radix"))
+    say("no fix of '", name, "' is left: no file")
+  records
+}
+
+# The records whose place is on the grid, with it in whole units, half a unit rounded up.
+placed <- function(records, found, unit) {
+  place <- found$places
+  spot <- floor(unit[["scale"]] * place + 0.5)
+  inside <- rowSums(is.finite(place) & spot >= 0 & spot <= unit[["limit"]]) == 2
+  bad <- which(!inside & records$used)[1]
+  if (!is.na(bad))
+    refuse("record ", records$record[bad], sprintf(
+      ": %.2f east and %.2f north is off the grid, which goes from 0 to %.0f metres",
+      place[bad, 1], place[bad, 2], unit[["limit"]] %/% unit[["scale"]]))
+  if (!all(inside)) say(sum(!inside), " outliers off the grid: left out")
+  records$spot <- sprintf("%.0f,%.0f", spot[, 1], spot[, 2])
+  records[inside, ]
+}
+
+# The names with _ for what a name or a file's name may not have, cut to 32 bytes.
+clean <- function(names) {
+  names <- gsub("[\\x01-\\x1f\\x7f/\\\\,\"]", "_", names, perl = TRUE)
+  while (any(long <- nchar(names, "bytes") > 32)) names[long] <- sub(".$", "", names[long])
+  names
+}
+
+# The records of one animal in the order of time.
+in_order <- function(track, name) {
+  old <- track$name[1]
   if (old != name) say("animal '", old, "' is named ", name)
   falls <- sum(diff(track$second) < 0 | diff(track$second) == 0 & diff(track$rest) < 0)
   if (falls) say(falls, " records of ", name, " come before an earlier one: sorted by time")
-  track <- track[order(track$second, track$rest), ]; same <- sum(diff(track$second) == 0)
+  track <- track[order(track$second, track$rest), ]
+  same <- sum(diff(track$second) == 0)
   if (same) say(same, " records of ", name, " have the second of the one before: kept")
   if (!any(track$used)) say("no fix of ", name, " is used, which homerange refuses")
-  text <- paste0(name, ",", sprintf("%.0f", track$second), ",", track$spot, if (mark) paste0(",", as.integer(track$used)))
-  path <- file.path(into, paste0(name, ".csv"))
-  if (file.exists(path)) refuse(path, " is there already, by the name of another animal")
+  track
+}
+
+write_text <- function(path, lines) {
   file <- file(path, "wb")
-  writeLines(enc2utf8(c(paste0("animal,second,easting,northing", if (mark) ",use"), text)), file, useBytes = TRUE)
+  writeLines(enc2utf8(lines), file, useBytes = TRUE)
   close(file)
 }
-say(nrow(export), " fixes of ", nrow(known), " animals are in ", into, ", in ", unit)
+
+write_track <- function(words, name, track) {
+  path <- file.path(words$into, paste0(name, ".csv"))
+  if (file.exists(path)) refuse(path, " is there already, by the name of another animal")
+  use <- if (words$mark) paste0(",", as.integer(track$used))
+  write_text(path, c(paste0("animal,second,easting,northing", if (words$mark) ",use"),
+                     paste0(name, ",", sprintf("%.0f", track$second), ",", track$spot, use)))
+}
+
+# The record of what was done, which tools/evidence.sh takes into the chain from export to report.
+write_record <- function(words, zone) {
+  content <- sub(" .*", "", sub("^[\\]", "", system2("sha256sum", c("--", shQuote(words$export)), stdout = TRUE)))
+  write_text(file.path(words$into, "split.txt"), c(
+    paste0("export,", words$export), paste0("sha256,", content), paste0("unit,", words$unit), paste0("zone,", zone),
+    paste0("said,", said)))
+}
+
+words <- read_words(commandArgs(trailingOnly = TRUE))
+if (!is.na(words$zone) && !grepl("^([1-9]|[1-5][0-9]|60)[NS]$", words$zone))
+  refuse("--zone: ", words$zone, " is no zone as 33N")
+if (file.exists(words$into)) refuse(words$into, " is there already: remove it, or name another by --into")
+records <- chosen(words)
+found <- places_of(records, words$zone)
+say(found$said)
+records <- placed(records, found, units[[words$unit]])
+records$clean <- clean(records$name)
+known <- unique(records[c("name", "clean")])
+twice <- known$clean[duplicated(known$clean)]
+if (length(twice)) {
+  same <- known$name[known$clean == twice[1]]
+  refuse("animals '", same[1], "' and '", same[2], "' would both be named ", twice[1])
+}
+tracks <- lapply(known$clean, function(name) in_order(records[records$clean == name, ], name))
+dir.create(words$into, recursive = TRUE)
+for (i in seq_along(tracks)) write_track(words, known$clean[i], tracks[[i]])
+say(nrow(records), " fixes of ", nrow(known), " animals are in ", words$into, ", in ", words$unit)
+write_record(words, found$zone)

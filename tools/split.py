@@ -1,45 +1,64 @@
 #!/usr/bin/env python3
-"""Makes files for homerange from a Movebank export: tracks/NAME.csv, one for each animal.
-Standard error says what is left out or changed. What cannot be right is refused: one line, status 1, no file."""
-import argparse, os, re, sys
+"""Makes files for homerange from a Movebank export: tracks/NAME.csv, one for each animal, and tracks/split.txt, a record
+of the export, the unit, the zone and what was left out or changed. Standard error says the same. What cannot be right is
+refused: one line, status 1, no file."""
 
-import movebank
-from movebank import refuse
-from zones import places, rounded
+import argparse
+import hashlib
+import os
+import pathlib
+import re
+import sys
+from typing import NoReturn, Optional
+
+from movebank import ExportFault, Record, of_sensors, read, refuse
+from zones import places_of, rounded
 
 UNITS = {"m": (1, 16777216), "dm": (10, 134217728)}  # how many are a metre, and the greatest coordinate
+Spots = dict[int, Optional[tuple[int, int]]]
 
 
-def say(text, count=None):
-    """Says the text, behind its count if it has one; what counts 0 is not said."""
-    if count != 0:
-        print("split: " + (f"{count} " if count else "") + text, file=sys.stderr)
+class Said:
+    """What is said, on standard error and in the record."""
+
+    def __init__(self) -> None:
+        self.lines: list[str] = []
+
+    def say(self, text: str, count: Optional[int] = None) -> None:
+        """Says the text, behind its count if it has one; what counts 0 is not said."""
+        if count != 0:
+            self.lines.append((f"{count} " if count else "") + text)
+            print(f"split: {self.lines[-1]}", file=sys.stderr)
 
 
-def clean(name):
+def clean(name: str) -> str:
     """The name with _ for what a name or a file's name may not have, cut to 32 bytes."""
     return re.sub(r'[\x00-\x1f\x7f/\\,"]', "_", name).encode()[:32].decode(errors="ignore")
 
 
-def by_animal(records):
+def by_animal(records: list[Record], said: Said) -> dict[str, list[Record]]:
     """The records of each animal, by its clean name and in the order of time."""
-    tracks, names = {}, {}
+    tracks: dict[str, list[Record]] = {}
+    names: dict[str, str] = {}
     for record in records:
         name = clean(record.animal)
         if names.setdefault(name, record.animal) != record.animal:
             refuse(f"animals '{names[name]}' and '{record.animal}' would both be named {name}")
         tracks.setdefault(name, []).append(record)
     for name, track in tracks.items():
-        name == names[name] or say(f"animal '{names[name]}' is named {name}")
+        if name != names[name]:
+            said.say(f"animal '{names[name]}' is named {name}")
         falls = sum(later.time < former.time for former, later in zip(track, track[1:]))
-        say(f"records of {name} come before an earlier one: sorted by time", falls)
+        said.say(f"records of {name} come before an earlier one: sorted by time", falls)
         track.sort(key=lambda record: record.time)
         same = sum(later.time[0] == former.time[0] for former, later in zip(track, track[1:]))
-        say(f"records of {name} have the second of the one before: kept", same)
+        said.say(f"records of {name} have the second of the one before: kept", same)
+        if not any(record.used for record in track):
+            said.say(f"no fix of {name} is used, which homerange refuses")
     return tracks
 
 
-def write(path, name, track, spots, mark):
+def write_track(path: pathlib.Path, name: str, track: list[Record], spots: Spots, mark: bool) -> None:
     with open(path, "x", encoding="utf-8", newline="\n") as file:
         print("animal,second,easting,northing" + ",use" * mark, file=file)
         for record in track:
@@ -47,32 +66,74 @@ def write(path, name, track, spots, mark):
             print(f"{name},{record.time[0]},{easting},{northing}" + f",{record.used:d}" * mark, file=file)
 
 
-def main():
-    options = argparse.ArgumentParser(description=__doc__)
+def write_record(path: pathlib.Path, export: str, unit: str, zone: str, said: Said) -> None:
+    """The record of what was done, which tools/evidence.sh takes into the chain from export to report."""
+    content = hashlib.sha256(pathlib.Path(export).read_bytes()).hexdigest()
+    lines = [f"export,{export}", f"sha256,{content}", f"unit,{unit}", f"zone,{zone}"]
+    lines += [f"said,{line}" for line in said.lines]
+    path.write_text("".join(f"{line}\n" for line in lines), encoding="utf-8")
+
+
+class Words(argparse.ArgumentParser):
+    """Options; what is wrong with them is said in one line."""
+
+    def error(self, message: str) -> NoReturn:
+        self.exit(2, f"split: {message}\n")
+
+
+def read_words() -> argparse.Namespace:
+    options = Words(description=__doc__, allow_abbrev=False)
     options.add_argument("export", help="the export, comma-separated text in UTF-8")
     options.add_argument("--unit", choices=UNITS, default="m", help="metres or decimetres [default: m]")
     options.add_argument("--zone", help="the UTM zone of all coordinates, such as 33N")
+    options.add_argument("--sensor", help="the types of sensors to take, separated by commas, such as gps")
     options.add_argument("--mark", action="store_true", help="write outliers too, with 0 in a column use")
+    options.add_argument("--skip-unnamed", action="store_true", help="leave records of no animal out")
     options.add_argument("--into", default="tracks", help="the folder to make [default: tracks]")
-    words = options.parse_args()
-    re.fullmatch("([1-9]|[1-5][0-9]|60)[NS]", words.zone or "1N") or refuse(f"--zone: {words.zone} is no zone as 33N")
-    os.path.exists(words.into) and refuse(f"{words.into} is there already: remove it, or name another by --into")
-    records, failed = movebank.read(words.export)
-    say("records have no coordinates: left out", len(failed))
-    say(f"outliers: {'use 0' if words.mark else 'left out'}", sum(not record.used for record in records))
-    animals = {record.animal for record in records}.union(failed)
+    return options.parse_args()
+
+
+def chosen(words: argparse.Namespace, said: Said) -> list[Record]:
+    """The records to write, once it is said what was left out."""
+    export = read(words.export, words.skip_unnamed)
+    for reason in sorted(export.left_out):
+        said.say(f"{reason}: left out", export.left_out[reason])
+    records = of_sensors(export.records, words.sensor)
+    said.say("records of other sensors: left out", len(export.records) - len(records))
+    outliers = sum(not record.used for record in records)
+    said.say(f"outliers: {'use 0' if words.mark else 'left out'}", outliers)
     records = [record for record in records if words.mark or record.used]
-    for name in sorted(animals.difference(record.animal for record in records)):
-        say(f"no fix of '{name}' is left: no file")
-    spots = {record.number: rounded(record, place, *UNITS[words.unit])
-             for record, place in zip(records, places(records, words.zone))}
-    say("outliers off the grid: left out", list(spots.values()).count(None))
-    tracks = by_animal([record for record in records if spots[record.number]])
-    os.makedirs(words.into)
+    for name in sorted(export.animals.difference(record.animal for record in records)):
+        said.say(f"no fix of '{name}' is left: no file")
+    return records
+
+
+def split(words: argparse.Namespace) -> None:
+    if words.zone is not None and not re.fullmatch("([1-9]|[1-5][0-9]|60)[NS]", words.zone):
+        refuse(f"--zone: {words.zone} is no zone as 33N")
+    if os.path.lexists(words.into):
+        refuse(f"{words.into} is there already: remove it, or name another by --into")
+    said = Said()
+    records = chosen(words, said)
+    found = places_of(records, words.zone)
+    said.say(found.said)
+    spots = {record.number: rounded(record, place, *UNITS[words.unit]) for record, place in zip(records, found.places)}
+    said.say("outliers off the grid: left out", list(spots.values()).count(None))
+    tracks = by_animal([record for record in records if spots[record.number]], said)
+    into = pathlib.Path(words.into)
+    into.mkdir(parents=True)
     for name, track in tracks.items():
-        any(record.used for record in track) or say(f"no fix of {name} is used, which homerange refuses")
-        write(os.path.join(words.into, f"{name}.csv"), name, track, spots, words.mark)
-    say(f"{sum(map(len, tracks.values()))} fixes of {len(tracks)} animals are in {words.into}, in {words.unit}")
+        write_track(into / f"{name}.csv", name, track, spots, words.mark)
+    said.say(f"{sum(map(len, tracks.values()))} fixes of {len(tracks)} animals are in {words.into}, in {words.unit}")
+    write_record(into / "split.txt", words.export, words.unit, found.zone, said)
 
 
-main()
+def main() -> None:
+    try:
+        split(read_words())
+    except ExportFault as fault:
+        sys.exit(f"split: {fault}")
+
+
+if __name__ == "__main__":
+    main()

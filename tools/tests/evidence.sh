@@ -1,9 +1,5 @@
-# Tests the evidence of a run, and the checks of a report by other methods.
+# Tests the evidence of a run.
 # shellcheck shell=sh disable=SC2154,SC2016
-
-is_refused() {
-    ! "$@"
-}
 
 rm -rf tracks evidence
 mkdir evidence tracks
@@ -32,30 +28,3 @@ printf '#!/bin/sh\n"%s" "$@"\necho >>tracks/otter.csv\n' "$HOMERANGE" >changing
 chmod +x changing
 holds 'a file changes in a run, no evidence' is_refused env HOMERANGE=./changing "$tools/evidence.sh" evidence/none tracks/otter.csv
 holds 'nothing is left of that run' [ ! -e evidence/none ]
-
-# Fixes on the edges of a square, at its corners, inside and outside.
-printf '%s\n' animal,second,easting,northing a,0,0,0 a,1,200,0 a,2,200,200 a,3,0,200 >tracks/a.csv
-printf '%s\n' animal,second,easting,northing b,0,100,0 b,1,200,200 b,2,100,100 b,3,201,100 >tracks/b.csv
-"$HOMERANGE" tracks/a.csv tracks/b.csv >direct
-holds 'three of four fixes lie in the square' grep -qx overlap,b,a,3,4 direct
-holds 'edges are checked' "$tools/check.py" direct tracks/a.csv tracks/b.csv
-
-# Every line of a report, by wrapping; and that a wrong line is found.
-sed -i '$d' tracks/fox.csv
-head -n 101 "$top/examples/badger.csv" >tracks/badger.csv
-holds 'a report in decimetres is checked' "$tools/check.py" $report tracks/fox.csv tracks/otter.csv
-"$HOMERANGE" --percent 1,50,95,99,100 tracks/fox.csv tracks/badger.csv tracks/otter.csv >direct
-holds 'a report is checked' "$tools/check.py" direct tracks/fox.csv tracks/badger.csv tracks/otter.csv
-for change in 's/^row,fox,7,/row,fox,7,1/' 's/^overlap,fox,otter,/&1/' '/^corner,otter,3,/d' 's/^percent,fox,99,59/&0/'; do
-    sed "$change" direct >changed
-    cmp -s direct changed && holds "a change by $change" false
-    holds "a report changed by $change" \
-        is_refused "$tools/check.py" changed tracks/fox.csv tracks/badger.csv tracks/otter.csv
-done
-if is_here Rscript 'check.R'; then
-    Rscript "$tools/check.R" direct tracks/fox.csv tracks/badger.csv >checked
-    holds 'a report is checked by R' cmp checked - <<END
-fox 59 of 59 rows and 5 of 5 percent lines agree
-badger 100 of 100 rows and 5 of 5 percent lines agree
-END
-fi

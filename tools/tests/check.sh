@@ -1,0 +1,82 @@
+# Tests the checks of a report by other methods, on reports that are right and on such that were changed.
+# shellcheck shell=sh disable=SC2154,SC2016
+
+rm -rf check
+mkdir check
+cd check || exit 1
+
+# Fixes on the edges of a square, at its corners, inside and outside.
+printf '%s\n' animal,second,easting,northing a,0,0,0 a,1,200,0 a,2,200,200 a,3,0,200 >a.csv
+printf '%s\n' animal,second,easting,northing b,0,100,0 b,1,200,200 b,2,100,100 b,3,201,100 >b.csv
+"$HOMERANGE" a.csv b.csv >direct
+holds 'three of four fixes lie in the square' grep -qx overlap,b,a,3,4 direct
+holds 'edges are checked' "$tools/check.py" direct a.csv b.csv
+
+# A record that is left out; a fix alone, twice the same and three in a line are below.
+head -n 61 "$top/examples/fox.csv" | sed '1s/$/,use/; 2,$s/$/,1/; 9s/1$/0/' >fox.csv
+head -n 101 "$top/examples/badger.csv" >badger.csv
+cp "$top/examples/otter.csv" .
+"$HOMERANGE" --unit dm --percent 95,50 fox.csv otter.csv >decimetres
+"$tools/check.py" decimetres fox.csv otter.csv >said
+holds 'a report in decimetres is checked' [ $? -eq 0 ]
+holds 'unit and levels are said' grep -qx 'in decimetres, at the levels 95,50' said
+"$HOMERANGE" --percent 1,50,95,99,100 fox.csv badger.csv otter.csv >direct
+holds 'a report is checked' "$tools/check.py" --unit m --percent 1,50,95,99,100 direct fox.csv badger.csv otter.csv
+holds 'a file that is not there' is_refused "$tools/check.py" direct fox.csv none.csv
+
+# Whether check.py refuses the report once sed has changed it so, and says which line is wrong first.
+finds() {
+    sed "$1" direct >changed
+    cmp -s direct changed && holds "a change by $1" false
+    "$tools/check.py" changed fox.csv badger.csv otter.csv >said
+    holds "a report changed by $1" [ $? -eq 1 ]
+    holds "a report changed by $1: the line" grep -q -- "$2" said
+}
+finds 's/^row,fox,7,/row,fox,7,1/' '^line 9 is row,fox,7,1'
+finds 's/^overlap,fox,otter,/&1/' 'is overlap,fox,otter,1'
+finds '/^corner,otter,3,/d' 'and not corner,otter,3,'
+finds 's/^percent,fox,99,59/&0/' 'is percent,fox,99,590,'
+finds '$d' 'is missing, and not end,3'
+finds '$s/$/\nend,3/' 'is end,3, and not there'
+finds '5s/^/unit,dm\n/' '^line 5 is unit,dm'
+
+# What only what was asked for can show: a unit that was put before all lines, and a level that no animal has.
+{
+    echo unit,dm
+    cat direct
+} >marked
+"$tools/check.py" marked fox.csv badger.csv otter.csv >said
+holds 'a unit is said' grep -qx 'in decimetres, at the levels 1,50,95,99,100' said
+holds 'a unit that was not asked for' is_refused "$tools/check.py" --unit m marked fox.csv badger.csv otter.csv
+grep -v '^percent,[a-z]*,95,' direct >fewer
+"$tools/check.py" fewer fox.csv badger.csv otter.csv >said
+holds 'levels are said' grep -qx 'in metres, at the levels 1,50,99,100' said
+holds 'a level that is missing' \
+    is_refused "$tools/check.py" --percent 1,50,95,99,100 fewer fox.csv badger.csv otter.csv
+
+if is_here Rscript 'check.R'; then
+    Rscript "$tools/check.R" direct fox.csv badger.csv >said
+    holds 'a report is checked by R' cmp said - <<END
+in metres, at the levels 1,50,95,99,100
+fox 59 of 59 rows and 5 of 5 percent lines agree
+badger 100 of 100 rows and 5 of 5 percent lines agree
+END
+    holds 'decimetres are checked by R' Rscript "$tools/check.R" --unit dm --percent 95,50 decimetres fox.csv otter.csv
+    holds 'R: a unit that was not asked for' is_refused Rscript "$tools/check.R" --unit m marked fox.csv
+    holds 'R: a level that is missing' is_refused Rscript "$tools/check.R" --percent 1,50,95,99,100 fewer fox.csv
+    # The number, the second, the corners and the area of a row; what a level keeps; a unit below the first line.
+    for change in 's/^row,fox,7,/row,fox,70,/' 's/^row,fox,7,\([0-9]*\)/&1/' 's/^\(row,fox,7,[0-9]*,\)[0-9]*/\19/' \
+        's/^row,fox,7,.*/&0/' '/^row,fox,7,/d' 's/^\(percent,fox,99,\)59/\158/' '5s/^/unit,dm\n/'; do
+        sed "$change" direct >changed
+        cmp -s direct changed && holds "a change by $change" false
+        holds "R: a report changed by $change" is_refused Rscript "$tools/check.R" changed fox.csv badger.csv
+    done
+    for fixes in 'a,0,5,5' 'a,0,5,5 a,1,5,5' 'a,0,5,5 a,1,6,6 a,2,8,8 a,3,7,7'; do
+        # shellcheck disable=SC2086
+        printf '%s\n' animal,second,easting,northing $fixes >few.csv
+        "$HOMERANGE" few.csv >direct
+        holds "R: $fixes" Rscript "$tools/check.R" direct few.csv
+        holds "$fixes" "$tools/check.py" direct few.csv
+    done
+fi
+cd "$work" || exit 1
