@@ -60,7 +60,7 @@ def read_text(path: str) -> str:
     if b"\0" in content:
         refuse(f"{path} is no text: it has a byte 0")
     try:
-        return content.decode("utf-8-sig")
+        return re.sub("\r\n?", "\n", content.decode("utf-8-sig"))
     except UnicodeDecodeError:
         refuse(f"{path} is no text in UTF-8")
 
@@ -68,8 +68,8 @@ def read_text(path: str) -> str:
 def read_table(path: str) -> Table:
     """The table of an export. Titles are in small letters, with hyphens for what R and others write in their place."""
     text = read_text(path)
-    semicolons = re.match("[^,\r\n]*;", text) is not None
-    reader = csv.reader(io.StringIO(f"{text}\nend", newline=""), delimiter=";" if semicolons else ",")
+    semicolons = re.match("[^,\n]*;", text.lstrip("\n")) is not None
+    reader = csv.reader(io.StringIO(f"{text}\nend"), delimiter=";" if semicolons else ",")
     rows = [row for row in reader if row]
     if rows.pop() != ["end"]:
         refuse(f"{path}: a quote has no end")

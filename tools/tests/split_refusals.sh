@@ -15,7 +15,8 @@ refuses "record 1: timestamp is '2024-02-30 00:30:00', which is no time" "$head_
 refuses "record 1: timestamp is '1969-12-31 23:59:59', which is no time since 1970" "$head_line" \
     'a,1969-12-31 23:59:59,1,2,33N,'
 refuses "record 1: timestamp is '2024-05-01 24:00:00', which is no time" "$head_line" 'a,2024-05-01 24:00:00,1,2,33N,'
-refuses "record 1: there is no individual-local-identifier" "$head_line" ',2024-05-01 00:30:00,1,2,33N,'
+refuses "record 1: utm-easting is '1234567890123' and not a number of up to 12 digits" "$head_line" \
+    'a,2024-05-01 00:30:00,1234567890123,2,33N,'
 refuses "record 2: utm-easting is '1 000' and not a number" "$head_line" 'a,,,,,' 'a,2024-05-01 00:30:00,1 000,2,33N,'
 refuses "record 1: visible is 'FALSCH' and not true or false" "$head_line" 'a,2024-05-01 00:30:00,1,2,33N,FALSCH'
 refuses 'record 1: 5 fields where 6 are wanted' "$head_line" 'a,2024-05-01 00:30:00,1,2,33N'

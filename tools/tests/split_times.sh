@@ -41,3 +41,11 @@ END
 else
     skip 'projection: no sf in R'
 fi
+
+# A place with longitude and latitude 0 is a fix that failed.
+if [ "$splitters" = python ] || Rscript -e 'library(sf)' >/dev/null 2>&1; then
+    printf '%s\n' "$degrees" 'a,2024-05-01 00:30:00,3,0' 'a,2024-05-01 00:40:00,0,0' 'a,2024-05-01 00:50:00,,' | split_to 0
+    says '1 records have longitude and latitude 0: left out'
+    says '1 records have no coordinates: left out'
+    printf '%s\n' animal,second,easting,northing "a,$(stamp '2024-05-01 00:30:00'),500000,0" | makes a.csv
+fi

@@ -1,0 +1,97 @@
+# Exports in which something has to be chosen or left out, and the record of a split. The functions are those of split.sh.
+# shellcheck shell=sh disable=SC2154
+
+first=$(stamp '2024-05-01 00:30:00')
+
+# Fixes of several sensors make no range without being asked for.
+sensors() {
+    printf '%s\n' "$head_line,sensor-type" 'a,2024-05-01 00:30:00,1,2,33N,,gps' 'a,2024-05-01 00:40:00,3,4,33N,,gps' \
+        'a,2024-05-01 00:50:00,90,4,33N,,argos-doppler-shift' 'b,2024-05-01 00:50:00,90,4,33N,false,' \
+        'c,2024-05-01 00:50:00,90,4,33N,,argos-doppler-shift'
+}
+sensors | split_to 1
+says 'fixes are of several sensors (argos-doppler-shift 2, gps 2): name those to take, such as --sensor argos-doppler-shift'
+sensors | split_to 0 --sensor gps
+printf '%s\n' animal,second,easting,northing "a,$first,1,2" "a,$((first + 600)),3,4" | makes a.csv
+says '3 records of other sensors: left out'
+says "no fix of 'c' is left: no file"
+sensors | split_to 0 --sensor=gps,argos-doppler-shift,none --mark
+printf '%s\n' animal,second,easting,northing,use "b,$((first + 1200)),90,4,0" | makes b.csv
+sensors | split_to 1 --sensor gsm,gps
+says '--sensor: no fix is of gsm'
+
+# Outliers that an algorithm found, or that were marked when the data came.
+split_to 0 <<END
+$head_line,algorithm-marked-outlier,import-marked-outlier
+a,2024-05-01 00:30:00,1,2,33N,,,false
+a,2024-05-01 00:40:00,3,4,33N,True,true,
+a,2024-05-01 00:50:00,5,6,33N,,False,TRUE
+END
+printf '%s\n' animal,second,easting,northing "a,$first,1,2" | makes a.csv
+says '2 outliers: left out'
+
+# Rows of no animal.
+unnamed() {
+    printf '%s\n' "$head_line" 'a,2024-05-01 00:30:00,1,2,33N,' ',2024-05-01 00:40:00,3,4,33N,' ',,,,,'
+}
+unnamed | split_to 1
+says 'record 2: there is no individual-local-identifier, and --skip-unnamed leaves such records out'
+unnamed | split_to 0 --skip-unnamed
+says '1 records have no animal: left out'
+says '1 records have no coordinates: left out'
+printf '%s\n' animal,second,easting,northing "a,$first,1,2" | makes a.csv
+
+# Times as pandas and R write them: an offset of nothing, and midnight as a date alone.
+split_to 0 <<END
+$head_line
+a,2024-05-01,1,2,33N,
+a,2024-05-01 00:30:00+00:00,3,4,33N,
+a,2024-05-01T00:30:00.5+00,5,6,33N,
+END
+printf '%s\n' animal,second,easting,northing "a,$((first - 1800)),1,2" "a,$first,3,4" "a,$first,5,6" | makes a.csv
+
+# UTM coordinates without a zone: it is that of the longitude, or has to be named.
+zoneless=individual-local-identifier,timestamp,utm-easting,utm-northing
+printf '%s\n' "$zoneless,location-long,location-lat" 'a,2024-05-01 00:30:00,780000,5134000,17.9,46.3' \
+    'b,2024-05-01 00:30:00,230000,5134000,18.1,46.3' | split_to 1
+says 'fixes lie in several zones (33N 1, 34N 1): name the zone of all, such as --zone 33N'
+printf '%s\n' "$zoneless" 'a,2024-05-01 00:30:00,780000,5134000' | split_to 1
+says 'record 1 has no utm-zone: name that of its coordinates, such as --zone 33N'
+printf '%s\n' "$zoneless" 'a,2024-05-01 00:30:00,780000,5134000' | split_to 0 --zone 33N
+printf '%s\n' animal,second,easting,northing "a,$first,780000,5134000" | makes a.csv
+
+# Numbers with points before thousands, as some write them where fields stand between semicolons.
+semicolons=$(echo "$head_line" | tr , ';')
+printf '%s\n' "$semicolons" 'a;2024-05-01 00:30:00;562.000;134.001;37N;' | split_to 1
+says "record 1: utm-easting is '562.000', whose point may stand before thousands: export without it"
+printf '%s\n' "$semicolons" 'a;2024-05-01 00:30:00;562000.4;5134001.000;37N;' | split_to 0
+printf '%s\n' animal,second,easting,northing "a,$first,562000,5134001" | makes a.csv
+
+# The fault that is told is that of the first record that has one.
+printf '%s\n' "$head_line" 'a,2024-05-01 00:30:00,1,2,33N,maybe' 'a,2024-05-01 00:30:00,x,2,33N,' | split_to 1
+says "record 1: visible is 'maybe' and not true or false"
+printf '%s\n' "$head_line" 'a,never,1,2,33N,' ',2024-05-01 00:30:00,1,2,33N,' | split_to 1
+says "record 1: timestamp is 'never' and not a UTC time"
+
+# No text: a byte 0, another coding, no file.
+printf '%s\na,2024-05-01 00:30:00,5620\00000,2,33N,\n' "$head_line" | split_to 1
+says 'export.csv is no text: it has a byte 0'
+printf '%s\nJ\344ger,2024-05-01 00:30:00,1,2,33N,\n' "$head_line" | split_to 1
+says 'export.csv is no text in UTF-8'
+echo "$head_line" | split_to 2 --unit km
+says "argument --unit: invalid choice: 'km' (choose from 'm', 'dm')"
+echo "$head_line" | split_to 2 --bogus
+says 'unrecognized arguments: --bogus'
+
+# The record of a split: the export and its sum, the unit, the zone, and what was said.
+printf '%s\n' "$head_line" 'a/b,2024-05-01 00:30:00,1,2,33N,' 'a/b,2024-05-01 00:40:00,,,,' | split_to 0 --unit dm
+makes split.txt <<END
+export,../export.csv
+sha256,$(sha256sum <"$work/export.csv" | cut -c -64)
+unit,dm
+zone,33N
+said,1 records have no coordinates: left out
+said,UTM coordinates are those of the export; zone: 33N 1
+said,animal 'a/b' is named a_b
+said,1 fixes of 1 animals are in tracks, in dm
+END
