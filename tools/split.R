@@ -69,6 +69,8 @@ placed <- function(records, found, unit) {
   spot <- floor(unit[["scale"]] * place + 0.5)
   inside <- rowSums(is.finite(place) & spot >= 0 & spot <= unit[["limit"]]) == 2
   bad <- which(!inside & records$used)[1]
+  if (!is.na(bad) && !all(is.finite(place[bad, ])))
+    refuse("record ", records$record[bad], ": its longitude and latitude have no place in the zone")
   if (!is.na(bad))
     refuse("record ", records$record[bad], sprintf(
       ": %.2f east and %.2f north is off the grid, which goes from 0 to %.0f metres",

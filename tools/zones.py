@@ -1,6 +1,6 @@
 """Places of the records of an export in metres of one UTM zone, for split.py."""
 
-from math import floor
+from math import floor, isfinite
 from typing import NamedTuple, Optional
 
 from movebank import ExportFault, Record, ranked, refuse
@@ -88,6 +88,8 @@ def rounded(record: Record, place: Optional[Place], unit: int, limit: int) -> Op
     whole = [floor(unit * metres + 0.5) if abs(metres) < 1e9 else -1 for metres in place or (-1.0, -1.0)]
     if all(0 <= number <= limit for number in whole):
         return whole[0], whole[1]
+    if record.used and place and not all(map(isfinite, place)):
+        refuse(f"record {record.number}: its longitude and latitude have no place in the zone")
     if record.used and place:
         refuse(f"record {record.number}: {place[0]:.2f} east and {place[1]:.2f} north is off the grid, "
                f"which goes from 0 to {limit // unit} metres")

@@ -31,6 +31,8 @@ split_to() {
         holds "$by ends with $status: $(tail -n 1 "$work/$by/messages")" [ "$ended" -eq "$status" ]
         [ "$status" -eq 0 ] || holds "$by makes no file" [ ! -e "$work/$by/tracks" ]
     done
+    [ "$splitters" = python ] || holds "both say and make the same: $(tail -n 1 "$work/r/messages")" \
+        diff -r "$work/python" "$work/r"
 }
 
 # Whether each made this file of what is on standard input.

@@ -69,3 +69,40 @@ done
 printf '%s\n' animal,second,easting,northing "export,$(stamp '2086-05-01 00:00:00'),1,2" | makes export.csv
 says "animal 'a/b\\c' is named a_b_c"
 says "animal 'ääääääääääääääääa' is named ääääääääääääääää"
+
+# Lines that end in CR alone, or each in another way; lines that are blank, also the first.
+printf '%s\r' "$head_line" 'a,2024-05-01 00:30:00,1,2,33N,' | split_to 0
+printf '%s\n\na,2024-05-01 00:30:00,1,2,33N,\r\n\r\nb,2024-05-01 00:30:00,1,2,33N,\rc,2024-05-01 00:30:00,1,2,33N,' \
+    "$head_line" | split_to 0
+says '3 fixes of 3 animals are in tracks, in m'
+printf '\n%s\n' "$head_line" 'a,2024-05-01 00:30:00,1,2,33N,' | split_to 0
+says '1 fixes of 1 animals are in tracks, in m'
+
+# Titles in capitals and quotes, a column without a title, a note of two lines and one with an inch sign.
+split_to 0 <<END
+"INDIVIDUAL_LOCAL_IDENTIFIER","Timestamp",,utm easting,UTM-northing,utm.zone,note
+a,2024-05-01 00:30:00,x,1,2,33N,"two
+lines, ""quoted"""
+a,2024-05-01 00:31:00,,1,2,33N,5" long
+END
+says '2 fixes of 1 animals are in tracks, in m'
+
+# A control character in a name, a name with blanks, and one that looks like a word of R or a number.
+printf '%s\n' "$head_line" "a$(printf '\001')b,2024-05-01 00:30:00,1,2,33N," ' x ,2024-05-01 00:30:00,1,2,33N,' \
+    'TRUE,2024-05-01 00:30:00,1,2,33N,' '1e5,2024-05-01 00:30:00,1,2,33N,' '007,2024-05-01 00:30:00,1,2,33N,' | split_to 0
+for name in a_b ' x ' TRUE 1e5 007; do
+    printf '%s\n' animal,second,easting,northing "$name,$(stamp '2024-05-01 00:30:00'),1,2" | makes "$name.csv"
+done
+
+# Metres just below and at a half, and with many decimals, in metres and in decimetres.
+halves() {
+    printf '%s\n' "$head_line" 'a,2024-05-01 00:30:00,10.4999999999,0.5,33N,' 'a,2024-05-01 00:30:00,-0.5,10.45,33N,' \
+        'a,2024-05-01 00:30:00,0000012.3456789012345678901234567890,16777216.49,33N,'
+}
+halves | split_to 0
+second=$(stamp '2024-05-01 00:30:00')
+printf '%s\n' animal,second,easting,northing "a,$second,10,1" "a,$second,0,10" "a,$second,12,16777216" | makes a.csv
+halves | sed '/16777216/d; s/-0.5,/-0.04,/' | split_to 0 --unit dm
+printf '%s\n' animal,second,easting,northing "a,$second,105,5" "a,$second,0,105" | makes a.csv
+printf '%s\n' "$head_line" 'a,2024-05-01 00:30:00,1,16777216.5,33N,' | split_to 1
+says 'record 1: 1.00 east and 16777216.50 north is off the grid, which goes from 0 to 16777216 metres'
