@@ -1,54 +1,110 @@
-# Runs the shell snippets of the guide as they stand there. Expected output is written by hand.
-# shellcheck shell=sh disable=SC2154
+# Runs the snippets of the guide as they stand there. Expected output is written by hand.
+# shellcheck shell=sh disable=SC2154,SC2016
 
-# The snippet in sh that has this text.
+# The snippet in this language that has this text.
 snippet() {
-    awk -v text="$1" '
-        /^```sh$/ { block = ""; inside = 1; next }
+    awk -v language="$1" -v text="$2" '
+        $0 == "```" language { block = ""; inside = 1; next }
         /^```$/ { if (inside && index(block, text)) printf "%s", block; inside = 0 }
         inside { block = block $0 "\n" }' "$top/docs/GUIDE.md"
 }
 
-# Whether the snippet writes what is on standard input.
+# Whether the snippet writes what is on standard input, to this file or to standard output.
 writes() {
     cat >wanted
-    snippet "$1" >snippet.sh
-    holds "the guide's snippet with '$1' is there" [ -s snippet.sh ]
-    sh snippet.sh >written 2>&1
-    holds "the guide's snippet with '$1'" cmp wanted "${2:-written}"
+    case $1 in
+        sh) set -- sh "$@" ;;
+        r) set -- Rscript "$@" ;;
+        python) set -- python3 "$@" ;;
+    esac
+    snippet "$2" "$3" >taken
+    holds "the guide's snippet with '$3' is there" [ -s taken ]
+    "$1" taken >written 2>errors
+    holds "the guide's snippet with '$3'" cmp wanted "${4:-written}"
 }
 
 rm -rf guide
 mkdir guide
 cd guide || exit 1
+ln -s "$HOMERANGE" homerange
+ln -s "$top/examples" "$top/tools" .
+snippet sh '--into first' >taken
+sh taken >report.txt 2>errors
+holds "the guide's first files have a report" "$tools/check.py" report.txt 'first/old boar.csv' first/vixen.csv
+
 printf '%s\n' animal,second,easting,northing vixen,0,562000.4,5134001.2 boar,7,1,2 vixen,3000000000,561975.6,5133992 >track.csv
-writes 'begun[file]' vixen.csv <<END
+writes sh 'begun[file]' vixen.csv <<END
 animal,second,easting,northing
 vixen,0,562000,5134001
 vixen,3000000000,561976,5133992
 END
 printf '%s\n' animal,second,easting,northing v,0,100,100 v,10,120,100 v,20,90,141 v,30,120,100 >vixen.csv
-writes 'most=2' screened.csv <<END
+writes sh 'most=2' screened.csv <<END
 animal,second,easting,northing,use
 v,0,100,100,1
 v,10,120,100,1
 v,20,90,141,0
 v,30,120,100,1
 END
-echo '1 of 4 records left out' | writes 'records left out'
-# A square of 200 metres, a line and a point.
+echo '1 of 4 records left out' | writes sh 'records left out'
+
+# A square of 200 metres, a line and a point; the same square in decimetres.
 printf '%s\n' animal,second,easting,northing a,0,0,0 a,1,200,0 a,2,200,200 a,3,0,200 >a.csv
 printf '%s\n' animal,second,easting,northing b,0,0,0 b,1,200,0 >b.csv
-printf '%s\n' animal,second,easting,northing c,0,0,0 >c.csv
+printf '%s\n' animal,second,easting,northing NA,0,0,0 >c.csv
 "$HOMERANGE" --percent 100 a.csv b.csv c.csv >report.txt
-printf '%s\n' 'a 100% 4.00 ha' 'b 100% 0.00 ha' 'c 100% 0.00 ha' | writes 'hectare = 20000 }'
-printf '%s\n' 'animal;wkt' 'a;POLYGON ((0 0, 200 0, 200 200, 0 200, 0 0))' | writes 'POLYGON'
+printf '%s\n' 'a 100% 4.00 ha' 'b 100% 0.00 ha' 'NA 100% 0.00 ha' | writes sh 'hectare = 20000 }'
+printf '%s\n' 'animal;wkt' 'a;POLYGON ((0 0, 200 0, 200 200, 0 200, 0 0))' | writes sh 'POLYGON'
+if is_here Rscript "the guide's R"; then
+    writes r 'percents$V2' <<END
+  animal level hectares
+1      a   100        4
+2      b   100        0
+3     NA   100        0
+END
+fi
+is_pandas=false
+if python3 -c 'import pandas' 2>/dev/null; then is_pandas=true; else skip "the guide's pandas: no pandas"; fi
+shows() {
+    snippet python 'percents.assign' >taken
+    python3 taken >written 2>errors
+    holds "the guide's pandas shows $1 hectares" grep -qE "^ *[0-9]+ +percent +a +100 .* $1\$" written
+}
+! $is_pandas || shows 4.0
 "$HOMERANGE" --unit dm --percent 100 a.csv >report.txt
-printf '%s\n' 'a 100% 0.04 ha' | writes 'hectare = 20000 }'
+printf '%s\n' 'a 100% 0.04 ha' | writes sh 'hectare = 20000 }'
+! $is_pandas || shows 0.04
+if is_here Rscript "the guide's R"; then
+    printf '%s\n' '  animal level hectares' '1      a   100     0.04' | writes r 'percents$V2'
+fi
+
+# One curve for each animal. The pictures are looked at by people.
+"$HOMERANGE" examples/fox.csv examples/badger.csv >report.txt
+if is_here Rscript "the guide's picture in R"; then
+    snippet r 'type = "s"' >taken
+    holds 'R draws the curves' Rscript taken
+    holds "R's picture is there" [ -s Rplots.pdf ]
+fi
 if is_here gnuplot "the guide's picture"; then
-    ln -s "$HOMERANGE" homerange
-    ln -s "$top/examples" examples
-    snippet gnuplot >snippet.sh
-    holds 'the picture is drawn' sh snippet.sh
+    snippet sh gnuplot >taken
+    holds 'the picture is drawn' sh taken
     holds 'the picture is there' [ -s area-curve.png ]
 fi
+
+# GPX: two fixes, not in order. The metres are those that examples/export.csv has beside them.
+if Rscript -e 'library(sf)' >/dev/null 2>&1; then
+    {
+        echo '<?xml version="1.0"?><gpx version="1.1" creator="t" xmlns="http://www.topografix.com/GPX/1/1"><trk><trkseg>'
+        echo '<trkpt lat="46.358710" lon="15.807277"><time>2024-05-01T01:30:02Z</time></trkpt>'
+        echo '<trkpt lat="46.356742" lon="15.805899"><time>2024-05-01T00:00:10Z</time></trkpt>'
+        echo '</trkseg></trk></gpx>'
+    } >dog.gpx
+    writes r 'track_points' dog.csv <<END
+animal,second,easting,northing
+dog,$(date -u -d '2024-05-01 00:00:10' +%s),562000,5134001
+dog,$(date -u -d '2024-05-01 01:30:02' +%s),562104,5134221
+END
+else
+    skip "the guide's GPX: no sf in R"
+fi
+cd "$work" || exit 1
