@@ -1,0 +1,112 @@
+# Drawings of home ranges: the polygons over the fixes, and the curves of area.
+
+plot.home_range <- function(x, what = c("ranges", "curve"), level = 100, animals = NULL, main = "", ...) {
+  what <- tryCatch(match.arg(what), error = function(fault) refuse("option", "what: \"ranges\" or \"curve\" is wanted"))
+  shown <- shown_animals(x, animals)
+  old <- par(no.readonly = TRUE)[c("mai", "xpd", "mgp", "las")]
+  on.exit(par(old))
+  par(mgp = c(2.4, 0.7, 0))
+  if (what == "curve") draw_curves(x, shown, main, ...) else draw_ranges(x, shown, level, main, ...)
+  invisible(x)
+}
+
+shown_animals <- function(ranges, animals) {
+  known <- ranges$animals$animal
+  if (is.null(animals)) return(known)
+  missing <- setdiff(animals, known)
+  if (length(missing)) refuse("option", "animals: there is no animal ", missing[1])
+  known[known %in% animals]
+}
+
+# A colour and a type of line for each animal, so that 40 of them differ in one or the other: colours of Okabe and Ito
+# but for yellow, which is faint on white.
+styles_of <- function(animals) {
+  colours <- palette.colors(palette = "Okabe-Ito")[-5]
+  place <- seq_along(animals) - 1
+  shift <- place %/% length(colours)
+  data.frame(animal = animals, colour = unname(colours)[place %% length(colours) + 1], line = (place + shift) %% 6 + 1)
+}
+
+# Begins a plot with a legend to the right of it, in room that is made there.
+begin_plot <- function(xlim, ylim, styles, asp = NA) {
+  plot.new()
+  key <- list(legend = styles$animal, col = styles$colour, lty = styles$line, lwd = 2, bty = "n", seg.len = 3, cex = 0.8)
+  margins <- par("mai")
+  key$cex <- if (legend_inches(key) > par("fin")[1] / 3) 0.6 else 0.8
+  key <- shorten_key(key)
+  margins[4] <- min(legend_inches(key) + 0.15, 0.5 * par("fin")[1])
+  par(mai = margins, new = TRUE)
+  plot.new()
+  plot.window(xlim, ylim, asp = asp)
+  corner <- par("usr")[c(2, 4)]
+  do.call(legend, c(list(x = corner[1], y = corner[2], xpd = NA), key))
+}
+
+legend_inches <- function(key) {
+  size <- do.call(legend, c(list(x = 0, y = 1, plot = FALSE), key))$rect
+  size$w / diff(par("usr")[1:2]) * par("pin")[1]
+}
+
+# As many animals as there is room for, and how many more there are.
+shorten_key <- function(key) {
+  room <- max(floor(par("pin")[2] / (par("cin")[2] * key$cex)) - 2, 1)
+  number <- length(key$legend)
+  if (number <= room) return(key)
+  key$legend <- c(key$legend[seq_len(room)], paste(number - room, "more"))
+  key$col <- c(key$col[seq_len(room)], NA)
+  key$lty <- c(key$lty[seq_len(room)], 0)
+  key
+}
+
+draw_curves <- function(ranges, shown, main, ...) {
+  rows <- ranges$rows[ranges$rows$animal %in% shown, ]
+  styles <- styles_of(shown)
+  area <- hectares_of(ranges, rows$area2)
+  in_kilometres <- max(area) >= 10000
+  if (in_kilometres) area <- area / 100
+  begin_plot(c(0, max(rows$n)), c(0, max(area, 0.01)), styles)
+  axis(1)
+  axis(2, las = 1)
+  box(bty = "l")
+  title(main = main, xlab = "Number of fixes", ylab = paste0("Area (", if (in_kilometres) "km\u00b2" else "ha", ")"), ...)
+  for (place in seq_along(shown)) {
+    own <- rows$animal == shown[place]
+    lines(rows$n[own], area[own], type = "s", col = styles$colour[place], lty = styles$line[place], lwd = 2)
+  }
+}
+
+draw_ranges <- function(ranges, shown, level, main, ...) {
+  scale <- units_known[[ranges$unit]]$scale
+  rings <- unlist(lapply(level, function(level) rings_of(ranges, level)[shown]), recursive = FALSE)
+  styles <- styles_of(shown)
+  fixes <- ranges$fixes[ranges$fixes$animal %in% shown, c("easting", "northing")] / scale
+  all <- rbind(do.call(rbind, rings), as.matrix(fixes))
+  begin_plot(range(all[, "easting"]), range(all[, "northing"]), styles, asp = 1)
+  draw_grid(main, ...)
+  colours <- styles$colour[match(ranges$fixes$animal[ranges$fixes$animal %in% shown], shown)]
+  points(fixes$easting, fixes$northing, pch = 16, cex = 0.4, col = adjustcolor(colours, 0.45))
+  for (place in seq_along(rings)) draw_ring(rings[[place]], styles[(place - 1) %% length(shown) + 1, ])
+}
+
+# Axes in kilometres where the plot is wide, else in metres, and a bar of a round length above it.
+draw_grid <- function(main, ...) {
+  width <- diff(par("usr")[1:2])
+  in_kilometres <- width >= 10000
+  unit <- if (in_kilometres) "km" else "m"
+  divisor <- if (in_kilometres) 1000 else 1
+  for (side in 1:2) axis(side, axTicks(side), format(axTicks(side) / divisor, scientific = FALSE, trim = TRUE))
+  box()
+  title(main = main, xlab = paste0("Easting (", unit, ")"), ylab = paste0("Northing (", unit, ")"), ...)
+  bar <- max(Filter(function(length) length <= width / 4, c(1, 2, 5) %o% 10^(-1:7)))
+  left <- par("usr")[1]
+  above <- par("usr")[4] + 0.4 * par("cxy")[2]
+  segments(left, above, left + bar, above, lwd = 3, lend = "butt", xpd = NA)
+  label <- paste(format(bar / divisor, scientific = FALSE), unit)
+  text(left + bar, above, label, pos = 4, offset = 0.4, cex = 0.8, xpd = NA)
+}
+
+# A polygon, of two corners a line, of one a cross.
+draw_ring <- function(ring, style) {
+  if (nrow(ring) == 1) points(ring, pch = 3, col = style$colour, lwd = 2)
+  else polygon(ring, border = style$colour, lty = style$line, lwd = 2)
+}
