@@ -30,10 +30,10 @@ percent_corners <- function(ranges, level) {
   kept <- unsplit(lapply(split(ranges$fixes, place), function(own) kept_fixes(own$easting, own$northing, level)), place)
   reports <- in_folder(function(folder) {
     files <- write_tracks(ranges$fixes, folder, kept)
-    parts <- split(seq_along(files), (seq_along(files) - 1) %/% most_files)
+    parts <- unname(split(seq_along(files), (seq_along(files) - 1) %/% most_files))
     lapply(parts, function(part) parse_report(run_program(files[part], animals[part], c("--unit", ranges$unit))))
   })
-  report <- join_reports(unname(lapply(reports, function(report) report[setdiff(names(report), "overlaps")])))
+  report <- join_reports(lapply(reports, function(report) report[setdiff(names(report), "overlaps")]))
   wanted <- ranges$percents[ranges$percents$level == level, ]
   wanted <- wanted[!duplicated(wanted$animal), ]
   found <- report$rows[cumsum(report$animals$fixes), ]

@@ -3,9 +3,8 @@
 plot.home_range <- function(x, what = c("ranges", "curve"), level = 100, animals = NULL, main = "", ...) {
   what <- tryCatch(match.arg(what), error = function(fault) refuse("option", "what: \"ranges\" or \"curve\" is wanted"))
   shown <- shown_animals(x, animals)
-  old <- par(no.readonly = TRUE)[c("mai", "xpd", "mgp", "las")]
-  on.exit(par(old))
-  par(mgp = c(2.4, 0.7, 0))
+  old <- par("mai")
+  on.exit(par(mai = old))
   if (what == "curve") draw_curves(x, shown, main, ...) else draw_ranges(x, shown, level, main, ...)
   invisible(x)
 }
@@ -24,17 +23,19 @@ styles_of <- function(animals) {
   colours <- palette.colors(palette = "Okabe-Ito")[-5]
   place <- seq_along(animals) - 1
   shift <- place %/% length(colours)
-  data.frame(animal = animals, colour = unname(colours)[place %% length(colours) + 1], line = (place + shift) %% 6 + 1)
+  data.frame(animal = animals, colour = unname(colours)[place %% length(colours) + 1], line = (place %% length(colours) + shift) %% 6 + 1)
 }
 
-# Begins a plot with a legend to the right of it, in room that is made there.
-begin_plot <- function(xlim, ylim, styles, asp = NA) {
+# Begins a plot with a legend to the right of it, in room that is made there, and no more room above than is wanted.
+begin_plot <- function(xlim, ylim, styles, main, asp = NA) {
   plot.new()
   key <- list(legend = styles$animal, col = styles$colour, lty = styles$line, lwd = 2, bty = "n", seg.len = 3, cex = 0.8)
   margins <- par("mai")
+  if (!nzchar(main)) margins[3] <- min(margins[3], 2 * line_inches())
   key$cex <- if (legend_inches(key) > par("fin")[1] / 3) 0.6 else 0.8
   key <- shorten_key(key)
   margins[4] <- min(legend_inches(key) + 0.15, 0.5 * par("fin")[1])
+  if (is.na(asp)) margins[2] <- label_inches(ylim) + 3 * line_inches()
   par(mai = margins, new = TRUE)
   plot.new()
   plot.window(xlim, ylim, asp = asp)
@@ -46,6 +47,13 @@ legend_inches <- function(key) {
   size <- do.call(legend, c(list(x = 0, y = 1, plot = FALSE), key))$rect
   size$w / diff(par("usr")[1:2]) * par("pin")[1]
 }
+
+line_inches <- function() par("mai")[1] / par("mar")[1]
+
+# The width of the labels beside an axis of these limits.
+label_inches <- function(limits) max(strwidth(axis_labels(pretty(limits)), "inches"))
+
+axis_labels <- function(ticks) format(ticks, big.mark = ",", scientific = FALSE, trim = TRUE)
 
 # As many animals as there is room for, and how many more there are.
 shorten_key <- function(key) {
@@ -64,11 +72,13 @@ draw_curves <- function(ranges, shown, main, ...) {
   area <- hectares_of(ranges, rows$area2)
   in_kilometres <- max(area) >= 10000
   if (in_kilometres) area <- area / 100
-  begin_plot(c(0, max(rows$n)), c(0, max(area, 0.01)), styles)
-  axis(1)
-  axis(2, las = 1)
+  begin_plot(c(0, max(rows$n)), c(0, max(area, 0.01)), styles, main)
+  axis(1, axTicks(1), axis_labels(axTicks(1)))
+  axis(2, axTicks(2), axis_labels(axTicks(2)), las = 1)
   box(bty = "l")
-  title(main = main, xlab = "Number of fixes", ylab = paste0("Area (", if (in_kilometres) "km\u00b2" else "ha", ")"), ...)
+  title(main = main, xlab = "Number of fixes", ...)
+  beside <- label_inches(par("usr")[3:4]) / line_inches() + 1.6
+  title(ylab = paste0("Area (", if (in_kilometres) "km\u00b2" else "ha", ")"), line = beside, ...)
   for (place in seq_along(shown)) {
     own <- rows$animal == shown[place]
     lines(rows$n[own], area[own], type = "s", col = styles$colour[place], lty = styles$line[place], lwd = 2)
@@ -79,13 +89,17 @@ draw_ranges <- function(ranges, shown, level, main, ...) {
   scale <- units_known[[ranges$unit]]$scale
   rings <- unlist(lapply(level, function(level) rings_of(ranges, level)[shown]), recursive = FALSE)
   styles <- styles_of(shown)
-  fixes <- ranges$fixes[ranges$fixes$animal %in% shown, c("easting", "northing")] / scale
-  all <- rbind(do.call(rbind, rings), as.matrix(fixes))
-  begin_plot(range(all[, "easting"]), range(all[, "northing"]), styles, asp = 1)
+  corners <- do.call(rbind, rings)
+  fixes <- ranges$fixes[ranges$fixes$animal %in% shown, ]
+  easting <- fixes$easting / scale
+  northing <- fixes$northing / scale
+  begin_plot(range(corners[, 1], easting), range(corners[, 2], northing), styles, main, asp = 1)
   draw_grid(main, ...)
-  colours <- styles$colour[match(ranges$fixes$animal[ranges$fixes$animal %in% shown], shown)]
-  points(fixes$easting, fixes$northing, pch = 16, cex = 0.4, col = adjustcolor(colours, 0.45))
-  for (place in seq_along(rings)) draw_ring(rings[[place]], styles[(place - 1) %% length(shown) + 1, ])
+  mtext(paste0(paste(level, collapse = ", "), " % of the fixes"), adj = 1, line = 0.1, cex = 0.8 * par("cex"))
+  colours <- styles$colour[match(fixes$animal, shown)]
+  points(easting, northing, pch = 16, cex = 0.4, col = adjustcolor(colours, 0.45))
+  width <- ifelse(rep(level, each = length(shown)) == max(level), 2, 1)
+  for (place in seq_along(rings)) draw_ring(rings[[place]], styles[(place - 1) %% length(shown) + 1, ], width[place])
 }
 
 # Axes in kilometres where the plot is wide, else in metres, and a bar of a round length above it.
@@ -106,7 +120,7 @@ draw_grid <- function(main, ...) {
 }
 
 # A polygon, of two corners a line, of one a cross.
-draw_ring <- function(ring, style) {
-  if (nrow(ring) == 1) points(ring, pch = 3, col = style$colour, lwd = 2)
-  else polygon(ring, border = style$colour, lty = style$line, lwd = 2)
+draw_ring <- function(ring, style, width) {
+  if (nrow(ring) == 1) points(ring, pch = 3, col = style$colour, lwd = width)
+  else polygon(ring, border = style$colour, lty = style$line, lwd = width)
 }

@@ -44,7 +44,8 @@ kinds_by_status <- c("file", "option", "memory", "output", "cut")
 # Stops with the program's line, which names animals in place of their files.
 refuse_run <- function(status, lines, files, animals) {
   kind <- if (status %in% seq_along(kinds_by_status)) kinds_by_status[status] else "program"
-  line <- if (length(lines)) lines[1] else paste("the program ended with status", status)
+  line <- if (length(lines)) lines[1] else "it says no more"
+  if (kind == "program" || !length(lines)) line <- paste0("the program ended with status ", status, ": ", line)
   for (place in order(-nchar(files))) line <- gsub(files[place], animals[place], line, fixed = TRUE)
   refuse(kind, line)
 }

@@ -6,10 +6,10 @@ group_size <- 32
 # The groups of files of the runs: one run of all, or one of each group for its tables and of each pair for its overlaps.
 plan_runs <- function(number) {
   if (number <= most_files) return(list(list(places = seq_len(number), is_pair = FALSE)))
-  groups <- split(seq_len(number), (seq_len(number) - 1) %/% group_size)
+  groups <- unname(split(seq_len(number), (seq_len(number) - 1) %/% group_size))
   alone <- lapply(groups, function(places) list(places = places, is_pair = FALSE))
   pairs <- combn(length(groups), 2, function(pair) {
-    list(places = unlist(groups[pair], use.names = FALSE), is_pair = TRUE)
+    list(places = unlist(groups[pair]), is_pair = TRUE)
   }, simplify = FALSE)
   c(alone, pairs)
 }

@@ -12,7 +12,7 @@ growth_at_end <- function(ranges) {
   last <- last_rows(ranges)
   before <- ranges$rows$area2[pmax(last - ceiling(number / 10), 1)]
   area <- ranges$rows$area2[last]
-  ifelse(number < 10 | area == 0, NA, (area - before) / area)
+  ifelse(number < 10 | area == 0, NA_real_, (area - before) / area)
 }
 
 # A data frame with a row for each animal and level.
@@ -20,7 +20,7 @@ summary.home_range <- function(object, ...) {
   place <- match(object$percents$animal, object$animals$animal)
   last <- last_rows(object)
   first <- last - object$animals$fixes + 1
-  left_out <- if (is.null(object$left_out)) NA else rowSums(object$left_out)[place]
+  left_out <- if (is.null(object$left_out)) NA_real_ else rowSums(object$left_out)[place]
   table <- data.frame(
     animal = object$percents$animal,
     first = object$rows$time[first[place]],
