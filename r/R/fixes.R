@@ -40,7 +40,8 @@ as_names <- function(values) {
     text <- vapply(numbers, format, "", scientific = FALSE, trim = TRUE, digits = 15)
     return(ifelse(is.na(values), NA, text[match(values, numbers)]))
   }
-  enc2utf8(as.character(values))
+  text <- as.character(values)
+  ifelse(validEnc(text), enc2utf8(text), text)
 }
 
 check_names <- function(names, rows, column) {
@@ -66,7 +67,7 @@ as_times <- function(time, rows, column, tz) {
   refuse_rows(rows, is.na(moment), "there is no ", column)
   refuse_rows(rows, !is.finite(moment), column, " is not finite")
   refuse_rows(rows, moment < 0, column, if (is.object(time)) " is before 1970" else " is less than 0")
-  refuse_rows(rows, moment > latest_second, column, " is past ", format(latest_second, big.mark = ","),
+  refuse_rows(rows, moment > latest_second, column, " is past ", format(latest_second, big.mark = ",", scientific = FALSE),
               " seconds: are these milliseconds?")
   list(time = time, moment = moment)
 }

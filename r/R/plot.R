@@ -1,11 +1,12 @@
 # Drawings of home ranges: the polygons over the fixes, and the curves of area.
 
-plot.home_range <- function(x, what = c("ranges", "curve"), level = 100, animals = NULL, main = "", ...) {
+plot.home_range <- function(x, what = c("ranges", "curve"), level = 100, animals = NULL, over = NULL,
+                            label = "boundary", main = "", ...) {
   what <- tryCatch(match.arg(what), error = function(fault) refuse("option", "what: \"ranges\" or \"curve\" is wanted"))
   shown <- shown_animals(x, animals)
   old <- par("mai")
   on.exit(par(mai = old))
-  if (what == "curve") draw_curves(x, shown, main, ...) else draw_ranges(x, shown, level, main, ...)
+  if (what == "curve") draw_curves(x, shown, main, ...) else draw_ranges(x, shown, level, check_over(x, over), label, main, ...)
   invisible(x)
 }
 
@@ -15,6 +16,16 @@ shown_animals <- function(ranges, animals) {
   missing <- setdiff(animals, known)
   if (length(missing)) refuse("option", "animals: there is no animal ", missing[1])
   known[known %in% animals]
+}
+
+# The geometry to draw over a map, which has to be in the CRS of the fixes.
+check_over <- function(ranges, over) {
+  if (is.null(over)) return(NULL)
+  if (!inherits(over, c("sf", "sfc"))) refuse("option", "over: an sf geometry is wanted")
+  if (is.null(ranges$crs) || sf::st_crs(over) != ranges$crs) {
+    refuse("option", "over: this geometry is not in the CRS of the fixes: sf::st_transform(over, sf::st_crs(polygons(x)))")
+  }
+  sf::st_geometry(over)
 }
 
 # A colour and a type of line for each animal, so that 40 of them differ in one or the other: colours of Okabe and Ito
@@ -85,7 +96,7 @@ draw_curves <- function(ranges, shown, main, ...) {
   }
 }
 
-draw_ranges <- function(ranges, shown, level, main, ...) {
+draw_ranges <- function(ranges, shown, level, over, label, main, ...) {
   scale <- units_known[[ranges$unit]]$scale
   rings <- unlist(lapply(level, function(level) rings_of(ranges, level)[shown]), recursive = FALSE)
   styles <- styles_of(shown)
@@ -93,11 +104,15 @@ draw_ranges <- function(ranges, shown, level, main, ...) {
   fixes <- ranges$fixes[ranges$fixes$animal %in% shown, ]
   easting <- fixes$easting / scale
   northing <- fixes$northing / scale
-  begin_plot(range(corners[, 1], easting), range(corners[, 2], northing), styles, main, asp = 1)
+  limits <- if (is.null(over)) c(NA, NA, NA, NA) else sf::st_bbox(over)
+  key <- rbind(styles, if (!is.null(over)) data.frame(animal = label, colour = "grey40", line = 1))
+  begin_plot(range(corners[, 1], easting, limits[c(1, 3)], na.rm = TRUE),
+             range(corners[, 2], northing, limits[c(2, 4)], na.rm = TRUE), key, main, asp = 1)
   draw_grid(main, ...)
   mtext(paste0(paste(level, collapse = ", "), " % of the fixes"), adj = 1, line = 0.1, cex = 0.8 * par("cex"))
-  colours <- styles$colour[match(fixes$animal, shown)]
-  points(easting, northing, pch = 16, cex = 0.4, col = adjustcolor(colours, 0.45))
+  if (!is.null(over)) plot(over, add = TRUE, border = "grey40", col = NA, lwd = 3)
+  pale <- adjustcolor(styles$colour, 0.45)
+  points(easting, northing, pch = 16, cex = 0.4, col = pale[match(fixes$animal, shown)])
   width <- ifelse(rep(level, each = length(shown)) == max(level), 2, 1)
   for (place in seq_along(rings)) draw_ring(rings[[place]], styles[(place - 1) %% length(shown) + 1, ], width[place])
 }

@@ -6,7 +6,8 @@ Draws the polygons of home ranges over the fixes, or the area of each animal's r
 that is made to the right of the plot.
 }
 \usage{
-\method{plot}{home_range}(x, what = c("ranges", "curve"), level = 100, animals = NULL, main = "", ...)
+\method{plot}{home_range}(x, what = c("ranges", "curve"), level = 100, animals = NULL,
+     over = NULL, label = "boundary", main = "", ...)
 }
 \arguments{
 \item{x}{a home range, from \code{\link{home_range}} or \code{\link{read_report}}.}
@@ -14,6 +15,9 @@ that is made to the right of the plot.
 \item{level}{for a map the level or the levels of the polygons, as \code{\link{polygons}} takes them. The polygons of the
   greatest level have thicker lines.}
 \item{animals}{the names of the animals to draw; all, if left out.}
+\item{over}{for a map an \code{sf} geometry of polygons or lines in the CRS of the fixes, such as the boundary of a reserve. It
+  is drawn in grey, and the map is wide enough for it.}
+\item{label}{what the legend calls it.}
 \item{main}{a title.}
 \item{...}{further arguments of \code{\link{title}}.}
 }

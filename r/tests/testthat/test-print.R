@@ -8,7 +8,7 @@ test_that("a home range prints in about ten lines", {
     "Areas in hectares by percent level; growth in the last tenth of the fixes:",
     " animal fixes  50 %  95 % 100 % growth",
     "    fox    60 17.36 50.73 55.79  0.0 %",
-    " badger    60  0.00 32.14 40.51  0.0 %",
+    " badger    60  0.00 32.14 40.51 13.2 %",
     "  otter    60 17.32 37.84 48.24  0.0 %"
   ))
 })
