@@ -1,0 +1,79 @@
+# Finds and runs the program homerange.
+
+# The path of the program.
+homerange_program <- function() {
+  named <- c("options(homerange.program)" = getOption("homerange.program", ""), "HOMERANGE" = Sys.getenv("HOMERANGE"))
+  for (by in names(named)[nzchar(named)]) {
+    path <- Sys.which(named[[by]])[[1]]
+    if (!nzchar(path)) refuse("program", "there is no program ", named[[by]], ", which ", by, " names")
+    return(normalizePath(path))
+  }
+  found <- c(clone_program(getwd()), clone_program(getNamespaceInfo("homerange", "path")), Sys.which("homerange"))
+  found <- found[nzchar(found)]
+  if (length(found) == 0) {
+    refuse("program", "the program homerange was not found: name it by options(homerange.program = \"...\") or by ",
+           "HOMERANGE in the environment, or put it on PATH")
+  }
+  normalizePath(found[[1]])
+}
+
+# The program of the clone of homerange's repository that a folder stands in, or nothing.
+clone_program <- function(folder) {
+  repeat {
+    path <- file.path(folder, "release", "homerange")
+    if (file.exists(path) && file.exists(file.path(folder, "release", "SOURCES"))) return(path)
+    if (dirname(folder) == folder) return(character())
+    folder <- dirname(folder)
+  }
+}
+
+# The lines of the report of these files, of one animal each.
+run_program <- function(files, animals, options) {
+  folder <- dirname(files[1])
+  output <- tempfile("report", folder)
+  fault <- tempfile("fault", folder)
+  on.exit(unlink(c(output, fault)))
+  words <- c(options, shQuote(files))
+  status <- suppressWarnings(system2(homerange_program(), words, stdout = output, stderr = fault))
+  if (status != 0) refuse_run(status, readLines(fault, warn = FALSE, encoding = "UTF-8"), files, animals)
+  readLines(output, warn = FALSE, encoding = "UTF-8")
+}
+
+kinds_by_status <- c("file", "option", "memory", "output", "cut")
+
+# Stops with the program's line, which names animals in place of their files.
+refuse_run <- function(status, lines, files, animals) {
+  kind <- if (status %in% seq_along(kinds_by_status)) kinds_by_status[status] else "program"
+  line <- if (length(lines)) lines[1] else "it says no more"
+  if (kind == "program" || !length(lines)) line <- paste0("the program ended with status ", status, ": ", line)
+  for (place in order(-nchar(files))) line <- gsub(files[place], animals[place], line, fixed = TRUE)
+  refuse(kind, line)
+}
+
+# Writes the fixes of each animal to a file with a number as name; a column use has which are used, if it is not NULL.
+write_tracks <- function(fixes, folder, use = NULL) {
+  text <- paste(fixes$animal, whole_text(floor(fixes$moment)), whole_text(fixes$easting), whole_text(fixes$northing), sep = ",")
+  header <- "animal,second,easting,northing"
+  if (!is.null(use)) {
+    text <- paste(text, as.integer(use), sep = ",")
+    header <- paste0(header, ",use")
+  }
+  tracks <- split(text, factor(fixes$animal, unique(fixes$animal)))
+  files <- file.path(folder, paste0(seq_along(tracks), ".csv"))
+  for (place in seq_along(tracks)) {
+    file <- file(files[place], "wb")
+    writeLines(enc2utf8(c(header, tracks[[place]])), file, useBytes = TRUE)
+    close(file)
+  }
+  files
+}
+
+whole_text <- function(numbers) sprintf("%.0f", numbers)
+
+# Calls a function with a folder of its own, which is gone afterwards.
+in_folder <- function(action) {
+  folder <- tempfile("homerange")
+  dir.create(folder)
+  on.exit(unlink(folder, recursive = TRUE))
+  action(folder)
+}

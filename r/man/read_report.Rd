@@ -1,0 +1,25 @@
+\name{read_report}
+\alias{read_report}
+\title{Read a Report of the Program}
+\description{Reads a report that the program \code{homerange} wrote elsewhere, as its own run or as a herd's.}
+\usage{
+read_report(file, start = NULL)
+}
+\arguments{
+\item{file}{the name of the report's file.}
+\item{start}{the time of second 0 as \code{POSIXct}, such as \code{as.POSIXct("1970-01-01", tz = "UTC")}. If left out, times
+  are seconds.}
+}
+\details{
+The unit of coordinates is that of the report's first line: decimetres after \code{unit,dm}, else metres. A report has no
+fixes and no coordinate reference system, so \code{\link{polygons}} has level 100 alone and gives corners in metres.
+}
+\value{An object of class \code{home_range}, as of \code{\link{home_range}}.}
+\section{Errors}{
+A report that has not the line \code{end} with the right number of animals, or has lines that are missing, twice there or of
+no known kind, is refused as \code{homerange_report_error}; a file that is not there as \code{homerange_file_error}.
+}
+\examples{
+report <- system.file("extdata", "report.txt", package = "homerange")
+read_report(report, start = as.POSIXct("2024-05-01", tz = "UTC"))
+}

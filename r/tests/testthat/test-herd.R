@@ -1,0 +1,50 @@
+# More animals than one run takes.
+
+herd <- function(number, fixes) {
+  seeds <- seq_len(number)
+  do.call(rbind, lapply(seeds, function(seed) walk(paste("deer", seed), fixes, seed, 200, c(560000, 5130000) + 90 * seed %% 7)))
+}
+
+# Which points lie in a convex polygon, whose corners go counterclockwise, by the signs of the triangles.
+in_ring <- function(points, ring) {
+  after <- ring[c(seq_len(nrow(ring))[-1], 1), ]
+  turns <- outer(points[, 2], ring[, 2], "-") * rep(after[, 1] - ring[, 1], each = nrow(points)) -
+    outer(points[, 1], ring[, 1], "-") * rep(after[, 2] - ring[, 2], each = nrow(points))
+  rowSums(turns < 0) == 0
+}
+
+test_that("70 animals are those of a direct computation", {
+  skip_without_program()
+  fixes <- herd(70, 12)
+  ranges <- quietly(home_range(fixes))
+  tracks <- lapply(split(fixes, factor(fixes$animal, unique(fixes$animal))), function(own) as.matrix(own[3:4]))
+  areas <- vapply(tracks, function(track) doubled(track[, 1], track[, 2]), 0)
+  expect_identical(round(summary(ranges)$hectares[summary(ranges)$level == 100] * 20000), unname(areas))
+  rings <- lapply(tracks, function(track) track[rev(grDevices::chull(track)), ])
+  wanted <- vapply(rings, function(ring) vapply(tracks, function(track) sum(in_ring(track, ring)), 0), numeric(70))
+  expect_identical(overlap(ranges), wanted)
+  expect_gt(sum(wanted), 70 * 12 * 2)
+  expect_identical(names(polygons(ranges, 50)), unique(fixes$animal))
+})
+
+test_that("64 animals take one run and 65 six, and the plan has each two animals in one", {
+  expect_length(plan_runs(64), 1)
+  expect_length(plan_runs(65), 6)
+  for (number in c(1, 64, 65, 96, 97, 130)) {
+    plan <- plan_runs(number)
+    met <- matrix(FALSE, number, number)
+    for (run in plan) met[run$places, run$places] <- TRUE
+    expect_true(all(met))
+    expect_lte(max(lengths(lapply(plan, `[[`, "places"))), 64)
+    alone <- unlist(lapply(plan, function(run) if (!run$is_pair) run$places))
+    expect_equal(alone, seq_len(number))
+  }
+})
+
+test_that("a bar shows how far the runs have come", {
+  skip_without_program()
+  fixes <- herd(65, 3)
+  expect_output(quietly(home_range(fixes, progress = TRUE)), "100%")
+  expect_silent(quietly(home_range(fixes, progress = FALSE)))
+  expect_silent(quietly(home_range(fixes[fixes$animal == "deer 1", ], progress = TRUE)))
+})

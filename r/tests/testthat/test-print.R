@@ -1,0 +1,36 @@
+# What is printed, and the function curve of graphics.
+
+test_that("a home range prints in about ten lines", {
+  ranges <- read_report(system.file("extdata", "report.txt", package = "homerange"), as.POSIXct("2024-05-01", tz = "UTC"))
+  expect_identical(capture.output(print(ranges)), c(
+    "Home ranges of 3 animals (minimum convex polygons)",
+    "180 fixes in whole metres, 2024-05-01 to 2024-05-02 05:30:00",
+    "Areas in hectares by percent level; growth in the last tenth of the fixes:",
+    " animal fixes  50 %  95 % 100 % growth",
+    "    fox    60 17.36 50.73 55.79  0.0 %",
+    " badger    60  0.00 32.14 40.51 13.2 %",
+    "  otter    60 17.32 37.84 48.24  0.0 %"
+  ))
+})
+
+test_that("of many animals the first are printed", {
+  skip_without_program()
+  fixes <- do.call(rbind, lapply(1:12, function(seed) walk(paste("deer", seed), 5, seed)))
+  lines <- capture.output(print(quietly(home_range(fixes))))
+  expect_length(lines, 11)
+  expect_identical(lines[11], "... and 6 more animals")
+})
+
+test_that("the function curve of graphics works as ever", {
+  path <- tempfile(fileext = ".pdf")
+  grDevices::pdf(path)
+  on.exit({
+    grDevices::dev.off()
+    unlink(path)
+  })
+  slope <- 3
+  expect_equal(curve(sin, 0, 1, n = 3)$y, sin(c(0, 0.5, 1)))
+  expect_equal(curve(slope * x^2, from = 0, to = 2, n = 3)$y, c(0, 3, 12))
+  expect_equal(curve(expr = cos, 0, 1, n = 2)$y, cos(0:1))
+  expect_error(curve(home_range(3)), "data frame", class = "homerange_error")
+})

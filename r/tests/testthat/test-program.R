@@ -1,0 +1,95 @@
+# Finding the program, and its faults, by scripts in its place.
+
+fixes <- function() {
+  data.frame(animal = rep(c("red fox", "b"), each = 2), second = 0:3, easting = 0:3, northing = 0:3)
+}
+
+test_that("each status has its class, and animals stand for files", {
+  skip_on_os("windows")
+  classes <- paste0("homerange_", c("file", "option", "memory", "output", "cut"), "_error")
+  for (status in seq_along(classes)) {
+    # The fifth and sixth words are the files.
+    local_program(sprintf("echo \"homerange: $5: record 2: what the program says of $6\" >&2; exit %d", status))
+    fault <- expect_error(quietly(home_range(fixes())), class = classes[status])
+    expect_identical(class(fault), c(classes[status], "homerange_error", "error", "condition"))
+    expect_identical(conditionMessage(fault), "homerange: red fox: record 2: what the program says of b")
+  }
+})
+
+test_that("files are numbers in a folder that is gone afterwards", {
+  skip_on_os("windows")
+  folder <- local_folder()
+  said <- file.path(folder, "said")
+  local_program(sprintf("echo \"$@\" >'%s'; cat \"$5\" >>'%s'; exit 3", said, said))
+  expect_error(quietly(home_range(fixes(), levels = c(5, 50), unit = "dm")), "the program ended with status 3: it says no more",
+               class = "homerange_memory_error")
+  lines <- readLines(said)
+  files <- strsplit(lines[1], " ")[[1]]
+  expect_identical(files[1:4], c("--unit", "dm", "--percent", "5,50"))
+  expect_identical(basename(files[5:6]), c("1.csv", "2.csv"))
+  expect_identical(lines[-1], c("animal,second,easting,northing", "red fox,0,0,0", "red fox,1,10,10"))
+  expect_false(dir.exists(dirname(files[5])))
+})
+
+test_that("a program that cannot run is an error of its own", {
+  skip_on_os("windows")
+  local_program("exit 70")
+  expect_error(quietly(home_range(fixes())), "ended with status 70", class = "homerange_program_error")
+  local_program("kill -9 $$")
+  expect_error(quietly(home_range(fixes())), "^the program ended with status 137: ", class = "homerange_program_error")
+})
+
+test_that("a report that is cut off or of other animals is refused", {
+  skip_on_os("windows")
+  local_program("echo animal,b,fixes,1")
+  expect_error(quietly(home_range(fixes())), "there is no end line", class = "homerange_report_error")
+  local_program(paste("printf '%s\\n' animal,b,fixes,1 box,b,0,0,0,0 row,b,1,0,1,0 corner,b,1,0,0 percent,b,50,1,1,0 end,1"))
+  expect_error(quietly(home_range(fixes())), "not the animals of its files", class = "homerange_check_error")
+})
+
+test_that("the program is found by options, environment, clone and PATH, in this order", {
+  skip_on_os("windows")
+  folder <- normalizePath(local_folder())
+  make <- function(...) {
+    path <- file.path(folder, ...)
+    dir.create(dirname(path), showWarnings = FALSE, recursive = TRUE)
+    writeLines("#!/bin/sh", path)
+    Sys.chmod(path, "755")
+    path
+  }
+  named <- make("named")
+  meant <- make("meant")
+  cloned <- make("clone", "release", "homerange")
+  on_path <- make("path", "homerange")
+  old <- options(homerange.program = named)
+  path <- Sys.getenv(c("PATH", "HOMERANGE"))
+  working <- getwd()
+  on.exit({
+    options(old)
+    do.call(Sys.setenv, as.list(path))
+    setwd(working)
+  }, add = TRUE, after = FALSE)
+  dir.create(file.path(folder, "clone", "r"))
+  setwd(file.path(folder, "clone", "r"))
+  Sys.setenv(HOMERANGE = meant, PATH = paste(dirname(on_path), path["PATH"], sep = ":"))
+  expect_identical(homerange_program(), named)
+  options(homerange.program = NULL)
+  expect_identical(homerange_program(), meant)
+  Sys.setenv(HOMERANGE = "")
+  skip_if(length(clone_program(getNamespaceInfo("homerange", "path"))) > 0, "the package stands in a clone")
+  expect_identical(homerange_program(), on_path)
+  make("clone", "release", "SOURCES")
+  expect_identical(homerange_program(), cloned)
+  Sys.setenv(HOMERANGE = file.path(folder, "none"))
+  expect_error(homerange_program(), "/none, which HOMERANGE names", class = "homerange_program_error")
+  options(homerange.program = file.path(folder, "nothing"))
+  expect_error(quietly(home_range(fixes())), "/nothing, which options(homerange.program) names", fixed = TRUE,
+               class = "homerange_program_error")
+})
+
+test_that("a record that the program refuses is told with its animal", {
+  skip_without_program()
+  skip_on_cran()
+  many <- data.frame(animal = "the hare", second = 0, easting = rep(1, 1048577), northing = 1)
+  expect_error(quietly(home_range(many)), "^homerange: the hare: record 1048577: ", class = "homerange_file_error")
+})

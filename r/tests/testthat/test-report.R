@@ -1,0 +1,75 @@
+# Reports that were made elsewhere.
+
+written <- function(lines, frame = parent.frame()) {
+  path <- file.path(local_folder(frame), "report.txt")
+  writeLines(enc2utf8(lines), path, useBytes = TRUE)
+  path
+}
+
+# The report of a square of 200 units that is made of four fixes, and of a fix in it, worked out by hand.
+square <- c(
+  "animal,NA,fixes,4", "box,NA,0,0,200,200", "row,NA,1,10,1,0", "row,NA,2,20,2,0", "row,NA,3,30,3,40000",
+  "row,NA,4,40,4,80000", "corner,NA,1,0,0", "corner,NA,2,200,0", "corner,NA,3,200,200", "corner,NA,4,0,200",
+  "percent,NA,50,2,2,0", "percent,NA,100,4,4,80000", "animal,Ha\u0219e,fixes,1", "box,Ha\u0219e,7,8,7,8",
+  "row,Ha\u0219e,1,5,1,0", "corner,Ha\u0219e,1,7,8", "percent,Ha\u0219e,50,1,1,0", "percent,Ha\u0219e,100,1,1,0",
+  "overlap,NA,Ha\u0219e,0,4", "overlap,Ha\u0219e,NA,1,1", "end,2"
+)
+
+test_that("a report is read", {
+  ranges <- read_report(written(square))
+  areas <- summary(ranges)
+  expect_identical(areas$animal, rep(c("NA", "Ha\u0219e"), each = 2))
+  expect_equal(areas$hectares, c(0, 4, 0, 0))
+  expect_equal(areas$kept, c(2, 4, 1, 1))
+  expect_equal(areas$first, c(10, 10, 5, 5))
+  expect_equal(areas$last, c(40, 40, 5, 5))
+  expect_identical(areas$left_out, rep(NA_real_, 4))
+  expect_equal(curve(ranges)$hectares, c(0, 0, 2, 4, 0))
+  expect_equal(overlap(ranges), matrix(c(4, 1, 0, 1), 2, dimnames = list(c("NA", "Ha\u0219e"), c("NA", "Ha\u0219e"))))
+  expect_equal(polygons(ranges)[["NA"]], cbind(easting = c(0, 200, 200, 0), northing = c(0, 0, 200, 200)))
+  expect_error(polygons(ranges, 50), "no corners of polygons below 100", class = "homerange_option_error")
+})
+
+test_that("the unit is that of the first line", {
+  ranges <- read_report(written(c("unit,dm", square)))
+  expect_equal(summary(ranges)$hectares[2], 0.04)
+  expect_equal(unname(polygons(ranges)[["NA"]][3, ]), c(20, 20))
+})
+
+test_that("seconds become times from a start", {
+  start <- as.POSIXct("2024-05-01", tz = "UTC")
+  expect_identical(summary(read_report(written(square), start))$last[1], start + 40)
+  expect_error(read_report(written(square), "2024-05-01"), class = "homerange_option_error")
+})
+
+test_that("what is no whole report is refused", {
+  refused <- function(lines, message) expect_error(read_report(written(lines)), message, class = "homerange_report_error")
+  refused(square[-21], "there is no end line, so it is cut off or no report")
+  refused(character(), "there is no end line")
+  refused(replace(square, 21, "end,3"), "it has 2 animals, and its last line says 3")
+  refused(replace(square, 21, "end,"), "there is no end line")
+  for (line in c(1:20)) refused(square[-line], "")
+  for (line in c(1:20)) refused(square[c(seq_len(line), line:21)], "")
+  refused(replace(square, 3, "row,NA,1,10,1"), "line 3 is none of a report: row,NA,1,10,1")
+  refused(replace(square, 3, "line,NA,1,10,1"), "line 3 is none")
+  refused(c("unit,dm", replace(square, 3, "row")), "line 4 is none")
+  refused(replace(square, 6, "row,NA,4,40,4,8e4"), "a line row has no whole number as area2")
+  refused(replace(square, 13, "animal,NA,fixes,1"), "an animal is there twice")
+  refused(replace(square, 15, "row,Hare,1,5,1,0"), "an animal that has no line animal")
+  expect_error(read_report(tempfile()), "there is no such file", class = "homerange_file_error")
+  expect_error(read_report(c("a", "b")), class = "homerange_option_error")
+})
+
+test_that("a report of the program reads as its run", {
+  skip_without_program()
+  fixes <- herd_of_three()
+  ranges <- quietly(home_range(fixes, levels = c(95, 50)))
+  report <- in_folder(function(folder) {
+    files <- write_tracks(ranges$fixes, folder)
+    read_report(written(run_program(files, ranges$animals$animal, c("--percent", "95,50"))))
+  })
+  expect_equal(summary(report)[-5], summary(ranges)[-5])
+  expect_identical(curve(report), curve(ranges))
+  expect_identical(overlap(report), overlap(ranges))
+  expect_identical(polygons(report), polygons(ranges))
+})

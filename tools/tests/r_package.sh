@@ -1,0 +1,29 @@
+# Builds the package for R in a folder of its own, and checks it as CRAN does, with its tests and its vignette.
+# shellcheck shell=sh disable=SC2154
+
+# Whether what the check wants is there; where it is not, says what is skipped.
+is_r_ready() {
+    is_here R 'the package for R' && is_here pandoc 'the package for R' || return 1
+    for package in sf testthat knitr rmarkdown; do
+        Rscript -e "library($package)" >/dev/null 2>&1 || {
+            skip "the package for R: no $package"
+            return 1
+        }
+    done
+}
+
+rm -rf r_package
+mkdir r_package
+cd r_package || exit 1
+if is_r_ready; then
+    holds 'the package for R is built' R CMD build "$top/r"
+    holds 'the package for R is checked' env _R_CHECK_FORCE_SUGGESTS_=false R CMD check --no-manual homerange_*.tar.gz
+    holds 'the check of the package has nothing to say' grep -qx 'Status: OK' homerange.Rcheck/00check.log
+    holds 'its tests found the program' grep -q 'FAIL 0 | WARN 0 | SKIP 1 ' homerange.Rcheck/tests/testthat.Rout
+    page=homerange.Rcheck/homerange/doc/homerange.html
+    holds 'its vignette has two pictures' [ "$(grep -c 'src="data:image/png' $page)" -eq 2 ]
+    cp "$top/r/vignettes/homerange.Rmd" .
+    holds 'its vignette is made without the program' env HOMERANGE=/none R_LIBS="$PWD/homerange.Rcheck" \
+        Rscript -e 'rmarkdown::render("homerange.Rmd", quiet = TRUE)'
+    holds 'it says that nothing was run' grep -q 'nothing on it was run' homerange.html
+fi
