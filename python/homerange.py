@@ -163,8 +163,8 @@ def _title(text: object) -> str:
     return re.sub("[ ._]", "-", str(text).strip().lower())
 
 
-def _column(frame: Any, named: str | None, role: str, titles: Sequence[str]) -> Any:
-    """The name of the column for a role: the one that was named, or else the first with one of the usual titles."""
+def _column(frame: Any, named: str | None, titles: Sequence[str]) -> Any:
+    """The column that was named, or else the first that has the first of these titles that is there; or None."""
     if named is not None:
         if named not in frame.columns:
             raise FrameError(f"there is no column {named!r}; the frame has {', '.join(map(str, frame.columns))}")
@@ -178,7 +178,7 @@ def _column(frame: Any, named: str | None, role: str, titles: Sequence[str]) -> 
 
 def _wanted(frame: Any, named: str | None, role: str) -> Any:
     """The name of a column that has to be there."""
-    column = _column(frame, named, role, TITLES[role])
+    column = _column(frame, named, TITLES[role])
     if column is None:
         raise FrameError(f"no column has a usual title for {role} ({', '.join(TITLES[role])}): name it by {role}=..")
     return column
@@ -307,7 +307,7 @@ def _column_places(frame: Any, easting: str | None, northing: str | None, used: 
             "frame['location-lat']), crs=4326) and points.to_crs(points.estimate_utm_crs())")
     columns = [_wanted(frame, easting, "easting"), _wanted(frame, northing, "northing")]
     east, north = (frame[column].set_axis(used.index)[used] for column in columns)
-    zone = _column(frame, None, "zone", ["utm-zone"]) if _title(columns[0]) == "utm-easting" else None
+    zone = _column(frame, None, ["utm-zone"]) if _title(columns[0]) == "utm-easting" else None
     crs = None if zone is None else _zone_crs(frame[zone].set_axis(used.index)[used].dropna().unique())
     return Places(_metres(east, "easting", labels), _metres(north, "northing", labels), crs)
 
@@ -329,11 +329,11 @@ def _is_true(value: Any) -> bool | None:
 def _used(frame: Any, use: str | Sequence[bool] | None, labels: Any, notes: list[str]) -> Any:
     """Which rows are used: as a column or a sequence says, or else as Movebank's marks of outliers say."""
     positions = pandas.RangeIndex(len(frame))
-    column = use if isinstance(use, str) or use is not None else _column(frame, None, "use", ["use"])
+    column = _column(frame, None, ["use"]) if use is None else use
     if column is None:
         return _unmarked(frame, positions, notes)
     if isinstance(column, str):
-        marks = frame[_column(frame, column, "use", [])]
+        marks = frame[_column(frame, column, [])]
     else:
         marks = pandas.Series(list(column), dtype=object)
         if len(marks) != len(frame):
@@ -347,7 +347,7 @@ def _unmarked(frame: Any, positions: Any, notes: list[str]) -> Any:
     """Which rows Movebank has neither as invisible nor as an outlier."""
     used = pandas.Series(True, index=positions)
     for title, outlier in (("visible", False), ("manually-marked-outlier", True)):
-        column = _column(frame, None, title, [title])
+        column = _column(frame, None, [title])
         if column is not None:
             used &= ~frame[column].set_axis(positions).map(lambda value: _is_true(value) is outlier).astype(bool)
     if not used.all():
@@ -393,7 +393,7 @@ def _bound(value: Moment, tz: str, ends: bool) -> int:
         moment = moment if moment.tzinfo else moment.tz_localize(tz)
     except Exception as fault:
         raise FrameError(f"{value!r} is no time in {tz}, such as '2024-05-01' or '2024-05-01 00:30:04'") from fault
-    second = math.floor(moment.timestamp())
+    second: int = math.floor(moment.timestamp())
     return second - 1 if a_day and ends else second
 
 
@@ -809,10 +809,19 @@ class HomeRanges:
             part = dict(itertools.islice(kept.items(), first, first + MOST_ANIMALS))
             tables.update(Runs(_find_program(self._program), part, "100", self.unit).report().tables)
         for name, table in tables.items():
-            wanted = next(percent for percent in self._report.tables[name].percents if percent.level == level)
-            if Percent(level, len(table.rows), *table.rows[-1][1:]) != wanted:
+            if Percent(level, len(table.rows), *table.rows[-1][1:]) != self._percent(name, level):
                 raise ReportError(f"the {level} per cent polygon of {name} is not that of the report")
         return tables
+
+    def _percent(self, animal: str, level: int) -> Percent:
+        """What the report says of an animal's polygon at a level."""
+        table = self._report.tables[animal]
+        whole = Percent(100, len(table.rows), *table.rows[-1][1:])
+        return {100: whole, **{percent.level: percent for percent in table.percents}}[level]
+
+    def hectares(self, animal: str, level: int = 100) -> float:
+        """The area of an animal's polygon at a level."""
+        return self._hectares(self._percent(animal, level).area2)
 
     def fixes(self, animal: str) -> Any:
         """The fixes of an animal in the order of time, an array of eastings and northings in metres; None where they
@@ -834,10 +843,7 @@ class HomeRanges:
         shapes = {1: lambda points: geometry.Point(points[0]), 2: geometry.LineString}
         rows = []
         for name, points in corners.items():
-            table = self._report.tables[name]
-            percents = {percent.level: percent for percent in table.percents}
-            whole = Percent(100, len(table.rows), *table.rows[-1][1:])
-            _, kept, count, area2 = percents.get(level, whole)
+            _, kept, count, area2 = self._percent(name, level)
             shape = shapes.get(len(points), geometry.Polygon)(points)
             rows.append((name, level, kept, count, self._hectares(area2), shape))
         titles = ["animal", "level", "kept", "corners", "hectares", "geometry"]
@@ -980,8 +986,7 @@ def plot_curve(ranges: HomeRanges, ax: Any = None) -> Any:
     axes.set(xlabel="Fixes", ylabel=f"Area of the minimum convex polygon ({sign})")
     axes.set_xlim(left=0)
     axes.set_ylim(bottom=0)
-    axes.grid(color="#dddddd", linewidth=0.6)
-    axes.set_axisbelow(True)
+    _grid(axes)
     _legend(axes, ranges.animals)
     return axes
 
@@ -999,28 +1004,29 @@ def plot_ranges(ranges: HomeRanges, ax: Any = None, level: int = 100) -> Any:
     points = numpy.array([point for polygon in corners.values() for point in polygon])
     small = max(numpy.ptp(points, axis=0)) < 2000
     scale, sign = (1, "m") if small else (1000, "km")
-    summary = ranges.summary().drop_duplicates("animal").set_index("animal")
+    divisor, area_sign = _area_scale(max(ranges.hectares(name, level) for name in ranges.animals))
     for name, style in zip(ranges.animals, _styles(ranges.animals)):
         polygon = numpy.array([*corners[name], corners[name][0]]) / scale
         fixes = ranges.fixes(name)
         if fixes is not None:
             axes.scatter(*(fixes / scale).T, s=4, color=style["color"], alpha=0.35, linewidths=0, zorder=1)
         axes.fill(*polygon.T, color=style["color"], alpha=0.08, zorder=2)
-        axes.plot(*polygon.T, label=f"{_label(name)} ({summary['fixes'][name]} fixes)", zorder=3, **style)
-    _map_axes(axes, sign, f" ({ranges.crs})" if isinstance(ranges.crs, str) else "")
+        label = f"{_label(name)} ({ranges.hectares(name, level) / divisor:,.4g} {area_sign})"
+        axes.plot(*polygon.T, label=label, zorder=3, **style)
+    axes.set_aspect("equal", adjustable="datalim")
+    axes.set(xlabel=f"Easting ({sign})", ylabel=f"Northing ({sign})")
     axes.set_title(f"Minimum convex polygons, {level} % of the fixes", fontsize="medium", loc="left")
+    _grid(axes)
     _legend(axes, ranges.animals)
     return axes
 
 
-def _map_axes(axes: Any, sign: str, crs: str) -> None:
-    """Makes axes those of a map: of one scale, with whole numbers that do not run into each other."""
-    from matplotlib.ticker import FuncFormatter, MaxNLocator
+def _grid(axes: Any) -> None:
+    """Numbers with commas between thousands, few enough not to run into each other, and a grid behind the curves."""
+    from matplotlib.ticker import FuncFormatter, MaxNLocator  # type: ignore[import]
 
-    axes.set_aspect("equal", adjustable="datalim")
-    axes.set(xlabel=f"Easting ({sign}){crs}", ylabel=f"Northing ({sign})")
     for axis in (axes.xaxis, axes.yaxis):
-        axis.set_major_locator(MaxNLocator(5, steps=[1, 2, 5, 10]))
+        axis.set_major_locator(MaxNLocator(6, steps=[1, 2, 5, 10]))
         axis.set_major_formatter(FuncFormatter(lambda value, _: f"{value:,.10g}"))
     axes.grid(color="#dddddd", linewidth=0.6)
     axes.set_axisbelow(True)
