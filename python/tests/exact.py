@@ -31,6 +31,11 @@ def area2(corners):
     return sum(a[0] * b[1] - b[0] * a[1] for a, b in zip(corners, corners[1:] + corners[:1]))
 
 
+def covers(corners, point):
+    """Whether a polygon of three corners or more covers the point, its edges included."""
+    return all(turn(a, b, point) >= 0 for a, b in zip(corners, corners[1:] + corners[:1]))
+
+
 def nearest(points, level):
     """The points that a level keeps."""
     mean = [Fraction(sum(point[axis] for point in points), len(points)) for axis in (0, 1)]

@@ -1,7 +1,7 @@
 """The numbers of home_range, compared with hulls, percent rules and overlaps that are computed here or by shapely."""
 import pandas
 import pytest
-from exact import area2, cloud, frame_of, hull, nearest
+from exact import area2, cloud, covers, frame_of, hull, nearest
 
 from homerange import FileError, FrameError, HomeRangeNote, home_range
 
@@ -142,12 +142,12 @@ def test_a_herd_is_made_of_groups(count, runs):
     assert done == [(step, runs) for step in range(1, runs + 1)]
     assert found.animals == [*tracks]
     assert found.corners(95) == {name: hull(nearest(points, 95)) for name, points in tracks.items()}
-    assert found.corners(100) == {name: hull(points) for name, points in tracks.items()}
+    polygons = {name: hull(points) for name, points in tracks.items()}
+    assert found.corners(100) == polygons
     overlap = found.overlap()
     for name, points in tracks.items():
-        for other, others in tracks.items():
-            assert overlap.loc[name, other] == sum(len(hull([*others, point])) == len(hull(others)) and
-                                                   hull([*others, point]) == hull(others) for point in points)
+        for other in tracks:
+            assert overlap.loc[name, other] == sum(covers(polygons[other], point) for point in points)
 
 
 def test_a_level_that_is_not_there_is_refused(herd):
