@@ -1,9 +1,8 @@
 """The numbers of home_range, compared with hulls, percent rules and overlaps that are computed here or by shapely."""
-import pandas
 import pytest
 from exact import area2, cloud, covers, frame_of, hull, nearest
 
-from homerange import FileError, FrameError, HomeRangeNote, home_range
+from homerange import FrameError, HomeRangeNote, home_range
 
 HERD = {"vixen": cloud(1, 120), "old boar": cloud(2, 75, 300, 562500), "Jäger": cloud(3, 9, 5), "NA": cloud(4, 41, 2000)}
 LEVELS = [1, 50, 95, 99, 100]
@@ -159,9 +158,3 @@ def test_one_level_may_be_given_alone():
     found = home_range(frame_of(a=SQUARE), 50)
     assert found.levels == [50]
     assert found.corners(100) == {"a": SQUARE}
-
-
-def test_an_animal_of_too_many_fixes_is_refused_by_its_name():
-    frame = pandas.DataFrame({"animal": "crow", "second": range(2 ** 20 + 1), "easting": 1, "northing": 2})
-    with pytest.raises(FileError, match="^homerange: crow: .*1048576"):
-        home_range(frame)
