@@ -2,10 +2,6 @@
 import random
 from fractions import Fraction
 
-import pandas
-
-START = pandas.Timestamp("2024-03-01", tz="UTC")
-
 
 def turn(a, b, c):
     return (b[0] - a[0]) * (c[1] - a[1]) - (b[1] - a[1]) * (c[0] - a[0])
@@ -48,10 +44,3 @@ def cloud(seed, count, spread=900, east=562000, north=5134000):
     """Points about a place, on a grid that is coarse enough for some to be equal or on one line."""
     draw = random.Random(seed)
     return [(east + draw.randrange(-spread, spread), north + draw.randrange(-spread, spread)) for _ in range(count)]
-
-
-def frame_of(**animals):
-    """A data frame of the points of some animals, with a fix every half an hour from the first of March 2024."""
-    rows = [(name, START + pandas.Timedelta(minutes=30 * at), *point)
-            for name, points in animals.items() for at, point in enumerate(points)]
-    return pandas.DataFrame(rows, columns=["animal", "timestamp", "easting", "northing"])

@@ -3,7 +3,7 @@ from datetime import date, datetime, timezone
 
 import pandas
 import pytest
-from exact import START, frame_of
+from frames import START, frame_of
 
 from homerange import FrameError, HomeRangeNote, home_range
 

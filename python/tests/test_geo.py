@@ -1,6 +1,7 @@
 """GeoDataFrames: which are taken, which are refused, and the CRS of the answers."""
 import pytest
-from exact import cloud, frame_of, hull
+from exact import cloud, hull
+from frames import frame_of
 
 from homerange import FrameError, HomeRangeNote, home_range
 

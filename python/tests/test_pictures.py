@@ -1,6 +1,7 @@
 """Pictures: what is drawn, and that nothing covers it."""
 import pytest
-from exact import cloud, frame_of, hull
+from exact import cloud, hull
+from frames import frame_of
 
 matplotlib = pytest.importorskip("matplotlib")
 matplotlib.use("Agg")

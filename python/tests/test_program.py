@@ -5,7 +5,8 @@ import stat
 from pathlib import Path
 
 import pytest
-from exact import cloud, frame_of
+from exact import cloud
+from frames import frame_of
 
 import homerange
 from homerange import home_range

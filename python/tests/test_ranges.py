@@ -1,6 +1,7 @@
 """The numbers of home_range, compared with hulls, percent rules and overlaps that are computed here or by shapely."""
 import pytest
-from exact import area2, cloud, covers, frame_of, hull, nearest
+from exact import area2, cloud, covers, hull, nearest
+from frames import frame_of
 
 from homerange import FrameError, HomeRangeNote, home_range
 

@@ -3,14 +3,14 @@
 
 # What a summary of pytest says of tests that ended so.
 ended() {
-    sed -n "s/^$1 //p" pytest
+    sed -n "s/^$1 //p" summary
 }
 
 if ! python3 -c 'import pandas, pytest' 2>errors; then
     skip "the Python module: $(tail -n 1 errors)"
 else
     export PYTHONDONTWRITEBYTECODE=1
-    python3 -m pytest -q -r pfEs -p no:cacheprovider "$top/python/tests" >pytest 2>&1
+    python3 -m pytest -q -r pfEs -p no:cacheprovider "$top/python/tests" >summary 2>&1
     status=$?
     ended PASSED >>"$work/passed"
     ended SKIPPED | while read -r said; do skip "the Python module: $said"; done
