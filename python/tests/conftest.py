@@ -1,0 +1,17 @@
+"""Finds the module, and makes notes faults, so that a test says which notes it expects."""
+import sys
+import warnings
+from pathlib import Path
+
+import pytest
+
+sys.path[:0] = [str(Path(__file__).parents[1]), str(Path(__file__).parent)]
+
+import homerange  # noqa: E402
+
+
+@pytest.fixture(autouse=True)
+def no_unexpected_notes():
+    with warnings.catch_warnings():
+        warnings.simplefilter("error", homerange.HomeRangeNote)
+        yield

@@ -1,0 +1,69 @@
+"""GeoDataFrames: which are taken, which are refused, and the CRS of the answers."""
+import pytest
+from exact import cloud, hull
+from frames import frame_of
+
+from homerange import FrameError, HomeRangeNote, home_range
+
+geopandas = pytest.importorskip("geopandas")
+POINTS = cloud(5, 30)
+
+
+def geo(crs="EPSG:32633", points=POINTS):
+    frame = frame_of(vixen=points)
+    places = geopandas.points_from_xy(frame.pop("easting"), frame.pop("northing"))
+    return geopandas.GeoDataFrame(frame, geometry=places, crs=crs)
+
+
+def test_points_are_fixes_and_the_crs_stays():
+    found = home_range(geo())
+    assert found.corners() == {"vixen": hull(POINTS)}
+    assert found.polygons(95).crs == "EPSG:32633"
+    assert found.polygons().geometry.area.tolist() == [pytest.approx(found.hectares("vixen") * 10_000)]
+
+
+def test_columns_that_are_named_go_before_points():
+    frame = geo("EPSG:4326").assign(e=1, n=2)
+    assert home_range(frame, easting="e", northing="n").corners() == {"vixen": [(1, 2)]}
+
+
+def test_points_in_a_column_of_another_name():
+    assert home_range(geo().rename_geometry("where")).corners() == {"vixen": hull(POINTS)}
+
+
+@pytest.mark.parametrize("crs, said", [
+    (None, "the frame has no CRS: name the one that it is in, such as frame.set_crs"),
+    ("EPSG:4326", r"the CRS WGS 84 is not a plane one in metres: project it first, as by frame.to_crs\(frame.estimate_utm_crs"),
+    ("EPSG:2264", "the CRS .* is in US survey foot and not in metres: project it first"),
+    ("EPSG:3857", "areas in the CRS WGS 84 / Pseudo-Mercator grow away from the equator: project it first"),
+])
+def test_a_crs_that_cannot_be_right_is_refused(crs, said):
+    with pytest.raises(FrameError, match=said):
+        home_range(geo(crs))
+
+
+def test_the_call_that_helps_helps():
+    degrees = geo().to_crs(4326)
+    with pytest.raises(FrameError):
+        home_range(degrees)
+    with pytest.warns(HomeRangeNote, match="rounded to whole metres"):
+        found = home_range(degrees.to_crs(degrees.estimate_utm_crs()))
+    assert found.corners() == {"vixen": hull(POINTS)}
+
+
+def test_rows_without_a_point_are_refused():
+    from shapely.geometry import LineString, Point
+
+    for bad, said in [(None, "there is no point"), (Point(), "there is no point"),
+                      (LineString([(0, 0), (1, 1)]), "there is a LineString and not a point")]:
+        frame = geo()
+        frame.geometry = [bad, *frame.geometry[1:]]
+        with pytest.raises(FrameError, match=f"^row 0: {said}"):
+            home_range(frame)
+        assert home_range(frame, use=[False] + [True] * 29).summary()["fixes"].tolist() == [29] * 3
+
+
+def test_points_in_decimetres_come_back_in_metres():
+    points = [(10.2, 20.0), (30.0, 20.1), (30.0, 40.3)]
+    found = home_range(geo(points=points), unit="dm")
+    assert [*found.polygons().geometry[0].exterior.coords][:-1] == points

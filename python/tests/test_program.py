@@ -1,0 +1,127 @@
+"""How the program is found, and which errors come of what it says."""
+import os
+import shutil
+import stat
+from pathlib import Path
+
+import pytest
+from exact import cloud
+from frames import frame_of
+
+import homerange
+from homerange import home_range
+
+POINTS = cloud(6, 20)
+MODULE = Path(homerange.__file__)
+
+
+@pytest.fixture
+def stand_in(tmp_path):
+    """Makes a program of these lines of shell."""
+
+    def make(*lines):
+        path = tmp_path / "homerange"
+        path.write_text("\n".join(["#!/bin/sh", *lines]) + "\n")
+        path.chmod(path.stat().st_mode | stat.S_IXUSR)
+        return path
+
+    return make
+
+
+def real_program():
+    return homerange._find_program(None)
+
+
+@pytest.mark.parametrize("status, kind", [
+    (1, homerange.FileError), (2, homerange.OptionError), (3, homerange.OutOfMemoryError), (4, homerange.OutputError),
+    (5, homerange.CutError)])
+def test_each_status_has_its_error(stand_in, status, kind):
+    program = stand_in('echo "homerange: 1.csv: record 5: what is wrong" >&2', f"exit {status}")
+    with pytest.raises(kind) as caught:
+        home_range(frame_of(a=POINTS, **{"old boar": POINTS}), program=program)
+    assert str(caught.value) == "homerange: old boar: record 5: what is wrong"
+    assert caught.value.status == status
+    assert isinstance(caught.value, homerange.HomeRangeError)
+
+
+@pytest.mark.parametrize("line, said", [
+    ("exit 70", "ended with status 70"), ("kill -9 $$", "ended with status -9"),
+    ('echo "no such thing" >&2; exit 127', "^no such thing$")])
+def test_a_program_that_is_ended_is_no_fault_of_files(stand_in, line, said):
+    with pytest.raises(homerange.ProgramError, match=said) as caught:
+        home_range(frame_of(a=POINTS), program=stand_in(line))
+    assert caught.value.status is None
+
+
+def test_the_programs_own_refusals():
+    with pytest.raises(homerange.OptionError, match="^homerange: --percent: level 1 is not a whole number from 1 to 100"):
+        home_range(frame_of(a=POINTS), [95.5])
+    with pytest.raises(homerange.OptionError, match="more than 8 levels"):
+        home_range(frame_of(a=POINTS), range(1, 10))
+
+
+def test_no_program(tmp_path, monkeypatch, stand_in):
+    with pytest.raises(homerange.ProgramError, match="there is no program .*: name it by program=.. or in the environment"):
+        home_range(frame_of(a=POINTS), program=tmp_path / "none")
+    text = stand_in()
+    text.write_bytes(b"\x7fELF")
+    with pytest.raises(homerange.ProgramError, match="does not run"):
+        home_range(frame_of(a=POINTS), program=text)
+    monkeypatch.setenv("HOMERANGE", str(tmp_path / "none"))
+    with pytest.raises(homerange.ProgramError, match="there is no program"):
+        home_range(frame_of(a=POINTS))
+
+
+def test_where_the_program_is_looked_for(tmp_path, monkeypatch, stand_in):
+    real = real_program()
+    told = stand_in(f'echo >>"{tmp_path}/calls"', f'exec "{real}" "$@"')
+
+    def calls(**words):
+        home_range(frame_of(a=POINTS), **words)
+        log = tmp_path / "calls"
+        return log.exists() and not log.unlink()
+
+    monkeypatch.delenv("HOMERANGE", raising=False)
+    assert calls(program=told)
+    monkeypatch.setenv("HOMERANGE", str(told))
+    assert calls()
+    assert not calls(program=real)
+    monkeypatch.setenv("HOMERANGE", "./homerange")
+    monkeypatch.chdir(tmp_path)
+    assert calls()
+    monkeypatch.delenv("HOMERANGE")
+    if os.access(MODULE.parents[1] / "release" / "homerange", os.X_OK):
+        assert homerange._find_program(None) == str(MODULE.parents[1] / "release" / "homerange")
+    alone = tmp_path / "elsewhere" / "homerange.py"
+    alone.parent.mkdir()
+    shutil.copy(MODULE, alone)
+    monkeypatch.setattr(homerange, "__file__", str(alone))
+    monkeypatch.setenv("PATH", str(tmp_path), prepend=os.pathsep)
+    assert calls()
+
+
+@pytest.mark.parametrize("change, said", [
+    ("s/^end,1$//", "is cut off"),
+    ("s/^row,a,7,/row,a,8,/", "line 9 is 'row,a,8,.*, which does not fit there"),
+    ("/^box/d", "line 2 is 'row,a,1,"),
+    ("s/,a,/,b,/", "reports another unit, other animals or fixes"),
+])
+def test_a_report_that_does_not_fit_is_refused(stand_in, change, said):
+    with pytest.raises(homerange.ReportError, match=said):
+        home_range(frame_of(a=POINTS), program=stand_in(f'"{real_program()}" "$@" | sed "{change}"'))
+
+
+def test_kept_fixes_that_are_not_those_of_the_report_are_refused(stand_in):
+    """A program that reports the 95 per cent polygon of other fixes than the rule keeps."""
+    program = stand_in(f'"{real_program()}" "$@" | sed "s/^percent,a,95,19,\\([0-9]*\\),/percent,a,95,19,\\11,/"')
+    found = home_range(frame_of(a=POINTS), program=program)
+    with pytest.raises(homerange.ReportError, match="the 95 per cent polygon of a is not that of the report"):
+        found.corners(95)
+
+
+def test_no_file_is_left(tmp_path, monkeypatch, stand_in):
+    monkeypatch.setattr(homerange.tempfile, "tempdir", str(tmp_path))
+    home_range(frame_of(a=POINTS)).corners(50)
+    with pytest.raises(homerange.OptionError):
+        home_range(frame_of(a=POINTS), 0)
+    assert [*tmp_path.iterdir()] == []

@@ -1,0 +1,161 @@
+"""The numbers of home_range, compared with hulls, percent rules and overlaps that are computed here or by shapely."""
+import pytest
+from exact import area2, cloud, covers, hull, nearest
+from frames import frame_of
+
+from homerange import FrameError, HomeRangeNote, home_range
+
+HERD = {"vixen": cloud(1, 120), "old boar": cloud(2, 75, 300, 562500), "Jäger": cloud(3, 9, 5), "NA": cloud(4, 41, 2000)}
+LEVELS = [1, 50, 95, 99, 100]
+SQUARE = [(0, 0), (200, 0), (200, 200), (0, 200)]
+
+
+@pytest.fixture(scope="module")
+def herd():
+    return home_range(frame_of(**HERD), LEVELS)
+
+
+def whole(polygon):
+    """The corners of a polygon of shapely as whole numbers, not those on an edge."""
+    return hull([(int(east), int(north)) for east, north in polygon.exterior.coords])
+
+
+def test_areas_and_corners_are_those_of_a_monotone_chain(herd):
+    found = herd.summary()
+    assert found["animal"].unique().tolist() == [*HERD]
+    for name, points in HERD.items():
+        for level in LEVELS:
+            kept = nearest(points, level)
+            row = found[(found["animal"] == name) & (found["level"] == level)].iloc[0]
+            assert (row["kept"], row["corners"]) == (len(kept), len(hull(kept)))
+            assert row["hectares"] == area2(hull(kept)) / 20000
+            assert herd.corners(level)[name] == hull(kept)
+
+
+def test_curve_is_that_of_a_monotone_chain(herd):
+    curve = herd.curve()
+    for name, points in HERD.items():
+        own = curve[curve["animal"] == name]
+        assert own["n"].tolist() == [*range(1, len(points) + 1)]
+        assert own["corners"].tolist() == [len(hull(points[:n])) for n in range(1, len(points) + 1)]
+        assert own["hectares"].tolist() == [area2(hull(points[:n])) / 20000 for n in range(1, len(points) + 1)]
+        assert own["time"].tolist() == frame_of(a=points)["timestamp"].tolist()
+
+
+@pytest.mark.parametrize("level", LEVELS)
+def test_polygons_are_the_convex_hulls_of_shapely(herd, level):
+    pytest.importorskip("geopandas")
+    from shapely.geometry import MultiPoint
+
+    for row in herd.polygons(level).itertuples():
+        wanted = MultiPoint(nearest(HERD[row.animal], level)).convex_hull
+        assert row.geometry.equals(wanted)
+        if wanted.geom_type == "Polygon":
+            assert whole(row.geometry) == whole(wanted)
+            assert round(2 * wanted.area) == area2(whole(wanted)) == round(row.hectares * 20000)
+            assert len(row.geometry.exterior.coords) == row.corners + 1
+
+
+def test_polygons_are_the_convex_hulls_of_geopandas(herd):
+    geopandas = pytest.importorskip("geopandas")
+    frame = frame_of(**HERD)
+    points = geopandas.GeoSeries(geopandas.points_from_xy(frame["easting"], frame["northing"]))
+    found = herd.polygons(100).set_index("animal")["geometry"]
+    for name, own in points.groupby(frame["animal"]):
+        assert area2(whole(found[name])) == area2(whole(own.unary_union.convex_hull))
+
+
+def test_overlaps_are_those_of_shapely(herd):
+    pytest.importorskip("shapely")
+    from shapely.geometry import MultiPoint, Point
+
+    counts, shares = herd.overlap(), herd.overlap(share=True)
+    assert counts.index.tolist() == counts.columns.tolist() == [*HERD]
+    for name, points in HERD.items():
+        for other, others in HERD.items():
+            polygon = MultiPoint(others).convex_hull
+            inside = sum(polygon.covers(Point(point)) for point in points)
+            assert counts.loc[name, other] == inside
+            assert shares.loc[name, other] == inside / len(points)
+
+
+def test_edges_belong_to_a_polygon():
+    found = home_range(frame_of(a=SQUARE, b=[(100, 0), (200, 200), (100, 100), (201, 100)])).overlap()
+    assert found.loc["b", "a"] == 3
+    assert found.loc["a", "b"] == 1
+
+
+def test_decimetres_are_read_rounded_and_answered_in_metres():
+    pytest.importorskip("geopandas")
+    square = [(10.04, 20.0), (30.0, 20.0), (30.0, 40.05), (10.0, 40.0)]
+    with pytest.warns(HomeRangeNote, match="rounded to whole decimetres, which moves a fix by at most 0.05 m"):
+        found = home_range(frame_of(urchin=square), 100, "dm")
+    assert found.corners() == {"urchin": [(10.0, 20.0), (30.0, 20.0), (30.0, 40.1), (10.0, 40.0)]}
+    # Doubled, in square decimetres: 200 x 200 twice, and the triangle 200 x 1 above it.
+    assert found.summary()["hectares"].tolist() == [80200 / 2_000_000]
+    assert found.polygons().geometry.area.tolist() == [pytest.approx(401.0)]
+    assert found.curve()["hectares"].iloc[-1] == 80200 / 2_000_000
+
+
+def test_half_a_metre_is_rounded_up():
+    with pytest.warns(HomeRangeNote, match="moves a fix by at most 0.71 m"):
+        found = home_range(frame_of(a=[(0.5, 1.5), (2.49, 3.0)]))
+    assert found.corners() == {"a": [(1, 2), (2, 3)]}
+
+
+def test_one_fix_two_equal_fixes_and_a_line_have_no_area():
+    geopandas = pytest.importorskip("geopandas")
+    found = home_range(frame_of(one=[(5, 6)], same=[(7, 7), (7, 7)], line=[(0, 0), (4, 4), (2, 2)]))
+    polygons = found.polygons().set_index("animal")
+    assert isinstance(found.polygons(50), geopandas.GeoDataFrame)
+    assert polygons["geometry"].map(lambda shape: shape.wkt).to_dict() == {
+        "one": "POINT (5 6)", "same": "POINT (7 7)", "line": "LINESTRING (0 0, 4 4)"}
+    assert polygons["corners"].to_dict() == {"one": 1, "same": 1, "line": 2}
+    assert (found.summary()["hectares"] == 0).all()
+    assert found.summary()["growth"].isna().all()
+
+
+def test_growth_is_that_over_the_last_tenth():
+    # Of 20 fixes the first 18 are the corners of a square of 2 ha, the 19th doubles it, and the 20th adds nothing.
+    points = [(0, 0), (100, 0), (100, 200), (0, 200)] * 5
+    points[18:] = [(200, 0), (200, 200)]
+    summary = home_range(frame_of(a=points)).summary()
+    # 2 ha before; the box of 200 m by 200 m after.
+    assert summary["growth"].tolist() == [1.0] * 3
+    steady = home_range(frame_of(a=points[:18])).summary()
+    assert steady["growth"].tolist() == [0.0] * 3
+
+
+def test_summary_has_times_and_counts():
+    frame = frame_of(a=SQUARE)
+    found = home_range(frame, 100, use=[True, True, True, False], tz="Europe/Ljubljana").summary()
+    assert [str(time) for time in (found["first"][0], found["last"][0])] == [
+        "2024-03-01 01:00:00+01:00", "2024-03-01 02:00:00+01:00"]
+    assert found[["fixes", "left_out", "kept", "corners"]].values.tolist() == [[3, 1, 3, 3]]
+
+
+@pytest.mark.parametrize("count, runs", [(64, 1), (65, 6), (70, 6)])
+def test_a_herd_is_made_of_groups(count, runs):
+    tracks = {f"deer {number}": cloud(number, 7, 400, 562000 + 100 * (number % 9)) for number in range(count)}
+    done = []
+    found = home_range(frame_of(**tracks), [95, 100], progress=lambda *numbers: done.append(numbers))
+    assert done == [(step, runs) for step in range(1, runs + 1)]
+    assert found.animals == [*tracks]
+    assert found.corners(95) == {name: hull(nearest(points, 95)) for name, points in tracks.items()}
+    polygons = {name: hull(points) for name, points in tracks.items()}
+    assert found.corners(100) == polygons
+    overlap = found.overlap()
+    for name, points in tracks.items():
+        for other in tracks:
+            assert overlap.loc[name, other] == sum(covers(polygons[other], point) for point in points)
+
+
+def test_a_level_that_is_not_there_is_refused(herd):
+    with pytest.raises(FrameError, match=r"level 80 is none of these ranges \(1, 50, 95, 99, 100\)"):
+        herd.polygons(80)
+
+
+def test_one_level_may_be_given_alone():
+    found = home_range(frame_of(a=SQUARE), 50)
+    assert found.levels == [50]
+    assert found.corners(100) == {"a": SQUARE}

@@ -1,0 +1,137 @@
+"""Reports that were made elsewhere: what is read, and what is refused."""
+import subprocess
+from pathlib import Path
+
+import pandas
+import pytest
+from exact import cloud, hull, nearest
+
+import homerange
+from homerange import FrameError, ReportError, read_report
+
+TRACKS = {"vixen": cloud(7, 40), "old boar": cloud(8, 11)}
+
+
+@pytest.fixture
+def files(tmp_path):
+    """The tracks as files, with one record of the first that is not used."""
+    for number, (name, points) in enumerate(TRACKS.items()):
+        lines = [f"{name},{1800 * at},{east},{north},1" for at, (east, north) in enumerate(points)]
+        lines[1:1] = [f"{name},0,9,9,0"] if number == 0 else []
+        text = "\r\n".join(["animal,second,easting,northing,use", *lines, ""])
+        (tmp_path / f"{number}.csv").write_text("\ufeff" + text, encoding="utf-8", newline="")
+    return [tmp_path / "0.csv", tmp_path / "1.csv"]
+
+
+def report_of(files, *options):
+    path = Path(files[0]).with_name("report.txt")
+    with open(path, "wb") as file:
+        subprocess.run([homerange._find_program(None), *options, *files], stdout=file, check=True)
+    return path
+
+
+def test_a_report_is_read(files):
+    found = read_report(report_of(files), crs="EPSG:32633")
+    assert (found.animals, found.levels, found.unit) == ([*TRACKS], [50, 95, 100], "m")
+    assert found.corners() == {name: hull(points) for name, points in TRACKS.items()}
+    assert found.summary()["left_out"].isna().all()
+    assert found.fixes("vixen") is None
+    assert str(found.summary()["first"][0]) == "1970-01-01 00:00:00+00:00"
+
+
+def test_a_report_with_its_files(files):
+    pytest.importorskip("geopandas")
+    found = read_report(report_of(files, "--percent", "30,95"), files=files[::-1], crs="EPSG:32633")
+    assert found.corners(30) == {name: hull(nearest(points, 30)) for name, points in TRACKS.items()}
+    assert found.fixes("old boar").tolist() == [[*point] for point in TRACKS["old boar"]]
+    assert found.summary()["left_out"].tolist() == [1, 1, 0, 0]
+    assert found.polygons(30).crs == "EPSG:32633"
+
+
+def test_a_report_in_decimetres(files):
+    found = read_report(report_of(files, "--unit", "dm"))
+    assert found.unit == "dm"
+    assert found.corners() == {name: [(e / 10, n / 10) for e, n in hull(points)] for name, points in TRACKS.items()}
+
+
+def test_polygons_below_100_want_fixes(files):
+    with pytest.raises(FrameError, match=r"need the fixes: read_report\(path, files=..\)"):
+        read_report(report_of(files)).polygons(95)
+
+
+def test_files_of_other_fixes_are_refused(files):
+    report = report_of(files)
+    with pytest.raises(ReportError, match="no file has the animal old boar of the report"):
+        read_report(report, files=files[:1])
+    lines = files[1].read_text("utf-8").splitlines()
+    files[1].write_text("\n".join(lines[:-1]) + "\n")
+    with pytest.raises(ReportError, match="the file of old boar has other fixes than the report"):
+        read_report(report, files=files)
+    files[1].write_text("animal,second\na,5\n")
+    with pytest.raises(FrameError, match="1.csv has no fix with animal, second, easting and northing"):
+        read_report(report, files=files)
+
+
+def test_fixes_in_other_places_are_refused(files):
+    report = report_of(files)
+    files[1].write_text(files[1].read_text("utf-8").replace(f",{TRACKS['old boar'][3][0]},", ",1,"))
+    with pytest.raises(ReportError, match="old boar is not that of the report"):
+        read_report(report, files=files).corners(95)
+
+
+def changed(text, kind, change):
+    """The text with the first line of a kind changed; a change to None takes the line out."""
+    lines = text.splitlines(keepends=True)
+    at = next(number for number, line in enumerate(lines) if line.startswith(kind))
+    lines[at:at + 1] = change(lines[at])
+    return "".join(lines)
+
+
+@pytest.mark.parametrize("kind, change, said", [
+    ("end", lambda line: [], "is cut off"),
+    ("end", lambda line: ["end,2"], "is cut off"),
+    ("end", lambda line: ["end,3\n"], "line .* is 'end,3', which does not fit there"),
+    ("animal,vixen", lambda line: [], "has no animals|which does not fit there"),
+    ("animal,vixen", lambda line: ["animal,vixen,fixes,41\n"], "which does not fit there"),
+    ("animal,old boar", lambda line: ["animal,vixen,fixes,11\n"], "has the animal vixen twice"),
+    ("box", lambda line: [], "which does not fit there"),
+    ("row,vixen,3,", lambda line: [], "line 5 is 'row,vixen,4,"),
+    ("row,vixen,3,", lambda line: [line, line], "line 6 is 'row,vixen,3,"),
+    ("row,old boar,3,", lambda line: [line.replace("old boar", "vixen")], "is 'row,vixen,3,"),
+    ("row,vixen,3,", lambda line: ["row,vixen,3,-5,1,0\n"], "is 'row,vixen,3,-5"),
+    ("corner,vixen,2,", lambda line: [], "is 'corner,vixen,3,"),
+    ("percent,vixen,50,", lambda line: ["percent,vixen,50,21,3,9\n"], "vixen has 21 of 40 fixes at 50 per cent"),
+    ("percent,vixen,50,", lambda line: [], "has other levels for some animals"),
+    ("overlap,vixen", lambda line: [], "is 'overlap,old boar,vixen,"),
+    ("overlap,vixen", lambda line: ["overlap,vixen,old boar,41,40\n"], "41 of 40 fixes of vixen are in the range of old"),
+    ("overlap,vixen", lambda line: ["overlap,vixen,old boar,5,39\n"], "is 'overlap,vixen,old boar,5,39'"),
+])
+def test_a_report_that_is_not_whole_is_refused(files, kind, change, said):
+    path = report_of(files)
+    path.write_text(changed(path.read_text(), kind, change))
+    with pytest.raises(ReportError, match=said):
+        read_report(path)
+
+
+@pytest.mark.parametrize("text", ["", "\n", "end,0\n", "unit,dm\nend,0\n"])
+def test_what_has_no_animals_is_no_report(tmp_path, text):
+    path = tmp_path / "report.txt"
+    path.write_text(text)
+    with pytest.raises(ReportError):
+        read_report(path)
+
+
+def test_a_file_that_is_not_there_is_a_fault_of_the_system(tmp_path):
+    with pytest.raises(FileNotFoundError):
+        read_report(tmp_path / "none.txt")
+
+
+def test_the_examples_in_the_repository():
+    """The fox's area is that of the hull of its file."""
+    examples = Path(homerange.__file__).parents[1] / "examples"
+    if not examples.is_dir():
+        pytest.skip("no examples")
+    frame = pandas.read_csv(examples / "fox.csv")
+    points = [*zip(frame["easting"].tolist(), frame["northing"].tolist())]
+    found = homerange.home_range(frame)
+    assert found.corners(95) == {"fox": hull(nearest(points, 95))}

@@ -1,0 +1,93 @@
+#!/usr/bin/env python3
+"""corners.py LEVEL [--unit dm] FILE: the corners of the percent polygon of a file, as the report has them at 100 %:
+lines 'corner,NAME,i,easting,northing', counterclockwise from the westernmost.
+
+The script marks the fixes that the level keeps, of n used ones the (level * n + 99) // 100 nearest to the mean of all,
+of fixes as near the earlier, and has homerange make the polygon of these. Where that has another area, or another
+number of corners, than the report of the whole file says at this level, it prints nothing and ends with status 1. The
+program is the one that the environment names as HOMERANGE, or that of program.sh."""
+import argparse
+import csv
+import os
+import subprocess
+import sys
+import tempfile
+from pathlib import Path
+
+COLUMNS = ("animal", "second", "easting", "northing")
+
+
+def refuse(text, status=1):
+    print(f"corners.py: {text}", file=sys.stderr)
+    sys.exit(status)
+
+
+def find_program():
+    if os.environ.get("HOMERANGE"):
+        return os.environ["HOMERANGE"]
+    script = Path(__file__).resolve().with_name("program.sh")
+    found = subprocess.run([script], stdout=subprocess.PIPE, text=True)
+    return found.stdout.rstrip("\n") if found.returncode == 0 else sys.exit(found.returncode)
+
+
+def run(program, *words):
+    """The lines of a report. Where there is none, ends with the program's status, once the program has said why."""
+    try:
+        ended = subprocess.run([program, *words], stdout=subprocess.PIPE)
+    except OSError as fault:
+        refuse(f"{program} does not run: {fault.strerror}")
+    return ended.stdout.decode().splitlines() if ended.returncode == 0 else sys.exit(max(ended.returncode, 1))
+
+
+def read(path):
+    """The records of a file that are used, each its animal, second, easting and northing."""
+    with open(path, encoding="utf-8-sig", newline="") as file:
+        rows = [row for row in csv.DictReader(file) if row.get("use", "1") == "1"]
+    return [(row["animal"], *(int(row[column]) for column in COLUMNS[1:])) for row in rows]
+
+
+def kept(records, level):
+    """Which records the level keeps. All is multiplied by their number, so that the numbers are whole."""
+    count = len(records)
+    east, north = (sum(record[axis] for record in records) for axis in (2, 3))
+
+    def distance(at):
+        return (count * records[at][2] - east) ** 2 + (count * records[at][3] - north) ** 2
+
+    return {*sorted(range(count), key=distance)[:(level * count + 99) // 100]}
+
+
+def write_marked(path, records, used):
+    with open(path, "w", encoding="utf-8", newline="\n") as file:
+        print(*COLUMNS, "use", sep=",", file=file)
+        for at, record in enumerate(records):
+            print(*record, int(at in used), sep=",", file=file)
+
+
+def corners(program, level, unit, path):
+    """The corners' lines, once what they come to is what the report of the whole file says."""
+    whole = run(program, "--percent", str(level), "--unit", unit, "--", path)
+    wanted = next(line for line in whole if line.startswith("percent,"))
+    records = read(path)
+    used = kept(records, level)
+    with tempfile.TemporaryDirectory() as folder:
+        marked = Path(folder, "kept.csv")
+        write_marked(marked, records, used)
+        lines = run(program, "--percent", "100", "--unit", unit, marked)
+    row = next(line for line in reversed(lines) if line.startswith("row,")).split(",")
+    found = f"percent,{row[1]},{level},{len(used)},{row[4]},{row[5]}"
+    if found != wanted:
+        refuse(f"the kept fixes come to '{found}', and the report says '{wanted}'")
+    return [line for line in lines if line.startswith("corner,")]
+
+
+def main():
+    options = argparse.ArgumentParser(description=__doc__, formatter_class=argparse.RawDescriptionHelpFormatter)
+    options.add_argument("level", type=int, metavar="LEVEL", help="a whole number from 1 to 100")
+    options.add_argument("file", metavar="FILE", help="a file of one animal's fixes, as homerange reads it")
+    options.add_argument("--unit", choices=("m", "dm"), default="m", help="the unit of its coordinates [default: m]")
+    words = options.parse_args()
+    print(*corners(find_program(), words.level, words.unit, words.file), sep="\n")
+
+
+main()
