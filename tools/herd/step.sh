@@ -14,7 +14,7 @@ sha256sum --status -c program 2>/dev/null || {
     echo "step.sh: the program is not that of $1/program: call plan.sh" >&2
     exit 255
 }
-read -r _ program <program
+read -r _ homerange <program
 made=reports/$2.txt lines=.
 if [ "$2" != "$3" ]; then
     made=pairs/$2-$3.txt lines='^overlap,\|^end,'
@@ -41,7 +41,7 @@ is_fresh() {
 is_fresh "$2" "$3" && exit
 rm -f report.txt
 count=$(files "$2" "$3" | wc -l)
-{ cat options; files "$2" "$3"; } | tr '\n' '\0' | xargs -0 "$program" --workers 1 | grep "$lines" >"$mine.part" || :
+{ cat options; files "$2" "$3"; } | tr '\n' '\0' | xargs -0 "$homerange" --workers 1 | grep "$lines" >"$mine.part" || :
 # A run that failed has no last line; one of other files has another.
 if [ "$(tail -n 1 "$mine.part")" != "end,$count" ] ||
     [ "$(grep -c '^overlap,' "$mine.part")" -ne $((count * (count - 1))) ]; then

@@ -1,5 +1,5 @@
 # Tests that merge.py refuses a herd with a fault in one of its files: in one line, with status 1, and with no report.
-# shellcheck shell=sh disable=SC2154
+# shellcheck shell=sh disable=SC2154,SC2016
 
 # 70 animals, in groups of 32, 32 and 6. Each line of their report is that of another method.
 rm -rf tracks herd
@@ -10,13 +10,10 @@ holds 'a herd of 70 is checked' "$tools/check.py" herd/report.txt tracks/*.csv
 # Whether the copy of the herd, with its report of before, is refused with this text.
 is_caught() {
     "$tools/herd/merge.py" faulty >merged 2>told
-    [ $? -eq 1 ] && [ ! -s merged ] && [ "$(wc -l <told)" -eq 1 ] && grep -q -e "$1" told || {
-        cat told
-        return 1
-    }
-    for left in faulty/report.*; do
-        [ ! -e "$left" ] || return
-    done
+    status=$?
+    cat told
+    ls faulty >left
+    [ $status -eq 1 ] && [ ! -s merged ] && [ "$(wc -l <told)" -eq 1 ] && grep -q -e "$1" told && ! grep '^report[.]' left
 }
 
 # A herd is refused, with the text, whose file was edited by sed.
