@@ -2,13 +2,22 @@
 # plan.sh TRACKS OUT [OPTION ..]: what a herd's runs are to be.
 #
 # Writes OUT/groups/NNNN, the files TRACKS/*.csv in groups of at most 32, one name a line; OUT/options, the options
-# of homerange, one a line; and OUT/steps, the runs, one a line: 'A A' for the tables of group A, 'A B' for the
-# overlaps of groups A and B. What has not changed is left as it is, so that a run that stands is not made again.
+# of homerange, one a line; OUT/program, the sum and the name of the program, which HOMERANGE names (if left out,
+# homerange); and OUT/steps, the runs, one a line: 'A A' for the tables of group A, 'A B' for the overlaps of groups A
+# and B. What has not changed is left as it is, so that a run that stands is not made again. OUT/report.txt is removed.
 set -eu
+LC_ALL=C
+export LC_ALL
+program=$(command -v "${HOMERANGE:-homerange}") || {
+    echo "plan.sh: there is no program ${HOMERANGE:-homerange}" >&2
+    exit 1
+}
+program=$(readlink -f "$program")
 tracks=$(cd "$1" && pwd)
 mkdir -p "$2/groups" "$2/reports" "$2/pairs"
 cd "$2"
 shift 2
+rm -f report.txt
 
 # Puts standard input into a file, if the file is not that already.
 keep() {
@@ -19,7 +28,7 @@ keep() {
 
 rm -rf groups.part
 mkdir groups.part
-printf '%s\n' "$tracks"/*.csv | LC_ALL=C sort | split -l 32 -a 4 -d - groups.part/
+printf '%s\n' "$tracks"/*.csv | sort | split -l 32 -a 4 -d - groups.part/
 for group in groups.part/*; do
     keep "groups/${group##*/}" <"$group"
 done
@@ -30,6 +39,7 @@ rm -r groups.part
 for option; do
     printf '%s\n' "$option"
 done | keep options
+sha256sum "$program" | keep program
 for group in groups/*; do
     printf '%s\n' "${group##*/}"
 done | awk '{ name[NR] = $0 } END { for (i = 1; i <= NR; i++) for (j = i; j <= NR; j++) print name[i], name[j] }' |

@@ -32,35 +32,56 @@ rm tracks/deer0006?.csv tracks/deer0004?.csv
 holds 'a herd runs of fewer files' $herd
 holds 'fewer files are run anew' cmp direct herd/report.txt
 
+# A new program makes all anew, even one of an older date; a step of another one than the plan's is refused.
+printf '#!/bin/sh\necho >>"%s/called"\nexec "%s" "$@"\n' "$work" "$HOMERANGE" >another
+chmod +x another
+touch -d '1 day ago' another
+holds 'a herd runs by a new program' env HOMERANGE=./another $herd
+holds 'a new program makes each run' [ "$(wc -l <called)" -eq "$(wc -l <herd/steps)" ]
+holds 'a new program is run anew' cmp direct herd/report.txt
+echo '# Changed.' >>another
+holds 'a changed program is no longer that of the plan' is_refused "$tools/herd/step.sh" herd 0000 0000
+holds 'a herd runs by the program of before' $herd
+
 # An input that changes while it is read is read again by the next call.
 printf '#!/bin/sh\n"%s" "$@"\necho "deer00000,99999999,552000,5124000" >>%s\n' "$HOMERANGE" \
     "$work/tracks/deer00000.csv" >changing
 chmod +x changing
-rm herd/reports/0000.txt
-holds 'a step whose input changes' env HOMERANGE="$work/changing" "$tools/herd/step.sh" herd 0000 0000
+HOMERANGE=./changing "$tools/herd/plan.sh" tracks herd
+holds 'a step whose input changes' "$tools/herd/step.sh" herd 0000 0000
+sed -i "1c$(sha256sum "$HOMERANGE")" herd/program
+touch -d '1 hour ago' herd/program
 "$HOMERANGE" tracks/*.csv >direct
-touch -d '1 hour ago' changing
 holds 'a herd runs after that' $herd
 holds 'an input that changed in a run is run again' cmp direct herd/report.txt
 
-# What is wrong is said, and leaves no report that looks whole.
+# Blanks, and a name in another script of bytes.
+mkdir 'two words'
+mv tracks 'two words/my tracks'
+printf 'animal,second,easting,northing\nf\374chsin,0,552000,5124000\n' >'two words/my tracks/vixen.csv'
+"$HOMERANGE" 'two words/my tracks'/*.csv >direct
+holds 'a herd runs in a folder with a blank' "$tools/herd/run.sh" 'two words/my tracks' 'two words/my herd'
+holds 'a herd in a folder with a blank is one direct run' cmp direct 'two words/my herd/report.txt'
+mv 'two words/my tracks' tracks
+rm tracks/vixen.csv
+holds 'a herd runs after that' $herd
+
+# A call that fails says why, and leaves no report, though the one of before was whole.
 fails() {
     name=$1
+    holds "$name: a report of before" [ -f herd/report.txt ]
     shift
-    rm -f herd/report.txt
     if $herd >errors 2>&1; then holds "$name" false; fi
     holds "$name" grep -q -- "$1" errors
     holds "$name: no report" [ ! -e herd/report.txt ]
 }
-sed -i 's/^overlap,deer00000,deer00001,[0-9]*/overlap,deer00000,deer00001,99/' herd/reports/0000.txt
-fails 'repeats that differ' 'overlap,deer00000,deer00001.*, but overlap,'
-sed -i '/^animal,deer00001,/d' herd/reports/0000.txt
-fails 'an animal too few' 'group 0000 has 32 files and 31 animals'
+sed -i 's/^\(overlap,deer00000,deer00001\),[0-9]*/\1,9/' herd/reports/0000.txt
+fails 'overlaps that differ' '0001.txt: deer00000 has other overlaps than in group 0000'
 rm herd/reports/0000.txt
-sed -i '/^overlap,deer00000,deer00050,/d' herd/pairs/0000-0001.txt
-fails 'an overlap too few' 'group 0000 has .* overlaps'
-sed -i '$d' herd/pairs/0000-0001.txt
-fails 'a file that is cut off' '0000-0001.txt has no end line'
-rm herd/pairs/0000-0001.txt
-sed 's/deer00050/deer00000/' tracks/deer00050.csv >tracks/deer00051.csv
+$herd
+cp tracks/deer00050.csv saved
+sed 's/deer00050/deer00000/' saved >tracks/deer00050.csv
 fails 'an animal twice' 'step.sh: the run of groups 0000 and 0001 failed'
+cp saved tracks/deer00050.csv
+$herd
+HOMERANGE=./none fails 'no program' 'plan.sh: there is no program ./none'

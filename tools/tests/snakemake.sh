@@ -1,11 +1,65 @@
-# Tests the runs of a herd by Snakemake, where it is there.
-# shellcheck shell=sh disable=SC2154
+# Tests the runs of a herd by Snakemake, where it is there: with scripts, tracks and runs in folders with blanks.
+# shellcheck shell=sh disable=SC2154,SC2016
+
+# Plans the herd, and runs it.
+plan() {
+    'a clone/plan.sh' 'my tracks' 'my herd' "$@"
+}
+engine() {
+    timeout 100 snakemake --snakefile 'a clone/Snakefile' --directory 'my herd' "$@"
+}
+
+# What is said by a call that fails, and leaves no report.
+fails() {
+    name=$1 text=$2
+    shift 2
+    holds "$name: status" is_refused engine "$@"
+    engine "$@" >told 2>&1
+    holds "$name" grep -qF -e "$text" told
+    holds "$name: no report" [ ! -e 'my herd/report.txt' ]
+}
 
 if is_here snakemake 'herds by Snakemake'; then
-    rm -rf tracks herd
-    python3 "$top/examples/simulate.py" tracks 64 20
-    "$HOMERANGE" tracks/*.csv >direct
-    "$tools/herd/plan.sh" tracks herd
-    holds 'Snakemake runs' snakemake --snakefile "$tools/herd/Snakefile" --cores 4 --config out=herd
-    holds 'a herd of 64 by Snakemake is one direct run' cmp direct herd/report.txt
+    rm -rf 'my tracks' 'my herd' 'a clone'
+    cp -R "$tools/herd" 'a clone'
+    python3 "$top/examples/simulate.py" 'my tracks' 40 20
+    plan
+    holds 'Snakemake runs' engine --cores 2
+    "$HOMERANGE" 'my tracks'/*.csv >direct
+    holds 'a herd by Snakemake is one direct run' cmp direct 'my herd/report.txt'
+    engine --cores 2 >told 2>&1
+    holds 'Snakemake does nothing anew' grep -q '^Nothing to be done' told
+
+    # A new track, other options and a new program, each of which is called.
+    sed 's/deer00007/deer00040/' 'my tracks/deer00007.csv' >'my tracks/deer00040.csv'
+    printf '#!/bin/sh\necho >>"%s/called"\nexec "%s" "$@"\n' "$work" "$HOMERANGE" >another
+    chmod +x another
+    HOMERANGE=./another plan --percent 90
+    holds 'Snakemake runs with a new track, other options and a new program' engine --cores 2
+    "$HOMERANGE" --percent 90 'my tracks'/*.csv >direct
+    holds 'the new herd by Snakemake is one direct run' cmp direct 'my herd/report.txt'
+    holds 'the new program made each run' [ "$(wc -l <called)" -eq 3 ]
+
+    # A rerun that fails, and one that is killed: the program never ends.
+    sed -i 's/deer00040/deer00000/' 'my tracks/deer00040.csv'
+    fails 'a rerun that fails by Snakemake' 'step.sh: the run of groups 0000 and 0001 failed' --cores 2
+    rm 'my tracks/deer00040.csv'
+    printf '#!/bin/sh\necho >>"%s/begun"\nexec sleep 60\n' "$work" >endless
+    chmod +x endless
+    HOMERANGE=./endless plan
+    setsid snakemake --snakefile 'a clone/Snakefile' --directory 'my herd' --cores 2 >told 2>&1 &
+    killed=$!
+    for _ in $(seq 60); do
+        [ -e begun ] && break
+        sleep 1
+    done
+    kill -9 -$killed
+    wait $killed
+    plan
+    fails 'a run after a kill' 'Directory cannot be locked' --cores 2
+    holds 'a kill is unlocked' engine --unlock
+    fails 'a run after an unlock' 'rerun your command with the --rerun-incomplete flag' --cores 2
+    holds 'a run goes on' engine --cores 2 --rerun-incomplete
+    "$HOMERANGE" 'my tracks'/*.csv >direct
+    holds 'a herd after a kill is one direct run' cmp direct 'my herd/report.txt'
 fi
