@@ -35,16 +35,18 @@ hide_quotes <- function(lines, sign, hidden) {
 # The rows with their titles, all text; whether semicolons stand between fields; and what stands for quotes in them.
 read_table <- function(path) {
   lines <- read_text(path)
-  if (!any(nzchar(lines))) lines <- "none"  # a title that is none of an export's
+  if (!any(nzchar(trimws(lines)))) lines <- "none"  # a title that is none of an export's
   sign <- if (grepl("^[^,]*;", lines[nzchar(lines)][1])) ";" else ","
   hidden <- unused_character(lines)
   if (any(grepl("\"", lines, fixed = TRUE))) lines <- hide_quotes(lines, sign, hidden)
   open <- function(fault) refuse(path, ": a quote has no end")
   fields <- tryCatch(na.omit(count.fields(textConnection(lines), sep = sign, quote = "\"", comment.char = "")),
                      warning = open, error = open)
-  table <- tryCatch(read.csv(text = lines, sep = sign, colClasses = "character", na.strings = "", check.names = FALSE,
-                             fill = TRUE), warning = open, error = open)
-  names(table) <- gsub("[ ._]", "-", tolower(trimws(names(table), whitespace = "[ \t]")))
+  table <- tryCatch(read.csv(text = lines, header = FALSE, sep = sign, colClasses = "character", na.strings = "",
+                             col.names = seq_len(max(fields))), warning = open, error = open)
+  titles <- unlist(table[1, seq_len(fields[1])])
+  table <- table[-1, seq_len(fields[1]), drop = FALSE]
+  names(table) <- gsub("[ ._]", "-", tolower(trimws(titles, whitespace = "[ \t]")))
   if (!all(c(animal_title, "timestamp") %in% names(table)))
     refuse("there are no columns ", animal_title, " and timestamp")
   bad <- which(fields[-1] != fields[1])[1]
