@@ -78,6 +78,14 @@ if is_here Rscript "the guide's R"; then
     printf '%s\n' '  animal level hectares' '1      a   100     0.04' | writes r 'percents$V2'
 fi
 
+# Its corners come to the area and the number of corners that the report has.
+snippet sh 'corners.py 95' >taken
+sh taken >written 2>errors
+"$HOMERANGE" --percent 95 examples/fox.csv >report.txt
+awk -F, '{ e[NR] = $4; n[NR] = $5 }
+    END { for (i = 1; i <= NR; i++) { j = i % NR + 1; area += e[i] * n[j] - e[j] * n[i] } print NR "," area }' written >wanted
+holds "the guide's corners" grep -qx "percent,fox,95,1140,$(cat wanted)" report.txt
+
 # One curve for each animal. The pictures are looked at by people.
 "$HOMERANGE" examples/fox.csv examples/badger.csv >report.txt
 if is_here Rscript "the guide's picture in R"; then
