@@ -45,6 +45,9 @@ is_here() {
     }
 }
 
+# Whether a command fails.
+is_refused() { ! "$@"; }
+
 if [ $# -eq 0 ]; then
     for part in "$tools"/tests/*.sh; do
         part=${part##*/}

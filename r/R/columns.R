@@ -45,7 +45,7 @@ find_column <- function(table, role, column) {
 
 # Which rows are to be used: those of a logical vector or column, or those that the table does not mark as outliers.
 find_marks <- function(table, use) {
-  if (is.null(use)) return(usual_marks(table))
+  if (is.null(use)) return(check_sensors(table, usual_marks(table)))
   if (is.character(use) && length(use) == 1) return(as_marks(table[[named_column(table, "use", use)]], use))
   if (!is.logical(use) || !length(use) %in% c(1, nrow(table))) {
     refuse("option", "use: a column's name, or TRUE or FALSE for each of the ", nrow(table), " rows is wanted")
@@ -58,6 +58,16 @@ as_marks <- function(values, column) {
   bad <- if (is.logical(values)) is.na(values) else !values %in% c(0, 1)
   refuse_rows(seq_along(values), bad, column, " is neither TRUE nor FALSE, nor 1 or 0")
   values == 1
+}
+
+# Refuses the marks where they take fixes of several types of sensors, as Movebank's exports may have.
+check_sensors <- function(table, marks) {
+  at <- match("sensor-type", plain_titles(table))
+  kinds <- if (!is.na(at)) table(table[[at]][marks])
+  if (length(kinds) < 2) return(marks)
+  counts <- paste(names(kinds), kinds, collapse = ", ")
+  refuse("data", "the fixes are of several types of sensors (", counts, "): use = x[[\"", names(table)[at], "\"]] == \"",
+         names(kinds)[which.max(kinds)], "\" takes one")
 }
 
 # The marks of homerange's own column use, or of Movebank's columns of outliers.

@@ -1,11 +1,11 @@
 # Drawings of home ranges: the polygons over the fixes, and the curves of area.
 
 plot.home_range <- function(x, what = c("ranges", "curve"), level = 100, animals = NULL, over = NULL,
-                            label = "boundary", main = "", ...) {
+                            label = "boundary", main = "", reset = TRUE, ...) {
   what <- tryCatch(match.arg(what), error = function(fault) refuse("option", "what: \"ranges\" or \"curve\" is wanted"))
   shown <- shown_animals(x, animals)
   old <- par("mai")
-  on.exit(par(mai = old))
+  if (reset) on.exit(par(mai = old))
   if (what == "curve") draw_curves(x, shown, main, ...) else draw_ranges(x, shown, level, check_over(x, over), label, main, ...)
   invisible(x)
 }
@@ -45,7 +45,7 @@ begin_plot <- function(xlim, ylim, styles, main, asp = NA) {
   if (!nzchar(main)) margins[3] <- min(margins[3], 2 * line_inches())
   key$cex <- if (legend_inches(key) > par("fin")[1] / 3) 0.6 else 0.8
   key <- shorten_key(key)
-  margins[4] <- min(legend_inches(key) + 0.15, 0.5 * par("fin")[1])
+  margins[4] <- min(legend_inches(key) + 0.2, 0.5 * par("fin")[1])
   if (is.na(asp)) margins[2] <- label_inches(ylim) + 3 * line_inches()
   par(mai = margins, new = TRUE)
   plot.new()

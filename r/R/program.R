@@ -4,7 +4,7 @@
 homerange_program <- function() {
   named <- c("options(homerange.program)" = getOption("homerange.program", ""), "HOMERANGE" = Sys.getenv("HOMERANGE"))
   for (by in names(named)[nzchar(named)]) {
-    path <- Sys.which(named[[by]])[[1]]
+    path <- Sys.which(path.expand(named[[by]]))[[1]]
     if (!nzchar(path)) refuse("program", "there is no program ", named[[by]], ", which ", by, " names")
     return(normalizePath(path))
   }

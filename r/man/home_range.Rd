@@ -18,7 +18,7 @@ home_range(x, levels = c(50, 95, 100), unit = "m", animal = NULL, time = NULL,
 \arguments{
 \item{x}{for \code{home_range} a data frame with a row for each fix, or an \code{sf} table of points whose coordinate
   reference system (CRS) is projected and in metres. For \code{print} a home range.}
-\item{levels}{the levels of the percent polygons: 1 to 8 whole numbers from 1 to 100.}
+\item{levels}{the levels of the percent polygons: 1 to 8 different whole numbers from 1 to 100.}
 \item{unit}{to what coordinates are rounded: \code{"m"} for whole metres, \code{"dm"} for whole decimetres. The
   coordinates of \code{x} are in metres in either case.}
 \item{animal, time}{the names of the columns that have the animal's name and the time. Times are \code{POSIXct},
@@ -27,14 +27,15 @@ home_range(x, levels = c(50, 95, 100), unit = "m", animal = NULL, time = NULL,
   zone. Not for an \code{sf} table, which brings its own.}
 \item{use}{which fixes are used: the name of a column, or a vector, of \code{TRUE} and \code{FALSE}; a column may have 1
   and 0. Rows that are not used are not checked. If left out, a column \code{use} is taken, else Movebank's
-  \code{visible} and \code{manually-marked-outlier}, where the table has them. \code{use = TRUE} uses all rows.}
+  \code{visible} and \code{manually-marked-outlier}, where the table has them; fixes of several types of sensors, by
+  Movebank's \code{sensor-type}, are refused then. \code{use = TRUE} uses all rows.}
 \item{from, to}{the first and the last time: a day (a \code{Date}, or text such as \code{"2024-05-31"}), a
   \code{POSIXct}, or a number of seconds. Both are included; a day of \code{to} to its end.}
 \item{months}{the months to use: whole numbers from 1 to 12.}
 \item{hours}{the hours of the day to use: two numbers from 0 to 24. Times from the first, up to the second but without it,
   are used: \code{c(18, 6)} is the night from 18:00 to before 06:00.}
 \item{every}{one fix in so many hours is used: of each animal the first in each stretch of \code{every} hours. Stretches
-  are counted from 1970-01-01 00:00 UTC, or from second 0 where times are numbers.}
+  are counted from 1970-01-01 00:00 by the clock of \code{tz}, or from second 0 where times are numbers.}
 \item{tz}{the time zone of days, months and hours, and of times that are shown; \code{\link{OlsonNames}} lists them.}
 \item{crs}{the CRS of the columns of coordinates, as \code{sf::st_crs} takes it, such as 32633 for UTM zone 33 north. It
   is only for \code{\link{polygons}}. If left out, it is that of an amt track, or of Movebank's column \code{utm-zone}.}

@@ -1,10 +1,6 @@
 # Tests the evidence of a run, and the checks of a report by other methods.
 # shellcheck shell=sh disable=SC2154,SC2016
 
-is_refused() {
-    ! "$@"
-}
-
 rm -rf tracks evidence
 mkdir evidence tracks
 cp "$top"/examples/fox.csv "$top"/examples/otter.csv "$top"/examples/badger.csv tracks

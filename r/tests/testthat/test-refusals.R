@@ -99,6 +99,13 @@ test_that("fixes of several UTM zones are refused", {
   expect_equal(nrow(curve(quietly(home_range(export, use = export$utm.zone == "33N")))), 3)
 })
 
+test_that("fixes of several types of sensors are refused", {
+  skip_without_program()
+  export <- cbind(fixes(), sensor.type = c("gps", "argos", "gps"))
+  refused(export, "several types of sensors (argos 1, gps 2): use = x[[\"sensor.type\"]] == \"gps\" takes one")
+  expect_equal(nrow(curve(quietly(home_range(export, use = export[["sensor.type"]] == "gps")))), 2)
+})
+
 test_that("marks of use that are none are refused", {
   skip_without_program()
   refused(fixes(), "TRUE or FALSE for each of the 3 rows is wanted", "homerange_option_error", use = c(TRUE, FALSE))
@@ -113,6 +120,7 @@ test_that("arguments that cannot be right are refused", {
   option <- "homerange_option_error"
   refused(fixes(), "unit: \"m\" for metres or \"dm\" for decimetres", option, unit = "km")
   refused(fixes(), "levels: numbers", option, levels = "95")
+  refused(fixes(), "levels: 50 is there twice", option, levels = c(50, 95, 50))
   refused(fixes(), "homerange: --percent: level 2 is not a whole number from 1 to 100", option, levels = c(50, 95.5))
   refused(fixes(), "homerange: --percent: level 1 is not a whole number from 1 to 100", option, levels = 101)
   refused(fixes(), "homerange: --percent: more than 8 levels", option, levels = 1:9)

@@ -48,6 +48,7 @@ test_that("what is no whole report is refused", {
   refused(character(), "there is no end line")
   refused(replace(square, 21, "end,3"), "it has 2 animals, and its last line says 3")
   refused(replace(square, 21, "end,"), "there is no end line")
+  refused("end,0", "it has no animals")
   for (line in c(1:20)) refused(square[-line], "")
   for (line in c(1:20)) refused(square[c(seq_len(line), line:21)], "")
   refused(replace(square, 3, "row,NA,1,10,1"), "line 3 is none of a report: row,NA,1,10,1")

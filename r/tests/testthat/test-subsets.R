@@ -42,6 +42,8 @@ test_that("one fix in so many hours is the first", {
   # 2024-03-30 is day 19812 since 1970, which is even: stretches of 48 hours begin on it.
   expect_equal(used(every = 48), c(1, 5))
   expect_equal(used(every = 24, hours = c(18, 24)), c(2, 4, 6, 8))
+  # In Auckland 19:00 UTC is 08:00 of the next day, and 05:30 UTC 18:30 of the same.
+  expect_equal(used(every = 24, tz = "Pacific/Auckland"), c(1, 2, 4, 6, 8))
   numbers <- data.frame(animal = rep(c("a", "b"), c(4, 2)), second = c(0, 3599, 3600, 7199, 3599, 3600), easting = 1:6,
                         northing = 1:6)
   expect_equal(quietly(home_range(numbers, every = 1))$fixes$easting, c(1, 3, 5, 6))
