@@ -112,7 +112,8 @@ draw_ranges <- function(ranges, shown, level, over, label, main, ...) {
   mtext(paste0(paste(level, collapse = ", "), " % of the fixes"), adj = 1, line = 0.1, cex = 0.8 * par("cex"))
   if (!is.null(over)) plot(over, add = TRUE, border = "grey40", col = NA, lwd = 3)
   pale <- adjustcolor(styles$colour, 0.45)
-  points(easting, northing, pch = 16, cex = 0.4, col = pale[match(fixes$animal, shown)])
+  size <- max(0.1, 0.4 * min(1, sqrt(5000 / nrow(fixes))))
+  points(easting, northing, pch = 16, cex = size, col = pale[match(fixes$animal, shown)])
   width <- ifelse(rep(level, each = length(shown)) == max(level), 2, 1)
   for (place in seq_along(rings)) draw_ring(rings[[place]], styles[(place - 1) %% length(shown) + 1, ], width[place])
 }
