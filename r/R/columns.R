@@ -66,8 +66,8 @@ check_sensors <- function(table, marks) {
   kinds <- if (!is.na(at)) table(table[[at]][marks])
   if (length(kinds) < 2) return(marks)
   counts <- paste(names(kinds), kinds, collapse = ", ")
-  refuse("data", "the fixes are of several types of sensors (", counts, "): use = x[[\"", names(table)[at], "\"]] == \"",
-         names(kinds)[which.max(kinds)], "\" takes one")
+  refuse("data", "the fixes are of several types of sensors (", counts, "): ",
+         sprintf("use = x[[\"%s\"]] == \"%s\" takes one", names(table)[at], names(kinds)[which.max(kinds)]))
 }
 
 # The marks of homerange's own column use, or of Movebank's columns of outliers.

@@ -18,7 +18,9 @@ home_range <- function(x, levels = c(50, 95, 100), unit = "m", animal = NULL, ti
     files <- write_tracks(subset$fixes, folder)
     run_all(files, unique(subset$fixes$animal), options, isTRUE(progress))
   })
-  if (!identical(report$rows$second, floor(subset$fixes$moment))) refuse("check", "the report has not the times of the fixes")
+  if (!identical(report$rows$second, floor(subset$fixes$moment))) {
+    refuse("check", "the report has not the times of the fixes")
+  }
   new_home_range(report, subset$fixes$time, subset$fixes, subset$left_out, read$crs)
 }
 

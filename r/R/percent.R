@@ -1,7 +1,7 @@
 # The polygons of percent levels: the program's polygon of the fixes that a level keeps.
 
-# Which fixes of an animal a level keeps: of n fixes the (level * n + 99) %/% 100 nearest to the mean of all, of fixes as
-# near the earlier.
+# Which fixes of an animal a level keeps: of n fixes the (level * n + 99) %/% 100 nearest to the mean of all, of fixes
+# as near the earlier.
 kept_fixes <- function(easting, northing, level) {
   number <- length(easting)
   distance <- squared_distances(number * easting - sum(easting), number * northing - sum(northing))

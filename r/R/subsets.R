@@ -65,7 +65,8 @@ rule_hours <- function(hours, tz) {
 
 clock_of <- function(time, argument, tz) {
   if (!is.object(time)) {
-    refuse("option", argument, ": times as numbers have no calendar: as.POSIXct(seconds, origin = \"1970-01-01\", tz = \"UTC\")")
+    refuse("option", argument, ": times as numbers have no calendar: ",
+           "as.POSIXct(seconds, origin = \"1970-01-01\", tz = \"UTC\")")
   }
   if (inherits(time, "Date")) as.POSIXlt(time) else as.POSIXlt(time, tz = tz)
 }

@@ -1,7 +1,8 @@
 # What is printed, and the function curve of graphics.
 
 test_that("a home range prints in about ten lines", {
-  ranges <- read_report(system.file("extdata", "report.txt", package = "homerange"), as.POSIXct("2024-05-01", tz = "UTC"))
+  report <- system.file("extdata", "report.txt", package = "homerange")
+  ranges <- read_report(report, start = as.POSIXct("2024-05-01", tz = "UTC"))
   expect_identical(capture.output(print(ranges)), c(
     "Home ranges of 3 animals (minimum convex polygons)",
     "180 fixes in whole metres, 2024-05-01 to 2024-05-02 05:30:00",
@@ -11,6 +12,12 @@ test_that("a home range prints in about ten lines", {
     " badger    60  0.00 32.14 40.51 13.2 %",
     "  otter    60 17.32 37.84 48.24  0.0 %"
   ))
+})
+
+test_that("times of a report without a start are seconds", {
+  report <- system.file("extdata", "report.txt", package = "homerange")
+  expect_identical(capture.output(print(read_report(report)))[2],
+                   "180 fixes in whole metres, second 0 to second 106,200")
 })
 
 test_that("of many animals the first are printed", {

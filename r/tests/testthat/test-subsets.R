@@ -15,7 +15,8 @@ test_that("from and to are included, days to their end", {
   expect_equal(used(from = "2024-03-31"), 3:8)
   expect_equal(used(to = "2024-03-31"), 1:4)
   expect_equal(used(to = as.Date("2024-04-01")), 1:6)
-  expect_equal(used(from = as.POSIXct("2024-03-30 19:00", tz = "UTC"), to = as.POSIXct("2024-04-01 05:30", tz = "UTC")), 2:5)
+  moments <- as.POSIXct(c("2024-03-30 19:00", "2024-04-01 05:30"), tz = "UTC")
+  expect_equal(used(from = moments[1], to = moments[2]), 2:5)
   expect_equal(used(from = "2024-03-30 19:00:01"), 3:8)
   # In Auckland, 13 hours ahead, it is the next day at 19:00 UTC.
   expect_equal(used(from = "2024-03-31", tz = "Pacific/Auckland"), 2:8)
@@ -54,7 +55,9 @@ test_that("each subset says how many it leaves out", {
   skip_without_program()
   fixes <- rbind(spring(), transform(spring(), id = "boar", x = x + 10))
   fixes$good <- c(FALSE, rep(TRUE, 14), FALSE)
-  said <- capture_messages(ranges <- home_range(fixes, use = "good", to = "2024-04-01", months = 4, hours = c(5, 6), every = 48))
+  said <- capture_messages({
+    ranges <- home_range(fixes, use = "good", to = "2024-04-01", months = 4, hours = c(5, 6), every = 48)
+  })
   expect_identical(grep("left out", said, value = TRUE), paste0("homerange: ", c(
     "2 fixes are left out by use\n", "3 fixes are left out by to\n", "7 fixes are left out by months\n",
     "2 fixes are left out by hours\n", "0 fixes are left out by every\n")))
