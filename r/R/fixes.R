@@ -79,7 +79,7 @@ as_grid <- function(places, rows, unit) {
   for (side in c("easting", "northing")) {
     column <- places$columns[if (side == "easting") 1 else 2]
     metres <- as.numeric(places[[side]])
-    refuse_rows(rows, is.na(metres), "there is no ", column, "; use = ", places$whole, " leaves such rows out")
+    refuse_rows(rows, is.na(metres), "there is no ", column, "; such rows are not in ", places$whole)
     refuse_rows(rows, !is.finite(metres), column, " is not finite")
     whole[[side]] <- floor(sizes$scale * metres + 0.5)
     refuse_rows(rows, whole[[side]] < 0 | whole[[side]] > sizes$limit, column, " ", sprintf("%.2f", metres),

@@ -2,7 +2,7 @@
 
 has_sf <- function() requireNamespace("sf", quietly = TRUE)
 
-# A list of easting, northing (in metres), crs (an sf crs, or NULL), what they are called, and the call that finds the
+# A list of easting, northing (in metres), crs (an sf crs, or NULL), what they are called, and the call that takes the
 # rows that have them. The rows are the numbers that faults name.
 find_places <- function(table, rows, easting, northing, crs) {
   if (inherits(table, "sf")) {
@@ -12,7 +12,7 @@ find_places <- function(table, rows, easting, northing, crs) {
     return(places_of_points(table, rows))
   }
   columns <- place_columns(table, easting, northing)
-  whole <- sprintf("!is.na(x[[\"%s\"]] + x[[\"%s\"]])", columns[1], columns[2])
+  whole <- sprintf("x[!is.na(x[[\"%s\"]] + x[[\"%s\"]]), ]", columns[1], columns[2])
   places <- list(easting = table[[columns[1]]], northing = table[[columns[2]]], columns = columns, whole = whole)
   for (column in columns) {
     kind <- class(table[[column]])[1]
@@ -30,7 +30,7 @@ places_of_points <- function(table, rows) {
   crs <- sf::st_crs(table)
   check_crs(crs, sf::st_geometry(table), "x")
   list(easting = at[, "X"], northing = at[, "Y"], crs = crs, columns = c("point's easting", "point's northing"),
-       whole = "!sf::st_is_empty(x)")
+       whole = "x[!sf::st_is_empty(x), ]")
 }
 
 place_columns <- function(table, easting, northing) {

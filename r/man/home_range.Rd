@@ -28,7 +28,8 @@ home_range(x, levels = c(50, 95, 100), unit = "m", animal = NULL, time = NULL,
 \item{use}{which fixes are used: the name of a column, or a vector, of \code{TRUE} and \code{FALSE}; a column may have 1
   and 0. Rows that are not used are not checked. If left out, a column \code{use} is taken, else Movebank's
   \code{visible} and \code{manually-marked-outlier}, where the table has them; fixes of several types of sensors, by
-  Movebank's \code{sensor-type}, are refused then. \code{use = TRUE} uses all rows.}
+  Movebank's \code{sensor-type}, are refused then. \code{use = TRUE} uses all rows;
+  outliers that are used are said in a message.}
 \item{from, to}{the first and the last time: a day (a \code{Date}, or text such as \code{"2024-05-31"}), a
   \code{POSIXct}, or a number of seconds. Both are included; a day of \code{to} to its end.}
 \item{months}{the months to use: whole numbers from 1 to 12.}

@@ -17,7 +17,7 @@ refused <- function(table, message, class = "homerange_data_error", ...) {
 
 test_that("rows without a coordinate, a time or a name are refused", {
   skip_without_program()
-  refused(changed("easting", 2, NA), "row 2: there is no easting; use = !is.na(x[[\"easting\"]] + x[[\"northing\"]])")
+  refused(changed("easting", 2, NA), "row 2: there is no easting; such rows are not in x[!is.na(x[[\"easting\"]] +")
   refused(changed("northing", 3, NaN), "row 3: there is no northing")
   refused(changed("easting", 3, Inf), "row 3: easting is not finite")
   refused(changed("second", 2, NA), "row 2: there is no second")

@@ -65,7 +65,8 @@ test_that("a table whose coordinates cannot be taken is refused, with the call t
   refused(lines, "row 2: the geometry is a LINESTRING and no POINT")
   empty <- points_of()
   sf::st_geometry(empty)[3] <- sf::st_point()
-  refused(empty, "row 3: there is no point's easting; use = !sf::st_is_empty(x) leaves such rows out")
+  refused(empty, "row 3: there is no point's easting; such rows are not in x[!sf::st_is_empty(x), ]")
+  expect_equal(nrow(curve(quietly(home_range(empty[!sf::st_is_empty(empty), ])))), 49)
   expect_equal(nrow(curve(quietly(home_range(empty, use = !sf::st_is_empty(empty))))), 49)
   expect_error(quietly(home_range(points_of(), easting = "x", northing = "y")), "brings its own",
                class = "homerange_option_error")
