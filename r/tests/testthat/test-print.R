@@ -39,5 +39,5 @@ test_that("the function curve of graphics works as ever", {
   expect_equal(curve(sin, 0, 1, n = 3)$y, sin(c(0, 0.5, 1)))
   expect_equal(curve(slope * x^2, from = 0, to = 2, n = 3)$y, c(0, 3, 12))
   expect_equal(curve(expr = cos, 0, 1, n = 2)$y, cos(0:1))
-  expect_error(curve(home_range(3)), "data frame", class = "homerange_error")
+  expect_error(curve(home_range(deer, levels = "95")), "levels", class = "homerange_option_error")
 })
