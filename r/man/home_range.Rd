@@ -39,7 +39,7 @@ home_range(x, levels = c(50, 95, 100), unit = "m", animal = NULL, time = NULL,
   are counted from 1970-01-01 00:00 by the clock of \code{tz}, or from second 0 where times are numbers.}
 \item{tz}{the time zone of days, months and hours, and of times that are shown; \code{\link{OlsonNames}} lists them.}
 \item{crs}{the CRS of the columns of coordinates, as \code{sf::st_crs} takes it, such as 32633 for UTM zone 33 north. It
-  is only for \code{\link{polygons}}. If left out, it is that of an amt track, or of Movebank's column \code{utm-zone}.}
+  changes no number: \code{\link{polygons}} are given in it. If left out, it is that of an amt track, or of Movebank's column \code{utm-zone}.}
 \item{progress}{whether a bar shows how far many runs of the program have come.}
 \item{...}{not used.}
 }
@@ -58,7 +58,7 @@ A \code{move2} table says itself which columns have the animal and the time.
 most. They have to be in one plane grid. Longitude and latitude, feet, web maps' Mercator projection and an \code{sf}
 table without a CRS are refused, and the message has the call that projects them into the UTM zone of most fixes.
 
-\strong{Order.} Animals come in the order of their first fix, and fixes in the order of time; fixes of one time stay in
+\strong{Order.} Animals come in the order of their first rows, and fixes in the order of time; fixes of one time stay in
 the order of their rows. Parts of a second count for the order alone.
 
 \strong{Subsets} are taken in the order \code{use}, \code{from}, \code{to}, \code{months}, \code{hours}, \code{every}, and
@@ -85,7 +85,8 @@ characters; times before 1970 (or below 0) or past 1,099,511,627,776 seconds; co
 0 to 16,777,216 metres, or with \code{unit = "dm"} to 13,421,772 metres. An animal has at most 1,048,576 fixes. Arguments
 that cannot be right are refused as \code{homerange_option_error}. \link{homerange-package} lists all classes.
 
-Areas are exact. They are handed on as doubles, which hold whole numbers up to 2^53: enough for any range on land.
+Areas are exact for the rounded coordinates. They are handed on as doubles, which hold whole numbers up to 2^53: enough for
+any range on land.
 }
 \references{
 Mohr, C. O. (1947) Table of equivalent populations of North American small mammals. \emph{American Midland Naturalist}
