@@ -24,7 +24,7 @@ if is_r_ready; then
     holds 'the package for R is built' R CMD build "$top/r"
     holds 'the package for R is checked' env _R_CHECK_FORCE_SUGGESTS_=false R CMD check --no-manual homerange_*.tar.gz
     holds 'the check of the package has nothing to say' grep -qx 'Status: OK' homerange.Rcheck/00check.log
-    holds 'its tests found the program' grep -q 'FAIL 0 | WARN 0 | SKIP 1 ' homerange.Rcheck/tests/testthat.Rout
+    holds 'its tests found the program' grep -q 'FAIL 0 | WARN 0 | SKIP 0 ' homerange.Rcheck/tests/testthat.Rout
     page=homerange.Rcheck/homerange/doc/homerange.html
     holds 'its vignette has two pictures' [ "$(grep -c 'src="data:image/png' $page)" -eq 2 ]
     cp -r "$top/r/tests/." "$top/r/vignettes/homerange.Rmd" .

@@ -88,9 +88,9 @@ test_that("the program is found by options, environment, clone and PATH, in this
                class = "homerange_program_error")
 })
 
-test_that("a record that the program refuses is told with its animal", {
+test_that("a file that the program refuses is told by its animal", {
   skip_without_program()
-  skip_on_cran()
   many <- data.frame(animal = "the hare", second = 0, easting = rep(1, 1048577), northing = 1)
-  expect_error(quietly(home_range(many)), "^homerange: the hare: record 1048577: ", class = "homerange_file_error")
+  expect_error(quietly(home_range(many)), "^homerange: the hare: more than 1048576 records after the header$",
+               class = "homerange_file_error")
 })
