@@ -35,7 +35,6 @@ percent_corners <- function(ranges, level) {
   })
   report <- join_reports(lapply(reports, function(report) report[setdiff(names(report), "overlaps")]))
   wanted <- ranges$percents[ranges$percents$level == level, ]
-  wanted <- wanted[!duplicated(wanted$animal), ]
   found <- report$rows[cumsum(report$animals$fixes), ]
   if (!all(found$n == wanted$kept & found$corners == wanted$corners & found$area2 == wanted$area2)) {
     refuse("check", "the polygons at level ", level, " are not those of the report")
