@@ -44,8 +44,18 @@ find_column <- function(table, role, column) {
 }
 
 # Which rows are to be used: those of a logical vector or column, or those that the table does not mark as outliers.
+# An outlier that is used is said.
 find_marks <- function(table, use) {
-  if (is.null(use)) return(usual_marks(table))
+  if (is.null(use)) return(check_sensors(table, usual_marks(table)))
+  marks <- given_marks(table, use)
+  outliers <- sum(marks & !unmarked_rows(table))
+  if (outliers > 0) {
+    say(count_of(outliers, "fix is used that is marked as an outlier", "fixes are used that are marked as outliers"))
+  }
+  marks
+}
+
+given_marks <- function(table, use) {
   if (is.character(use) && length(use) == 1) return(as_marks(table[[named_column(table, "use", use)]], use))
   if (!is.logical(use) || !length(use) %in% c(1, nrow(table))) {
     refuse("option", "use: a column's name, or TRUE or FALSE for each of the ", nrow(table), " rows is wanted")
@@ -60,10 +70,24 @@ as_marks <- function(values, column) {
   values == 1
 }
 
+# Refuses the marks where they take fixes of several types of sensors, as Movebank's exports may have.
+check_sensors <- function(table, marks) {
+  at <- match("sensor-type", plain_titles(table))
+  kinds <- if (!is.na(at)) table(table[[at]][marks])
+  if (length(kinds) < 2) return(marks)
+  counts <- paste(names(kinds), kinds, collapse = ", ")
+  refuse("data", "the fixes are of several types of sensors (", counts, "): ",
+         sprintf("use = x[[\"%s\"]] == \"%s\" takes one", names(table)[at], names(kinds)[which.max(kinds)]))
+}
+
 # The marks of homerange's own column use, or of Movebank's columns of outliers.
 usual_marks <- function(table) {
   at <- match("use", plain_titles(table))
-  if (!is.na(at)) return(as_marks(table[[at]], names(table)[at]))
+  if (!is.na(at)) as_marks(table[[at]], names(table)[at]) else unmarked_rows(table)
+}
+
+# Which rows Movebank's columns do not mark as outliers.
+unmarked_rows <- function(table) {
   marks <- rep(TRUE, nrow(table))
   at <- match(c("visible", "manually-marked-outlier"), plain_titles(table))
   if (!is.na(at[1])) marks <- marks & !toupper(table[[at[1]]]) %in% "FALSE"

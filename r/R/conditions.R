@@ -15,7 +15,9 @@ refuse_rows <- function(rows, bad, ...) {
 
 say <- function(...) message("homerange: ", ...)
 
+in_digits <- function(numbers) format(numbers, big.mark = ",", scientific = FALSE, trim = TRUE)
+
 # A number of things in words: "1 fix", "2 fixes".
 count_of <- function(number, one, several = paste0(one, "s")) {
-  paste(format(number, big.mark = ",", scientific = FALSE, trim = TRUE), if (number == 1) one else several)
+  paste(in_digits(number), if (number == 1) one else several)
 }

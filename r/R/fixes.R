@@ -6,9 +6,9 @@ units_known <- list(
 )
 latest_second <- 1099511627776
 
-# The fixes of a table that are to be used: a data frame of row, animal, time, moment (seconds), easting and northing in
-# whole units of the grid, sorted by animal and time; beside it the animals of all rows, those of rows that are marked as
-# not to be used, and the CRS.
+# The fixes of a table that are to be used: a data frame of row, animal, time, moment (seconds), easting and northing
+# in whole units of the grid, sorted by animal and time; beside it the animals of all rows, those of rows that are
+# marked as not to be used, and the CRS.
 read_fixes <- function(table, unit, tz, animal, time, easting, northing, use, crs) {
   if (!is.data.frame(table)) {
     help <- if (inherits(table, "Spatial")) ": sf::st_as_sf(x) makes one of it" else ", or an sf of points"
@@ -67,7 +67,7 @@ as_times <- function(time, rows, column, tz) {
   refuse_rows(rows, is.na(moment), "there is no ", column)
   refuse_rows(rows, !is.finite(moment), column, " is not finite")
   refuse_rows(rows, moment < 0, column, if (is.object(time)) " is before 1970" else " is less than 0")
-  refuse_rows(rows, moment > latest_second, column, " is past ", format(latest_second, big.mark = ",", scientific = FALSE),
+  refuse_rows(rows, moment > latest_second, column, " is past ", in_digits(latest_second),
               " seconds: are these milliseconds?")
   list(time = time, moment = moment)
 }
@@ -79,14 +79,14 @@ as_grid <- function(places, rows, unit) {
   for (side in c("easting", "northing")) {
     column <- places$columns[if (side == "easting") 1 else 2]
     metres <- as.numeric(places[[side]])
-    refuse_rows(rows, is.na(metres), "there is no ", column, "; use = ", places$whole, " leaves such rows out")
+    refuse_rows(rows, is.na(metres), "there is no ", column, "; such rows are not in ", places$whole)
     refuse_rows(rows, !is.finite(metres), column, " is not finite")
     whole[[side]] <- floor(sizes$scale * metres + 0.5)
     refuse_rows(rows, whole[[side]] < 0 | whole[[side]] > sizes$limit, column, " ", sprintf("%.2f", metres),
-                " is off the grid, which goes from 0 to ", format(sizes$limit %/% sizes$scale, big.mark = ","), " metres")
+                " is off the grid, which goes from 0 to ", in_digits(sizes$limit %/% sizes$scale), " metres")
   }
   whole <- as.data.frame(whole)
-  moved <- sqrt((whole$easting / sizes$scale - places$easting)^2 + (whole$northing / sizes$scale - places$northing)^2)
+  moved <- sqrt(rowSums((whole / sizes$scale - cbind(places$easting, places$northing))^2))
   if (max(moved) > 1e-6) {
     say("coordinates are rounded to whole ", sizes$name, ", by which a fix moves by at most ",
         sprintf("%.2f", ceiling(100 * max(moved) - 1e-6) / 100), " m")

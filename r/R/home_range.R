@@ -8,6 +8,7 @@ home_range <- function(x, levels = c(50, 95, 100), unit = "m", animal = NULL, ti
     refuse("option", "unit: \"m\" for metres or \"dm\" for decimetres is wanted")
   }
   if (!is.numeric(levels) || length(levels) == 0) refuse("option", "levels: numbers from 1 to 100 are wanted")
+  if (anyDuplicated(levels)) refuse("option", "levels: ", levels[duplicated(levels)][1], " is there twice")
   rules <- subset_rules(from, to, months, hours, every, tz)
   homerange_program()  # refuses now, and not after all has been read, where there is none
   read <- read_fixes(x, unit, tz, animal, time, easting, northing, use, crs)
@@ -17,7 +18,9 @@ home_range <- function(x, levels = c(50, 95, 100), unit = "m", animal = NULL, ti
     files <- write_tracks(subset$fixes, folder)
     run_all(files, unique(subset$fixes$animal), options, isTRUE(progress))
   })
-  if (!identical(report$rows$second, floor(subset$fixes$moment))) refuse("check", "the report has not the times of the fixes")
+  if (!identical(report$rows$second, floor(subset$fixes$moment))) {
+    refuse("check", "the report has not the times of the fixes")
+  }
   new_home_range(report, subset$fixes$time, subset$fixes, subset$left_out, read$crs)
 }
 

@@ -1,7 +1,7 @@
 # The polygons of percent levels: the program's polygon of the fixes that a level keeps.
 
-# Which fixes of an animal a level keeps: of n fixes the (level * n + 99) %/% 100 nearest to the mean of all, of fixes as
-# near the earlier.
+# Which fixes of an animal a level keeps: of n fixes the (level * n + 99) %/% 100 nearest to the mean of all, of fixes
+# as near the earlier.
 kept_fixes <- function(easting, northing, level) {
   number <- length(easting)
   distance <- squared_distances(number * easting - sum(easting), number * northing - sum(northing))
@@ -35,7 +35,6 @@ percent_corners <- function(ranges, level) {
   })
   report <- join_reports(lapply(reports, function(report) report[setdiff(names(report), "overlaps")]))
   wanted <- ranges$percents[ranges$percents$level == level, ]
-  wanted <- wanted[!duplicated(wanted$animal), ]
   found <- report$rows[cumsum(report$animals$fixes), ]
   if (!all(found$n == wanted$kept & found$corners == wanted$corners & found$area2 == wanted$area2)) {
     refuse("check", "the polygons at level ", level, " are not those of the report")

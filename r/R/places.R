@@ -2,7 +2,7 @@
 
 has_sf <- function() requireNamespace("sf", quietly = TRUE)
 
-# A list of easting, northing (in metres), crs (an sf crs, or NULL), what they are called, and the call that finds the
+# A list of easting, northing (in metres), crs (an sf crs, or NULL), what they are called, and the call that takes the
 # rows that have them. The rows are the numbers that faults name.
 find_places <- function(table, rows, easting, northing, crs) {
   if (inherits(table, "sf")) {
@@ -12,10 +12,11 @@ find_places <- function(table, rows, easting, northing, crs) {
     return(places_of_points(table, rows))
   }
   columns <- place_columns(table, easting, northing)
-  whole <- sprintf("!is.na(x[[\"%s\"]] + x[[\"%s\"]])", columns[1], columns[2])
+  whole <- sprintf("x[!is.na(x[[\"%s\"]] + x[[\"%s\"]]), ]", columns[1], columns[2])
   places <- list(easting = table[[columns[1]]], northing = table[[columns[2]]], columns = columns, whole = whole)
   for (column in columns) {
-    if (!is.numeric(table[[column]])) refuse("data", "column ", column, " is ", class(table[[column]])[1], " and no number")
+    kind <- class(table[[column]])[1]
+    if (!is.numeric(table[[column]])) refuse("data", "column ", column, " is ", kind, " and no number")
   }
   places$crs <- crs_of_columns(table, rows, columns, crs)
   places
@@ -29,7 +30,7 @@ places_of_points <- function(table, rows) {
   crs <- sf::st_crs(table)
   check_crs(crs, sf::st_geometry(table), "x")
   list(easting = at[, "X"], northing = at[, "Y"], crs = crs, columns = c("point's easting", "point's northing"),
-       whole = "!sf::st_is_empty(x)")
+       whole = "x[!sf::st_is_empty(x), ]")
 }
 
 place_columns <- function(table, easting, northing) {
@@ -58,7 +59,7 @@ crs_of_columns <- function(table, rows, columns, crs) {
   if (is.na(crs)) refuse("option", "crs: there is no such coordinate reference system")
   at <- data.frame(x = table[[columns[1]]], y = table[[columns[2]]])
   at <- at[is.finite(at$x) & is.finite(at$y), ]
-  points <- sprintf("sf::st_as_sf(x, coords = c(\"%s\", \"%s\"), crs = %s)", columns[1], columns[2], crs$input)
+  points <- sprintf("sf::st_as_sf(x, coords = c(\"%s\", \"%s\"), crs = \"%s\")", columns[1], columns[2], crs$input)
   check_crs(crs, sf::st_geometry(sf::st_as_sf(at, coords = c("x", "y"), crs = crs)), points)
   crs
 }
@@ -67,7 +68,7 @@ crs_of_columns <- function(table, rows, columns, crs) {
 zone_of_columns <- function(table, rows, columns) {
   at <- match("utm-zone", plain_titles(table))
   if (is.na(at) || plain_titles(table)[match(columns[1], names(table))] != "utm-easting") return(NULL)
-  zones <- table[[at]]
+  zones <- as.character(table[[at]])
   known <- !is.na(zones) & nzchar(zones)
   refuse_rows(rows, known & zones != zones[known][1], "UTM zone ", zones, " is not that of the rows before; ",
               "project longitude and latitude into one zone with sf::st_transform")
@@ -90,7 +91,7 @@ check_crs <- function(crs, points, name) {
   if (is.na(crs)) refuse("data", "the points have no CRS: ", call_for_no_crs(points))
   why <- if (isTRUE(sf::st_is_longlat(crs))) {
     "longitude and latitude are no plane coordinates"
-  } else if (!tolower(crs$units_gdal) %in% c("metre", "meter", "m")) {
+  } else if (!isTRUE(tolower(crs$units_gdal) %in% c("metre", "meter", "m"))) {
     paste0("the unit of the coordinates is not the metre but ", crs$units_gdal)
   } else if (grepl("Pseudo.Mercator", crs$wkt)) {
     "web maps' Mercator projection stretches areas"

@@ -1,12 +1,16 @@
 # Drawings of home ranges: the polygons over the fixes, and the curves of area.
 
 plot.home_range <- function(x, what = c("ranges", "curve"), level = 100, animals = NULL, over = NULL,
-                            label = "boundary", main = "", ...) {
+                            label = "boundary", main = "", reset = TRUE, ...) {
   what <- tryCatch(match.arg(what), error = function(fault) refuse("option", "what: \"ranges\" or \"curve\" is wanted"))
   shown <- shown_animals(x, animals)
   old <- par("mai")
-  on.exit(par(mai = old))
-  if (what == "curve") draw_curves(x, shown, main, ...) else draw_ranges(x, shown, level, check_over(x, over), label, main, ...)
+  if (reset) on.exit(par(mai = old))
+  if (what == "curve") {
+    draw_curves(x, shown, main, ...)
+  } else {
+    draw_ranges(x, shown, level, check_over(x, over), label, main, ...)
+  }
   invisible(x)
 }
 
@@ -23,7 +27,7 @@ check_over <- function(ranges, over) {
   if (is.null(over)) return(NULL)
   if (!inherits(over, c("sf", "sfc"))) refuse("option", "over: an sf geometry is wanted")
   if (is.null(ranges$crs) || sf::st_crs(over) != ranges$crs) {
-    refuse("option", "over: this geometry is not in the CRS of the fixes: sf::st_transform(over, sf::st_crs(polygons(x)))")
+    refuse("option", "over: this is not in the CRS of the fixes: sf::st_transform(over, sf::st_crs(polygons(x)))")
   }
   sf::st_geometry(over)
 }
@@ -32,20 +36,22 @@ check_over <- function(ranges, over) {
 # but for yellow, which is faint on white.
 styles_of <- function(animals) {
   colours <- palette.colors(palette = "Okabe-Ito")[-5]
+  number <- length(colours)
   place <- seq_along(animals) - 1
-  shift <- place %/% length(colours)
-  data.frame(animal = animals, colour = unname(colours)[place %% length(colours) + 1], line = (place %% length(colours) + shift) %% 6 + 1)
+  colour <- unname(colours)[place %% number + 1]
+  data.frame(animal = animals, colour = colour, line = (place %% number + place %/% number) %% 6 + 1)
 }
 
 # Begins a plot with a legend to the right of it, in room that is made there, and no more room above than is wanted.
 begin_plot <- function(xlim, ylim, styles, main, asp = NA) {
   plot.new()
-  key <- list(legend = styles$animal, col = styles$colour, lty = styles$line, lwd = 2, bty = "n", seg.len = 3, cex = 0.8)
+  key <- list(legend = styles$animal, col = styles$colour, lty = styles$line, lwd = 2, bty = "n", seg.len = 3)
   margins <- par("mai")
   if (!nzchar(main)) margins[3] <- min(margins[3], 2 * line_inches())
-  key$cex <- if (legend_inches(key) > par("fin")[1] / 3) 0.6 else 0.8
+  key$cex <- 0.8
+  if (legend_inches(key) > par("fin")[1] / 3) key$cex <- 0.6
   key <- shorten_key(key)
-  margins[4] <- min(legend_inches(key) + 0.15, 0.5 * par("fin")[1])
+  margins[4] <- min(legend_inches(key) + 0.2, 0.5 * par("fin")[1])
   if (is.na(asp)) margins[2] <- label_inches(ylim) + 3 * line_inches()
   par(mai = margins, new = TRUE)
   plot.new()
@@ -62,9 +68,7 @@ legend_inches <- function(key) {
 line_inches <- function() par("mai")[1] / par("mar")[1]
 
 # The width of the labels beside an axis of these limits.
-label_inches <- function(limits) max(strwidth(axis_labels(pretty(limits)), "inches"))
-
-axis_labels <- function(ticks) format(ticks, big.mark = ",", scientific = FALSE, trim = TRUE)
+label_inches <- function(limits) max(strwidth(in_digits(pretty(limits)), "inches"))
 
 # As many animals as there is room for, and how many more there are.
 shorten_key <- function(key) {
@@ -84,8 +88,8 @@ draw_curves <- function(ranges, shown, main, ...) {
   in_kilometres <- max(area) >= 10000
   if (in_kilometres) area <- area / 100
   begin_plot(c(0, max(rows$n)), c(0, max(area, 0.01)), styles, main)
-  axis(1, axTicks(1), axis_labels(axTicks(1)))
-  axis(2, axTicks(2), axis_labels(axTicks(2)), las = 1)
+  axis(1, axTicks(1), in_digits(axTicks(1)))
+  axis(2, axTicks(2), in_digits(axTicks(2)), las = 1)
   box(bty = "l")
   title(main = main, xlab = "Number of fixes", ...)
   beside <- label_inches(par("usr")[3:4]) / line_inches() + 1.6
@@ -112,7 +116,8 @@ draw_ranges <- function(ranges, shown, level, over, label, main, ...) {
   mtext(paste0(paste(level, collapse = ", "), " % of the fixes"), adj = 1, line = 0.1, cex = 0.8 * par("cex"))
   if (!is.null(over)) plot(over, add = TRUE, border = "grey40", col = NA, lwd = 3)
   pale <- adjustcolor(styles$colour, 0.45)
-  points(easting, northing, pch = 16, cex = 0.4, col = pale[match(fixes$animal, shown)])
+  size <- max(0.1, 0.4 * min(1, sqrt(5000 / nrow(fixes))))
+  points(easting, northing, pch = 16, cex = size, col = pale[match(fixes$animal, shown)])
   width <- ifelse(rep(level, each = length(shown)) == max(level), 2, 1)
   for (place in seq_along(rings)) draw_ring(rings[[place]], styles[(place - 1) %% length(shown) + 1, ], width[place])
 }

@@ -4,7 +4,7 @@
 homerange_program <- function() {
   named <- c("options(homerange.program)" = getOption("homerange.program", ""), "HOMERANGE" = Sys.getenv("HOMERANGE"))
   for (by in names(named)[nzchar(named)]) {
-    path <- Sys.which(named[[by]])[[1]]
+    path <- Sys.which(path.expand(named[[by]]))[[1]]
     if (!nzchar(path)) refuse("program", "there is no program ", named[[by]], ", which ", by, " names")
     return(normalizePath(path))
   }
@@ -52,7 +52,8 @@ refuse_run <- function(status, lines, files, animals) {
 
 # Writes the fixes of each animal to a file with a number as name; a column use has which are used, if it is not NULL.
 write_tracks <- function(fixes, folder, use = NULL) {
-  text <- paste(fixes$animal, whole_text(floor(fixes$moment)), whole_text(fixes$easting), whole_text(fixes$northing), sep = ",")
+  numbers <- lapply(list(floor(fixes$moment), fixes$easting, fixes$northing), sprintf, fmt = "%.0f")
+  text <- do.call(paste, c(list(fixes$animal), numbers, sep = ","))
   header <- "animal,second,easting,northing"
   if (!is.null(use)) {
     text <- paste(text, as.integer(use), sep = ",")
@@ -67,8 +68,6 @@ write_tracks <- function(fixes, folder, use = NULL) {
   }
   files
 }
-
-whole_text <- function(numbers) sprintf("%.0f", numbers)
 
 # Calls a function with a folder of its own, which is gone afterwards.
 in_folder <- function(action) {

@@ -43,6 +43,7 @@ report_table <- function(fields, kind, columns, texts, refuse_report) {
 # Whether the tables have what the animals' lines say.
 check_report <- function(report, end, refuse_report) {
   animals <- report$animals
+  if (nrow(animals) == 0) refuse_report("it has no animals")
   if (nrow(animals) != end) refuse_report("it has ", nrow(animals), " animals, and its last line says ", end)
   if (anyDuplicated(animals$animal)) refuse_report("an animal is there twice")
   places <- lapply(report[-1], function(table) match(table$animal, animals$animal))

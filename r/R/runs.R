@@ -3,7 +3,8 @@
 most_files <- 64
 group_size <- 32
 
-# The groups of files of the runs: one run of all, or one of each group for its tables and of each pair for its overlaps.
+# The groups of files of the runs: one run of all, or one of each group for its tables and of each pair for its
+# overlaps.
 plan_runs <- function(number) {
   if (number <= most_files) return(list(list(places = seq_len(number), is_pair = FALSE)))
   groups <- unname(split(seq_len(number), (seq_len(number) - 1) %/% group_size))

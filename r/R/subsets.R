@@ -8,7 +8,7 @@ subset_rules <- function(from, to, months, hours, every, tz) {
     to = if (!is.null(to)) rule_to(to, tz),
     months = if (!is.null(months)) rule_months(months, tz),
     hours = if (!is.null(hours)) rule_hours(hours, tz),
-    every = if (!is.null(every)) rule_every(every)
+    every = if (!is.null(every)) rule_every(every, tz)
   )
   Filter(Negate(is.null), rules)
 }
@@ -65,14 +65,19 @@ rule_hours <- function(hours, tz) {
 
 clock_of <- function(time, argument, tz) {
   if (!is.object(time)) {
-    refuse("option", argument, ": times as numbers have no calendar: as.POSIXct(seconds, origin = \"1970-01-01\", tz = \"UTC\")")
+    refuse("option", argument, ": times as numbers have no calendar: ",
+           "as.POSIXct(seconds, origin = \"1970-01-01\", tz = \"UTC\")")
   }
   if (inherits(time, "Date")) as.POSIXlt(time) else as.POSIXlt(time, tz = tz)
 }
 
-rule_every <- function(every) {
+rule_every <- function(every, tz) {
   if (!is_number(every) || every <= 0) refuse("option", "every: a number of hours is wanted")
-  function(fixes) !duplicated(data.frame(fixes$animal, floor(fixes$moment / (3600 * every))))
+  function(fixes) {
+    is_clock <- inherits(fixes$time, "POSIXct")
+    clock <- if (is_clock) as.numeric(as.POSIXct(as.POSIXlt(fixes$time, tz = tz), tz = "UTC")) else fixes$moment
+    !duplicated(data.frame(fixes$animal, floor(clock / (3600 * every))))
+  }
 }
 
 # Applies the rules, says how many fixes each leaves out, and counts them by animal.

@@ -69,7 +69,8 @@ polygons.home_range <- function(x, level = 100, ...) {
 rings_of <- function(ranges, level) {
   known <- unique(c(ranges$percents$level, 100))
   if (!is_number(level) || !level %in% known) {
-    refuse("option", "level: one of ", paste(sort(known), collapse = ", "), " is wanted; home_range takes others as levels")
+    refuse("option", "level: one of ", paste(sort(known), collapse = ", "),
+           " is wanted; home_range takes others as levels")
   }
   if (level < 100 && is.null(ranges$fixes)) {
     refuse("option", "level: a report has no corners of polygons below 100; home_range makes them from fixes")
@@ -102,7 +103,8 @@ as_shape <- function(ring) {
 print.home_range <- function(x, ...) {
   number <- nrow(x$animals)
   times <- range(x$rows$time)
-  left_out <- if (is.null(x$left_out)) "" else paste0(", ", format(sum(x$left_out), big.mark = ","), " left out")
+  if (!is.object(times)) times <- paste("second", in_digits(times))
+  left_out <- if (is.null(x$left_out)) "" else paste0(", ", in_digits(sum(x$left_out)), " left out")
   cat("Home ranges of ", count_of(number, "animal"), " (minimum convex polygons)\n", sep = "")
   cat(count_of(sum(x$animals$fixes), "fix", "fixes"), " in whole ", units_known[[x$unit]]$name, left_out, ", ",
       format(times[1]), " to ", format(times[2]), "\n", sep = "")

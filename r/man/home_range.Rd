@@ -18,7 +18,7 @@ home_range(x, levels = c(50, 95, 100), unit = "m", animal = NULL, time = NULL,
 \arguments{
 \item{x}{for \code{home_range} a data frame with a row for each fix, or an \code{sf} table of points whose coordinate
   reference system (CRS) is projected and in metres. For \code{print} a home range.}
-\item{levels}{the levels of the percent polygons: 1 to 8 whole numbers from 1 to 100.}
+\item{levels}{the levels of the percent polygons: 1 to 8 different whole numbers from 1 to 100.}
 \item{unit}{to what coordinates are rounded: \code{"m"} for whole metres, \code{"dm"} for whole decimetres. The
   coordinates of \code{x} are in metres in either case.}
 \item{animal, time}{the names of the columns that have the animal's name and the time. Times are \code{POSIXct},
@@ -27,17 +27,19 @@ home_range(x, levels = c(50, 95, 100), unit = "m", animal = NULL, time = NULL,
   zone. Not for an \code{sf} table, which brings its own.}
 \item{use}{which fixes are used: the name of a column, or a vector, of \code{TRUE} and \code{FALSE}; a column may have 1
   and 0. Rows that are not used are not checked. If left out, a column \code{use} is taken, else Movebank's
-  \code{visible} and \code{manually-marked-outlier}, where the table has them. \code{use = TRUE} uses all rows.}
+  \code{visible} and \code{manually-marked-outlier}, where the table has them; fixes of several types of sensors, by
+  Movebank's \code{sensor-type}, are refused then. \code{use = TRUE} uses all rows;
+  outliers that are used are said in a message.}
 \item{from, to}{the first and the last time: a day (a \code{Date}, or text such as \code{"2024-05-31"}), a
   \code{POSIXct}, or a number of seconds. Both are included; a day of \code{to} to its end.}
 \item{months}{the months to use: whole numbers from 1 to 12.}
 \item{hours}{the hours of the day to use: two numbers from 0 to 24. Times from the first, up to the second but without it,
   are used: \code{c(18, 6)} is the night from 18:00 to before 06:00.}
 \item{every}{one fix in so many hours is used: of each animal the first in each stretch of \code{every} hours. Stretches
-  are counted from 1970-01-01 00:00 UTC, or from second 0 where times are numbers.}
+  are counted from 1970-01-01 00:00 by the clock of \code{tz}, or from second 0 where times are numbers.}
 \item{tz}{the time zone of days, months and hours, and of times that are shown; \code{\link{OlsonNames}} lists them.}
 \item{crs}{the CRS of the columns of coordinates, as \code{sf::st_crs} takes it, such as 32633 for UTM zone 33 north. It
-  is only for \code{\link{polygons}}. If left out, it is that of an amt track, or of Movebank's column \code{utm-zone}.}
+  changes no number: \code{\link{polygons}} are given in it. If left out, it is that of an amt track, or of Movebank's column \code{utm-zone}.}
 \item{progress}{whether a bar shows how far many runs of the program have come.}
 \item{...}{not used.}
 }
@@ -56,7 +58,7 @@ A \code{move2} table says itself which columns have the animal and the time.
 most. They have to be in one plane grid. Longitude and latitude, feet, web maps' Mercator projection and an \code{sf}
 table without a CRS are refused, and the message has the call that projects them into the UTM zone of most fixes.
 
-\strong{Order.} Animals come in the order of their first fix, and fixes in the order of time; fixes of one time stay in
+\strong{Order.} Animals come in the order of their first rows, and fixes in the order of time; fixes of one time stay in
 the order of their rows. Parts of a second count for the order alone.
 
 \strong{Subsets} are taken in the order \code{use}, \code{from}, \code{to}, \code{months}, \code{hours}, \code{every}, and
@@ -83,7 +85,8 @@ characters; times before 1970 (or below 0) or past 1,099,511,627,776 seconds; co
 0 to 16,777,216 metres, or with \code{unit = "dm"} to 13,421,772 metres. An animal has at most 1,048,576 fixes. Arguments
 that cannot be right are refused as \code{homerange_option_error}. \link{homerange-package} lists all classes.
 
-Areas are exact. They are handed on as doubles, which hold whole numbers up to 2^53: enough for any range on land.
+Areas are exact for the rounded coordinates. They are handed on as doubles, which hold whole numbers up to 2^53: enough for
+any range on land.
 }
 \references{
 Mohr, C. O. (1947) Table of equivalent populations of North American small mammals. \emph{American Midland Naturalist}

@@ -7,7 +7,7 @@ that is made to the right of the plot.
 }
 \usage{
 \method{plot}{home_range}(x, what = c("ranges", "curve"), level = 100, animals = NULL,
-     over = NULL, label = "boundary", main = "", ...)
+     over = NULL, label = "boundary", main = "", reset = TRUE, ...)
 }
 \arguments{
 \item{x}{a home range, from \code{\link{home_range}} or \code{\link{read_report}}.}
@@ -19,6 +19,8 @@ that is made to the right of the plot.
   is drawn in grey, and the map is wide enough for it.}
 \item{label}{what the legend calls it.}
 \item{main}{a title.}
+\item{reset}{whether the device gets its margins back. With \code{FALSE} more can be drawn on the plot, such as by
+  \code{\link{text}}; coordinates are in metres then.}
 \item{...}{further arguments of \code{\link{title}}.}
 }
 \details{

@@ -12,6 +12,11 @@ is_r_ready() {
     done
 }
 
+# Runs R with the package that was checked, and without the program.
+without_program() {
+    HOMERANGE=/none R_LIBS=$PWD/homerange.Rcheck Rscript "$@"
+}
+
 rm -rf r_package
 mkdir r_package
 cd r_package || exit 1
@@ -19,11 +24,11 @@ if is_r_ready; then
     holds 'the package for R is built' R CMD build "$top/r"
     holds 'the package for R is checked' env _R_CHECK_FORCE_SUGGESTS_=false R CMD check --no-manual homerange_*.tar.gz
     holds 'the check of the package has nothing to say' grep -qx 'Status: OK' homerange.Rcheck/00check.log
-    holds 'its tests found the program' grep -q 'FAIL 0 | WARN 0 | SKIP 1 ' homerange.Rcheck/tests/testthat.Rout
+    holds 'its tests found the program' grep -q 'FAIL 0 | WARN 0 | SKIP 0 ' homerange.Rcheck/tests/testthat.Rout
     page=homerange.Rcheck/homerange/doc/homerange.html
     holds 'its vignette has two pictures' [ "$(grep -c 'src="data:image/png' $page)" -eq 2 ]
-    cp "$top/r/vignettes/homerange.Rmd" .
-    holds 'its vignette is made without the program' env HOMERANGE=/none R_LIBS="$PWD/homerange.Rcheck" \
-        Rscript -e 'rmarkdown::render("homerange.Rmd", quiet = TRUE)'
+    cp -r "$top/r/tests/." "$top/r/vignettes/homerange.Rmd" .
+    holds 'its tests skip what wants the program' without_program testthat.R
+    holds 'its vignette is made without the program' without_program -e 'rmarkdown::render("homerange.Rmd", quiet = TRUE)'
     holds 'it says that nothing was run' grep -q 'nothing on it was run' homerange.html
 fi

@@ -53,7 +53,9 @@ test_that("Movebank's zone is the CRS, and its marks of outliers are minded", {
   ranges <- quietly(home_range(deer))
   expect_identical(sf::st_crs(polygons(ranges)), sf::st_crs(32633))
   expect_equal(ranges$left_out[, "use"], c(Asta = 1, Bruno = 0, Cilla = 0))
-  expect_equal(sum(quietly(home_range(deer, use = TRUE))$animals$fixes), 1080)
+  said <- capture_messages(ranges <- home_range(deer, use = TRUE))
+  expect_true("homerange: 1 fix is used that is marked as an outlier\n" %in% said)
+  expect_equal(sum(ranges$animals$fixes), 1080)
   table <- square(c("id", "date", "x", "y"))
   table[["manually-marked-outlier"]] <- c("", "true", "", "")
   table$visible <- "true"

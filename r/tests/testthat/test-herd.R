@@ -1,8 +1,9 @@
 # More animals than one run takes.
 
 herd <- function(number, fixes) {
-  seeds <- seq_len(number)
-  do.call(rbind, lapply(seeds, function(seed) walk(paste("deer", seed), fixes, seed, 200, c(560000, 5130000) + 90 * seed %% 7)))
+  do.call(rbind, lapply(seq_len(number), function(seed) {
+    walk(paste("deer", seed), fixes, seed, stride = 200, at = c(560000, 5130000) + 90 * seed %% 7)
+  }))
 }
 
 # Which points lie in a convex polygon, whose corners go counterclockwise, by the signs of the triangles.

@@ -22,6 +22,17 @@ test_that("a report is drawn, and the margins are as before", {
   }
 })
 
+test_that("margins stay where more is to be drawn", {
+  drawn(function() {
+    before <- graphics::par("mai")
+    plot(report(), reset = FALSE)
+    expect_gt(graphics::par("mai")[4], before[4])
+    # The plot has equal scales on both axes.
+    scales <- graphics::par("pin") / c(diff(graphics::par("usr")[1:2]), diff(graphics::par("usr")[3:4]))
+    expect_equal(scales[1], scales[2])
+  })
+})
+
 test_that("home ranges are drawn with fixes and several levels", {
   skip_without_program()
   ranges <- quietly(home_range(deer))
@@ -31,6 +42,22 @@ test_that("home ranges are drawn with fixes and several levels", {
   small <- quietly(home_range(data.frame(id = c("a", "b", "b"), date = as.Date("2024-05-01") + 0:2, x = 1:3, y = 1:3)))
   drawn(function() plot(small))
   drawn(function() plot(small, "curve"))
+})
+
+test_that("a map is wide enough for a boundary, which has to be in its CRS", {
+  skip_without_program()
+  skip_if_not_installed("sf")
+  ranges <- quietly(home_range(deer))
+  boundary <- sf::st_buffer(sf::st_sfc(sf::st_point(c(562000, 5134000)), crs = 32633), 9000)
+  usr <- drawn(function() {
+    plot(ranges, over = boundary, label = "reserve")
+    graphics::par("usr")
+  })
+  expect_true(usr[1] < 553000 && usr[2] > 571000 && usr[3] < 5125000 && usr[4] > 5143000)
+  refused <- function(over) expect_error(plot(ranges, over = over), class = "homerange_option_error")
+  refused(sf::st_transform(boundary, 4326))
+  refused("reserve")
+  expect_error(plot(report(), over = boundary), class = "homerange_option_error")
 })
 
 test_that("the legend lies beside the plot, within the page", {

@@ -1,7 +1,8 @@
 # What is printed, and the function curve of graphics.
 
 test_that("a home range prints in about ten lines", {
-  ranges <- read_report(system.file("extdata", "report.txt", package = "homerange"), as.POSIXct("2024-05-01", tz = "UTC"))
+  report <- system.file("extdata", "report.txt", package = "homerange")
+  ranges <- read_report(report, start = as.POSIXct("2024-05-01", tz = "UTC"))
   expect_identical(capture.output(print(ranges)), c(
     "Home ranges of 3 animals (minimum convex polygons)",
     "180 fixes in whole metres, 2024-05-01 to 2024-05-02 05:30:00",
@@ -11,6 +12,12 @@ test_that("a home range prints in about ten lines", {
     " badger    60  0.00 32.14 40.51 13.2 %",
     "  otter    60 17.32 37.84 48.24  0.0 %"
   ))
+})
+
+test_that("times of a report without a start are seconds", {
+  report <- system.file("extdata", "report.txt", package = "homerange")
+  expect_identical(capture.output(print(read_report(report)))[2],
+                   "180 fixes in whole metres, second 0 to second 106,200")
 })
 
 test_that("of many animals the first are printed", {
@@ -32,5 +39,5 @@ test_that("the function curve of graphics works as ever", {
   expect_equal(curve(sin, 0, 1, n = 3)$y, sin(c(0, 0.5, 1)))
   expect_equal(curve(slope * x^2, from = 0, to = 2, n = 3)$y, c(0, 3, 12))
   expect_equal(curve(expr = cos, 0, 1, n = 2)$y, cos(0:1))
-  expect_error(curve(home_range(3)), "data frame", class = "homerange_error")
+  expect_error(curve(home_range(deer, levels = "95")), "levels", class = "homerange_option_error")
 })

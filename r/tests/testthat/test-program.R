@@ -21,8 +21,8 @@ test_that("files are numbers in a folder that is gone afterwards", {
   folder <- local_folder()
   said <- file.path(folder, "said")
   local_program(sprintf("echo \"$@\" >'%s'; cat \"$5\" >>'%s'; exit 3", said, said))
-  expect_error(quietly(home_range(fixes(), levels = c(5, 50), unit = "dm")), "the program ended with status 3: it says no more",
-               class = "homerange_memory_error")
+  expect_error(quietly(home_range(fixes(), levels = c(5, 50), unit = "dm")),
+               "the program ended with status 3: it says no more", class = "homerange_memory_error")
   lines <- readLines(said)
   files <- strsplit(lines[1], " ")[[1]]
   expect_identical(files[1:4], c("--unit", "dm", "--percent", "5,50"))
@@ -43,7 +43,8 @@ test_that("a report that is cut off or of other animals is refused", {
   skip_on_os("windows")
   local_program("echo animal,b,fixes,1")
   expect_error(quietly(home_range(fixes())), "there is no end line", class = "homerange_report_error")
-  local_program(paste("printf '%s\\n' animal,b,fixes,1 box,b,0,0,0,0 row,b,1,0,1,0 corner,b,1,0,0 percent,b,50,1,1,0 end,1"))
+  lines <- c("animal,b,fixes,1", "box,b,0,0,0,0", "row,b,1,0,1,0", "corner,b,1,0,0", "percent,b,50,1,1,0", "end,1")
+  local_program(paste("echo", lines))
   expect_error(quietly(home_range(fixes())), "not the animals of its files", class = "homerange_check_error")
 })
 
@@ -87,9 +88,9 @@ test_that("the program is found by options, environment, clone and PATH, in this
                class = "homerange_program_error")
 })
 
-test_that("a record that the program refuses is told with its animal", {
+test_that("a file that the program refuses is told by its animal", {
   skip_without_program()
-  skip_on_cran()
   many <- data.frame(animal = "the hare", second = 0, easting = rep(1, 1048577), northing = 1)
-  expect_error(quietly(home_range(many)), "^homerange: the hare: record 1048577: ", class = "homerange_file_error")
+  expect_error(quietly(home_range(many)), "^homerange: the hare: more than 1048576 records after the header$",
+               class = "homerange_file_error")
 })

@@ -17,7 +17,7 @@ refused <- function(table, message, class = "homerange_data_error", ...) {
 
 test_that("rows without a coordinate, a time or a name are refused", {
   skip_without_program()
-  refused(changed("easting", 2, NA), "row 2: there is no easting; use = !is.na(x[[\"easting\"]] + x[[\"northing\"]])")
+  refused(changed("easting", 2, NA), "row 2: there is no easting; such rows are not in x[!is.na(x[[\"easting\"]] +")
   refused(changed("northing", 3, NaN), "row 3: there is no northing")
   refused(changed("easting", 3, Inf), "row 3: easting is not finite")
   refused(changed("second", 2, NA), "row 2: there is no second")
@@ -40,7 +40,8 @@ test_that("coordinates off the grid are refused, and its edges are not", {
 test_that("times that cannot be right are refused", {
   skip_without_program()
   refused(changed("second", 3, -1), "row 3: second is less than 0")
-  refused(changed("second", 3, 1099511627777), "row 3: second is past 1,099,511,627,776 seconds: are these milliseconds?")
+  refused(changed("second", 3, 1099511627777),
+          "row 3: second is past 1,099,511,627,776 seconds: are these milliseconds?")
   expect_equal(nrow(curve(quietly(home_range(changed("second", 2, 1099511627776))))), 3)
   times <- fixes()
   times$second <- as.POSIXct(c("2024-05-01", "1969-12-31", "2024-05-01"), tz = "UTC")
@@ -71,7 +72,7 @@ test_that("tables without what is wanted are refused", {
   skip_without_program()
   refused(list(1), "a data frame is wanted")
   refused(fixes()[0, ], "there are no rows")
-  refused(fixes()[-1], "no column of the animal was found: name it, animal = \"...\"; the columns are second, easting, northing")
+  refused(fixes()[-1], "no column of the animal was found: name it, animal = \"...\"; the columns are second, easting")
   refused(fixes()[-2], "no column of the time was found")
   refused(fixes()[-3], "no columns of easting and northing were found")
   refused(fixes(), "animal: there is no column name", "homerange_option_error", animal = "name")
@@ -85,8 +86,8 @@ test_that("longitude and latitude are refused with the call that projects them",
   degrees <- data.frame(id = "a", date = as.Date("2024-05-01") + 0:2)
   degrees$location.long <- c(15.8, 15.9, 9)
   degrees$location.lat <- c(46.3, 46.4, 46.5)
-  refused(degrees, paste0("sf::st_transform(sf::st_as_sf(x, coords = c(\"location.long\", \"location.lat\"), crs = 4326), ",
-                          "32633)"))
+  points <- "sf::st_as_sf(x, coords = c(\"location.long\", \"location.lat\"), crs = 4326)"
+  refused(degrees, paste0("sf::st_transform(", points, ", 32633)"))
   degrees$location.lat <- -degrees$location.lat
   refused(degrees, "32733)")
 })
@@ -97,6 +98,13 @@ test_that("fixes of several UTM zones are refused", {
                        utm.northing = 1:4, utm.zone = c("33N", "33N", "32N", "33N"))
   refused(export, "row 3: UTM zone 32N is not that of the rows before")
   expect_equal(nrow(curve(quietly(home_range(export, use = export$utm.zone == "33N")))), 3)
+})
+
+test_that("fixes of several types of sensors are refused", {
+  skip_without_program()
+  export <- cbind(fixes(), sensor.type = c("gps", "argos", "gps"))
+  refused(export, "several types of sensors (argos 1, gps 2): use = x[[\"sensor.type\"]] == \"gps\" takes one")
+  expect_equal(nrow(curve(quietly(home_range(export, use = export[["sensor.type"]] == "gps")))), 2)
 })
 
 test_that("marks of use that are none are refused", {
@@ -113,6 +121,7 @@ test_that("arguments that cannot be right are refused", {
   option <- "homerange_option_error"
   refused(fixes(), "unit: \"m\" for metres or \"dm\" for decimetres", option, unit = "km")
   refused(fixes(), "levels: numbers", option, levels = "95")
+  refused(fixes(), "levels: 50 is there twice", option, levels = c(50, 95, 50))
   refused(fixes(), "homerange: --percent: level 2 is not a whole number from 1 to 100", option, levels = c(50, 95.5))
   refused(fixes(), "homerange: --percent: level 1 is not a whole number from 1 to 100", option, levels = 101)
   refused(fixes(), "homerange: --percent: more than 8 levels", option, levels = 1:9)

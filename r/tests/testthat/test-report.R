@@ -43,11 +43,14 @@ test_that("seconds become times from a start", {
 })
 
 test_that("what is no whole report is refused", {
-  refused <- function(lines, message) expect_error(read_report(written(lines)), message, class = "homerange_report_error")
+  refused <- function(lines, message) {
+    expect_error(read_report(written(lines)), message, class = "homerange_report_error")
+  }
   refused(square[-21], "there is no end line, so it is cut off or no report")
   refused(character(), "there is no end line")
   refused(replace(square, 21, "end,3"), "it has 2 animals, and its last line says 3")
   refused(replace(square, 21, "end,"), "there is no end line")
+  refused("end,0", "it has no animals")
   for (line in c(1:20)) refused(square[-line], "")
   for (line in c(1:20)) refused(square[c(seq_len(line), line:21)], "")
   refused(replace(square, 3, "row,NA,1,10,1"), "line 3 is none of a report: row,NA,1,10,1")

@@ -4,7 +4,7 @@ points_of <- function(crs = 32633) {
   sf::st_as_sf(walk("hare", 50, 21), coords = c("easting", "northing"), crs = crs)
 }
 
-# Such points around the capital Maribor in longitude and latitude.
+# The same points in longitude and latitude.
 degrees <- function() sf::st_transform(points_of(), 4326)
 
 test_that("points of a projected CRS go in, and polygons of this CRS come out", {
@@ -53,16 +53,20 @@ test_that("a table whose coordinates cannot be taken is refused, with the call t
   refused(sf::st_set_crs(degrees(), NA), "no CRS: sf::st_transform(sf::st_set_crs(x, 4326), 32633)")
   refused(sf::st_set_crs(points_of(), NA), "no CRS: sf::st_set_crs(x, 32633) where they are of UTM zone 33 north")
   # Feet of New York, zone 18.
-  feet <- sf::st_set_crs(sf::st_as_sf(walk("hare", 50, 21, at = c(981000, 199000)), coords = c("easting", "northing")), 2263)
+  new_york <- walk("hare", 50, 21, at = c(981000, 199000))
+  feet <- sf::st_as_sf(new_york, coords = c("easting", "northing"), crs = 2263)
   refused(feet, "is not the metre but US survey foot: sf::st_transform(x, 32618)")
   refused(sf::st_transform(points_of(), 3857), "stretches areas: sf::st_transform(x, 32633)")
-  south <- sf::st_set_crs(sf::st_as_sf(data.frame(id = "a", date = Sys.Date(), x = 144.9, y = -37.8), coords = c("x", "y")), 4326)
+  melbourne <- data.frame(id = "a", date = as.Date("2024-05-01"), x = 144.9, y = -37.8)
+  south <- sf::st_as_sf(melbourne, coords = c("x", "y"), crs = 4326)
   refused(south, "sf::st_transform(x, 32755)")
-  lines <- sf::st_set_geometry(points_of()[1:2, ], sf::st_sfc(sf::st_point(1:2), sf::st_linestring(diag(2)), crs = 32633))
+  shapes <- sf::st_sfc(sf::st_point(1:2), sf::st_linestring(diag(2)), crs = 32633)
+  lines <- sf::st_set_geometry(points_of()[1:2, ], shapes)
   refused(lines, "row 2: the geometry is a LINESTRING and no POINT")
   empty <- points_of()
   sf::st_geometry(empty)[3] <- sf::st_point()
-  refused(empty, "row 3: there is no point's easting; use = !sf::st_is_empty(x) leaves such rows out")
+  refused(empty, "row 3: there is no point's easting; such rows are not in x[!sf::st_is_empty(x), ]")
+  expect_equal(nrow(curve(quietly(home_range(empty[!sf::st_is_empty(empty), ])))), 49)
   expect_equal(nrow(curve(quietly(home_range(empty, use = !sf::st_is_empty(empty))))), 49)
   expect_error(quietly(home_range(points_of(), easting = "x", northing = "y")), "brings its own",
                class = "homerange_option_error")
@@ -83,5 +87,6 @@ test_that("the CRS of columns is that of the argument", {
   expect_identical(sf::st_crs(polygons(quietly(home_range(fixes, crs = 25833)))), sf::st_crs(25833))
   expect_error(quietly(home_range(fixes, crs = 4326)), "sf::st_transform(sf::st_as_sf(x", fixed = TRUE,
                class = "homerange_data_error")
-  expect_error(quietly(home_range(fixes, crs = NA)), "no such coordinate reference system", class = "homerange_option_error")
+  expect_error(quietly(home_range(fixes, crs = NA)), "no such coordinate reference system",
+               class = "homerange_option_error")
 })
