@@ -62,6 +62,7 @@ TITLES = {
     "easting": ("utm-easting", "easting", "x", "x-"),
     "northing": ("utm-northing", "northing", "y", "y-"),
 }
+OUTLIERS = ("manually-marked-outlier", "algorithm-marked-outlier", "import-marked-outlier")  # Movebank's marks
 COLOURS = ("#0072B2", "#D55E00", "#009E73", "#CC79A7", "#E69F00", "#56B4E9", "#000000")  # of Okabe and Ito
 STYLES = ("solid", "dashed", "dotted", "dashdot")
 
@@ -344,14 +345,20 @@ def _used(frame: Any, use: str | Sequence[bool] | None, labels: Any, notes: list
 
 
 def _unmarked(frame: Any, positions: Any, notes: list[str]) -> Any:
-    """Which rows Movebank has neither as invisible nor as an outlier."""
+    """Which rows Movebank has neither as invisible nor as an outlier. Sensors of several types are refused."""
     used = pandas.Series(True, index=positions)
-    for title, outlier in (("visible", False), ("manually-marked-outlier", True)):
+    for title in ("visible", *OUTLIERS):
         column = _column(frame, None, [title])
         if column is not None:
-            used &= ~frame[column].set_axis(positions).map(lambda value: _is_true(value) is outlier).astype(bool)
+            marks = frame[column].set_axis(positions).map(_is_true)
+            used &= marks != (title != "visible")
     if not used.all():
-        notes.append(f"{(~used).sum()} fixes are marked as outliers by visible or manually-marked-outlier: left out")
+        notes.append(f"{(~used).sum()} fixes are not visible, or marked as outliers: left out")
+    sensor = _column(frame, None, ["sensor-type"])
+    kinds = Counter[str]() if sensor is None else Counter(frame[sensor].set_axis(positions)[used].dropna().map(str))
+    if len(kinds) > 1:
+        counts = ", ".join(f"{kind} {count}" for kind, count in kinds.most_common())
+        raise FrameError(f"fixes are of several types of sensors ({counts}): choose, as by frame[frame[{sensor!r}] == ..]")
     return used
 
 
@@ -710,10 +717,10 @@ def _kept(track: Any, level: int) -> Any:
 
 
 def _growth(areas: Sequence[int]) -> float:
-    """The share by which the area grew over the last tenth of the fixes, of n fixes those after the first 9n/10, the
-    division cutting off. It is NaN where the area was 0 before them."""
+    """The share of the area that the last tenth of the fixes, rounded up, added; NaN where there are less than ten
+    fixes, or no area."""
     before = 9 * len(areas) // 10
-    return areas[-1] / areas[before - 1] - 1 if before and areas[before - 1] else math.nan
+    return 1 - areas[before - 1] / areas[-1] if len(areas) >= 10 and areas[-1] else math.nan
 
 
 class HomeRanges:
@@ -753,9 +760,8 @@ class HomeRanges:
         """A row for each animal and level: ``animal``; ``first`` and ``last``, the times of its first and last fix;
         ``fixes``, how many there are, and ``left_out``, how many rows of the frame are not among them (missing where it
         is not known); ``level`` in per cent; ``kept``, how many fixes the level keeps; ``corners`` and ``hectares`` of
-        their polygon; and ``growth``, the share by which the area of all fixes grew over the last tenth of them: of n
-        fixes the area after n, divided by that after the first 9n/10 (cut off), less 1. It is NaN where the area was 0
-        before. A time after the year 2262 is NaT."""
+        their polygon; and ``growth``, the share of the area of all fixes that the last tenth of them, rounded up, added
+        (0 to 1). It is NaN where there are less than ten fixes, or no area. A time after the year 2262 is NaT."""
         left_out = self._tracks.left_out if self._tracks else {}
         rows = []
         for name, table in self._report.tables.items():
@@ -870,7 +876,8 @@ def home_range(
         by 10 first). Times are datetimes, text as 2024-05-01 00:30:04, or numbers of seconds since 1970; those without
         a zone are UTC. The rest of a second is cut off.
     use: which rows are used: a column, or a sequence of truths. If left out, a column ``use``, or all rows but those
-        that Movebank marks as outliers. Of rows that are not used only the animal has to be right.
+        that Movebank has as not visible or as outliers; then fixes of several types of sensors are refused. Of rows
+        that are not used only the animal has to be right.
     from_, to: the first and the last time that is wanted; a day alone is the whole day.
     months: the months that are wanted, 1 to 12.
     hours: two hours of the day, the second not included; (18, 6) is the night.

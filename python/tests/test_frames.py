@@ -108,13 +108,23 @@ def test_rows_that_are_not_used_may_have_no_place():
 
 
 def test_movebanks_outliers_are_left_out():
-    frame = frame_of(a=SQUARE, b=SQUARE).assign(visible=True, manually_marked_outlier=None)
+    frame = frame_of(a=SQUARE, b=SQUARE).assign(visible=True, manually_marked_outlier=None, **{"import-marked-outlier": None})
     frame.loc[[1, 2], "visible"] = False
-    frame.loc[[2, 4], "manually_marked_outlier"] = "true"
-    with pytest.warns(HomeRangeNote, match="^3 fixes are marked as outliers by visible or manually-marked-outlier"):
+    frame.loc[2, "manually_marked_outlier"] = "true"
+    frame.loc[4, "import-marked-outlier"] = True
+    frame.loc[5, "manually_marked_outlier"] = False
+    with pytest.warns(HomeRangeNote, match="^3 fixes are not visible, or marked as outliers: left out"):
         found = home_range(frame, 100)
     assert found.summary()[["fixes", "left_out"]].values.tolist() == [[2, 2], [3, 1]]
     assert row_count(frame, use=[True] * 8) == 8
+
+
+def test_several_sensors_are_refused():
+    frame = frame_of(a=SQUARE).assign(sensor_type=["gps", "gps", "argos-doppler-shift", "gps"])
+    with pytest.raises(FrameError, match=r"several types of sensors \(gps 3, argos-doppler-shift 1\): choose"):
+        home_range(frame)
+    assert row_count(frame[frame["sensor_type"] == "gps"]) == 3
+    assert row_count(frame, use=[True] * 4) == 4
 
 
 def test_an_animal_without_a_fix_is_said():
