@@ -65,6 +65,7 @@ TITLES = {
 OUTLIERS = ("manually-marked-outlier", "algorithm-marked-outlier", "import-marked-outlier")  # Movebank's marks
 COLOURS = ("#0072B2", "#D55E00", "#009E73", "#CC79A7", "#E69F00", "#56B4E9", "#000000")  # of Okabe and Ito
 STYLES = ("solid", "dashed", "dotted", "dashdot")
+LEGEND_ROWS = 20
 
 Moment = Union[str, date, datetime]
 Corners = list[tuple[int, int]]
@@ -973,7 +974,9 @@ def _legend(axes: Any, animals: Sequence[str]) -> None:
     if len(animals) > len(COLOURS) * len(STYLES):
         axes.annotate(f"{len(animals)} animals", (1, 1.02), xycoords="axes fraction", ha="right")
     else:
-        axes.legend(loc="upper left", bbox_to_anchor=(1.01, 1), borderaxespad=0, frameon=False, handlelength=3)
+        columns = 1 + (len(animals) - 1) // LEGEND_ROWS
+        axes.legend(loc="upper left", bbox_to_anchor=(1.01, 1), ncol=columns, borderaxespad=0, frameon=False,
+                    handlelength=3, fontsize="medium" if columns == 1 else "small")
 
 
 def _area_scale(hectares: float) -> tuple[float, str]:
@@ -1016,13 +1019,15 @@ def plot_ranges(ranges: HomeRanges, ax: Any = None, level: int = 100) -> Any:
         polygon = numpy.array([*corners[name], corners[name][0]]) / scale
         fixes = ranges.fixes(name)
         if fixes is not None:
-            axes.scatter(*(fixes / scale).T, s=4, color=style["color"], alpha=0.35, linewidths=0, zorder=1)
+            dot = {"s": 4, "alpha": 0.35} if len(fixes) > 200 else {"s": 14, "alpha": 0.7}
+            axes.scatter(*(fixes / scale).T, color=style["color"], linewidths=0, zorder=1, **dot)
         axes.fill(*polygon.T, color=style["color"], alpha=0.08, zorder=2)
         label = f"{_label(name)} ({ranges.hectares(name, level) / divisor:,.4g} {area_sign})"
         axes.plot(*polygon.T, label=label, zorder=3, **style)
     axes.set_aspect("equal", adjustable="datalim")
     axes.set(xlabel=f"Easting ({sign})", ylabel=f"Northing ({sign})")
-    axes.set_title(f"Minimum convex polygons, {level} % of the fixes", fontsize="medium", loc="left")
+    grid = f" ({ranges.crs})" if ranges.crs is not None else ""
+    axes.set_title(f"Minimum convex polygons, {level} % of the fixes{grid}", fontsize="medium", loc="left")
     _grid(axes)
     _legend(axes, ranges.animals)
     return axes

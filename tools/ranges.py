@@ -47,7 +47,7 @@ def write_layers(ranges, path):
 
 def write_pictures(ranges, folder):
     for name, draw in (("curves.png", plot_curve), ("ranges.png", plot_ranges)):
-        draw(ranges).figure.savefig(folder / name)
+        draw(ranges).figure.savefig(folder / name, dpi=300)
 
 
 def main():

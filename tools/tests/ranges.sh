@@ -2,9 +2,9 @@
 # the export's own fixes; layers are read by geopandas.
 # shellcheck shell=sh disable=SC2154
 
-# Whether what was made of an export is right. Words: the folder, the EPSG code, how many units are a metre, the levels.
+# Whether what was made of an export is right. -P leaves the stand-in of pyproj in tools/tests alone.
 are_ranges() {
-    PYTHONDONTWRITEBYTECODE=1 PYTHONPATH="$top/python/tests" python3 "$tools/tests/ranges.py" "$@"
+    PYTHONDONTWRITEBYTECODE=1 PYTHONPATH="$top/python/tests" python3 -P "$tools/tests/ranges.py" "$@"
 }
 
 # Whether these words are refused with this status, in words that have this text, and leave nothing.
@@ -27,12 +27,18 @@ if python3 -c 'import geopandas, matplotlib, pandas' 2>errors; then
 
     # Rounded by hand from examples/export.csv; one fix of the vixen has no coordinates.
     holds 'ranges of an export' "$make" "$top/examples/export.csv" plan/first
-    holds 'its files' [ "$(cd plan/first && ls | tr '\n' ' ')" = \
-        'curves.png overlaps.csv ranges.gpkg ranges.png report.txt report.txt.sha256 summary.csv tracks ' ]
+    holds 'its files' [ "$(ls plan/first)" = "curves.png
+overlaps.csv
+ranges.gpkg
+ranges.png
+report.txt
+report.txt.sha256
+summary.csv
+tracks" ]
     holds 'its sums hold in the folder' sh -c 'cd plan/first && sha256sum -c report.txt.sha256'
     "$HOMERANGE" plan/first/tracks/*.csv >direct
     holds 'its report is that of homerange' cmp direct plan/first/report.txt
-    cat >plan/fixes <<END2
+    cat >plan/fixes <<END
 vixen,562000,5134001
 vixen,561975,5133992
 vixen,562104,5134220
@@ -41,7 +47,7 @@ old boar,562700,5133550
 old boar,562777,5133676
 old boar,562552,5133703
 old boar,562633,5133444
-END2
+END
     holds 'its numbers' are_ranges plan/first 32633 1 50,95,100 plan/fixes
     printf '%s\n' 'fixes_of,old boar,vixen' 'old boar,1.0,0.0' 'vixen,0.0,1.0' >wanted
     holds 'its overlaps' cmp wanted plan/first/overlaps.csv
@@ -54,14 +60,14 @@ END2
     else
         skip 'ranges in another zone: no pyproj'
     fi
-    cat >plan/export.csv <<END2
+    cat >plan/export.csv <<END
 individual-local-identifier,timestamp,utm-easting,utm-northing,utm-zone,visible
 NA,2024-05-01 00:00:00,562000.04,8134000.05,23S,true
 NA,2024-05-01 01:00:00,562100.00,8134000.00,23S,true
 NA,2024-05-01 02:00:00,562100.00,8134100.00,23S,true
 NA,2024-05-01 03:00:00,662100.00,8134100.00,23S,false
 NA,2024-05-01 04:00:00,562000.00,8134100.00,23S,true
-END2
+END
     holds 'ranges in decimetres' "$make" --percent 75,100 --mark --unit dm plan/export.csv plan/south/
     printf 'NA,%s\n' 5620000,81340001 5621000,81340000 5621000,81341000 5620000,81341000 >plan/fixes
     holds 'numbers in decimetres' are_ranges plan/south 32723 10 75,100 plan/fixes
