@@ -954,27 +954,32 @@ def read_report(
 
 def _styles(animals: Sequence[str]) -> list[dict[str, Any]]:
     """A colour and a kind of line for each animal. Where there are more than can be told apart all are grey."""
-    if len(animals) > len(COLOURS) * len(STYLES):
+    if _legend_columns(animals) == 0:
         return [{"color": "#555555", "linewidth": 0.8, "alpha": 0.7}] * len(animals)
     kinds = itertools.product(STYLES, COLOURS)
     return [{"color": colour, "linestyle": style, "linewidth": 1.6} for _, (style, colour) in zip(animals, kinds)]
 
 
-def _axes(ax: Any) -> Any:
-    """The axes to draw in: those that are there, or of a new figure."""
+def _axes(ax: Any, animals: Sequence[str]) -> Any:
+    """The axes to draw in: those that are there, or of a new figure, with room for the legend."""
     if ax is not None:
         return ax
     from matplotlib import pyplot  # type: ignore[import]
 
-    return pyplot.subplots(figsize=(8, 5), dpi=150, layout="constrained")[1]
+    return pyplot.subplots(figsize=(6 + 2 * _legend_columns(animals), 5), dpi=150, layout="constrained")[1]
+
+
+def _legend_columns(animals: Sequence[str]) -> int:
+    """How many columns the legend has, none where there are too many animals for one."""
+    return -(-len(animals) // LEGEND_ROWS) if len(animals) <= len(COLOURS) * len(STYLES) else 0
 
 
 def _legend(axes: Any, animals: Sequence[str]) -> None:
     """A legend beside the axes, or how many animals there are, where they are too many for one."""
-    if len(animals) > len(COLOURS) * len(STYLES):
+    columns = _legend_columns(animals)
+    if columns == 0:
         axes.annotate(f"{len(animals)} animals", (1, 1.02), xycoords="axes fraction", ha="right")
     else:
-        columns = 1 + (len(animals) - 1) // LEGEND_ROWS
         axes.legend(loc="upper left", bbox_to_anchor=(1.01, 1), ncol=columns, borderaxespad=0, frameon=False,
                     handlelength=3, fontsize="medium" if columns == 1 else "small")
 
@@ -988,7 +993,7 @@ def plot_curve(ranges: HomeRanges, ax: Any = None) -> Any:
     """Draws the area of each animal's minimum convex polygon after each fix (incremental area analysis, Harris et al.
     1990): a curve that levels off says that the range is known. Answers with the axes of matplotlib, which are those
     that were given, or of a new figure. The legend is beside them."""
-    axes, curve = _axes(ax), ranges.curve()
+    axes, curve = _axes(ax, ranges.animals), ranges.curve()
     divisor, sign = _area_scale(curve["hectares"].max())
     for name, style in zip(ranges.animals, _styles(ranges.animals)):
         own = curve[curve["animal"] == name]
@@ -1010,16 +1015,17 @@ def _label(name: str) -> str:
 def plot_ranges(ranges: HomeRanges, ax: Any = None, level: int = 100) -> Any:
     """Draws each animal's polygon at a level, over its fixes where they are known. The axes have one scale, in
     kilometres of the grid, or in metres where all is small. Answers as plot_curve does."""
-    axes, corners = _axes(ax), ranges.corners(level)
+    axes, corners = _axes(ax, ranges.animals), ranges.corners(level)
     points = numpy.array([point for polygon in corners.values() for point in polygon])
     small = max(numpy.ptp(points, axis=0)) < 2000
     scale, sign = (1, "m") if small else (1000, "km")
     divisor, area_sign = _area_scale(max(ranges.hectares(name, level) for name in ranges.animals))
+    is_dense = len(ranges.curve()) > 200
+    dot = {"s": 4, "alpha": 0.35} if is_dense else {"s": 14, "alpha": 0.7}
     for name, style in zip(ranges.animals, _styles(ranges.animals)):
         polygon = numpy.array([*corners[name], corners[name][0]]) / scale
         fixes = ranges.fixes(name)
         if fixes is not None:
-            dot = {"s": 4, "alpha": 0.35} if len(fixes) > 200 else {"s": 14, "alpha": 0.7}
             axes.scatter(*(fixes / scale).T, color=style["color"], linewidths=0, zorder=1, **dot)
         axes.fill(*polygon.T, color=style["color"], alpha=0.08, zorder=2)
         label = f"{_label(name)} ({ranges.hectares(name, level) / divisor:,.4g} {area_sign})"
