@@ -3,9 +3,10 @@
     ranges = home_range(frame)
     ranges.summary()
 
-``home_range`` takes a data frame of fixes (a location with its time) and has the program make the minimum convex polygon
-of each animal, its percent polygons, its table of incremental area analysis, and the overlaps. ``read_report`` reads a
-report that the program made elsewhere. Both answer with ``HomeRanges``; ``plot_curve`` and ``plot_ranges`` draw it.
+``home_range`` takes a data frame of fixes (a location with its time) and has the program make the minimum convex
+polygon of each animal, its percent polygons, its table of incremental area analysis, and the overlaps. ``read_report``
+reads a report that the program made elsewhere. Both answer with ``HomeRanges``; ``plot_curve`` and ``plot_ranges`` draw
+it.
 
 The numbers are those of the program. This module chooses, sorts and rounds the fixes, and says what it did in warnings
 of the class ``HomeRangeNote``; it is tested and not proved.
@@ -135,7 +136,8 @@ class CutError(HomeRangeError):
     status = 5
 
 
-FAULTS: dict[int, type[HomeRangeError]] = {1: FileError, 2: OptionError, 3: OutOfMemoryError, 4: OutputError, 5: CutError}
+FAULTS: dict[int | None, type[HomeRangeError]] = {
+    fault.status: fault for fault in (FileError, OptionError, OutOfMemoryError, OutputError, CutError)}
 
 
 # From a data frame to the fixes of each animal.
@@ -154,7 +156,7 @@ class Subset(NamedTuple):
 
     from_: Moment | None
     to: Moment | None
-    months: Iterable[int] | None
+    months: int | Iterable[int] | None
     hours: tuple[int, int] | None
     every_hours: float | None
     tz: str
@@ -166,20 +168,21 @@ def _title(text: object) -> str:
 
 
 def _column(frame: Any, named: str | None, titles: Sequence[str]) -> Any:
-    """The column that was named, or else the first that has the first of these titles that is there; or None."""
+    """The column that was named, or else the one with the first of these titles that is there, or None. Of two columns
+    with one title the first counts. The index of the column holds positions in the frame."""
+    columns = list(frame.columns)
     if named is not None:
-        if named not in frame.columns:
-            raise FrameError(f"there is no column {named!r}; the frame has {', '.join(map(str, frame.columns))}")
-        return named
-    found = {_title(column): column for column in reversed(list(frame.columns))}
-    for title in titles:
-        if title in found:
-            return found[title]
-    return None
+        if named not in columns:
+            raise FrameError(f"there is no column {named!r}; the frame has {', '.join(map(str, columns))}")
+        at = columns.index(named)
+    else:
+        known = [_title(column) for column in columns]
+        at = next((known.index(title) for title in titles if title in known), -1)
+    return None if at < 0 else frame.iloc[:, at].set_axis(pandas.RangeIndex(len(frame)))
 
 
 def _wanted(frame: Any, named: str | None, role: str) -> Any:
-    """The name of a column that has to be there."""
+    """A column that has to be there."""
     column = _column(frame, named, TITLES[role])
     if column is None:
         raise FrameError(f"no column has a usual title for {role} ({', '.join(TITLES[role])}): name it by {role}=..")
@@ -294,7 +297,7 @@ def _point_places(points: Any, used: Any, labels: Any) -> Places:
     kinds = points.geom_type.set_axis(used.index)[used]
     points = points.set_axis(used.index)[used]
     _refuse_row(labels, kinds.isna() | points.is_empty, lambda at: (
-        "there is no point: leave such rows out first, as by frame[~(frame.geometry.isna() | frame.geometry.is_empty)]"))
+        "there is no point: leave such rows out first, as by use=~(frame.geometry.isna() | frame.geometry.is_empty)"))
     _refuse_row(labels, kinds != "Point", lambda at: f"there is a {kinds[at]} and not a point")
     return Places(_metres(points.x, "easting", labels), _metres(points.y, "northing", labels), points.crs)
 
@@ -307,10 +310,9 @@ def _column_places(frame: Any, easting: str | None, northing: str | None, used: 
             "the frame has longitude and latitude: make points of them and project them, as by points = "
             "geopandas.GeoDataFrame(frame, geometry=geopandas.points_from_xy(frame['location-long'], "
             "frame['location-lat']), crs=4326) and points.to_crs(points.estimate_utm_crs())")
-    columns = [_wanted(frame, easting, "easting"), _wanted(frame, northing, "northing")]
-    east, north = (frame[column].set_axis(used.index)[used] for column in columns)
-    zone = _column(frame, None, ["utm-zone"]) if _title(columns[0]) == "utm-easting" else None
-    crs = None if zone is None else _zone_crs(frame[zone].set_axis(used.index)[used].dropna().unique())
+    east, north = _wanted(frame, easting, "easting")[used], _wanted(frame, northing, "northing")[used]
+    zone = _column(frame, None, ["utm-zone"]) if _title(east.name) == "utm-easting" else None
+    crs = None if zone is None else _zone_crs(zone[used].dropna().unique())
     return Places(_metres(east, "easting", labels), _metres(north, "northing", labels), crs)
 
 
@@ -330,36 +332,34 @@ def _is_true(value: Any) -> bool | None:
 
 def _used(frame: Any, use: str | Sequence[bool] | None, labels: Any, notes: list[str]) -> Any:
     """Which rows are used: as a column or a sequence says, or else as Movebank's marks of outliers say."""
-    positions = pandas.RangeIndex(len(frame))
-    column = _column(frame, None, ["use"]) if use is None else use
-    if column is None:
-        return _unmarked(frame, positions, notes)
-    if isinstance(column, str):
-        marks = frame[_column(frame, column, [])]
+    if use is None or isinstance(use, str):
+        marks = _column(frame, use, ["use"])
+    elif len(use) == len(frame):
+        marks = pandas.Series(list(use), dtype=object)
     else:
-        marks = pandas.Series(list(column), dtype=object)
-        if len(marks) != len(frame):
-            raise FrameError(f"use has {len(marks)} marks for {len(frame)} rows")
-    truth = marks.set_axis(positions).map(_is_true)
-    _refuse_row(labels, truth.isna(), lambda at: f"use is {marks.iloc[at]!r} and neither true nor false")
+        raise FrameError(f"use has {len(use)} marks for {len(frame)} rows")
+    if marks is None:
+        return _unmarked(frame, notes)
+    truth = marks.map(_is_true)
+    _refuse_row(labels, truth.isna(), lambda at: f"use is {marks[at]!r} and neither true nor false")
     return truth.astype(bool)
 
 
-def _unmarked(frame: Any, positions: Any, notes: list[str]) -> Any:
+def _unmarked(frame: Any, notes: list[str]) -> Any:
     """Which rows Movebank has neither as invisible nor as an outlier. Sensors of several types are refused."""
-    used = pandas.Series(True, index=positions)
+    used = pandas.Series(True, index=pandas.RangeIndex(len(frame)))
     for title in ("visible", *OUTLIERS):
-        column = _column(frame, None, [title])
-        if column is not None:
-            marks = frame[column].set_axis(positions).map(_is_true)
-            used &= marks != (title != "visible")
+        marks = _column(frame, None, [title])
+        if marks is not None:
+            used &= marks.map(_is_true) != (title != "visible")
     if not used.all():
         notes.append(f"{(~used).sum()} fixes are not visible, or marked as outliers: left out")
-    sensor = _column(frame, None, ["sensor-type"])
-    kinds = Counter[str]() if sensor is None else Counter(frame[sensor].set_axis(positions)[used].dropna().map(str))
+    sensors = _column(frame, None, ["sensor-type"])
+    kinds = Counter[str]() if sensors is None else Counter(sensors[used].dropna().map(str))
     if len(kinds) > 1:
         counts = ", ".join(f"{kind} {count}" for kind, count in kinds.most_common())
-        raise FrameError(f"fixes are of several types of sensors ({counts}): choose, as by frame[frame[{sensor!r}] == ..]")
+        raise FrameError(
+            f"fixes are of several types of sensors ({counts}): choose, as by frame[frame[{sensors.name!r}] == ..]")
     return used
 
 
@@ -429,7 +429,7 @@ def _tests(subset: Subset) -> list[tuple[str, Callable[[Any], Any]]]:
         last = _bound(to, tz, True)
         tests.append((f"after {to}", lambda fixes: fixes["second"] <= last))
     if months is not None:
-        wanted = sorted({*months})
+        wanted = [months] if isinstance(months, int) else sorted({*months})
         if not wanted or not {*wanted} <= {*range(1, 13)}:
             raise FrameError(f"months={wanted} are not months from 1 to 12")
         text = f"in other months than {', '.join(map(str, wanted))}"
@@ -485,12 +485,12 @@ def _tracks(frame: Any, columns: dict[str, str | None], use: Any, unit: Unit, su
     points = None if columns["easting"] or columns["northing"] else _geometry(frame)
     animal, time = _wanted(frame, columns["animal"], "animal"), _wanted(frame, columns["time"], "time")
     used = _used(frame, use, labels, notes)
-    names = _names(frame[animal].set_axis(used.index), labels)
+    names = _names(animal, labels)
     if points is None:
         places = _column_places(frame, columns["easting"], columns["northing"], used, labels)
     else:
         places = _point_places(points, used, labels)
-    seconds = _seconds(frame[time].set_axis(used.index)[used], labels)
+    seconds = _seconds(time[used], labels)
     easting, northing = _round(places, unit, labels, notes)
     fixes = pandas.DataFrame({"animal": names[used], "second": seconds, "easting": easting, "northing": northing})
     fixes = _choose(_sort(fixes, notes), subset, notes)
@@ -589,7 +589,8 @@ class Lines:
 
     def refuse(self) -> Any:
         """Refuses the next line."""
-        raise ReportError(f"{self.where}: line {self.taken + 1} is '{self.lines[self.taken]}', which does not fit there")
+        line = self.lines[self.taken]
+        raise ReportError(f"{self.where}: line {self.taken + 1} is '{line}', which does not fit there")
 
 
 def _table(lines: Lines, name: str, fixes: int) -> Table:
@@ -651,20 +652,20 @@ def _write_tracks(folder: str, tracks: dict[str, Any]) -> None:
 
 
 class Runs:
-    """The runs of tracks. More than 64 animals are put in groups of 32, of which each has a run for its tables, and each
-    pair of groups one for its overlaps."""
+    """The runs of tracks. More than 64 animals are put in groups of 32, of which each has a run for its tables, and
+    each pair of groups one for its overlaps."""
 
     def __init__(self, program: str, tracks: dict[str, Any], levels: str, unit: str) -> None:
         self.program, self.tracks, self.levels, self.unit = program, tracks, levels, unit
-        self.names = list(tracks)
-        size = len(tracks) if len(tracks) <= MOST_ANIMALS else GROUP
-        groups = [self.names[first:first + size] for first in range(0, len(tracks), size)]
+        self.numbers = {name: number for number, name in enumerate(tracks)}
+        names, size = list(tracks), len(tracks) if len(tracks) <= MOST_ANIMALS else GROUP
+        groups = [names[first:first + size] for first in range(0, len(names), size)]
         self.steps = [*((group,) for group in groups), *itertools.combinations(groups, 2)]
 
     def text(self, folder: str, step: tuple[list[str], ...]) -> str:
         """The report of a step, of a pair of groups the overlaps alone."""
-        numbers = [self.names.index(name) for group in step for name in group]
-        text = _call(self.program, self.levels, self.unit, folder, numbers, self.names)
+        numbers = [self.numbers[name] for group in step for name in group]
+        text = _call(self.program, self.levels, self.unit, folder, numbers, list(self.tracks))
         return text if len(step) == 1 else text[text.find("\noverlap,") + 1:]
 
     def add(self, report: Report, step: tuple[list[str], ...], text: str) -> None:
@@ -674,8 +675,9 @@ class Runs:
             report.overlaps.update(_overlaps(Lines(text, self.program), fixes))
             return
         found = _parse(text, self.program)
-        if found.unit != self.unit or [(name, len(table.rows)) for name, table in found.tables.items()] != [*fixes.items()]:
-            raise ReportError(f"{self.program} reports another unit, other animals or fixes than those that it was given")
+        reported = {name: len(table.rows) for name, table in found.tables.items()}
+        if found.unit != self.unit or [*reported.items()] != [*fixes.items()]:
+            raise ReportError(f"{self.program} reports another unit, other animals or fixes than those it was given")
         report.tables.update(found.tables)
         report.overlaps.update(found.overlaps)
 
@@ -768,16 +770,17 @@ class HomeRanges:
         for name, table in self._report.tables.items():
             growth = _growth([area2 for _, _, area2 in table.rows])
             for level, kept, corners, area2 in table.percents:
-                rows.append((name, table.rows[0][0], table.rows[-1][0], len(table.rows), left_out.get(name), level, kept,
-                             corners, self._hectares(area2), growth))
+                rows.append((
+                    name, table.rows[0][0], table.rows[-1][0], len(table.rows), left_out.get(name), level, kept,
+                    corners, self._hectares(area2), growth))
         titles = ["animal", "first", "last", "fixes", "left_out", "level", "kept", "corners", "hectares", "growth"]
         summary = pandas.DataFrame(rows, columns=titles)
         times = {title: self._times(summary[title]) for title in ("first", "last")}
         return summary.assign(**times, left_out=summary["left_out"].astype("Int64"))
 
     def curve(self) -> Any:
-        """The table of incremental area analysis (Harris et al. 1990), a row for each fix: ``animal``; ``n``, the number
-        of the fix; its ``time``; and ``corners`` and ``hectares`` of the polygon of the first n fixes."""
+        """The table of incremental area analysis (Harris et al. 1990), a row for each fix: ``animal``; ``n``, the
+        number of the fix; its ``time``; and ``corners`` and ``hectares`` of the polygon of the first n fixes."""
         tables = self._report.tables
         rows = [(name, n, *row) for name, table in tables.items() for n, row in enumerate(table.rows, 1)]
         curve = pandas.DataFrame(rows, columns=["animal", "n", "time", "corners", "area2"])
@@ -861,7 +864,7 @@ def home_range(
     frame: Any, levels: int | Iterable[int] = (50, 95, 100), unit: str = "m", *, animal: str | None = None,
     time: str | None = None, easting: str | None = None, northing: str | None = None,
     use: str | Sequence[bool] | None = None, from_: Moment | None = None, to: Moment | None = None,
-    months: Iterable[int] | None = None, hours: tuple[int, int] | None = None, every_hours: float | None = None,
+    months: int | Iterable[int] | None = None, hours: tuple[int, int] | None = None, every_hours: float | None = None,
     tz: str = "UTC", program: str | os.PathLike[str] | None = None,
     progress: Callable[[int, int], None] | None = None,
 ) -> HomeRanges:
@@ -914,7 +917,10 @@ def _read_track(path: str | os.PathLike[str]) -> tuple[str, Any, int]:
     titles = ("second", "easting", "northing")
     if not used or not {"animal", *titles} <= {*used[0]}:
         raise FrameError(f"{path} has no fix with animal, second, easting and northing")
-    numbers = {title: [int(row[title]) for row in used] for title in titles}
+    try:
+        numbers = {title: [int(row[title]) for row in used] for title in titles}
+    except (TypeError, ValueError) as fault:
+        raise FrameError(f"{path} has a fix whose second, easting or northing is no number") from fault
     return used[0]["animal"], pandas.DataFrame(numbers), len(rows) - len(used)
 
 
@@ -938,14 +944,17 @@ def read_report(
     """The home ranges of a report that the program, or tools/herd of it, made elsewhere.
 
     path: the report. One that is cut off, or whose lines are not those of a report, is refused (ReportError).
-    files: the files that it was made from, for polygons below 100 per cent and for pictures with fixes. Files with other
-        fixes are refused (ReportError).
+    files: the files that it was made from, for polygons below 100 per cent and for pictures with fixes. Files with
+        other times of fixes than the report are refused (ReportError).
     crs: the reference system of the coordinates in metres, such as 'EPSG:32633'.
     tz: the time zone of the times in the answers, where the seconds of the files are those since 1970 in UTC.
     program: as in home_range.
     """
-    with open(path, encoding="utf-8", newline="") as file:
-        report = _parse(file.read(), str(path))
+    try:
+        text = Path(path).read_bytes().decode("utf-8")
+    except UnicodeDecodeError as fault:
+        raise ReportError(f"{path} is no text in UTF-8") from fault
+    report = _parse(text, str(path))
     return HomeRanges(report, _tracks_of(report, files), crs=crs, tz=tz, program=program)
 
 

@@ -3,8 +3,8 @@
 #
 #   tracks              a file for each animal, by split.py
 #   report.txt          what homerange reports of them
-#   report.txt.sha256   the sums of the program, the report and the tracks, by evidence.sh; of more than 64 animals, which
-#                       are several runs (herd/run.sh), it is SHA256SUMS, the sums of all files
+#   report.txt.sha256   the sums of the program, the report and the tracks, by evidence.sh; of more than 64 animals,
+#                       which are several runs (herd/run.sh), it is SHA256SUMS, the sums of all files
 #   summary.csv, overlaps.csv, ranges.gpkg, curves.png, ranges.png     by ranges.py, of the report and the tracks
 #
 # The options are those of split.py, --unit, --zone, --sensor, --mark and --skip-unnamed, and --percent of homerange.
@@ -19,7 +19,8 @@ fail() {
     exit "${2:-1}"
 }
 wrong() {
-    fail "$1: ranges.sh [--unit m|dm] [--zone ZONE] [--sensor TYPE] [--mark] [--skip-unnamed] [--percent LIST] EXPORT INTO" 2
+    options='[--unit m|dm] [--zone ZONE] [--sensor TYPE] [--mark] [--skip-unnamed] [--percent LIST]'
+    fail "$1: ranges.sh $options EXPORT INTO" 2
 }
 
 # What is left in the arguments is for split.py, once the options were gone through, and the last two words taken.
@@ -46,7 +47,7 @@ into=${2%/}
 shift 2
 
 tools=$(cd "$(dirname "$0")" && pwd)
-python3 -c 'import geopandas, matplotlib, pandas' 2>/dev/null ||
+python3 -c 'import importlib.util as u; exit(not (u.find_spec("geopandas") and u.find_spec("matplotlib")))' ||
     fail 'it needs geopandas and matplotlib: apt-get install python3-geopandas python3-matplotlib'
 # What is set names the program for evidence.sh too, from within the folder.
 if [ -n "${HOMERANGE:-}" ]; then

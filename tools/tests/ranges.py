@@ -1,5 +1,5 @@
-"""ranges.py FOLDER EPSG UNITS LEVELS FIXES: whether the tables and layers in the folder are those of the fixes, lines of
-an animal, an easting and a northing, of which so many units are a metre."""
+"""ranges.py FOLDER EPSG UNITS LEVELS FIXES: whether the tables and layers in the folder are those of the fixes, lines
+of an animal, an easting and a northing, of which so many units are a metre."""
 import csv
 import sys
 from pathlib import Path
