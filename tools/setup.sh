@@ -7,4 +7,5 @@ export DEBIAN_FRONTEND=noninteractive
 # Before this no package is found.
 apt-get -q update
 apt-get -q -y --no-install-recommends install \
-    gcc libc6-dev gnuplot-nox man-db python3 python3-pandas python3-pyproj r-base-core r-cran-sf shellcheck snakemake
+    gcc libc6-dev gnuplot-nox man-db mypy python3 python3-geopandas python3-matplotlib python3-pandas python3-pyproj \
+    python3-pytest r-base-core r-cran-sf shellcheck snakemake
