@@ -587,6 +587,15 @@ class Lines:
         """The same as numbers."""
         return [int(text) for text in self.take(form)]
 
+    def numbered(self, form: str, number: int) -> list[int]:
+        """The same behind the first number, which has to be this one."""
+        line = self.taken
+        found, *others = self.numbers(form)
+        if found != number:
+            self.taken = line
+            self.refuse()
+        return others
+
     def refuse(self) -> Any:
         """Refuses the next line."""
         line = self.lines[self.taken]
@@ -599,11 +608,11 @@ def _table(lines: Lines, name: str, fixes: int) -> Table:
     lines.take(f"box,{known},{NUMBER},{NUMBER},{NUMBER},{NUMBER}")
     rows: list[tuple[int, int, int]] = []
     for n in range(1, fixes + 1):
-        second, corners, area2 = lines.numbers(f"row,{known},{n},{NUMBER},{NUMBER},{NUMBER}")
+        second, corners, area2 = lines.numbered(f"row,{known},{NUMBER},{NUMBER},{NUMBER},{NUMBER}", n)
         rows.append((second, corners, area2))
     points: Corners = []
     for i in range(1, rows[-1][1] + 1):
-        easting, northing = lines.numbers(f"corner,{known},{i},{NUMBER},{NUMBER}")
+        easting, northing = lines.numbered(f"corner,{known},{NUMBER},{NUMBER},{NUMBER}", i)
         points.append((easting, northing))
     percents: list[Percent] = []
     while lines.begins(f"percent,{name},"):
