@@ -3,9 +3,10 @@
     ranges = home_range(frame)
     ranges.summary()
 
-``home_range`` takes a data frame of fixes (a location with its time) and has the program make the minimum convex polygon
-of each animal, its percent polygons, its table of incremental area analysis, and the overlaps. ``read_report`` reads a
-report that the program made elsewhere. Both answer with ``HomeRanges``; ``plot_curve`` and ``plot_ranges`` draw it.
+``home_range`` takes a data frame of fixes (a location with its time) and has the program make the minimum convex
+polygon of each animal, its percent polygons, its table of incremental area analysis, and the overlaps. ``read_report``
+reads a report that the program made elsewhere. Both answer with ``HomeRanges``; ``plot_curve`` and ``plot_ranges`` draw
+it.
 
 The numbers are those of the program. This module chooses, sorts and rounds the fixes, and says what it did in warnings
 of the class ``HomeRangeNote``; it is tested and not proved.
@@ -62,8 +63,10 @@ TITLES = {
     "easting": ("utm-easting", "easting", "x", "x-"),
     "northing": ("utm-northing", "northing", "y", "y-"),
 }
+OUTLIERS = ("manually-marked-outlier", "algorithm-marked-outlier", "import-marked-outlier")  # Movebank's marks
 COLOURS = ("#0072B2", "#D55E00", "#009E73", "#CC79A7", "#E69F00", "#56B4E9", "#000000")  # of Okabe and Ito
 STYLES = ("solid", "dashed", "dotted", "dashdot")
+LEGEND_ROWS = 20
 
 Moment = Union[str, date, datetime]
 Corners = list[tuple[int, int]]
@@ -133,7 +136,8 @@ class CutError(HomeRangeError):
     status = 5
 
 
-FAULTS: dict[int, type[HomeRangeError]] = {1: FileError, 2: OptionError, 3: OutOfMemoryError, 4: OutputError, 5: CutError}
+FAULTS: dict[int | None, type[HomeRangeError]] = {
+    fault.status: fault for fault in (FileError, OptionError, OutOfMemoryError, OutputError, CutError)}
 
 
 # From a data frame to the fixes of each animal.
@@ -152,7 +156,7 @@ class Subset(NamedTuple):
 
     from_: Moment | None
     to: Moment | None
-    months: Iterable[int] | None
+    months: int | Iterable[int] | None
     hours: tuple[int, int] | None
     every_hours: float | None
     tz: str
@@ -164,20 +168,21 @@ def _title(text: object) -> str:
 
 
 def _column(frame: Any, named: str | None, titles: Sequence[str]) -> Any:
-    """The column that was named, or else the first that has the first of these titles that is there; or None."""
+    """The column that was named, or else the one with the first of these titles that is there, or None. Of two columns
+    with one title the first counts. The index of the column holds positions in the frame."""
+    columns = list(frame.columns)
     if named is not None:
-        if named not in frame.columns:
-            raise FrameError(f"there is no column {named!r}; the frame has {', '.join(map(str, frame.columns))}")
-        return named
-    found = {_title(column): column for column in reversed(list(frame.columns))}
-    for title in titles:
-        if title in found:
-            return found[title]
-    return None
+        if named not in columns:
+            raise FrameError(f"there is no column {named!r}; the frame has {', '.join(map(str, columns))}")
+        at = columns.index(named)
+    else:
+        known = [_title(column) for column in columns]
+        at = next((known.index(title) for title in titles if title in known), -1)
+    return None if at < 0 else frame.iloc[:, at].set_axis(pandas.RangeIndex(len(frame)))
 
 
 def _wanted(frame: Any, named: str | None, role: str) -> Any:
-    """The name of a column that has to be there."""
+    """A column that has to be there."""
     column = _column(frame, named, TITLES[role])
     if column is None:
         raise FrameError(f"no column has a usual title for {role} ({', '.join(TITLES[role])}): name it by {role}=..")
@@ -292,7 +297,7 @@ def _point_places(points: Any, used: Any, labels: Any) -> Places:
     kinds = points.geom_type.set_axis(used.index)[used]
     points = points.set_axis(used.index)[used]
     _refuse_row(labels, kinds.isna() | points.is_empty, lambda at: (
-        "there is no point: leave such rows out first, as by frame[~(frame.geometry.isna() | frame.geometry.is_empty)]"))
+        "there is no point: leave such rows out first, as by use=~(frame.geometry.isna() | frame.geometry.is_empty)"))
     _refuse_row(labels, kinds != "Point", lambda at: f"there is a {kinds[at]} and not a point")
     return Places(_metres(points.x, "easting", labels), _metres(points.y, "northing", labels), points.crs)
 
@@ -305,10 +310,9 @@ def _column_places(frame: Any, easting: str | None, northing: str | None, used: 
             "the frame has longitude and latitude: make points of them and project them, as by points = "
             "geopandas.GeoDataFrame(frame, geometry=geopandas.points_from_xy(frame['location-long'], "
             "frame['location-lat']), crs=4326) and points.to_crs(points.estimate_utm_crs())")
-    columns = [_wanted(frame, easting, "easting"), _wanted(frame, northing, "northing")]
-    east, north = (frame[column].set_axis(used.index)[used] for column in columns)
-    zone = _column(frame, None, ["utm-zone"]) if _title(columns[0]) == "utm-easting" else None
-    crs = None if zone is None else _zone_crs(frame[zone].set_axis(used.index)[used].dropna().unique())
+    east, north = _wanted(frame, easting, "easting")[used], _wanted(frame, northing, "northing")[used]
+    zone = _column(frame, None, ["utm-zone"]) if _title(east.name) == "utm-easting" else None
+    crs = None if zone is None else _zone_crs(zone[used].dropna().unique())
     return Places(_metres(east, "easting", labels), _metres(north, "northing", labels), crs)
 
 
@@ -328,30 +332,34 @@ def _is_true(value: Any) -> bool | None:
 
 def _used(frame: Any, use: str | Sequence[bool] | None, labels: Any, notes: list[str]) -> Any:
     """Which rows are used: as a column or a sequence says, or else as Movebank's marks of outliers say."""
-    positions = pandas.RangeIndex(len(frame))
-    column = _column(frame, None, ["use"]) if use is None else use
-    if column is None:
-        return _unmarked(frame, positions, notes)
-    if isinstance(column, str):
-        marks = frame[_column(frame, column, [])]
+    if use is None or isinstance(use, str):
+        marks = _column(frame, use, ["use"])
+    elif len(use) == len(frame):
+        marks = pandas.Series(list(use), dtype=object)
     else:
-        marks = pandas.Series(list(column), dtype=object)
-        if len(marks) != len(frame):
-            raise FrameError(f"use has {len(marks)} marks for {len(frame)} rows")
-    truth = marks.set_axis(positions).map(_is_true)
-    _refuse_row(labels, truth.isna(), lambda at: f"use is {marks.iloc[at]!r} and neither true nor false")
+        raise FrameError(f"use has {len(use)} marks for {len(frame)} rows")
+    if marks is None:
+        return _unmarked(frame, notes)
+    truth = marks.map(_is_true)
+    _refuse_row(labels, truth.isna(), lambda at: f"use is {marks[at]!r} and neither true nor false")
     return truth.astype(bool)
 
 
-def _unmarked(frame: Any, positions: Any, notes: list[str]) -> Any:
-    """Which rows Movebank has neither as invisible nor as an outlier."""
-    used = pandas.Series(True, index=positions)
-    for title, outlier in (("visible", False), ("manually-marked-outlier", True)):
-        column = _column(frame, None, [title])
-        if column is not None:
-            used &= ~frame[column].set_axis(positions).map(lambda value: _is_true(value) is outlier).astype(bool)
+def _unmarked(frame: Any, notes: list[str]) -> Any:
+    """Which rows Movebank has neither as invisible nor as an outlier. Sensors of several types are refused."""
+    used = pandas.Series(True, index=pandas.RangeIndex(len(frame)))
+    for title in ("visible", *OUTLIERS):
+        marks = _column(frame, None, [title])
+        if marks is not None:
+            used &= marks.map(_is_true) != (title != "visible")
     if not used.all():
-        notes.append(f"{(~used).sum()} fixes are marked as outliers by visible or manually-marked-outlier: left out")
+        notes.append(f"{(~used).sum()} fixes are not visible, or marked as outliers: left out")
+    sensors = _column(frame, None, ["sensor-type"])
+    kinds = Counter[str]() if sensors is None else Counter(sensors[used].dropna().map(str))
+    if len(kinds) > 1:
+        counts = ", ".join(f"{kind} {count}" for kind, count in kinds.most_common())
+        raise FrameError(
+            f"fixes are of several types of sensors ({counts}): choose, as by frame[frame[{sensors.name!r}] == ..]")
     return used
 
 
@@ -421,7 +429,7 @@ def _tests(subset: Subset) -> list[tuple[str, Callable[[Any], Any]]]:
         last = _bound(to, tz, True)
         tests.append((f"after {to}", lambda fixes: fixes["second"] <= last))
     if months is not None:
-        wanted = sorted({*months})
+        wanted = [months] if isinstance(months, int) else sorted({*months})
         if not wanted or not {*wanted} <= {*range(1, 13)}:
             raise FrameError(f"months={wanted} are not months from 1 to 12")
         text = f"in other months than {', '.join(map(str, wanted))}"
@@ -477,12 +485,12 @@ def _tracks(frame: Any, columns: dict[str, str | None], use: Any, unit: Unit, su
     points = None if columns["easting"] or columns["northing"] else _geometry(frame)
     animal, time = _wanted(frame, columns["animal"], "animal"), _wanted(frame, columns["time"], "time")
     used = _used(frame, use, labels, notes)
-    names = _names(frame[animal].set_axis(used.index), labels)
+    names = _names(animal, labels)
     if points is None:
         places = _column_places(frame, columns["easting"], columns["northing"], used, labels)
     else:
         places = _point_places(points, used, labels)
-    seconds = _seconds(frame[time].set_axis(used.index)[used], labels)
+    seconds = _seconds(time[used], labels)
     easting, northing = _round(places, unit, labels, notes)
     fixes = pandas.DataFrame({"animal": names[used], "second": seconds, "easting": easting, "northing": northing})
     fixes = _choose(_sort(fixes, notes), subset, notes)
@@ -579,9 +587,19 @@ class Lines:
         """The same as numbers."""
         return [int(text) for text in self.take(form)]
 
+    def numbered(self, form: str, number: int) -> list[int]:
+        """The same behind the first number, which has to be this one."""
+        line = self.taken
+        found, *others = self.numbers(form)
+        if found != number:
+            self.taken = line
+            self.refuse()
+        return others
+
     def refuse(self) -> Any:
         """Refuses the next line."""
-        raise ReportError(f"{self.where}: line {self.taken + 1} is '{self.lines[self.taken]}', which does not fit there")
+        line = self.lines[self.taken]
+        raise ReportError(f"{self.where}: line {self.taken + 1} is '{line}', which does not fit there")
 
 
 def _table(lines: Lines, name: str, fixes: int) -> Table:
@@ -590,11 +608,11 @@ def _table(lines: Lines, name: str, fixes: int) -> Table:
     lines.take(f"box,{known},{NUMBER},{NUMBER},{NUMBER},{NUMBER}")
     rows: list[tuple[int, int, int]] = []
     for n in range(1, fixes + 1):
-        second, corners, area2 = lines.numbers(f"row,{known},{n},{NUMBER},{NUMBER},{NUMBER}")
+        second, corners, area2 = lines.numbered(f"row,{known},{NUMBER},{NUMBER},{NUMBER},{NUMBER}", n)
         rows.append((second, corners, area2))
     points: Corners = []
     for i in range(1, rows[-1][1] + 1):
-        easting, northing = lines.numbers(f"corner,{known},{i},{NUMBER},{NUMBER}")
+        easting, northing = lines.numbered(f"corner,{known},{NUMBER},{NUMBER},{NUMBER}", i)
         points.append((easting, northing))
     percents: list[Percent] = []
     while lines.begins(f"percent,{name},"):
@@ -643,20 +661,20 @@ def _write_tracks(folder: str, tracks: dict[str, Any]) -> None:
 
 
 class Runs:
-    """The runs of tracks. More than 64 animals are put in groups of 32, of which each has a run for its tables, and each
-    pair of groups one for its overlaps."""
+    """The runs of tracks. More than 64 animals are put in groups of 32, of which each has a run for its tables, and
+    each pair of groups one for its overlaps."""
 
     def __init__(self, program: str, tracks: dict[str, Any], levels: str, unit: str) -> None:
         self.program, self.tracks, self.levels, self.unit = program, tracks, levels, unit
-        self.names = list(tracks)
-        size = len(tracks) if len(tracks) <= MOST_ANIMALS else GROUP
-        groups = [self.names[first:first + size] for first in range(0, len(tracks), size)]
+        self.numbers = {name: number for number, name in enumerate(tracks)}
+        names, size = list(tracks), len(tracks) if len(tracks) <= MOST_ANIMALS else GROUP
+        groups = [names[first:first + size] for first in range(0, len(names), size)]
         self.steps = [*((group,) for group in groups), *itertools.combinations(groups, 2)]
 
     def text(self, folder: str, step: tuple[list[str], ...]) -> str:
         """The report of a step, of a pair of groups the overlaps alone."""
-        numbers = [self.names.index(name) for group in step for name in group]
-        text = _call(self.program, self.levels, self.unit, folder, numbers, self.names)
+        numbers = [self.numbers[name] for group in step for name in group]
+        text = _call(self.program, self.levels, self.unit, folder, numbers, list(self.tracks))
         return text if len(step) == 1 else text[text.find("\noverlap,") + 1:]
 
     def add(self, report: Report, step: tuple[list[str], ...], text: str) -> None:
@@ -666,8 +684,9 @@ class Runs:
             report.overlaps.update(_overlaps(Lines(text, self.program), fixes))
             return
         found = _parse(text, self.program)
-        if found.unit != self.unit or [(name, len(table.rows)) for name, table in found.tables.items()] != [*fixes.items()]:
-            raise ReportError(f"{self.program} reports another unit, other animals or fixes than those that it was given")
+        reported = {name: len(table.rows) for name, table in found.tables.items()}
+        if found.unit != self.unit or [*reported.items()] != [*fixes.items()]:
+            raise ReportError(f"{self.program} reports another unit, other animals or fixes than those it was given")
         report.tables.update(found.tables)
         report.overlaps.update(found.overlaps)
 
@@ -710,10 +729,10 @@ def _kept(track: Any, level: int) -> Any:
 
 
 def _growth(areas: Sequence[int]) -> float:
-    """The share by which the area grew over the last tenth of the fixes, of n fixes those after the first 9n/10, the
-    division cutting off. It is NaN where the area was 0 before them."""
+    """The share of the area that the last tenth of the fixes, rounded up, added; NaN where there are less than ten
+    fixes, or no area."""
     before = 9 * len(areas) // 10
-    return areas[-1] / areas[before - 1] - 1 if before and areas[before - 1] else math.nan
+    return 1 - areas[before - 1] / areas[-1] if len(areas) >= 10 and areas[-1] else math.nan
 
 
 class HomeRanges:
@@ -753,24 +772,24 @@ class HomeRanges:
         """A row for each animal and level: ``animal``; ``first`` and ``last``, the times of its first and last fix;
         ``fixes``, how many there are, and ``left_out``, how many rows of the frame are not among them (missing where it
         is not known); ``level`` in per cent; ``kept``, how many fixes the level keeps; ``corners`` and ``hectares`` of
-        their polygon; and ``growth``, the share by which the area of all fixes grew over the last tenth of them: of n
-        fixes the area after n, divided by that after the first 9n/10 (cut off), less 1. It is NaN where the area was 0
-        before. A time after the year 2262 is NaT."""
+        their polygon; and ``growth``, the share of the area of all fixes that the last tenth of them, rounded up, added
+        (0 to 1). It is NaN where there are less than ten fixes, or no area. A time after the year 2262 is NaT."""
         left_out = self._tracks.left_out if self._tracks else {}
         rows = []
         for name, table in self._report.tables.items():
             growth = _growth([area2 for _, _, area2 in table.rows])
             for level, kept, corners, area2 in table.percents:
-                rows.append((name, table.rows[0][0], table.rows[-1][0], len(table.rows), left_out.get(name), level, kept,
-                             corners, self._hectares(area2), growth))
+                rows.append((
+                    name, table.rows[0][0], table.rows[-1][0], len(table.rows), left_out.get(name), level, kept,
+                    corners, self._hectares(area2), growth))
         titles = ["animal", "first", "last", "fixes", "left_out", "level", "kept", "corners", "hectares", "growth"]
         summary = pandas.DataFrame(rows, columns=titles)
         times = {title: self._times(summary[title]) for title in ("first", "last")}
         return summary.assign(**times, left_out=summary["left_out"].astype("Int64"))
 
     def curve(self) -> Any:
-        """The table of incremental area analysis (Harris et al. 1990), a row for each fix: ``animal``; ``n``, the number
-        of the fix; its ``time``; and ``corners`` and ``hectares`` of the polygon of the first n fixes."""
+        """The table of incremental area analysis (Harris et al. 1990), a row for each fix: ``animal``; ``n``, the
+        number of the fix; its ``time``; and ``corners`` and ``hectares`` of the polygon of the first n fixes."""
         tables = self._report.tables
         rows = [(name, n, *row) for name, table in tables.items() for n, row in enumerate(table.rows, 1)]
         curve = pandas.DataFrame(rows, columns=["animal", "n", "time", "corners", "area2"])
@@ -854,7 +873,7 @@ def home_range(
     frame: Any, levels: int | Iterable[int] = (50, 95, 100), unit: str = "m", *, animal: str | None = None,
     time: str | None = None, easting: str | None = None, northing: str | None = None,
     use: str | Sequence[bool] | None = None, from_: Moment | None = None, to: Moment | None = None,
-    months: Iterable[int] | None = None, hours: tuple[int, int] | None = None, every_hours: float | None = None,
+    months: int | Iterable[int] | None = None, hours: tuple[int, int] | None = None, every_hours: float | None = None,
     tz: str = "UTC", program: str | os.PathLike[str] | None = None,
     progress: Callable[[int, int], None] | None = None,
 ) -> HomeRanges:
@@ -870,7 +889,8 @@ def home_range(
         by 10 first). Times are datetimes, text as 2024-05-01 00:30:04, or numbers of seconds since 1970; those without
         a zone are UTC. The rest of a second is cut off.
     use: which rows are used: a column, or a sequence of truths. If left out, a column ``use``, or all rows but those
-        that Movebank marks as outliers. Of rows that are not used only the animal has to be right.
+        that Movebank has as not visible or as outliers; then fixes of several types of sensors are refused. Of rows
+        that are not used only the animal has to be right.
     from_, to: the first and the last time that is wanted; a day alone is the whole day.
     months: the months that are wanted, 1 to 12.
     hours: two hours of the day, the second not included; (18, 6) is the night.
@@ -906,7 +926,10 @@ def _read_track(path: str | os.PathLike[str]) -> tuple[str, Any, int]:
     titles = ("second", "easting", "northing")
     if not used or not {"animal", *titles} <= {*used[0]}:
         raise FrameError(f"{path} has no fix with animal, second, easting and northing")
-    numbers = {title: [int(row[title]) for row in used] for title in titles}
+    try:
+        numbers = {title: [int(row[title]) for row in used] for title in titles}
+    except (TypeError, ValueError) as fault:
+        raise FrameError(f"{path} has a fix whose second, easting or northing is no number") from fault
     return used[0]["animal"], pandas.DataFrame(numbers), len(rows) - len(used)
 
 
@@ -930,14 +953,17 @@ def read_report(
     """The home ranges of a report that the program, or tools/herd of it, made elsewhere.
 
     path: the report. One that is cut off, or whose lines are not those of a report, is refused (ReportError).
-    files: the files that it was made from, for polygons below 100 per cent and for pictures with fixes. Files with other
-        fixes are refused (ReportError).
+    files: the files that it was made from, for polygons below 100 per cent and for pictures with fixes. Files with
+        other times of fixes than the report are refused (ReportError).
     crs: the reference system of the coordinates in metres, such as 'EPSG:32633'.
     tz: the time zone of the times in the answers, where the seconds of the files are those since 1970 in UTC.
     program: as in home_range.
     """
-    with open(path, encoding="utf-8", newline="") as file:
-        report = _parse(file.read(), str(path))
+    try:
+        text = Path(path).read_bytes().decode("utf-8")
+    except UnicodeDecodeError as fault:
+        raise ReportError(f"{path} is no text in UTF-8") from fault
+    report = _parse(text, str(path))
     return HomeRanges(report, _tracks_of(report, files), crs=crs, tz=tz, program=program)
 
 
@@ -946,27 +972,34 @@ def read_report(
 
 def _styles(animals: Sequence[str]) -> list[dict[str, Any]]:
     """A colour and a kind of line for each animal. Where there are more than can be told apart all are grey."""
-    if len(animals) > len(COLOURS) * len(STYLES):
+    if _legend_columns(animals) == 0:
         return [{"color": "#555555", "linewidth": 0.8, "alpha": 0.7}] * len(animals)
     kinds = itertools.product(STYLES, COLOURS)
     return [{"color": colour, "linestyle": style, "linewidth": 1.6} for _, (style, colour) in zip(animals, kinds)]
 
 
-def _axes(ax: Any) -> Any:
-    """The axes to draw in: those that are there, or of a new figure."""
+def _axes(ax: Any, animals: Sequence[str]) -> Any:
+    """The axes to draw in: those that are there, or of a new figure, with room for the legend."""
     if ax is not None:
         return ax
     from matplotlib import pyplot  # type: ignore[import]
 
-    return pyplot.subplots(figsize=(8, 5), dpi=150, layout="constrained")[1]
+    return pyplot.subplots(figsize=(6 + 2 * _legend_columns(animals), 5), dpi=150, layout="constrained")[1]
+
+
+def _legend_columns(animals: Sequence[str]) -> int:
+    """How many columns the legend has, none where there are too many animals for one."""
+    return -(-len(animals) // LEGEND_ROWS) if len(animals) <= len(COLOURS) * len(STYLES) else 0
 
 
 def _legend(axes: Any, animals: Sequence[str]) -> None:
     """A legend beside the axes, or how many animals there are, where they are too many for one."""
-    if len(animals) > len(COLOURS) * len(STYLES):
+    columns = _legend_columns(animals)
+    if columns == 0:
         axes.annotate(f"{len(animals)} animals", (1, 1.02), xycoords="axes fraction", ha="right")
     else:
-        axes.legend(loc="upper left", bbox_to_anchor=(1.01, 1), borderaxespad=0, frameon=False, handlelength=3)
+        axes.legend(loc="upper left", bbox_to_anchor=(1.01, 1), ncol=columns, borderaxespad=0, frameon=False,
+                    handlelength=3, fontsize="medium" if columns == 1 else "small")
 
 
 def _area_scale(hectares: float) -> tuple[float, str]:
@@ -978,7 +1011,7 @@ def plot_curve(ranges: HomeRanges, ax: Any = None) -> Any:
     """Draws the area of each animal's minimum convex polygon after each fix (incremental area analysis, Harris et al.
     1990): a curve that levels off says that the range is known. Answers with the axes of matplotlib, which are those
     that were given, or of a new figure. The legend is beside them."""
-    axes, curve = _axes(ax), ranges.curve()
+    axes, curve = _axes(ax, ranges.animals), ranges.curve()
     divisor, sign = _area_scale(curve["hectares"].max())
     for name, style in zip(ranges.animals, _styles(ranges.animals)):
         own = curve[curve["animal"] == name]
@@ -1000,22 +1033,25 @@ def _label(name: str) -> str:
 def plot_ranges(ranges: HomeRanges, ax: Any = None, level: int = 100) -> Any:
     """Draws each animal's polygon at a level, over its fixes where they are known. The axes have one scale, in
     kilometres of the grid, or in metres where all is small. Answers as plot_curve does."""
-    axes, corners = _axes(ax), ranges.corners(level)
+    axes, corners = _axes(ax, ranges.animals), ranges.corners(level)
     points = numpy.array([point for polygon in corners.values() for point in polygon])
     small = max(numpy.ptp(points, axis=0)) < 2000
     scale, sign = (1, "m") if small else (1000, "km")
     divisor, area_sign = _area_scale(max(ranges.hectares(name, level) for name in ranges.animals))
+    is_dense = len(ranges.curve()) > 200
+    dot = {"s": 4, "alpha": 0.35} if is_dense else {"s": 14, "alpha": 0.7}
     for name, style in zip(ranges.animals, _styles(ranges.animals)):
         polygon = numpy.array([*corners[name], corners[name][0]]) / scale
         fixes = ranges.fixes(name)
         if fixes is not None:
-            axes.scatter(*(fixes / scale).T, s=4, color=style["color"], alpha=0.35, linewidths=0, zorder=1)
+            axes.scatter(*(fixes / scale).T, color=style["color"], linewidths=0, zorder=1, **dot)
         axes.fill(*polygon.T, color=style["color"], alpha=0.08, zorder=2)
         label = f"{_label(name)} ({ranges.hectares(name, level) / divisor:,.4g} {area_sign})"
         axes.plot(*polygon.T, label=label, zorder=3, **style)
     axes.set_aspect("equal", adjustable="datalim")
     axes.set(xlabel=f"Easting ({sign})", ylabel=f"Northing ({sign})")
-    axes.set_title(f"Minimum convex polygons, {level} % of the fixes", fontsize="medium", loc="left")
+    grid = f" ({ranges.crs})" if ranges.crs is not None else ""
+    axes.set_title(f"Minimum convex polygons, {level} % of the fixes{grid}", fontsize="medium", loc="left")
     _grid(axes)
     _legend(axes, ranges.animals)
     return axes

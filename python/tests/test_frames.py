@@ -32,6 +32,12 @@ def test_usual_titles_are_found(titles):
     assert home_range(frame).corners() == {"vixen": SQUARE}
 
 
+def test_of_two_columns_with_one_title_the_first_counts():
+    frame = frame_of(vixen=SQUARE)
+    frame = pandas.concat([frame, frame[["easting", "animal"]].assign(easting=7)], axis="columns")
+    assert home_range(frame).corners() == {"vixen": SQUARE}
+
+
 def test_columns_may_be_named():
     frame = frame_of(vixen=SQUARE).set_axis(["who", "when", "X", "Y"], axis="columns")
     found = home_range(frame.assign(x=1, y=1), animal="who", time="when", easting="X", northing="Y")
@@ -39,7 +45,8 @@ def test_columns_may_be_named():
 
 
 @pytest.mark.parametrize("given, name", [
-    ("NA", "NA"), (17, "17"), (17.0, "17"), ("  a b ", "  a b "), ("ä" * 16, "ä" * 16), ("100%d", "100%d"), ("2.csv", "2.csv"),
+    ("NA", "NA"), (17, "17"), (17.0, "17"), ("  a b ", "  a b "), ("ä" * 16, "ä" * 16), ("100%d", "100%d"),
+    ("2.csv", "2.csv"),
     (".*(a|b)[c]", ".*(a|b)[c]"), ("#\\1", "#\\1"), ("row", "row"),
 ])
 def test_names_are_kept(given, name):
@@ -108,13 +115,24 @@ def test_rows_that_are_not_used_may_have_no_place():
 
 
 def test_movebanks_outliers_are_left_out():
-    frame = frame_of(a=SQUARE, b=SQUARE).assign(visible=True, manually_marked_outlier=None)
+    marks = {"visible": True, "manually_marked_outlier": None, "import-marked-outlier": None}
+    frame = frame_of(a=SQUARE, b=SQUARE).assign(**marks)
     frame.loc[[1, 2], "visible"] = False
-    frame.loc[[2, 4], "manually_marked_outlier"] = "true"
-    with pytest.warns(HomeRangeNote, match="^3 fixes are marked as outliers by visible or manually-marked-outlier"):
+    frame.loc[2, "manually_marked_outlier"] = "true"
+    frame.loc[4, "import-marked-outlier"] = True
+    frame.loc[5, "manually_marked_outlier"] = False
+    with pytest.warns(HomeRangeNote, match="^3 fixes are not visible, or marked as outliers: left out"):
         found = home_range(frame, 100)
     assert found.summary()[["fixes", "left_out"]].values.tolist() == [[2, 2], [3, 1]]
     assert row_count(frame, use=[True] * 8) == 8
+
+
+def test_several_sensors_are_refused():
+    frame = frame_of(a=SQUARE).assign(sensor_type=["gps", "gps", "argos-doppler-shift", "gps"])
+    with pytest.raises(FrameError, match=r"several types of sensors \(gps 3, argos-doppler-shift 1\): choose"):
+        home_range(frame)
+    assert row_count(frame[frame["sensor_type"] == "gps"]) == 3
+    assert row_count(frame, use=[True] * 4) == 4
 
 
 def test_an_animal_without_a_fix_is_said():
@@ -138,7 +156,7 @@ def year():
     ({"to": date(2024, 1, 1)}, 4, "after 2024-01-01"),
     ({"to": "2024-01-01T12:00Z"}, 3, "after 2024-01-01T12:00Z"),
     ({"to": "2024-01-01", "tz": "Asia/Tokyo"}, 3, "1461 fixes"),  # that day ends at 15:00 UTC
-    ({"months": [2]}, 29 * 4, "1348 fixes are in other months than 2: left out"),
+    ({"months": 2}, 29 * 4, "1348 fixes are in other months than 2: left out"),
     ({"months": range(5, 7)}, 61 * 4, "1220 fixes are in other months than 5, 6"),
     ({"hours": (18, 6)}, 732, "732 fixes are at other hours than 18 to 6"),
     ({"hours": (6, 24)}, 1098, "366 fixes are at other hours than 6 to 24"),
@@ -172,7 +190,7 @@ def test_what_is_chosen_together_is_counted_one_after_the_other(year):
 
 
 @pytest.mark.parametrize("change, said", [
-    ({"easting": None}, r"^row 2: there is no easting: leave such rows out first, as by frame.dropna\(subset=\['easting'\]\)"),
+    ({"easting": None}, r"^row 2: there is no easting: leave such rows out .* frame.dropna\(subset=\['easting'\]\)"),
     ({"northing": float("inf")}, "^row 2: the northing is not finite"),
     ({"easting": "5,1"}, "^row 2: the easting '5,1' is not a number"),
     ({"easting": -1}, "^row 2: the easting -1.00 is off the grid, which goes from 0 to 16777216 metres"),
@@ -215,6 +233,7 @@ def test_a_row_that_cannot_be_right_is_refused(change, said):
     ({"to": "2024-02-30"}, "'2024-02-30' is no time in UTC"),
     ({"from_": "2024-03-31 02:30", "tz": "Europe/Ljubljana"}, "is no time in Europe/Ljubljana"),
     ({"months": [0]}, r"months=\[0\] are not months from 1 to 12"),
+    ({"months": 13}, r"months=\[13\] are not months"),
     ({"months": []}, r"months=\[\] are not months"),
     ({"hours": (6, 6)}, r"hours=\(6, 6\) are not two different hours from 0 to 24"),
     ({"hours": (6, 25)}, "are not two different hours"),
@@ -230,7 +249,7 @@ def test_what_is_no_frame_of_fixes_is_refused():
     for frame in (None, [], pandas.DataFrame(), frame_of(a=SQUARE).head(0)):
         with pytest.raises(FrameError, match="frame is not a data frame with a row for each fix"):
             home_range(frame)
-    with pytest.raises(FrameError, match=r"no column has a usual title for time \(timestamp, second, date, t-\): name it by time="):
+    with pytest.raises(FrameError, match=r"for time \(timestamp, second, date, t-\): name it by time="):
         home_range(frame_of(a=SQUARE).drop(columns="timestamp"))
 
 

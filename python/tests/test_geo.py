@@ -33,7 +33,7 @@ def test_points_in_a_column_of_another_name():
 
 @pytest.mark.parametrize("crs, said", [
     (None, "the frame has no CRS: name the one that it is in, such as frame.set_crs"),
-    ("EPSG:4326", r"the CRS WGS 84 is not a plane one in metres: project it first, as by frame.to_crs\(frame.estimate_utm_crs"),
+    ("EPSG:4326", r"the CRS WGS 84 is not a plane one in metres: project it first, as by frame.to_crs\("),
     ("EPSG:2264", "the CRS .* is in US survey foot and not in metres: project it first"),
     ("EPSG:3857", "areas in the CRS WGS 84 / Pseudo-Mercator grow away from the equator: project it first"),
 ])

@@ -54,14 +54,14 @@ def test_a_program_that_is_ended_is_no_fault_of_files(stand_in, line, said):
 
 
 def test_the_programs_own_refusals():
-    with pytest.raises(homerange.OptionError, match="^homerange: --percent: level 1 is not a whole number from 1 to 100"):
+    with pytest.raises(homerange.OptionError, match="^homerange: --percent: level 1 is not a whole number"):
         home_range(frame_of(a=POINTS), [95.5])
     with pytest.raises(homerange.OptionError, match="more than 8 levels"):
         home_range(frame_of(a=POINTS), range(1, 10))
 
 
 def test_no_program(tmp_path, monkeypatch, stand_in):
-    with pytest.raises(homerange.ProgramError, match="there is no program .*: name it by program=.. or in the environment"):
+    with pytest.raises(homerange.ProgramError, match="there is no program .*: name it by program=.. or in"):
         home_range(frame_of(a=POINTS), program=tmp_path / "none")
     text = stand_in()
     text.write_bytes(b"\x7fELF")

@@ -67,6 +67,9 @@ def test_files_of_other_fixes_are_refused(files):
     files[1].write_text("\n".join(lines[:-1]) + "\n")
     with pytest.raises(ReportError, match="the file of old boar has other fixes than the report"):
         read_report(report, files=files)
+    files[1].write_text("animal,second,easting,northing\nold boar,5,6\n")
+    with pytest.raises(FrameError, match="1.csv has a fix whose second, easting or northing is no number"):
+        read_report(report, files=files)
     files[1].write_text("animal,second\na,5\n")
     with pytest.raises(FrameError, match="1.csv has no fix with animal, second, easting and northing"):
         read_report(report, files=files)
@@ -103,7 +106,7 @@ def changed(text, kind, change):
     ("percent,vixen,50,", lambda line: ["percent,vixen,50,21,3,9\n"], "vixen has 21 of 40 fixes at 50 per cent"),
     ("percent,vixen,50,", lambda line: [], "has other levels for some animals"),
     ("overlap,vixen", lambda line: [], "is 'overlap,old boar,vixen,"),
-    ("overlap,vixen", lambda line: ["overlap,vixen,old boar,41,40\n"], "41 of 40 fixes of vixen are in the range of old"),
+    ("overlap,vixen", lambda line: ["overlap,vixen,old boar,41,40\n"], "41 of 40 fixes of vixen are in the range"),
     ("overlap,vixen", lambda line: ["overlap,vixen,old boar,5,39\n"], "is 'overlap,vixen,old boar,5,39'"),
 ])
 def test_a_report_that_is_not_whole_is_refused(files, kind, change, said):
@@ -118,6 +121,13 @@ def test_what_has_no_animals_is_no_report(tmp_path, text):
     path = tmp_path / "report.txt"
     path.write_text(text)
     with pytest.raises(ReportError):
+        read_report(path)
+
+
+def test_what_is_no_text_is_no_report(tmp_path):
+    path = tmp_path / "report.txt"
+    path.write_bytes("Jäger".encode("latin-1"))
+    with pytest.raises(ReportError, match="is no text in UTF-8"):
         read_report(path)
 
 

@@ -1,5 +1,5 @@
-# Tests the corners of percent polygons. Ten fixes lie about (10, 10), their mean: two there, four 2 away, and four at the
-# corners of a square.
+# Tests the corners of percent polygons. Ten fixes lie about (10, 10), their mean: two there, four 2 away, and four at
+# the corners of a square.
 # shellcheck shell=sh disable=SC2154
 
 places='10,10 12,10 8,10 10,12 10,8 14,14 6,6 14,6 6,14 10,10'

@@ -1,0 +1,68 @@
+#!/usr/bin/env python3
+"""ranges.py FOLDER [--zone 33N]: tables, layers and pictures of the report FOLDER/report.txt, into the same folder.
+
+FOLDER/tracks has the files that the report was made from; the zone is the UTM zone of their coordinates. Files made:
+
+    summary.csv    for each animal and level the fixes, the kept ones, corners, hectares, and what the last tenth added
+    overlaps.csv   which share of the fixes of the row's animal lie in the polygon of the column's
+    ranges.gpkg    the polygons, a layer for each level, such as mcp_95
+    curves.png     the area after each fix
+    ranges.png     the polygons of all fixes
+
+Numbers are those of the report. Polygons below 100 per cent are those of the fixes that the level keeps, which the
+program is run on, and are compared with the report."""
+import argparse
+import sys
+from pathlib import Path
+
+sys.path.insert(0, str(Path(__file__).resolve().parents[1] / "python"))
+
+import matplotlib
+
+from homerange import HomeRangeError, plot_curve, plot_ranges, read_report
+
+matplotlib.use("Agg")
+
+
+def write_tables(ranges, folder):
+    # How many fixes were left out stands in tracks/split.txt: the tracks have none of them but marked outliers.
+    summary = ranges.summary().drop(columns="left_out").round({"growth": 4})
+    for title in ("first", "last"):
+        summary[title] = summary[title].dt.strftime("%Y-%m-%dT%H:%M:%SZ")
+    summary.to_csv(folder / "summary.csv", index=False)
+    ranges.overlap(share=True).round(4).to_csv(folder / "overlaps.csv")
+
+
+def write_layers(ranges, path):
+    """Writes a layer for each level, with the polygons that have an area; says which have none."""
+    for level in ranges.levels:
+        polygons = ranges.polygons(level)
+        has_area = polygons["corners"] > 2
+        if not has_area.all():
+            names = ", ".join(polygons.loc[~has_area, "animal"])
+            print(f"ranges.py: not in {path.name}, since they have no area at {level} %: {names}", file=sys.stderr)
+        if has_area.any():
+            polygons[has_area].to_file(path, driver="GPKG", layer=f"mcp_{level}")
+
+
+def write_pictures(ranges, folder):
+    for name, draw in (("curves.png", plot_curve), ("ranges.png", plot_ranges)):
+        draw(ranges).figure.savefig(folder / name, dpi=300)
+
+
+def main():
+    options = argparse.ArgumentParser(description=__doc__, formatter_class=argparse.RawDescriptionHelpFormatter)
+    options.add_argument("folder", type=Path, metavar="FOLDER", help="the folder with report.txt and tracks")
+    options.add_argument("--zone", metavar="33N", help="the UTM zone; without it the layers have no reference system")
+    words = options.parse_args()
+    crs = words.zone and f"EPSG:{326 if words.zone[-1] == 'N' else 327}{words.zone[:-1]:0>2}"
+    try:
+        ranges = read_report(words.folder / "report.txt", files=sorted(words.folder.glob("tracks/*.csv")), crs=crs)
+        write_tables(ranges, words.folder)
+        write_layers(ranges, words.folder / "ranges.gpkg")
+        write_pictures(ranges, words.folder)
+    except (HomeRangeError, OSError) as fault:
+        sys.exit(f"ranges.py: {fault}")
+
+
+main()

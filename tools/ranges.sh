@@ -1,0 +1,98 @@
+#!/bin/sh
+# ranges.sh [OPTION ..] EXPORT INTO: from a Movebank export to what a plan needs, in the new folder INTO:
+#
+#   tracks              a file for each animal, by split.py
+#   report.txt          what homerange reports of them
+#   report.txt.sha256   the sums of the program, the report and the tracks, by evidence.sh; of more than 64 animals,
+#                       which are several runs (herd/run.sh), it is SHA256SUMS, the sums of all files
+#   summary.csv, overlaps.csv, ranges.gpkg, curves.png, ranges.png     by ranges.py, of the report and the tracks
+#
+# The options are those of split.py, --unit, --zone, --sensor, --mark and --skip-unnamed, and --percent of homerange.
+# HOMERANGE names another program than that of program.sh. Needs geopandas and matplotlib. A folder that is there is
+# refused, and a call that fails leaves none. The status is 0 where all was made, 2 where words are wrong, else 1.
+set -eu
+# Debian's packages for Python are those of its own.
+PATH=/usr/bin:$PATH
+
+fail() {
+    echo "ranges.sh: $1" >&2
+    exit "${2:-1}"
+}
+wrong() {
+    options='[--unit m|dm] [--zone ZONE] [--sensor TYPE] [--mark] [--skip-unnamed] [--percent LIST]'
+    fail "$1: ranges.sh $options EXPORT INTO" 2
+}
+
+# What is left in the arguments is for split.py, once the options were gone through, and the last two words taken.
+unit=m levels=50,95,100 left=$#
+while [ "$left" -gt 2 ]; do
+    case $1 in
+        --mark | --skip-unnamed) option=$1 used=1 ;;
+        --unit=* | --zone=* | --sensor=* | --percent=*) option=$1 used=1 ;;
+        --unit | --zone | --sensor | --percent) option=$1=$2 used=2 ;;
+        *) wrong "$1 is no option" ;;
+    esac
+    shift $used
+    left=$((left - used))
+    case $option in
+        --percent=*) levels=${option#*=} ;;
+        --unit=*) unit=${option#*=} && set -- "$@" "$option" ;;
+        *) set -- "$@" "$option" ;;
+    esac
+done
+[ "$left" -eq 2 ] || wrong 'the export and the folder to make are wanted'
+[ -r "$1" ] || fail "$1 cannot be read"
+export=$(readlink -f -- "$1")
+into=${2%/}
+shift 2
+
+tools=$(cd "$(dirname "$0")" && pwd)
+python3 -c 'import importlib.util as u; exit(not (u.find_spec("geopandas") and u.find_spec("matplotlib")))' ||
+    fail 'it needs geopandas and matplotlib: apt-get install python3-geopandas python3-matplotlib'
+# What is set names the program for evidence.sh too, from within the folder.
+if [ -n "${HOMERANGE:-}" ]; then
+    program=$(command -v "$HOMERANGE") || fail "there is no program $HOMERANGE"
+    HOMERANGE=$(readlink -f -- "$program")
+    program=$HOMERANGE
+else
+    program=$("$tools/program.sh") || fail 'there is no program'
+fi
+
+[ ! -e "$into" ] || fail "$into is there already: name another folder"
+mkdir "$into.part" 2>/dev/null ||
+    fail "$into.part cannot be made: if it is there, another call is at work, or was killed and left it to be removed"
+part=$(cd "$into.part" && pwd)
+trap 'rm -rf "$part"' EXIT
+trap 'exit 130' INT
+trap 'exit 143' HUP TERM
+into=${part%.part}
+cd "$part"
+
+# The UTM zone of the tracks: as the record of split.py has it, else as split.py said it.
+zone_of_tracks() {
+    { grep '^zone' tracks/split.txt 2>/dev/null || cat said; } |
+        grep -oE 'zone[:,]? ?([1-9]|[1-5][0-9]|60)[NS]' | head -n 1 | grep -oE '[0-9]+[NS]' || :
+}
+
+python3 "$tools/split.py" --into tracks "$@" -- "$export" 2>said || {
+    status=$?
+    cat said >&2
+    exit $status
+}
+cat said >&2
+zone=$(zone_of_tracks)
+[ -n "$zone" ] || echo 'ranges.sh: no UTM zone is known: ranges.gpkg has no reference system' >&2
+rm said
+
+set -- tracks/*.csv
+if [ $# -le 64 ]; then
+    "$tools/evidence.sh" report.txt --percent "$levels" --unit "$unit" "$@"
+else
+    echo "ranges.sh: $# animals are several runs: sums are in SHA256SUMS, and not in report.txt.sha256" >&2
+    HOMERANGE=$program "$tools/herd/run.sh" tracks herd --percent "$levels" --unit "$unit"
+    mv herd/report.txt report.txt
+    rm -r herd
+fi
+HOMERANGE=$program python3 "$tools/ranges.py" ${zone:+--zone "$zone"} .
+[ $# -le 64 ] || sha256sum -- "$program" ./*.* tracks/* >SHA256SUMS
+mv -T "$part" "$into"

@@ -1,0 +1,110 @@
+# Tests the way from an export to what a plan needs. What is wanted is worked out by hand, or by a monotone chain around
+# the export's own fixes; layers are read by geopandas.
+# shellcheck shell=sh disable=SC2154
+
+# Whether what was made of an export is right. -P leaves the stand-in of pyproj in tools/tests alone.
+are_ranges() {
+    PYTHONDONTWRITEBYTECODE=1 PYTHONPATH="$top/python/tests" python3 -P "$tools/tests/ranges.py" "$@"
+}
+
+# Whether these words are refused with this status, in words that have this text, and leave nothing.
+refuses_ranges() {
+    status=$1
+    wanted=$2
+    shift 2
+    "$@" >out 2>errors
+    ended=$?
+    holds "refused: $wanted" [ "$ended" -eq "$status" ]
+    holds "said: $wanted" grep -qF -- "$wanted" errors
+    holds "nothing is left: $wanted" [ ! -e plan/none ]
+    holds "nothing half is left: $wanted" [ ! -e plan/none.part ]
+}
+
+if python3 -c 'import geopandas, matplotlib, pandas' 2>errors; then
+    rm -rf plan
+    mkdir plan
+    make=$tools/ranges.sh
+
+    # Rounded by hand from examples/export.csv; one fix of the vixen has no coordinates.
+    holds 'ranges of an export' "$make" "$top/examples/export.csv" plan/first
+    holds 'its files' [ "$(ls plan/first)" = "curves.png
+overlaps.csv
+ranges.gpkg
+ranges.png
+report.txt
+report.txt.sha256
+summary.csv
+tracks" ]
+    holds 'its sums hold in the folder' sh -c 'cd plan/first && sha256sum -c report.txt.sha256'
+    "$HOMERANGE" plan/first/tracks/*.csv >direct
+    holds 'its report is that of homerange' cmp direct plan/first/report.txt
+    cat >plan/fixes <<END
+vixen,562000,5134001
+vixen,561975,5133992
+vixen,562104,5134220
+vixen,561881,5134105
+old boar,562700,5133550
+old boar,562777,5133676
+old boar,562552,5133703
+old boar,562633,5133444
+END
+    holds 'its numbers' are_ranges plan/first 32633 1 50,95,100 plan/fixes
+    printf '%s\n' 'fixes_of,old boar,vixen' 'old boar,1.0,0.0' 'vixen,0.0,1.0' >wanted
+    holds 'its overlaps' cmp wanted plan/first/overlaps.csv
+
+    # Another zone, from longitude and latitude; decimetres; other levels; marked outliers; the southern half.
+    if python3 -c 'import pyproj' 2>errors; then
+        holds 'ranges in another zone' "$make" --zone 34N --percent=100 "$top/examples/export.csv" plan/zone
+        sed 1d -s plan/zone/tracks/*.csv | cut -d, -f1,3,4 >plan/fixes
+        holds 'numbers in another zone' are_ranges plan/zone 32634 1 100 plan/fixes
+    else
+        skip 'ranges in another zone: no pyproj'
+    fi
+    cat >plan/export.csv <<END
+individual-local-identifier,timestamp,utm-easting,utm-northing,utm-zone,visible
+NA,2024-05-01 00:00:00,562000.04,8134000.05,23S,true
+NA,2024-05-01 01:00:00,562100.00,8134000.00,23S,true
+NA,2024-05-01 02:00:00,562100.00,8134100.00,23S,true
+NA,2024-05-01 03:00:00,662100.00,8134100.00,23S,false
+NA,2024-05-01 04:00:00,562000.00,8134100.00,23S,true
+END
+    holds 'ranges in decimetres' "$make" --percent 75,100 --mark --unit dm plan/export.csv plan/south/
+    printf 'NA,%s\n' 5620000,81340001 5621000,81340000 5621000,81341000 5620000,81341000 >plan/fixes
+    holds 'numbers in decimetres' are_ranges plan/south 32723 10 75,100 plan/fixes
+    holds 'marks stay' grep -qx 'NA,[0-9]*,6621000,81341000,0' plan/south/tracks/NA.csv
+
+    # More animals than a run takes.
+    awk 'BEGIN {
+        print "individual-local-identifier,timestamp,utm-easting,utm-northing,utm-zone"
+        for (i = 0; i < 70; i++) for (j = 0; j < 5; j++) printf "deer %02d,2024-05-01 0%d:00:00,%d,%d,33N\n", i, j,
+            500000 + 37 * i + (j * j * 71 + i * 13) % 97, 5100000 + (j * 53 + i * i * 29) % 89
+    }' >plan/export.csv
+    holds 'ranges of 70 animals' "$make" --percent 80 plan/export.csv plan/herd
+    sed 1d plan/export.csv | cut -d, -f1,3,4 >plan/fixes
+    holds 'numbers of 70 animals' are_ranges plan/herd 32633 1 80 plan/fixes
+    holds 'sums of 70 animals' sh -c 'cd plan/herd && sha256sum -c SHA256SUMS'
+    holds 'a sum of each file' [ "$(wc -l <plan/herd/SHA256SUMS)" -eq $(($(find plan/herd -type f | wc -l))) ]
+    holds 'no sums of one run' [ ! -e plan/herd/report.txt.sha256 ]
+
+    # What is refused leaves nothing.
+    export=$top/examples/export.csv
+    refuses_ranges 2 'the export and the folder to make are wanted' "$make" "$export"
+    refuses_ranges 2 '--depth=9 is no option' "$make" --depth=9 "$export" plan/none
+    refuses_ranges 2 'invalid choice' "$make" --unit km "$export" plan/none
+    refuses_ranges 1 'plan/nothing.csv cannot be read' "$make" plan/nothing.csv plan/none
+    refuses_ranges 1 'there are no columns' "$make" "$top/examples/fox.csv" plan/none
+    refuses_ranges 2 'level 1 is not a whole number' "$make" --percent 0 "$export" plan/none
+    refuses_ranges 1 'there is no program' env HOMERANGE=plan/nothing "$make" "$export" plan/none
+    refuses_ranges 1 'plan/first is there already' "$make" "$export" plan/first
+    mkdir plan/other.part
+    refuses_ranges 1 'another call is at work, or was killed' "$make" "$export" plan/other
+    holds 'what another call makes is left' [ -d plan/other.part ]
+    # The report of a program whose percent polygons are not those of the rule.
+    printf '#!/bin/sh\n"%s" "$@" | sed "s/^percent,vixen,50,2,2,0/&1/"\n' "$HOMERANGE" >plan/changing
+    chmod +x plan/changing
+    refuses_ranges 1 'the 50 per cent polygon of vixen is not that of the report' \
+        env HOMERANGE=plan/changing "$make" "$export" plan/none
+    holds 'what was there is left' sh -c 'cd plan/first && sha256sum -c report.txt.sha256'
+else
+    skip "ranges of an export: $(tail -n 1 errors)"
+fi
