@@ -7,6 +7,7 @@ the scheduler counts; nothing holds them to that, and nothing keeps accounts. Wh
 seconds the status is 77 and one line says why."""
 import os
 import shutil
+import signal
 import socket
 import subprocess
 import sys
@@ -145,4 +146,5 @@ def main():
 
 if __name__ == "__main__":
     os.environ["PATH"] += ":/usr/sbin"
+    signal.signal(signal.SIGTERM, lambda *_: sys.exit(143))
     sys.exit(main())

@@ -68,9 +68,9 @@ if is_here snakemake 'herds by Snakemake'; then
     touch 'my herd/go'
     wait_until is_over
     plan
-    fails 'a run after a kill' 'Directory cannot be locked' --cores 2
+    fails 'a run after a kill' 'rerun your command with the --rerun-incomplete flag' --cores 2
+    fails 'a run of the incomplete' 'Directory cannot be locked' --cores 2 --rerun-incomplete
     holds 'a kill is unlocked' engine --unlock
-    fails 'a run after an unlock' 'rerun your command with the --rerun-incomplete flag' --cores 2
     holds 'a run goes on' engine --cores 2 --rerun-incomplete
     "$HOMERANGE" 'my tracks'/*.csv >direct
     holds 'a herd after a kill is one direct run' cmp direct 'my herd/report.txt'
