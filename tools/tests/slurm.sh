@@ -31,11 +31,14 @@ lines_about() {
     awk -F , 'NR == FNR { wanted[$1]; next } $1 != "end" && $2 in wanted && ($1 != "overlap" || $3 in wanted)' wanted -
 }
 
-# A herd of 320 as an array of four jobs. Of the first call one job is cancelled, and a program of another killed.
+# A herd of 320 as an array of four jobs, in a folder with a blank. Of the first call one job is cancelled, and a program
+# of another killed.
 test_array() {
-    rm -rf tracks herd
+    rm -rf 'two words'
+    mkdir 'two words'
+    cd 'two words' || return
     python3 "$top/examples/simulate.py" tracks 320 20
-    HOMERANGE=./patient "$tools/herd/plan.sh" tracks herd
+    HOMERANGE=../patient "$tools/herd/plan.sh" tracks herd
     holds 'a herd goes to Slurm' "$tools/herd/slurm.sh" herd 4
     holds 'four jobs run at once' wait_for are_begun 4
     scancel "$(squeue --noheader --states=running --array --format=%i | grep '_1$')"
@@ -58,6 +61,7 @@ test_array() {
     rm herd/reports/0003.txt herd/pairs/0003-*
     holds 'the herd runs on one machine' "$tools/herd/run.sh" tracks herd
     holds 'both reports are the same' cmp by_array herd/report.txt
+    cd ..
 }
 
 # Snakemake hands its jobs to Slurm. The first call's job is cancelled.
