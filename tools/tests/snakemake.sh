@@ -31,6 +31,7 @@ is_over() {
 
 if is_here snakemake 'herds by Snakemake'; then
     rm -rf 'my tracks' 'my herd' 'a clone'
+    rm -f called
     cp -R "$tools/herd" 'a clone'
     python3 "$top/examples/simulate.py" 'my tracks' 40 20
     plan
