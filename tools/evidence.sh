@@ -1,9 +1,11 @@
 #!/bin/sh
 # evidence.sh REPORT WORD ..: a run of homerange with these words, its report in the file REPORT, and beside it
-# REPORT.sha256, which ties the report to the words, the program and the files that were read.
+# REPORT.sha256, which ties the report to the words, the program and the files that were read, and these, where split.py
+# made them and its record split.txt stands beside them, to the export.
 #
-# sha256sum -c REPORT.sha256 checks all of them. The program is that of program.sh: the release, or one that was built
-# here, whose log is then put beside the report. HOMERANGE names another one.
+# sha256sum -c REPORT.sha256 checks all of them in the folder where this was called, which the sidecar names. The program
+# is that of program.sh: the release, or one that was built here, whose log is then put beside the report. HOMERANGE
+# names another one.
 set -eu
 fail() {
     echo "evidence.sh: $1" >&2
@@ -42,26 +44,55 @@ else
     program=$(command -v "$HOMERANGE") || fail "there is no program $HOMERANGE"
 fi
 
-# What the repository's program was made from: the commit, whether the sources differ from it, and sums of them and of
-# the logic.
-made_from() {
-    if commit=$(git -C "$top" rev-parse HEAD 2>/dev/null); then
-        changed=$(git -C "$top" status --porcelain -- crates crates.txt)
-        echo "# commit: $commit${changed:+, changed}"
-    else
-        echo '# commit: not known, since the sources are in no clone'
+# The commit of the repository, and whether a source is not as it is there: edited, new or gone.
+commit() {
+    if [ "$(git -C "$top" rev-parse --show-toplevel 2>/dev/null)" != "$(readlink -f "$top")" ] ||
+        ! commit=$(git -C "$top" rev-parse --verify -q HEAD); then
+        echo 'not known, since git finds no clone here'
+        return
     fi
-    sed 's/ /: /; s/^/# /' "${program%/*}/SOURCES"
+    changed=$(git -C "$top" status --porcelain --untracked-files=all --ignored=matching -- \
+        crates.txt HANDLES 'crates/*/src/*' 'crates/*/specs/*' 'crates/*/proofs/*') || changed='not known'
+    echo "$commit${changed:+, changed}"
 }
 
-tr '\n' '\0' <"$mine.files" | xargs -0 sha256sum -- >"$mine.inputs"
+# A line of SOURCES beside the repository's program: the sum of what it was made from, or of the logic.
+made_from() {
+    line=$(sed -n "s/^$1 \(..*\)/\1/p" "${program%/*}/SOURCES" 2>/dev/null) || :
+    echo "${line:-not known, since it does not stand beside the program}"
+}
+
+# What is known of the program.
+origin() {
+    if [ -n "${HOMERANGE:-}" ]; then
+        for known in commit sources logic; do
+            echo "# $known: not known, since HOMERANGE named the program"
+        done
+    else
+        echo "# commit: $(commit)"
+        echo "# sources: $(made_from sources)"
+        echo "# logic: $(made_from logic)"
+    fi
+}
+
+# The records of split.py beside the files.
+while IFS= read -r file; do
+    record=$(dirname -- "$file")/split.txt
+    [ ! -f "$record" ] || printf '%s\n' "$record"
+done <"$mine.files" | sort -u >"$mine.records"
+
+cat "$mine.files" "$mine.records" | tr '\n' '\0' | xargs -0 sha256sum -- >"$mine.inputs"
 "$program" "$@" >"$mine.report"
 sha256sum --quiet -c "$mine.inputs" || fail 'a file changed while it was read'
 mv "$mine.report" "$report"
 {
     printf '# words:' && printf " '%s'" "$@" && echo
     echo "# made: $(date -u +%Y-%m-%dT%H:%M:%SZ)"
-    [ -n "${HOMERANGE:-}" ] || made_from
+    echo "# folder: $PWD"
+    origin
+    while IFS= read -r record; do
+        sed "s/^/# split: /" "$record"
+    done <"$mine.records"
     sha256sum "$program" "$report"
     log=${program%/*}/build.log
     if [ -z "${HOMERANGE:-}" ] && [ -f "$log" ]; then

@@ -78,7 +78,7 @@ class Report:
     def overlaps(self, animals):
         """The counts of each of these animals, whose numbers of fixes are known, with all others in their order."""
         return {
-            name: array("L", [self.overlap(name, fixes, other) for other in animals if other != name])
+            name: array("I", [self.overlap(name, fixes, other) for other in animals if other != name])
             for name, fixes in animals.items()
         }
 

@@ -4,7 +4,8 @@
 export JOBS=2
 herd="$tools/herd/run.sh tracks herd"
 
-rm -rf tracks herd
+rm -rf tracks herd 'two words'
+rm -f called
 python3 "$top/examples/simulate.py" tracks 64 20
 "$HOMERANGE" tracks/*.csv >direct
 holds 'a herd of 64 runs' $herd

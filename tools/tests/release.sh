@@ -40,6 +40,13 @@ holds 'evidence of the release' env -u HOMERANGE house/tools/evidence.sh release
 holds 'its sources and logic' [ "$(sed 's/^/# /; s/ /: /2' "$top/release/SOURCES")" = "$(grep -e '^# sources' -e '^# logic' released.txt.sha256)" ]
 holds 'its sums hold' sha256sum -c released.txt.sha256
 holds 'no log of a build' [ ! -e released.txt.build.log ]
+holds 'no commit outside git' grep -qx '# commit: not known, since git finds no clone here' released.txt.sha256
+git -C house init -q
+echo out/ >house/.git/info/exclude
+git -C house add .
+git -C house -c user.name=Den -c user.email=den@example.org commit -q -m 'A house'
+holds 'evidence in a clone' env -u HOMERANGE house/tools/evidence.sh cloned.txt one.csv
+holds 'its commit' grep -qx "# commit: $(git -C house rev-parse HEAD)" cloned.txt.sha256
 holds 'a release of another logic and program does not pass' fails checked
 rm -rf house/out
 printf '\n// An edit.\n' >>house/crates/range_plane/src/lib.rt
@@ -48,6 +55,16 @@ holds 'what was built answers the next call' answers 'built: --version' ''
 holds 'evidence of what was built' env -u HOMERANGE PATH="$work/stand-in:$PATH" house/tools/evidence.sh built.txt one.csv
 holds 'its log' grep -qx 'rt: homerange proved' built.txt.build.log
 holds 'sums of what was built hold' sha256sum -c built.txt.sha256
+holds 'an edited source is a change' grep -q '^# commit: .*, changed$' built.txt.sha256
+git -C house stash -q
+echo '// New.' >house/crates/range_plane/src/new.rt
+holds 'evidence beside a new source' env -u HOMERANGE PATH="$work/stand-in:$PATH" house/tools/evidence.sh new.txt one.csv
+holds 'a new source is a change' grep -q '^# commit: .*, changed$' new.txt.sha256
+sed -i '/^logic/d' house/out/SOURCES
+holds 'evidence without a logic' env -u HOMERANGE PATH="$work/stand-in:$PATH" house/tools/evidence.sh none.txt one.csv
+holds 'no logic is said' grep -qx '# logic: not known, since it does not stand beside the program' none.txt.sha256
+rm house/crates/range_plane/src/new.rt
+git -C house stash pop -q
 holds 'a release of other sources does not pass' fails checked
 echo '// Another.' >>house/crates/range_words/src/version.rt
 : >stand-in/fails

@@ -13,14 +13,25 @@ engine() {
 fails() {
     name=$1 text=$2
     shift 2
-    holds "$name: status" is_refused engine "$@"
-    engine "$@" >told 2>&1
+    if engine "$@" >told 2>&1; then holds "$name: status" false; fi
     holds "$name" grep -qF -e "$text" told
     holds "$name: no report" [ ! -e 'my herd/report.txt' ]
 }
 
+# Waits until a command holds, at most a minute.
+wait_until() {
+    for _ in $(seq 600); do
+        "$@" 2>/dev/null && return
+        sleep 0.1
+    done
+}
+is_over() {
+    ! ls 'my herd'/*/*.begun >listed
+}
+
 if is_here snakemake 'herds by Snakemake'; then
     rm -rf 'my tracks' 'my herd' 'a clone'
+    rm -f called
     cp -R "$tools/herd" 'a clone'
     python3 "$top/examples/simulate.py" 'my tracks' 40 20
     plan
@@ -40,25 +51,27 @@ if is_here snakemake 'herds by Snakemake'; then
     holds 'the new herd by Snakemake is one direct run' cmp direct 'my herd/report.txt'
     holds 'the new program made each run' [ "$(wc -l <called)" -eq 3 ]
 
-    # A rerun that fails, and one that is killed: the program never ends.
+    # A rerun that fails.
     sed -i 's/deer00040/deer00000/' 'my tracks/deer00040.csv'
     fails 'a rerun that fails by Snakemake' 'step.sh: the run of groups 0000 and 0001 failed' --cores 2
     rm 'my tracks/deer00040.csv'
-    printf '#!/bin/sh\necho >>"%s/begun"\nexec sleep 60\n' "$work" >endless
-    chmod +x endless
-    HOMERANGE=./endless plan
-    setsid snakemake --snakefile 'a clone/Snakefile' --directory 'my herd' --cores 2 >told 2>&1 &
+
+    # One that is killed, while its step goes on: the program waits until it may go.
+    printf '#!/bin/sh\necho >begun\nfor _ in $(seq 600); do [ -e go ] && break; sleep 0.1; done\nexec "%s" "$@"\n' \
+        "$HOMERANGE" >slow
+    chmod +x slow
+    HOMERANGE=./slow plan
+    snakemake --snakefile 'a clone/Snakefile' --directory 'my herd' --cores 1 >told 2>&1 &
     killed=$!
-    for _ in $(seq 60); do
-        [ -e begun ] && break
-        sleep 1
-    done
-    kill -9 -$killed
+    wait_until [ -e 'my herd/begun' ]
+    kill -9 $killed
     wait $killed
+    touch 'my herd/go'
+    wait_until is_over
     plan
-    fails 'a run after a kill' 'Directory cannot be locked' --cores 2
+    fails 'a run after a kill' 'rerun your command with the --rerun-incomplete flag' --cores 2
+    fails 'a run of the incomplete' 'Directory cannot be locked' --cores 2 --rerun-incomplete
     holds 'a kill is unlocked' engine --unlock
-    fails 'a run after an unlock' 'rerun your command with the --rerun-incomplete flag' --cores 2
     holds 'a run goes on' engine --cores 2 --rerun-incomplete
     "$HOMERANGE" 'my tracks'/*.csv >direct
     holds 'a herd after a kill is one direct run' cmp direct 'my herd/report.txt'

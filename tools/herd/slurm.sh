@@ -1,0 +1,37 @@
+#!/bin/sh
+# slurm.sh OUT JOBS [OPTION ..]: hands the runs of a herd that plan.sh planned to Slurm: as an array of so many jobs,
+# each of which makes its share of the runs one after the other, and a job behind them that merges, if all went well.
+#
+# OPTION .. are those of sbatch, for both, such as --partition=short. A run gets a minute and 500 MB, the merge an hour
+# and 4 GB. What jobs say is in OUT/logs. The last line is the number of the merge's job. Where a job failed or was
+# killed, this is called again, and goes on where it was: runs that stand are not made again.
+set -eu
+here=$(cd "$(dirname "$0")" && pwd)
+out=$(cd "$1" && pwd)
+jobs=$2
+shift 2
+runs=$(wc -l <"$out/steps")
+mkdir -p "$out/logs"
+rm -f "$out/report.txt"
+
+# Submits standard input as a script with these options, and prints the job's number.
+submit() {
+    sbatch --parsable --chdir="$out" --ntasks=1 --cpus-per-task=1 "$@"
+}
+
+# The scripts of a job of the array, which makes each run whose line leaves its number, and of the merge.
+share() {
+    cat <<END
+#!/bin/sh
+awk -v job="\$SLURM_ARRAY_TASK_ID" 'NR % $jobs == job' steps | xargs -L 1 '$here/step.sh' .
+END
+}
+merge() {
+    printf '#!/bin/sh\nexec "%s" .\n' "$here/merge.py"
+}
+
+array=$(share | submit "$@" --job-name=herd --array="0-$((jobs - 1))" --mem=500 --time="$((runs / jobs + 2))" \
+    --output='logs/%A-%a.log')
+echo "slurm.sh: $runs runs in $jobs jobs: $array" >&2
+merge | submit "$@" --job-name=merge --dependency="afterok:$array" --kill-on-invalid-dep=yes --mem=4000 --time=60 \
+    --output='logs/%j.log'
