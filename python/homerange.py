@@ -3,7 +3,7 @@
     ranges = home_range(frame)
     ranges.summary()
 
-``home_range`` takes a data frame of fixes (a location with its time) and has the program make the minimum convex
+``read_export`` reads a Movebank export as tools/split.py does. ``home_range`` takes a data frame of fixes (a location with its time) and has the program make the minimum convex
 polygon of each animal, its percent polygons, its table of incremental area analysis, and the overlaps. ``read_report``
 reads a report that the program made elsewhere. Both answer with ``HomeRanges``; ``plot_curve`` and ``plot_ranges`` draw
 it.
@@ -19,8 +19,10 @@ Harris, S. et al. 1990. Home-range analysis using radio-tracking data. Mammal Re
 from __future__ import annotations
 
 import csv
+import importlib
 import itertools
 import math
+import operator
 import os
 import re
 import shutil
@@ -42,7 +44,7 @@ import pandas  # type: ignore[import]
 __all__ = [
     "CutError", "FileError", "FrameError", "HomeRangeError", "HomeRangeNote", "HomeRanges", "OptionError",
     "OutOfMemoryError", "OutputError", "ProgramError", "ReportError", "home_range", "plot_curve", "plot_ranges",
-    "read_report",
+    "read_export", "read_report",
 ]
 
 LAST_SECOND = 1_099_511_627_776
@@ -916,6 +918,47 @@ def home_range(
         warnings.warn(note, HomeRangeNote, stacklevel=2)
     report = Runs(found, tracks.by_name, ",".join(map(str, wanted)), unit).report(progress)
     return HomeRanges(report, tracks, crs=tracks.crs, tz=tz, program=program)
+
+
+def _export_scripts() -> tuple[Any, Any]:
+    """The scripts by which tools/split.py reads an export and places its fixes."""
+    tools = Path(__file__).resolve().parents[1] / "tools"
+    if not (tools / "movebank.py").is_file():
+        raise FrameError(f"exports are read by the scripts of homerange's repository, and {tools} has none")
+    if str(tools) not in sys.path:
+        sys.path.append(str(tools))
+    return importlib.import_module("movebank"), importlib.import_module("zones")
+
+
+def read_export(
+    path: str | os.PathLike[str], *, zone: str | None = None, sensor: str | None = None, skip_unnamed: bool = False,
+) -> Any:
+    """The fixes of a Movebank export as a data frame for ``home_range``, by the rules and the code of tools/split.py.
+
+    path: the export, comma-separated text in UTF-8.
+    zone: the UTM zone of all coordinates, such as '33N'; if left out, that of the export, or of most fixes.
+    sensor: the types of sensors to take, separated by commas; several are refused if it is left out.
+    skip_unnamed: leaves records of no animal out, which are refused otherwise.
+
+    The frame has Movebank's columns for animal and time (whole seconds since 1970), UTM coordinates with their zone, and
+    ``use``, which is False for outliers. Records without coordinates are left out, which a warning says
+    (HomeRangeNote). What cannot be right is refused (FrameError), with the record's number.
+    """
+    movebank, zones = _export_scripts()
+    try:
+        export = movebank.read(str(path), skip_unnamed)
+        records = movebank.of_sensors(export.records, sensor)
+        found = zones.places_of(records, zone)
+    except movebank.ExportFault as fault:
+        raise FrameError(f"{path}: {fault}") from fault
+    for reason, count in sorted(export.left_out.items()):
+        warnings.warn(f"{count} {reason}: left out", HomeRangeNote, stacklevel=2)
+    rows = [(record.animal, record.time, *(place or (math.nan, math.nan)), found.zone, record.used and place is not None)
+            for record, place in zip(records, found.places)]
+    titles = ["individual-local-identifier", "timestamp", "utm-easting", "utm-northing", "utm-zone", "use"]
+    frame = pandas.DataFrame(sorted(rows, key=operator.itemgetter(1)), columns=titles)
+    frame["timestamp"] = [second for second, _ in frame["timestamp"]]
+    return frame
 
 
 def _read_track(path: str | os.PathLike[str]) -> tuple[str, Any, int]:
