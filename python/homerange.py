@@ -3,10 +3,10 @@
     ranges = home_range(frame)
     ranges.summary()
 
-``read_export`` reads a Movebank export as tools/split.py does. ``home_range`` takes a data frame of fixes (a location with its time) and has the program make the minimum convex
-polygon of each animal, its percent polygons, its table of incremental area analysis, and the overlaps. ``read_report``
-reads a report that the program made elsewhere. Both answer with ``HomeRanges``; ``plot_curve`` and ``plot_ranges`` draw
-it.
+``home_range`` takes a data frame of fixes (a location with its time) and has the program make the minimum convex polygon
+of each animal, its percent polygons, its table of incremental area analysis, and the overlaps. ``read_report`` reads a
+report that the program made elsewhere. Both answer with ``HomeRanges``; ``plot_curve`` and ``plot_ranges`` draw it.
+``read_export`` makes a data frame of a Movebank export, by the rules of tools/split.py.
 
 The numbers are those of the program. This module chooses, sorts and rounds the fixes, and says what it did in warnings
 of the class ``HomeRangeNote``; it is tested and not proved.
