@@ -4,12 +4,13 @@ plot.home_range <- function(x, what = c("ranges", "curve"), level = 100, animals
                             label = "boundary", main = "", reset = TRUE, ...) {
   what <- tryCatch(match.arg(what), error = function(fault) refuse("option", "what: \"ranges\" or \"curve\" is wanted"))
   shown <- shown_animals(x, animals)
+  over <- check_over(x, over)
   old <- par("mai")
   if (reset) on.exit(par(mai = old))
   if (what == "curve") {
     draw_curves(x, shown, main, ...)
   } else {
-    draw_ranges(x, shown, level, check_over(x, over), label, main, ...)
+    draw_ranges(x, shown, level, over, label, main, ...)
   }
   invisible(x)
 }
