@@ -580,7 +580,7 @@ class Lines:
     def take(self, form: str) -> tuple[str, ...]:
         """The fields of the next line that the form, a regular expression, has in brackets."""
         found = re.fullmatch(form, self.lines[self.taken]) or self.refuse()
-        self.taken += self.taken + 1 < len(self.lines)
+        self.taken += 1
         return found.groups()
 
     def numbers(self, form: str) -> list[int]:
@@ -595,6 +595,11 @@ class Lines:
             self.taken = line
             self.refuse()
         return others
+
+    def finish(self, animals: int) -> None:
+        """Sees that the next line is the last, with this number of animals."""
+        if self.lines[self.taken:] != [f"end,{animals}"]:
+            self.refuse()
 
     def refuse(self) -> Any:
         """Refuses the next line."""
@@ -624,14 +629,14 @@ def _table(lines: Lines, name: str, fixes: int) -> Table:
 
 
 def _overlaps(lines: Lines, fixes: dict[str, int]) -> dict[tuple[str, str], int]:
-    """The lines of overlaps, which are the last but one."""
+    """The lines of overlaps, behind which is the last line."""
     overlaps: dict[tuple[str, str], int] = {}
     for name, other in itertools.permutations(fixes, 2):
         (count,) = lines.numbers(f"overlap,{re.escape(name)},{re.escape(other)},{NUMBER},{fixes[name]}")
         if count > fixes[name]:
             raise ReportError(f"{lines.where}: {count} of {fixes[name]} fixes of {name} are in the range of {other}")
         overlaps[name, other] = count
-    lines.take(f"end,{len(fixes)}")
+    lines.finish(len(fixes))
     return overlaps
 
 

@@ -93,6 +93,8 @@ def changed(text, kind, change):
 @pytest.mark.parametrize("kind, change, said", [
     ("end", lambda line: [], "is cut off"),
     ("end", lambda line: ["end,2"], "is cut off"),
+    ("end", lambda line: [line, line], "line .* is 'end,2', which does not fit there"),
+    ("end", lambda line: ["row,vixen,1,1,1,1\n", line], "is 'row,vixen,1,1,1,1', which does not fit there"),
     ("end", lambda line: ["end,3\n"], "line .* is 'end,3', which does not fit there"),
     ("animal,vixen", lambda line: [], "has no animals|which does not fit there"),
     ("animal,vixen", lambda line: ["animal,vixen,fixes,41\n"], "which does not fit there"),
