@@ -108,7 +108,7 @@ def changed(text, kind, change):
     ("percent,vixen,50,", lambda line: ["percent,vixen,50,21,3,9\n"], "vixen has 21 of 40 fixes at 50 per cent"),
     ("percent,vixen,50,", lambda line: [], "has other levels for some animals"),
     ("overlap,vixen", lambda line: [], "is 'overlap,old boar,vixen,"),
-    ("overlap,vixen", lambda line: ["overlap,vixen,old boar,41,40\n"], "41 of 40 fixes of vixen are in the range"),
+    ("overlap,vixen", lambda line: ["overlap,vixen,old boar,41,40\n"], "is 'overlap,vixen,old boar,41,40'"),
     ("overlap,vixen", lambda line: ["overlap,vixen,old boar,5,39\n"], "is 'overlap,vixen,old boar,5,39'"),
 ])
 def test_a_report_that_is_not_whole_is_refused(files, kind, change, said):
