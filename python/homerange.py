@@ -51,8 +51,6 @@ LAST_SECOND = 1_099_511_627_776
 MOST_ANIMALS = 64  # of one run
 GROUP = 32  # animals of a group, where there are more
 NAME_BYTES = 32
-NUMBER = "([0-9]+)"
-NAME = '([^,"\n]+)'
 TIME_FORM = re.compile(
     r"[0-9]{4}-[0-9]{2}-[0-9]{2}([ T][0-9]{2}:[0-9]{2}(:[0-9]{2}(\.[0-9]+)?)?(Z|[+-][0-9]{2}:?[0-9]{2})?)?"
 )
@@ -566,59 +564,72 @@ class Report(NamedTuple):
     overlaps: dict[tuple[str, str], int]
 
 
+NUMBER = "([0-9]+)"
+NAME = '([^,"\n]+)'
+FORMS = {kind: re.compile(",".join([kind, *fields])) for kind, fields in {
+    "unit": ["(dm)"],
+    "animal": [NAME, "fixes", "([1-9][0-9]*)"],
+    "box": [NAME] + 4 * [NUMBER],
+    "row": [NAME] + 4 * [NUMBER],
+    "corner": [NAME] + 3 * [NUMBER],
+    "percent": [NAME] + 4 * [NUMBER],
+    "overlap": [NAME, NAME] + 2 * [NUMBER],
+    "end": [NUMBER],
+}.items()}
+
+
 class Lines:
     """The lines of a report, taken in order, each of which has to be of the form that is wanted."""
 
     def __init__(self, text: str, where: str) -> None:
         self.lines = text.split("\n")
         self.where, self.taken = where, 0
-        if self.lines.pop() or not self.lines or not re.fullmatch(f"end,{NUMBER}", self.lines[-1]):
+        if self.lines.pop() or not self.lines or not FORMS["end"].fullmatch(self.lines[-1]):
             raise ReportError(f"{where} is cut off: its last line is not 'end,' with the number of animals")
 
     def begins(self, text: str) -> bool:
         """Whether the next line begins so."""
         return self.lines[self.taken].startswith(text)
 
-    def take(self, form: str) -> tuple[str, ...]:
-        """The fields of the next line that the form, a regular expression, has in brackets."""
-        found = re.fullmatch(form, self.lines[self.taken]) or self.refuse()
-        self.taken += self.taken + 1 < len(self.lines)
+    def take(self, form: re.Pattern[str]) -> tuple[str, ...]:
+        """The fields of the next line that the form has in brackets."""
+        self.taken += 1
+        found = form.fullmatch(self.lines[self.taken - 1]) or self.refuse()
         return found.groups()
 
-    def numbers(self, form: str) -> list[int]:
-        """The same as numbers."""
-        return [int(text) for text in self.take(form)]
-
-    def numbered(self, form: str, number: int) -> list[int]:
-        """The same behind the first number, which has to be this one."""
-        line = self.taken
-        found, *others = self.numbers(form)
-        if found != number:
-            self.taken = line
+    def numbers(self, form: re.Pattern[str], *known: object) -> list[int]:
+        """The fields of the next line as numbers, behind its first ones, which have to be these."""
+        fields = self.take(form)
+        if fields[:len(known)] != tuple(map(str, known)):
             self.refuse()
-        return others
+        return [int(text) for text in fields[len(known):]]
+
+    def finish(self, animals: int) -> None:
+        """Sees that the next line is the last, with this number of animals."""
+        self.taken += 1
+        if self.lines[self.taken - 1:] != [f"end,{animals}"]:
+            self.refuse()
 
     def refuse(self) -> Any:
-        """Refuses the next line."""
-        line = self.lines[self.taken]
-        raise ReportError(f"{self.where}: line {self.taken + 1} is '{line}', which does not fit there")
+        """Refuses the line that was taken last."""
+        line = self.lines[self.taken - 1]
+        raise ReportError(f"{self.where}: line {self.taken} is '{line}', which does not fit there")
 
 
 def _table(lines: Lines, name: str, fixes: int) -> Table:
     """The lines of an animal below its first."""
-    known = re.escape(name)
-    lines.take(f"box,{known},{NUMBER},{NUMBER},{NUMBER},{NUMBER}")
+    lines.numbers(FORMS["box"], name)
     rows: list[tuple[int, int, int]] = []
     for n in range(1, fixes + 1):
-        second, corners, area2 = lines.numbered(f"row,{known},{NUMBER},{NUMBER},{NUMBER},{NUMBER}", n)
+        second, corners, area2 = lines.numbers(FORMS["row"], name, n)
         rows.append((second, corners, area2))
     points: Corners = []
     for i in range(1, rows[-1][1] + 1):
-        easting, northing = lines.numbered(f"corner,{known},{NUMBER},{NUMBER},{NUMBER}", i)
+        easting, northing = lines.numbers(FORMS["corner"], name, i)
         points.append((easting, northing))
     percents: list[Percent] = []
     while lines.begins(f"percent,{name},"):
-        percent = Percent(*lines.numbers(f"percent,{known},{NUMBER},{NUMBER},{NUMBER},{NUMBER}"))
+        percent = Percent(*lines.numbers(FORMS["percent"], name))
         if percent.kept != _kept_count(fixes, percent.level):
             raise ReportError(f"{lines.where}: {name} has {percent.kept} of {fixes} fixes at {percent.level} per cent")
         percents.append(percent)
@@ -626,24 +637,24 @@ def _table(lines: Lines, name: str, fixes: int) -> Table:
 
 
 def _overlaps(lines: Lines, fixes: dict[str, int]) -> dict[tuple[str, str], int]:
-    """The lines of overlaps, which are the last but one."""
+    """The lines of overlaps, behind which is the last line."""
     overlaps: dict[tuple[str, str], int] = {}
     for name, other in itertools.permutations(fixes, 2):
-        (count,) = lines.numbers(f"overlap,{re.escape(name)},{re.escape(other)},{NUMBER},{fixes[name]}")
-        if count > fixes[name]:
-            raise ReportError(f"{lines.where}: {count} of {fixes[name]} fixes of {name} are in the range of {other}")
+        count, of = lines.numbers(FORMS["overlap"], name, other)
+        if not count <= of == fixes[name]:
+            lines.refuse()
         overlaps[name, other] = count
-    lines.take(f"end,{len(fixes)}")
+    lines.finish(len(fixes))
     return overlaps
 
 
 def _parse(text: str, where: str) -> Report:
     """What a report says; refuses one that is cut off, or whose lines are not as the program writes them."""
     lines = Lines(text, where)
-    unit = "dm" if lines.begins("unit,") and lines.take("unit,dm") == () else "m"
+    (unit,) = lines.take(FORMS["unit"]) if lines.begins("unit,") else ("m",)
     tables: dict[str, Table] = {}
     while lines.begins("animal,"):
-        name, fixes = lines.take(f"animal,{NAME},fixes,([1-9][0-9]*)")
+        name, fixes = lines.take(FORMS["animal"])
         if name in tables:
             raise ReportError(f"{where} has the animal {name} twice")
         tables[name] = _table(lines, name, int(fixes))

@@ -87,6 +87,10 @@ rm said
 set -- tracks/*.csv
 if [ $# -le 64 ]; then
     "$tools/evidence.sh" report.txt --percent "$levels" --unit "$unit" "$@"
+    # Where the sums name the folder, it is the one at the end.
+    half="# folder: $part" whole="# folder: $into" \
+        awk '$0 == ENVIRON["half"] { $0 = ENVIRON["whole"] } { print }' report.txt.sha256 >sums
+    mv sums report.txt.sha256
 else
     echo "ranges.sh: $# animals are several runs: sums are in SHA256SUMS, and not in report.txt.sha256" >&2
     HOMERANGE=$program "$tools/herd/run.sh" tracks herd --percent "$levels" --unit "$unit"

@@ -93,6 +93,8 @@ def changed(text, kind, change):
 @pytest.mark.parametrize("kind, change, said", [
     ("end", lambda line: [], "is cut off"),
     ("end", lambda line: ["end,2"], "is cut off"),
+    ("end", lambda line: [line, line], "line .* is 'end,2', which does not fit there"),
+    ("end", lambda line: ["row,vixen,1,1,1,1\n", line], "is 'row,vixen,1,1,1,1', which does not fit there"),
     ("end", lambda line: ["end,3\n"], "line .* is 'end,3', which does not fit there"),
     ("animal,vixen", lambda line: [], "has no animals|which does not fit there"),
     ("animal,vixen", lambda line: ["animal,vixen,fixes,41\n"], "which does not fit there"),
@@ -106,7 +108,7 @@ def changed(text, kind, change):
     ("percent,vixen,50,", lambda line: ["percent,vixen,50,21,3,9\n"], "vixen has 21 of 40 fixes at 50 per cent"),
     ("percent,vixen,50,", lambda line: [], "has other levels for some animals"),
     ("overlap,vixen", lambda line: [], "is 'overlap,old boar,vixen,"),
-    ("overlap,vixen", lambda line: ["overlap,vixen,old boar,41,40\n"], "41 of 40 fixes of vixen are in the range"),
+    ("overlap,vixen", lambda line: ["overlap,vixen,old boar,41,40\n"], "is 'overlap,vixen,old boar,41,40'"),
     ("overlap,vixen", lambda line: ["overlap,vixen,old boar,5,39\n"], "is 'overlap,vixen,old boar,5,39'"),
 ])
 def test_a_report_that_is_not_whole_is_refused(files, kind, change, said):

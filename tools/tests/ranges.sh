@@ -36,6 +36,7 @@ report.txt.sha256
 summary.csv
 tracks" ]
     holds 'its sums hold in the folder' sh -c 'cd plan/first && sha256sum -c report.txt.sha256'
+    holds 'its sums name no half folder' is_refused grep -F first.part plan/first/report.txt.sha256
     "$HOMERANGE" plan/first/tracks/*.csv >direct
     holds 'its report is that of homerange' cmp direct plan/first/report.txt
     cat >plan/fixes <<END
