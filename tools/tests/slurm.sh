@@ -87,7 +87,7 @@ test_snakemake() {
 # A Slurm of this machine, which ends with the file `conf` that names its configuration.
 if is_here slurmctld 'herds by Slurm' && is_here munged 'herds by Slurm'; then
     rm -f conf
-    python3 "$tools/tests/slurm_node.py" \
+    timeout 1800 python3 "$tools/tests/slurm_node.py" \
         sh -c 'echo "$SLURM_CONF" >conf; while [ -e conf ]; do sleep 0.2; done' 2>why &
     node=$!
     is_up_or_over() {
