@@ -91,7 +91,7 @@ mv "$mine.report" "$report"
     echo "# folder: $PWD"
     origin
     while IFS= read -r record; do
-        sed "s/^/# split: /" "$record"
+        awk '{ print "# split: " $0 }' "$record"
     done <"$mine.records"
     sha256sum "$program" "$report"
     log=${program%/*}/build.log

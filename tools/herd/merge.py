@@ -19,6 +19,7 @@ def lines_of(path):
 def read_groups(out):
     """The number of files of each group, by its name, where the groups are those of the steps."""
     groups = {path.name: len(lines_of(path)) for path in sorted((out / "groups").iterdir())}
+    need(groups, f"{out / 'groups'}: there is none")
     need(list(groups) == [f"{number:04}" for number in range(len(groups))], f"{out / 'groups'}: one is not there")
     planned = [f"{first} {second}" for first, second in combinations_with_replacement(groups, 2)]
     need(lines_of(out / "steps") == planned, f"{out / 'steps'}: not the steps of the {len(groups)} groups")
@@ -89,6 +90,8 @@ class Herd:
 
 
 def main():
+    if len(sys.argv) != 2:
+        sys.exit("merge.py: give the folder OUT alone")
     out = Path(sys.argv[1])
     report, part = out / "report.txt", out / "report.part"
     try:

@@ -5,11 +5,10 @@ import re
 from array import array
 
 TEXT = {"encoding": "utf-8", "errors": "surrogateescape", "newline": "\n"}
-# The end of a line with so many numbers: digits alone, and no zero before others.
-NUMBERS = [re.compile(",".join(["(0|[1-9][0-9]*)"] * count) + "\n") for count in range(5)]
-LEVEL = re.compile("percent,([^,]*),([1-9][0-9]*),.*\n")
-
-
+# The end of a line with so many numbers: digits alone, at most those of the greatest area, and no zero before others.
+NUMBERS = [re.compile(",".join(["(0|[1-9][0-9]{0,16})"] * count) + "\n") for count in range(5)]
+NAME = re.compile('[^\x00-\x1f\x7f,"]{1,32}')
+LEVEL = re.compile("percent,([^,]*),([1-9][0-9]{0,2}),.*\n")
 
 
 class Refusal(Exception):
@@ -27,12 +26,12 @@ def doubled_area(corners):
 
 
 class Report:
-    """The report of one run: `line` is the one that is read next."""
+    """The report of one run: `line` is the one that is taken next, and `number` says which was taken last."""
 
     def __init__(self, path):
         self.path, self.number = path, 0
         self.file = open(path, **TEXT)
-        self.step()
+        self.line = self.file.readline()
 
     def __enter__(self):
         return self
@@ -40,26 +39,24 @@ class Report:
     def __exit__(self, *_):
         self.file.close()
 
-    def step(self):
-        self.number += 1
-        self.line = self.file.readline()
-
     def refuse(self, text):
         raise Refusal(f"{self.path}: line {self.number}: {text}")
 
     def take(self, head, count):
         """The numbers, so many, of the next line, which is to be this head and they."""
+        self.number += 1
         numbers = NUMBERS[count].fullmatch(self.line, len(head))
         if not numbers or not self.line.startswith(head):
-            self.refuse(f"'{self.line.rstrip()}', but '{head}' and numbers ({count}) are wanted")
-        self.step()
+            self.refuse(f"{self.line.rstrip()!r}, but {head!r} and numbers ({count}) are wanted")
+        self.line = self.file.readline()
         return list(map(int, numbers.groups()))
 
     def unit(self):
         """The line of the unit, which only a report in decimetres has."""
-        unit = "unit,dm\n" if self.line == "unit,dm\n" else ""
-        unit and self.step()
-        return unit
+        if self.line != "unit,dm\n":
+            return ""
+        self.take("unit,dm", 0)
+        return "unit,dm\n"
 
     def end(self, animals):
         """The last line, of so many animals."""
@@ -90,6 +87,7 @@ class Table:
         self.report, self.write = report, write
         self.name = (report.line.rstrip("\n").split(",") + [""])[1]
         (self.fixes,) = self.take(f"animal,{self.name},fixes,", 1)
+        self.need(NAME.fullmatch(self.name), "no name of an animal")
         self.box = self.take(f"box,{self.name},", 4)
         self.rows()
         self.polygon()

@@ -23,7 +23,7 @@ submit() {
 share() {
     cat <<END
 #!/bin/sh
-awk -v job="\$SLURM_ARRAY_TASK_ID" 'NR % $jobs == job' steps | xargs -L 1 '$here/step.sh' .
+awk -v job="\$SLURM_ARRAY_TASK_ID" 'NR % $jobs == job' steps | xargs -r -L 1 '$here/step.sh' .
 END
 }
 merge() {

@@ -5,8 +5,9 @@ rm -rf tracks evidence
 mkdir evidence tracks
 cp "$top"/examples/fox.csv "$top"/examples/otter.csv "$top"/examples/badger.csv tracks
 head -n 61 "$top/examples/fox.csv" | sed '1s/$/,use/; 2,$s/$/,1/; 9s/1$/0/' >tracks/fox.csv
-# What split.py would have left beside the tracks.
+# What split.py would have left beside the tracks, even without its last line end.
 printf '%s\n' 'export collar.csv 9f86d081' 'unit m' 'zone 33N' 'split: 2 records have no coordinates: left out' >tracks/split.txt
+truncate -s -1 tracks/split.txt
 report=evidence/report.txt
 holds 'evidence of a run' "$tools/evidence.sh" $report --percent 95,50 --unit=dm tracks/fox.csv 'tracks/otter.csv'
 "$HOMERANGE" --unit dm --percent 95,50 tracks/fox.csv tracks/otter.csv >direct

@@ -31,6 +31,13 @@ cp -R herd faulty
 truncate -s -1 faulty/reports/0000.txt
 holds 'a herd with an end without a line end' is_caught "'end,32', but"
 
+# The same where there is no group.
+rm -rf faulty
+cp -R herd faulty
+rm faulty/groups/*
+: >faulty/steps
+holds 'a herd of no groups' is_caught 'groups: there is none'
+
 # The same where a file is not there.
 lost() {
     rm -rf faulty
@@ -89,6 +96,9 @@ caught 'a number with a zero before it' $one "'row,deer00003,2," 's/^row,deer000
 caught 'a negative number' $one "'row,deer00003,2," 's/^row,deer00003,2,/&-/'
 caught 'a number with a blank' $one "'row,deer00003,2," 's/^row,deer00003,2,/& /'
 caught 'digits of another script' $one "'row,deer00003,2," 's/^row,deer00003,2,/&٣/'
+caught 'a number of too many digits' $one "'row,deer00003,2," "s/^row,deer00003,2,/&$(printf '%05000d' 0 | tr 0 7)/"
+caught 'a name with a quote' $one 'no name of an animal' 's/deer00003/deer"0003/'
+caught 'an empty name' $one 'no name of an animal' 's/deer00003//'
 caught 'a number too many' $one "'row,deer00003,2," 's/^row,deer00003,2,/&1,/'
 caught 'line ends of another system' $one "line 1: 'animal" 's/$/\r/'
 caught 'a unit in the first group' $one '0001.txt: another unit' '1i unit,dm'

@@ -48,7 +48,7 @@ test_array() {
     holds 'after a kill there is no report' [ ! -e herd/report.txt ]
     holds 'after a kill what was made stands' [ -n "$(ls herd/pairs)" ]
     holds 'the log says so' grep -q 'step.sh: the run of groups .* failed' herd/logs/*.log
-    holds 'the herd goes to Slurm again' "$tools/herd/slurm.sh" herd 4
+    holds 'the herd goes to Slurm again, with more jobs than runs' "$tools/herd/slurm.sh" herd 56
     wait_for are_over
     holds 'a herd of 320 has a report' [ "$(tail -n 1 herd/report.txt)" = end,320 ]
     set -- tracks/deer00[0-9][0-9][05].csv
@@ -87,7 +87,7 @@ test_snakemake() {
 # A Slurm of this machine, which ends with the file `conf` that names its configuration.
 if is_here slurmctld 'herds by Slurm' && is_here munged 'herds by Slurm'; then
     rm -f conf
-    python3 "$tools/tests/slurm_node.py" \
+    timeout 1800 python3 "$tools/tests/slurm_node.py" \
         sh -c 'echo "$SLURM_CONF" >conf; while [ -e conf ]; do sleep 0.2; done' 2>why &
     node=$!
     is_up_or_over() {
