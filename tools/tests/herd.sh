@@ -79,10 +79,10 @@ fails() {
 sed -i 's/^\(overlap,deer00000,deer00001\),[0-9]*/\1,9/' herd/reports/0000.txt
 fails 'overlaps that differ' '0001.txt: deer00000 has other overlaps than in group 0000'
 rm herd/reports/0000.txt
-$herd
+$herd 2>errors
 cp tracks/deer00050.csv saved
 sed 's/deer00050/deer00000/' saved >tracks/deer00050.csv
 fails 'an animal twice' 'step.sh: the run of groups 0000 and 0001 failed'
 cp saved tracks/deer00050.csv
-$herd
+$herd 2>errors
 HOMERANGE=./none fails 'no program' 'plan.sh: there is no program ./none'

@@ -65,7 +65,7 @@ if is_here snakemake 'herds by Snakemake'; then
     killed=$!
     wait_until [ -e 'my herd/begun' ]
     kill -9 $killed
-    wait $killed
+    wait $killed 2>told
     touch 'my herd/go'
     wait_until is_over
     plan
