@@ -1,4 +1,4 @@
-"""Reads the reports of a herd's runs line by line, by the grammar of README.md, section Report.
+"""Reads the reports of a herd's runs line by line, by the grammar of docs/GUIDE.md, section The report.
 
 Bytes that are not UTF-8, which the name of an animal may have, stand as surrogates, and are written as they were."""
 import re
