@@ -2,8 +2,9 @@
 # build.sh [--anew]: proves the program and the crates that it stands on, with `rt`, and leaves it in
 # out/, with build.log, what the prover said, and SOURCES, the sums of what it was made from.
 #
-# The crates are proved side by side, on a copy. What this machine has proved before, here or in another clone, is not
-# proved again, but with --anew. The status is 70 where the program could not be built.
+# The crates are proved side by side, on a copy. A toolchain that keeps what this machine has proved before, here or in
+# another clone, proves it again with --anew alone; an older one always does. The status is 70 where the program could not
+# be built.
 set -u
 top=$(cd "$(dirname "$0")/.." && pwd)
 # shellcheck source=tools/sources.sh
@@ -51,6 +52,7 @@ if ! flock -n 9; then
     sum_sources
     ! is_of_sum "$out" || exit 0
 fi
+rt help 2>&1 | grep -q -e --anew || set --
 room=$(mktemp -d) || fail 'there is no room for a copy'
 trap clear_room EXIT
 trap 'exit 129' HUP
@@ -71,8 +73,5 @@ made=$room/copy/crates/homerange/out/homerange
 if [ "$status" -ne 0 ] || [ ! -x "$made" ]; then
     fail "$(sed -n 's/^rt: \(FAILED: .*\)/\1, /p' "$room/log")the log is $out/build.log"
 fi
-rm -f "$out/SOURCES"
-mv -f "$room/log" "$out/build.log"
-mv -f "$made" "$out/homerange" || fail "$out cannot be written"
-printf 'sources %s\nlogic %s\n' "$sum" "$(rt version | sed 's/.* logic //')" >"$out/SOURCES"
+keep_program "$made" "$room/log" || fail "$out cannot be written"
 say "built in $(($(date +%s) - begin)) s"

@@ -43,6 +43,14 @@ is_of_sum() {
     [ -x "$1/homerange" ] && [ -r "$1/SOURCES" ] && read -r _ made <"$1/SOURCES" && [ "$made" = "$sum" ]
 }
 
+# Leaves in out/ a program that was made of the sources of $sum, the log of its build, and SOURCES, the sums of what it
+# was made from.
+keep_program() {
+    rm -f "$top/out/SOURCES"
+    mkdir -p "$top/out" && cp "$2" "$top/out/build.log" && install -m 755 "$1" "$top/out/homerange" || return
+    printf 'sources %s\nlogic %s\n' "$sum" "$(rt version | sed 's/.* logic //')" >"$top/out/SOURCES"
+}
+
 # Whether the release runs on this machine: Linux on x86-64-v2, with a C library that is young enough.
 release_runs() {
     [ ! -r /proc/cpuinfo ] || grep -qw sse4_2 /proc/cpuinfo || return
