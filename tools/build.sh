@@ -52,7 +52,7 @@ if ! flock -n 9; then
     sum_sources
     ! is_of_sum "$out" || exit 0
 fi
-rt help 2>&1 | grep -q -e --anew || set --
+{ rt help; cat "$(rt doc)"; } 2>&1 | grep -q -e --anew || set --
 room=$(mktemp -d) || fail 'there is no room for a copy'
 trap clear_room EXIT
 trap 'exit 129' HUP
