@@ -24,10 +24,13 @@ REFUSE = pathlib.Path(__file__).resolve().parent / "refuse.c"
 FILE_A = "animal,second,easting,northing\nA,0,0,0\nA,60,10,0\nA,120,10,10\nA,180,0,10\nA,240,5,5\n"
 FILE_B = "animal,second,easting,northing\nB,0,5,5\nB,60,10,5\nB,120,20,5\n"
 SIZES = (5, 3)
+BLOCK = 2
 MEMORY = ("homerange: out of memory\n", "homerange: out of memory, or a thread could not be started\n")
 STOPPED = "an estimator stopped"
+UNREAD = "a reader lacked memory"
 WANTED = "want of memory"
-MET = {STOPPED, *(f"{call} wanted memory" for call in ("next", "pump", "follow", "judge", "report", "analyse"))}
+CALLS = ("next", "open_line", "pump", "follow", "judge", "report", "analyse")
+MET = {STOPPED, UNREAD, *(f"{call} wanted memory" for call in CALLS)}
 FOLLOWED = re.compile("follow (whole|memory) ")
 WANTS = re.compile("next (0 memory true false|[1-5] memory true true)|(pump|follow|judge|report|analyse) memory|pump memory [0-5] true")
 COMMANDS = (
@@ -91,13 +94,15 @@ def sweep_homerange(command, folder):
 
 def is_followed(line, size):
     """Whether a file of that many fixes may come out like this where one growth was refused: its mark came, and
-    all fixes that were sent were taken, unless its estimator stopped."""
+    all fixes that were sent were taken; or it was sent whole, and its estimator stopped behind some of its blocks."""
     found = re.fullmatch(r"follow (whole|memory) (\d+) (\d+) true (true|false)", line)
     if not found:
         return False
     sent, taken = int(found[2]), int(found[3])
-    is_read = sent == size if found[1] == "whole" else sent <= size
-    return is_read and (taken <= sent if found[4] == "true" else taken == sent)
+    is_whole = found[1] == "whole"
+    if found[4] == "true":
+        return is_whole and sent == size and taken < size and taken % BLOCK == 0
+    return taken == sent and (sent == size if is_whole else sent <= size)
 
 
 def growths_answer(found, ample):
@@ -114,9 +119,11 @@ def growths_answer(found, ample):
         return None
     if troubled and wants != ["judge memory"]:
         return None
-    if troubled and troubled[0].endswith(" true true"):
-        return STOPPED
-    return f"{'follow' if troubled else wants[0].split()[0]} wanted memory"
+    if troubled:
+        return STOPPED if troubled[0].endswith(" true true") else UNREAD
+    # The program opens a line for its pump, and says "pump memory" alone where that was refused.
+    call = "open_line" if wants[0] == "pump memory" else wants[0].split()[0]
+    return f"{call} wanted memory"
 
 
 def sweep_growths(command, folder, sweeps):

@@ -3,7 +3,7 @@
 use range_estimator::{Row, Rows};
 use range_fixes::Name;
 use range_lanes::Extent;
-use range_plane::{Point, Polygon, Scale};
+use range_plane::{Point, Polygon, Scale, are_corners};
 use range_report::{report, report_parts};
 use range_stats::PercentRow;
 use range_tables::{Analysis, Animal, Animals, OverlapRow, Overlaps, Percents};
@@ -150,6 +150,38 @@ fn rows_of_two_parts(rt: HostRuntime) -> Result<(), Fail> {
         extent: extent(0, 0, 0, 0),
         rows: Rows::new(rows),
         polygon: polygon(alloc, &[(0, 0)])?,
+        percents: Percents::new(Vec::new(alloc)),
+    };
+    let analysis = Analysis {
+        animals: Animals::new(vec![in alloc; animal]?),
+        overlaps: Overlaps::new(Vec::new(alloc)),
+        unit: Scale::Metre,
+    };
+    let text = report(&rt, alloc, &analysis).ok().ok_or("memory")?;
+    assert!(rt; text.as_slice() == lines.as_slice());
+    Ok(())
+}
+
+// The same of the corners of one animal.
+#[test]
+fn corners_of_two_parts(rt: HostRuntime) -> Result<(), Fail> {
+    let alloc = rt.alloc();
+    let mut corners = Vec::new(alloc);
+    let mut lines = Vec::from_slice(alloc, b"animal,A,fixes,0\nbox,A,0,0,0,0\n")?;
+    for i in 1..=8193u16 {
+        let e = i64::from(i);
+        let n = e.wrapping_mul(e);
+        corners.push(Point::new(e, n).ok_or("a point")?)?;
+        let line = format!(in alloc; "corner,A,{i},{e},{n}\n")?;
+        lines.extend_from_slice(line.as_bytes())?;
+    }
+    lines.extend_from_slice(b"end,1\n")?;
+    assert!(rt; are_corners(&corners));
+    let animal = Animal {
+        name: Name::new(b"A".to_vec(alloc)?),
+        extent: extent(0, 0, 0, 0),
+        rows: Rows::new(Vec::new(alloc)),
+        polygon: Polygon::of_corners(corners),
         percents: Percents::new(Vec::new(alloc)),
     };
     let analysis = Analysis {

@@ -1,7 +1,7 @@
 // Tests of refused growths.
 
 use range_chain::Chain;
-use range_plane::Point;
+use range_plane::{FIX_LIMIT, Point};
 use refusing::Refusing;
 
 // More growths than a run here makes.
@@ -54,4 +54,19 @@ fn more_points_than_memory_are_refused(rt: HostRuntime) {
     assert!(rt; chain.reserve(usize::MAX).is_err());
     assert!(rt; chain.reserve(1).is_ok() && chain.reserve(usize::MAX).is_err());
     assert!(rt; chain.spare() == 256);
+}
+
+// There is room for one point more behind each of as many points as a file has fixes.
+#[test]
+fn room_behind_many_points(rt: HostRuntime) {
+    let p = Point::new(1, 2).expect(&rt, "a point");
+    let mut chain = Chain::new(rt.alloc());
+    for count in 0..FIX_LIMIT {
+        assert!(rt; chain.reserve(1).is_ok(), "behind {count} points");
+        if chain.spare() > 0 {
+            let end = chain.end();
+            chain.replace_run(end, end, p);
+        }
+    }
+    assert!(rt; chain.len() == FIX_LIMIT as usize, "in the end");
 }

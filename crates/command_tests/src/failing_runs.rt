@@ -118,6 +118,7 @@ fn failing_writes_of_a_text(rt: HostRuntime) {
                         Err(RunFault::Write)
                     }
             );
+            assert!(rt; status(&outcome) == if is_whole { 0 } else { 4 });
             assert!(rt; !is_whole || out.flushes == 1);
         }
     }
@@ -132,6 +133,10 @@ fn refusing_outputs(rt: HostRuntime) {
         out.can_flush = can_flush;
         let outcome = run_over(&rt, alloc, FILE_A, &mut out);
         assert!(rt; outcome == Err(RunFault::Write) && status(&outcome) == 4);
+        assert!(rt; out.held.as_slice() == report);
+        let mut out = Output::new(Vec::new(alloc), most, Failures::none());
+        out.can_flush = can_flush;
+        assert!(rt; write_text(&mut out, REPORT_A) == Err(RunFault::Write));
         assert!(rt; out.held.as_slice() == report);
     }
 }

@@ -1,10 +1,12 @@
 //! Tests of command lines: what words say, and which are refused; the reports of runs, byte for byte and in
-//! every plan, sources and outputs that fail at each call; the words that the system gives; the line and the
-//! status of each refusal; and what the program answers to whole command lines.
+//! every plan, files with each fault, sources and outputs that fail at each call; the words that the system gives;
+//! the line and the status of each refusal; and what the program answers to whole command lines.
 #![tactic(auto)]
 
 #[cfg(test)]
 mod answers;
+#[cfg(test)]
+mod bad_runs;
 #[cfg(test)]
 mod failing;
 #[cfg(test)]

@@ -28,7 +28,7 @@ pub(crate) fn run_over<R: Wait + Threads + Sync + Abort, S: Read + Send + Drop, 
 }
 
 // The same with coordinates in this unit.
-fn run_in<R: Wait + Threads + Sync + Abort, S: Read + Send + Drop, W: Write>(
+pub(crate) fn run_in<R: Wait + Threads + Sync + Abort, S: Read + Send + Drop, W: Write>(
     rt: &R,
     alloc: Global,
     source: S,

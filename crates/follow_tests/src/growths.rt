@@ -15,6 +15,9 @@ use std::thread::Threads;
 // More growths than a run here makes.
 const MANY_GROWTHS: u32 = 1000;
 
+// How often all growths are refused in turn at most.
+const MANY_TIMES: u32 = 100;
+
 // Counts for each of two files the messages that were done with before the growth was refused.
 #[derive(Drop)]
 struct Watching<'a> {
@@ -72,9 +75,18 @@ fn stopped_of(
     stopped
 }
 
+// Whether the estimator of the second file has stopped with two fixes.
+fn has_stopped_late(all: &[Followed<&Refusing<Global>>]) -> bool {
+    let Some(second) = all.get(1) else {
+        return false;
+    };
+    second.estimator.stopped() && second.estimator.rows().len() == 2
+}
+
 // In a run that is refused a growth, either there are no results, or one estimator has stopped; both come.
-fn expect_refusals<R: Wait + Threads + Sync + Abort>(rt: &R, alloc: Global, plan: Plan) {
-    let (mut without, mut with) = (0u32, 0u32);
+// Whether that of the second file has stopped with two fixes in some run.
+fn expect_refusals<R: Wait + Threads + Sync + Abort>(rt: &R, alloc: Global, plan: Plan) -> bool {
+    let (mut without, mut with, mut late) = (0u32, 0u32, false);
     for number in 1..MANY_GROWTHS {
         let refusing = Refusing::new(alloc, number);
         let done = [AtomicUsize::new(0), AtomicUsize::new(0)];
@@ -92,6 +104,7 @@ fn expect_refusals<R: Wait + Threads + Sync + Abort>(rt: &R, alloc: Global, plan
                     "stopped estimators"
                 );
                 with = with.wrapping_add(stopped);
+                late = late || has_stopped_late(&all);
             }
             Err(_) => {
                 assert!(rt; refusing.has_refused(), "at growth {number}");
@@ -100,16 +113,29 @@ fn expect_refusals<R: Wait + Threads + Sync + Abort>(rt: &R, alloc: Global, plan
         }
         if !refusing.has_refused() {
             assert!(rt; without > 10 && with > 10, "{without} and {with} growths");
-            return;
+            return late;
         }
     }
     assert!(rt; false, "no run without a refusal");
+    false
 }
 
 // Also where the line holds less than what comes behind the block that stops an estimator: all of it is taken.
 #[test]
 fn each_growth_is_refused(rt: HostRuntime) {
     for (block, depth, workers) in [(2, 4, 2), (1, 1, 1)] {
-        expect_refusals(&rt, rt.alloc(), plan(&rt, block, depth, workers));
+        let _ = expect_refusals(&rt, rt.alloc(), plan(&rt, block, depth, workers));
     }
+}
+
+// Among them is an estimator that has stopped behind the first of its blocks. Which growth that is the threads
+// decide, so it may take more than one time through all.
+#[test]
+fn stopped_behind_a_block(rt: HostRuntime) {
+    for _ in 0..MANY_TIMES {
+        if expect_refusals(&rt, rt.alloc(), plan(&rt, 2, 4, 2)) {
+            return;
+        }
+    }
+    assert!(rt; false, "none has stopped so late");
 }

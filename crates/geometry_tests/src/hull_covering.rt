@@ -1,6 +1,6 @@
 // Tests of what a hull covers, against the polygon of the same points.
 
-use crate::points::{HEXAGON, LATTICE, hull_of, parabola, point, points_of};
+use crate::points::{HEXAGON, LATTICE, arch, hull_of, parabola, point, points_of};
 use range_hull::OnlineHull;
 use range_plane::Point;
 use std::process::Abort;
@@ -55,4 +55,23 @@ fn many_corners(rt: HostRuntime) {
     assert!(rt;
         hull.covers(point(&rt, (2, 4095 * 2))) && !hull.covers(point(&rt, (2, 4095 * 2 + 1)))
     );
+}
+
+// Of one upside down the corners and what is below them are covered, and nothing above.
+#[test]
+fn many_corners_above(rt: HostRuntime) {
+    let corners: Vec<Point> = arch(&rt, rt.alloc(), 4096);
+    let hull = hull_of(&rt, rt.alloc(), &corners);
+    for e in 1..4095 {
+        let n = i64::wrapping_sub(4095 * 4095, i64::wrapping_mul(e, e));
+        assert!(rt; hull.covers(point(&rt, (e, n))), "corner {e}");
+        assert!(rt;
+            hull.covers(point(&rt, (e, n.wrapping_sub(1)))),
+            "below corner {e}"
+        );
+        assert!(rt;
+            !hull.covers(point(&rt, (e, n.wrapping_add(1)))),
+            "above corner {e}"
+        );
+    }
 }

@@ -1,7 +1,8 @@
 // Tests of worked lists of points, whose polygons were made by hand.
 
 use crate::points::{
-    HEXAGON, HEXAGON_CORNERS, WORKED, has_corners, hull_of, insert, parabola, point, points_of,
+    HEXAGON, HEXAGON_CORNERS, WORKED, arch, has_corners, hull_of, insert, parabola, point,
+    points_of,
 };
 use range_hull::OnlineHull;
 use range_plane::{FIX_LIMIT, Point};
@@ -71,6 +72,27 @@ fn parabola_either_way(rt: HostRuntime) {
             hull.turns()
         );
         assert!(rt; has_corners(&rt, rt.alloc(), &hull, &rising), "corners");
+    }
+}
+
+// The same upside down: all corners but the ends stand above the line between them.
+#[test]
+fn arch_either_way(rt: HostRuntime) {
+    let rising = arch(&rt, rt.alloc(), 4096);
+    let mut falling = arch(&rt, rt.alloc(), 4096);
+    falling.reverse();
+    let mut corners = arch(&rt, rt.alloc(), 1);
+    corners.extend_from_slice(&falling).expect(&rt, "memory");
+    corners.pop();
+    for points in [&rising, &falling] {
+        let hull = hull_of(&rt, rt.alloc(), points);
+        assert_eq!(rt; hull.area2(), 22_889_717_760, "area");
+        assert!(rt;
+            (4094..=32_768).contains(&hull.turns()),
+            "{} turns",
+            hull.turns()
+        );
+        assert!(rt; has_corners(&rt, rt.alloc(), &hull, &corners), "corners");
     }
 }
 

@@ -176,6 +176,16 @@ pub(crate) fn parabola(rt: &impl Abort, alloc: Global, count: u16) -> Vec<Point>
     points
 }
 
+// The points `(i, 4095 * 4095 - i * i)`, for i from 0 on, of which there are 4096 at most.
+pub(crate) fn arch(rt: &impl Abort, alloc: Global, count: u16) -> Vec<Point> {
+    let mut points = Vec::new(alloc);
+    for p in &parabola(rt, alloc, count) {
+        let n = i64::wrapping_sub(4095 * 4095, p.n);
+        points.push(point(rt, (p.e, n))).expect(rt, "memory");
+    }
+    points
+}
+
 // Inserts a point for which there has to be room.
 pub(crate) fn insert<A: Allocator>(rt: &impl Abort, hull: &mut OnlineHull<A>, p: Point) {
     assert!(rt; hull.spare() > 0 && hull.points() < FIX_LIMIT, "room");
