@@ -20,9 +20,10 @@ END
 chmod +x stand-in/rt
 export STAND_IN="$work/stand-in"
 
-# Whether the house's program writes this of the version, after it told something with this text, or nothing.
+# Whether the house's program writes this of the version, after it told something with this text, or nothing. It is
+# called in the house, or in this folder by this name.
 answers() {
-    (cd house && PATH="$work/stand-in:$PATH" ./homerange --version) >written 2>told
+    (cd "${3:-house}" && PATH="$work/stand-in:$PATH" timeout 100 "${4:-./homerange}" --version) >written 2>told
     [ "$(cat written)" = "$1" ] || return
     if [ -n "$2" ]; then grep -qF -- "$2" told; else [ ! -s told ]; fi
 }
@@ -35,6 +36,8 @@ fails() {
 version=$("$HOMERANGE" --version)
 
 holds 'the release answers at once' answers "$version" ''
+holds 'it answers in a folder of the house' answers "$version" '' house/tools ../homerange
+holds 'it answers in the folder above' answers "$version" '' . house/homerange
 printf '%s\n' animal,second,easting,northing a,0,1,1 >one.csv
 holds 'evidence of the release' env -u HOMERANGE house/tools/evidence.sh released.txt one.csv
 holds 'its sources and logic' [ "$(sed 's/^/# /; s/ /: /2' "$top/release/SOURCES")" = "$(grep -e '^# sources' -e '^# logic' released.txt.sha256)" ]
