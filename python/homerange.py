@@ -1025,11 +1025,15 @@ def read_report(
 
 
 def _styles(animals: Sequence[str]) -> list[dict[str, Any]]:
-    """A colour and a kind of line for each animal. Where there are more than can be told apart all are grey."""
+    """A colour and a kind of line for each animal; both differ from one animal to the next, so that a picture can be
+    printed in grey. Where there are more animals than can be told apart all are grey."""
     if _legend_columns(animals) == 0:
         return [{"color": "#555555", "linewidth": 0.8, "alpha": 0.7}] * len(animals)
-    kinds = itertools.product(STYLES, COLOURS)
-    return [{"color": colour, "linestyle": style, "linewidth": 1.6} for _, (style, colour) in zip(animals, kinds)]
+    rounds = [divmod(place, len(COLOURS)) for place in range(len(animals))]
+    return [
+        {"color": COLOURS[colour], "linestyle": STYLES[(colour + turn) % len(STYLES)], "linewidth": 1.6}
+        for turn, colour in rounds
+    ]
 
 
 def _axes(ax: Any, animals: Sequence[str]) -> Any:

@@ -20,8 +20,9 @@ program_crates() {
 # Puts into $sum one SHA-256 sum of those lines, and of the name and the content of each source of those crates.
 sum_sources() {
     sum=$(
-        cd "$top" || exit 1
+        # Before the change of folder, since $top may be relative.
         lines=$(program_crates)
+        cd "$top" || exit 1
         set --
         while read -r name _; do
             name=crates/${name%:}

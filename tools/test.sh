@@ -11,6 +11,10 @@ set -u
 tools=$(cd "$(dirname "$0")" && pwd)
 # shellcheck disable=SC2034
 top=${tools%/*}
+command -v python3 >/dev/null || {
+    echo 'test.sh: it needs python3; tools/setup.sh installs what the tests use' >&2
+    exit 1
+}
 [ $# -gt 0 ] || set -- "$("$tools/program.sh")" || exit
 HOMERANGE=$(readlink -f -- "$1")
 export HOMERANGE

@@ -41,7 +41,12 @@ as_names <- function(values) {
     return(ifelse(is.na(values), NA, text[match(values, numbers)]))
   }
   text <- as.character(values)
-  ifelse(validEnc(text), enc2utf8(text), text)
+  # Bytes of no declared encoding are UTF-8 where they can be, and else of the locale. In one of ASCII alone, such as
+  # that of a job without LANG, enc2utf8 would write them as <c3><bc>.
+  is_bare <- Encoding(text) == "unknown"
+  Encoding(text[is_bare & validUTF8(text)]) <- "UTF-8"
+  is_known <- Encoding(text) != "unknown" | !is.na(iconv(text, "", "UTF-8"))
+  ifelse(is_known & validEnc(text), enc2utf8(text), text)
 }
 
 check_names <- function(names, rows, column) {

@@ -8,10 +8,14 @@
 set -eu
 LC_ALL=C
 export LC_ALL
-program=$(command -v "${HOMERANGE:-homerange}") || {
-    echo "plan.sh: there is no program ${HOMERANGE:-homerange}" >&2
+fail() {
+    echo "plan.sh: $1" >&2
     exit 1
 }
+[ $# -ge 2 ] || fail 'give the folder of the tracks and the folder to make'
+[ -d "$1" ] || fail "there is no folder $1"
+program=$(command -v "${HOMERANGE:-homerange}") ||
+    fail "there is no program ${HOMERANGE:-homerange}: HOMERANGE has to name it"
 program=$(readlink -f "$program")
 tracks=$(cd "$1" && pwd)
 mkdir -p "$2/groups" "$2/reports" "$2/pairs"

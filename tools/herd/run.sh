@@ -6,6 +6,7 @@
 # OUT/report.txt is there where all went well, and only then.
 set -eu
 here=$(cd "$(dirname "$0")" && pwd)
+[ $# -ge 2 ] || exec "$here/plan.sh" "$@"
 out=$2
 rm -f "$out/report.txt"
 "$here/plan.sh" "$@"

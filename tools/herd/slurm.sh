@@ -7,6 +7,10 @@
 # killed, this is called again, and goes on where it was: runs that stand are not made again.
 set -eu
 here=$(cd "$(dirname "$0")" && pwd)
+[ $# -ge 2 ] || {
+    echo 'slurm.sh: give the folder that plan.sh planned and the number of jobs' >&2
+    exit 1
+}
 out=$(cd "$1" && pwd)
 jobs=$2
 shift 2

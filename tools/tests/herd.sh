@@ -86,3 +86,16 @@ fails 'an animal twice' 'step.sh: the run of groups 0000 and 0001 failed'
 cp saved tracks/deer00050.csv
 $herd 2>errors
 HOMERANGE=./none fails 'no program' 'plan.sh: there is no program ./none'
+
+# Words that are missing are asked for.
+asks() {
+    wanted=$1
+    shift
+    ! "$@" 2>errors && grep -qF -- "$wanted" errors
+}
+for script in plan run; do
+    holds "$script.sh without a folder to make" asks 'give the folder of the tracks' "$tools/herd/$script.sh" tracks
+    holds "$script.sh without tracks" asks 'plan.sh: there is no folder none' "$tools/herd/$script.sh" none unmade
+done
+holds 'slurm.sh without a number of jobs' asks 'slurm.sh: give the folder that plan.sh' "$tools/herd/slurm.sh" herd
+holds 'no folder is made' [ ! -e unmade ]

@@ -9,7 +9,12 @@ mkdir house stand-in
     crates/*/proofs crates/homerange/std* -type f -print0 | xargs -0 cp --parents -t "$work/house") 2>/dev/null
 cat >stand-in/rt <<'END'
 #!/bin/sh
-[ "$1" != version ] || { echo 'stand-in logic 0'; exit; }
+case $1 in
+    version) echo 'stand-in logic 0' && exit ;;
+    help) [ -e "$STAND_IN/old" ] || echo 'rt ci [--anew]' ;;
+esac
+[ "$1" = ci ] || exit 0
+echo "$*" >"$STAND_IN/words"
 [ ! -e "$STAND_IN/fails" ] || { echo 'rt: FAILED: range_plane'; exit 1; }
 mkdir -p crates/homerange/out
 printf '#!/bin/sh\necho "built: $*"\n' >crates/homerange/out/homerange
@@ -20,9 +25,10 @@ END
 chmod +x stand-in/rt
 export STAND_IN="$work/stand-in"
 
-# Whether the house's program writes this of the version, after it told something with this text, or nothing.
+# Whether the house's program writes this of the version, after it told something with this text, or nothing. It is
+# called in the house, or in this folder by this name.
 answers() {
-    (cd house && PATH="$work/stand-in:$PATH" ./homerange --version) >written 2>told
+    (cd "${3:-house}" && PATH="$work/stand-in:$PATH" "${4:-./homerange}" --version) >written 2>told
     [ "$(cat written)" = "$1" ] || return
     if [ -n "$2" ]; then grep -qF -- "$2" told; else [ ! -s told ]; fi
 }
@@ -35,6 +41,8 @@ fails() {
 version=$("$HOMERANGE" --version)
 
 holds 'the release answers at once' answers "$version" ''
+holds 'it answers in a folder of the house' answers "$version" '' house/tools ../homerange
+holds 'it answers in the folder above' answers "$version" '' . house/homerange
 printf '%s\n' animal,second,easting,northing a,0,1,1 >one.csv
 holds 'evidence of the release' env -u HOMERANGE house/tools/evidence.sh released.txt one.csv
 holds 'its sources and logic' [ "$(sed 's/^/# /; s/ /: /2' "$top/release/SOURCES")" = "$(grep -e '^# sources' -e '^# logic' released.txt.sha256)" ]
@@ -79,6 +87,12 @@ export HOMERANGE_BUILD=1
 holds 'a build that is asked for' answers 'built: --version' 'building the proved program'
 unset HOMERANGE_BUILD
 holds 'what was built goes before the release' answers 'built: --version' ''
+for words in 'ci --anew' ci; do
+    holds "a build anew by $words" env PATH="$work/stand-in:$PATH" house/tools/build.sh --anew
+    holds "$words was called" [ "$(cat stand-in/words)" = "$words" ]
+    : >stand-in/old
+done
+rm stand-in/old
 rm -rf house/out
 printf '#!/none\n' >house/release/homerange
 holds 'a release that does not run here' answers 'built: --version' 'the release does not run on this machine'

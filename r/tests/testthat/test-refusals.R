@@ -68,6 +68,16 @@ test_that("names that the program does not take are refused", {
   expect_identical(summary(quietly(home_range(latin)))$animal[1], "Sch\u00e4fer")
 })
 
+test_that("names are the same in a locale of ASCII alone", {
+  skip_without_program()
+  before <- Sys.getlocale("LC_CTYPE")
+  on.exit(Sys.setlocale("LC_CTYPE", before))
+  Sys.setlocale("LC_CTYPE", "C")
+  bare <- changed("animal", 1:3, "Sch\xc3\xa4fer")
+  expect_identical(summary(quietly(home_range(bare)))$animal[1], "Sch\u00e4fer")
+  refused(changed("animal", 2, "\xff\xfe"), "row 2: animal is no text in UTF-8")
+})
+
 test_that("tables without what is wanted are refused", {
   skip_without_program()
   refused(list(1), "a data frame is wanted")
