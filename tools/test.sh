@@ -15,6 +15,9 @@ command -v python3 >/dev/null || {
     echo 'test.sh: it needs python3; tools/setup.sh installs what the tests use' >&2
     exit 1
 }
+# R's own check of a package warns in a locale of ASCII alone.
+LANG=${LANG:-C.UTF-8}
+export LANG
 [ $# -gt 0 ] || set -- "$("$tools/program.sh")" || exit
 HOMERANGE=$(readlink -f -- "$1")
 export HOMERANGE
