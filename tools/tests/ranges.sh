@@ -2,9 +2,9 @@
 # the export's own fixes; layers are read by geopandas.
 # shellcheck shell=sh disable=SC2154
 
-# Whether what was made of an export is right. -P leaves the stand-in of pyproj in tools/tests alone.
+# Whether what was made of an export is right.
 are_ranges() {
-    PYTHONDONTWRITEBYTECODE=1 PYTHONPATH="$top/python/tests" python3 -P "$tools/tests/ranges.py" "$@"
+    PYTHONDONTWRITEBYTECODE=1 PYTHONPATH="$top/python/tests" python3 "$tools/tests/ranges.py" "$@"
 }
 
 # Whether these words are refused with this status, in words that have this text, and leave nothing.

@@ -7,7 +7,7 @@ if is_here Rscript 'split.R'; then
 fi
 if ! python3 -c 'import pyproj' 2>/dev/null; then
     skip 'projection by pyproj: a stand-in of the tests projects'
-    export PYTHONPATH="$tools/tests"
+    export PYTHONPATH="$tools/tests/projection"
 fi
 stamp() { date -u -d "$1" +%s; }
 head_line=individual-local-identifier,timestamp,utm-easting,utm-northing,utm-zone,visible
