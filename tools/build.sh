@@ -65,7 +65,7 @@ begin=$(date +%s)
 : >"$room/log"
 (cd "$room/copy" && exec rt ci "$@") </dev/null >>"$room/log" 2>&1 9<&- &
 job=$!
-tail -n +1 -f --pid="$job" "$room/log" 9<&- | sed -u -n 's/^rt: \(.* proved\)$/homerange: \1/p' >&2 &
+tail -n +1 -f --pid="$job" "$room/log" 9<&- | sed -u -n 's/^rt: \(.* proved\)$/homerange: \1/p' >&2 9<&- &
 wait "$job"
 status=$?
 job=
