@@ -74,7 +74,7 @@ def times_of(track, count, commands, folder, turns):
 
 
 def lines_of(track, counts, commands, folder, turns):
-    """Prints a table of one kind of track, and gives a line a program."""
+    """Prints a table of one kind of track, and gives a line for each program."""
     print(f"| {track}, fixes | {' | '.join(commands)} |\n|---|{'---|' * len(commands)}")
     taken = {}
     for count in counts:
@@ -148,4 +148,5 @@ def main():
     words.picture.write_text(picture(lines))
 
 
-main()
+if __name__ == "__main__":
+    main()

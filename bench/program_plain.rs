@@ -1,4 +1,4 @@
-// What the program does, in plain Rust on one thread, as fast as we can write it: a peer for bench/program.py.
+// What the program does, in plain Rust on one thread, as fast as we can write it: a peer for bench/table.py.
 //
 //     program_plain [--trees] [--percent LIST] [--unit UNIT] FILE ...
 //

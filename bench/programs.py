@@ -19,11 +19,6 @@ def proved(crate, *words):
     return folder / "out" / crate
 
 
-def proved_part(part):
-    """The command that times a part of the crate `benches`, which is built first."""
-    return [proved("benches", part), part]
-
-
 def plain(source, folder):
     """The program of a file beside this one, built by `rustc --edition 2024 -O` into the folder."""
     program = pathlib.Path(folder) / pathlib.Path(source).stem

@@ -1,4 +1,4 @@
-"""What the benches of the whole program share: files that are made, and programs that are timed in turns."""
+"""What the benches share: files that are made, and programs that are timed in turns."""
 
 import multiprocessing
 import os
@@ -20,13 +20,13 @@ def make_curves(maker, name, count, limit, folder):
     programs.output([maker, "curve", folder, name], text)
 
 
-def apart(make, *words):
-    """Makes files in a process of its own, since a run's peak counts what the process that starts it held."""
-    making = multiprocessing.Process(target=make, args=words)
-    making.start()
-    making.join()
-    if making.exitcode:
-        raise SystemExit("files were not made")
+def apart(work, *given):
+    """Works in a process of its own, since a run's peak counts what the process that starts it held."""
+    working = multiprocessing.Process(target=work, args=given)
+    working.start()
+    working.join()
+    if working.exitcode:
+        raise SystemExit(working.exitcode)
 
 
 def measured(command, folder):

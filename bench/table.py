@@ -1,0 +1,119 @@
+"""Times the program and its parts beside plain Rust, and prints the table of docs/PERFORMANCE.md.
+
+A case is a row; without one it prints those of the page. Of each case what all ways come to is compared first, and it
+stops where they differ. Then they are run in turns, since a machine's pace wanders.
+
+Of a part a time is the least of all runs, each of which makes several passes over marks and percent polygons. Of the
+whole program it is the median of the turns, from start to end, with the report sent to /dev/null; beside it stand the
+medians of the processor's time and of the most memory that a run held. The ratio is the time to that of the plain way
+that took the least, which is named.
+"""
+
+import argparse
+import functools
+import pathlib
+import tempfile
+
+import parts
+import program
+import programs
+import timing
+
+ROWS = {
+    "marks-12-walk": "marks, 12 corners",
+    "marks-200-walk": "marks, 200 corners",
+    "marks-20000-walk": "marks, 20,000 corners",
+    "inserts-walk": "inserts, walk",
+    "inserts-spiral": "inserts, spiral",
+    "inserts-shuffled": "inserts, curve shuffled",
+    "percents": "percent polygons, walk",
+    "follow-walk-1": "one file followed, walk",
+    "follow-files-4": "eight files followed",
+    "walk": "program, walk",
+    "walk-cores-1": "program, walk, on one core",
+    "walk-cores-1-block-1": "program, walk, on one core with `--block 1`",
+    "scattered": "program, scattered",
+    "eight-workers-4": "program, eight files",
+    "herd": "program, 64 files",
+    "curve": "program, curve",
+    "curve-shuffled": "program, curve shuffled",
+    "fine-curve-shuffled": "program, fine curve shuffled",
+}
+CASES = (*(case for part in parts.PARTS for case in part.cases), *program.CASES)
+HEAD = "| What | ms | processor, ms | MB | plain Rust, ms | ratio |\n|---|---|---|---|---|---|"
+
+
+def named_case(name):
+    if name not in CASES:
+        raise argparse.ArgumentTypeError(f"no case {name}; --help lists them")
+    return name
+
+
+def read_options():
+    parser = argparse.ArgumentParser(
+        description=__doc__, epilog=f"Cases: {', '.join(CASES)}", formatter_class=argparse.RawDescriptionHelpFormatter
+    )
+    parser.add_argument("cases", nargs="*", type=named_case, metavar="CASE", help="a row of the table")
+    parser.add_argument("--runs", type=int, metavar="N", help="how often each way is run (parts 5, the program 3 to 9)")
+    parser.add_argument("--homerange", metavar="FILE", help="the program, where it is built already")
+    parser.add_argument("--benches", metavar="FILE", help="that of crates/benches, where it is built already")
+    parser.add_argument("--compare", action="store_true", help="compare what all come to, and time nothing")
+    return parser.parse_args()
+
+
+def built(path, crate, *arguments):
+    """The proved program at this path, or else the one that `rt` builds."""
+    return pathlib.Path(path).resolve() if path else programs.proved(crate, *arguments)
+
+
+def row(case, ours, plain):
+    """A line of the table: what ours took, one number or three, and the milliseconds of the plain ways."""
+    way = min(plain, key=plain.get)
+    time, processor, memory = (*ours, None, None)[:3]
+    digits = 0 if time >= 100 else 1
+    cells = [f"{time:.{digits}f}", *("" if x is None else f"{x:.0f}" for x in (processor, memory))]
+    cells += [f"{plain[way]:.{digits}f}, {way}", f"{time / plain[way]:.2f}"]
+    return f"| {ROWS.get(case, case)} | {' | '.join(cells)} |"
+
+
+def time_parts(wanted, options, plain):
+    benches = built(options.benches, "benches", "percents")
+    for part in parts.PARTS:
+        if wanted.isdisjoint(part.cases):
+            continue
+        runs = 1 if options.compare else options.runs or 5
+        for case, took in parts.best(part, benches, plain, wanted, runs).items():
+            ours = took.pop(parts.OURS)
+            print(case if options.compare else row(case, (ours,), took), flush=True)
+
+
+def time_programs(cases, options, plain, folder):
+    proved = built(options.homerange, "homerange", "--help")
+    files = {name for case in cases for name in case.files}
+    timing.apart(program.make_files, plain("program_files.rs"), files, folder)
+    for case in cases:
+        commands = program.commands_of(case, proved, plain("program_plain.rs"))
+        program.compare(case, commands, folder)
+        if options.compare:
+            print(case.name, flush=True)
+            continue
+        found = dict(zip(commands, timing.medians(list(commands.values()), folder, options.runs or case.turns)))
+        ours = found.pop("homerange")
+        print(row(case.name, ours, {way: took for way, (took, _, _) in found.items()}), flush=True)
+
+
+def main():
+    options = read_options()
+    wanted = options.cases or list(ROWS)
+    whole = [program.CASES[case] for case in wanted if case in program.CASES]
+    with tempfile.TemporaryDirectory() as folder:
+        plain = functools.cache(functools.partial(programs.plain, folder=folder))
+        print("All ways come to the same in:" if options.compare else HEAD, flush=True)
+        if len(whole) < len(wanted):
+            timing.apart(time_parts, set(wanted), options, plain)
+        if whole:
+            time_programs(whole, options, plain, folder)
+
+
+if __name__ == "__main__":
+    main()
