@@ -35,7 +35,7 @@ class Line:
     points: tuple
 
 
-def read_words():
+def read_options():
     parser = argparse.ArgumentParser(description=__doc__)
     parser.add_argument("picture", type=pathlib.Path, help="where the picture goes, as SVG")
     parser.add_argument("--turns", type=int, default=3, metavar="N", help="how often each program is run (3)")
@@ -61,15 +61,15 @@ def file_of(track, count):
     return f"curve{count}--shuffled.csv" if track == "curve" else f"walk{count}.csv"
 
 
-def words_of(track, count):
+def options_of(track, count):
     return ["--unit", "dm"] if track == "curve" and limit_of(count) == timing.DECIMETRES else []
 
 
 def times_of(track, count, commands, folder, turns):
     """The milliseconds of each program that is quick enough, by its name."""
-    words = [*words_of(track, count), file_of(track, count)]
-    chosen = {name: command for name, command in commands.items() if not words_of(track, count) or name != "vectors"}
-    found = timing.medians([[*command, *words] for command in chosen.values()], folder, turns)
+    arguments = [*options_of(track, count), file_of(track, count)]
+    chosen = {name: command for name, command in commands.items() if not options_of(track, count) or name != "vectors"}
+    found = timing.medians([[*command, *arguments] for command in chosen.values()], folder, turns)
     return {name: took for name, (took, _, _) in zip(chosen, found)}
 
 
@@ -137,15 +137,15 @@ def picture(lines):
 
 
 def main():
-    words = read_words()
-    proved = words.homerange.resolve() if words.homerange else programs.proved("homerange", "--help")
+    options = read_options()
+    proved = options.homerange.resolve() if options.homerange else programs.proved("homerange", "--help")
     with tempfile.TemporaryDirectory() as folder:
         plain = programs.plain("program_plain.rs", folder)
         timing.apart(make_files, programs.plain("program_files.rs", folder), folder)
         commands = {"homerange": [proved], "vectors": [plain], "trees": [plain, "--trees"]}
-        lines = lines_of("curve", CORNERS, commands, folder, words.turns)
-        lines += lines_of("walk", FIXES, commands, folder, words.turns)
-    words.picture.write_text(picture(lines))
+        lines = lines_of("curve", CORNERS, commands, folder, options.turns)
+        lines += lines_of("walk", FIXES, commands, folder, options.turns)
+    options.picture.write_text(picture(lines))
 
 
 if __name__ == "__main__":

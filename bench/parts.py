@@ -1,8 +1,8 @@
 """The parts of the program that are timed beside plain Rust: marks and counts of points, inserts into a hull, percent
 polygons, and files that are followed.
 
-Each part gives its cases, and one run of it what each way came to and took in each of them: by the proved program of the
-crate `benches`, and by plain Rust in the ways that it has.
+Each part gives its cases, and one run of it what each way came to and took in each of them: the proved program of the
+crate `benches`, and plain Rust in the ways that it has.
 """
 
 from collections.abc import Callable
@@ -15,7 +15,7 @@ import programs
 OURS = "homerange"
 CURVE = 227264
 SIZES = (4, 12, 34, 200, 20000)
-WORKERS = {"walk": (1, 4), "cloud": (1, 4), "spiral": (1, 4), "curve": (1, 4), "shuffled": (1, 4), "files": (1, 2, 4, 8)}
+WORKERS = {**dict.fromkeys(("walk", "cloud", "spiral", "curve", "shuffled"), (1, 4)), "files": (1, 2, 4, 8)}
 
 
 class Found(NamedTuple):

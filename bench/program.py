@@ -67,9 +67,9 @@ def commands_of(case, proved, plain):
     """The command of the proved program, and those of its peers, by name."""
     cores = sorted(os.sched_getaffinity(0))[: case.cores]
     start = ["taskset", "-c", ",".join(map(str, cores))] if case.cores else []
-    words = [*case.options, *(f"{name}.csv" for name in case.files)]
-    peers = {peer: [*start, plain, *PEERS[peer], *words] for peer in case.peers}
-    return {"homerange": [*start, proved, *case.own, *words], **peers}
+    arguments = [*case.options, *(f"{name}.csv" for name in case.files)]
+    peers = {peer: [*start, plain, *PEERS[peer], *arguments] for peer in case.peers}
+    return {"homerange": [*start, proved, *case.own, *arguments], **peers}
 
 
 def compare(case, commands, folder):

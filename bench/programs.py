@@ -12,10 +12,11 @@ def output(command, text):
     return done.stdout, done.stderr
 
 
-def proved(crate, *words):
-    """The program of a crate, built by `rt`, which runs it once, with these words."""
+def proved(crate, *arguments):
+    """The program of a crate, built by `rt`, which runs it once, with these arguments."""
     folder = TOP / "crates" / crate
-    subprocess.run(["rt", "run", "--", *words], cwd=folder, stdin=subprocess.DEVNULL, capture_output=True, check=True)
+    command = ["rt", "run", "--", *arguments]
+    subprocess.run(command, cwd=folder, stdin=subprocess.DEVNULL, capture_output=True, check=True)
     return folder / "out" / crate
 
 

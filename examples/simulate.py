@@ -92,11 +92,17 @@ def write(folder, name, fixes, places):
             out.write(f"{name},{fix * INTERVAL},{easting},{northing}\n")
 
 
-draw = random.Random(SEED).random
-if len(sys.argv) == 4:
-    Path(sys.argv[1]).mkdir(parents=True)
-    for number in range(int(sys.argv[2])):
-        write(Path(sys.argv[1]), f"deer{number:05}", int(sys.argv[3]), deer(draw))
-else:
-    for name, fixes, track in [("fox", 1200, fox), ("badger", 800, badger), ("otter", 480, otter)]:
-        write(Path(__file__).resolve().parent, name, fixes, track(draw))
+def main():
+    draw = random.Random(SEED).random
+    if len(sys.argv) == 4:
+        folder, animals, fixes = Path(sys.argv[1]), int(sys.argv[2]), int(sys.argv[3])
+        folder.mkdir(parents=True)
+        for number in range(animals):
+            write(folder, f"deer{number:05}", fixes, deer(draw))
+    else:
+        for name, fixes, track in [("fox", 1200, fox), ("badger", 800, badger), ("otter", 480, otter)]:
+            write(Path(__file__).resolve().parent, name, fixes, track(draw))
+
+
+if __name__ == "__main__":
+    main()

@@ -1,15 +1,15 @@
-"""Refuses each growth and each start of a thread in turn, of `homerange` and of the program `growths`.
+"""Makes each allocation and each start of a thread fail in turn, of `homerange` and of the program `growths`.
 
     python3 growths.py HOMERANGE [GROWTHS] [--sweeps N]
 
-HOMERANGE and GROWTHS are the built programs (`rt ci` leaves both in `crates/NAME/out/NAME`). A run of N growths is
-made N times, the k-th with its k-th growth refused, by `refuse.c`, which is preloaded. How threads meet decides which
-growth is the k-th, so a sweep ends at a k that no growth of its run reaches, and `growths`, in which they meet in more
-ways, is swept several times (`--sweeps`; all that was ever looked at were 50). Each line of `growths` has to be as with
-ample memory, or to say that its call wanted memory and what that may leave, and each call has to say so in some run.
-`homerange` has to end with status 3 and its one line, nothing written, which has to come at least once, or as with ample
-memory. Prints what was swept and how often each answer came; the last line is 'N passed, M failed', of commands that
-were swept. Needs `cc`.
+HOMERANGE and GROWTHS are the built programs (`rt ci` leaves both in `crates/NAME/out/NAME`). Where a run makes N of these
+calls, it is run N times, the k-th with a failure of its k-th call, by `refuse.c`, which is preloaded. How threads meet
+decides which call is the k-th, so a sweep ends at a k that no call of its run reaches, and `growths`, in which they meet
+in more ways, is swept several times (`--sweeps`; all that was ever looked at were 50). Each line of `growths` has to be
+as with ample memory, or to say that its call ran out of memory and what that may leave, and each call has to say so in
+some run. `homerange` has to end with status 3 and its one line, nothing written, which has to come at least once, or as
+with ample memory. Prints what was swept and how often each answer came; the last line is 'N passed, M failed', of
+commands that were swept. Needs `cc`.
 """
 
 import argparse
@@ -27,10 +27,10 @@ SIZES = (5, 3)
 BLOCK = 2
 MEMORY = ("homerange: out of memory\n", "homerange: out of memory, or a thread could not be started\n")
 STOPPED = "an estimator stopped"
-UNREAD = "a reader lacked memory"
-WANTED = "want of memory"
+UNREAD = "a reader ran out of memory"
+WANTED = "out of memory"
 CALLS = ("next", "open_line", "pump", "follow", "judge", "report", "analyse")
-MET = {STOPPED, UNREAD, *(f"{call} wanted memory" for call in CALLS)}
+MET = {STOPPED, UNREAD, *(f"{call} ran out of memory" for call in CALLS)}
 FOLLOWED = re.compile("follow (whole|memory) ")
 WANTS = re.compile("next (0 memory true false|[1-5] memory true true)|(pump|follow|judge|report|analyse) memory|pump memory [0-5] true")
 COMMANDS = (
@@ -50,13 +50,13 @@ COMMANDS = (
 
 
 class Wrong(Exception):
-    """An answer that no run with one refused growth may give."""
+    """An answer that no run with one failed allocation may give."""
 
 
-def run(command, folder, refused):
-    """Status, output, standard error and growths of a run with this growth refused, or none for 0."""
+def run(command, folder, failing):
+    """Status, output, standard error and number of calls of a run in which this call fails, or none for 0."""
     count = folder / "count"
-    environment = {"LD_PRELOAD": f"{folder}/refuse.so", "REFUSE_AT": str(refused), "REFUSE_COUNT": str(count)}
+    environment = {"LD_PRELOAD": f"{folder}/refuse.so", "REFUSE_AT": str(failing), "REFUSE_COUNT": str(count)}
     done = subprocess.run(
         command, cwd=folder, env=environment, stdin=subprocess.DEVNULL, capture_output=True, text=True, timeout=60
     )
@@ -64,17 +64,17 @@ def run(command, folder, refused):
 
 
 def sweep(command, folder, answer_of):
-    """How often each answer came while each growth was refused in turn, and how many growths that were."""
+    """How often each answer came while each call failed in turn, and how many calls that were."""
     ample = run(command, folder, 0)
-    answers, refused = collections.Counter(), 0
+    answers, failing = collections.Counter(), 0
     while True:
-        refused += 1
-        found = run(command, folder, refused)
-        if found[3] < refused:
-            return answers, refused - 1
+        failing += 1
+        found = run(command, folder, failing)
+        if found[3] < failing:
+            return answers, failing - 1
         answer = answer_of(found[:3], ample[:3])
         if answer is None:
-            raise Wrong(f"growth {refused} refused: {found}, and not {ample}")
+            raise Wrong(f"call {failing} failed: {found}, and not {ample}")
         answers[answer] += 1
 
 
@@ -85,15 +85,15 @@ def homerange_answer(found, ample):
 
 
 def sweep_homerange(command, folder):
-    """A sweep of `homerange`, which has to meet want of memory."""
+    """A sweep of `homerange`, which has to run out of memory."""
     answers, swept = sweep(command, folder, homerange_answer)
     if not answers[WANTED]:
-        raise Wrong("no growth was wanted")
+        raise Wrong("it never ran out of memory")
     return answers, swept
 
 
 def is_followed(line, size):
-    """Whether a file of that many fixes may come out like this where one growth was refused: its mark came, and
+    """Whether a file of that many fixes may come out like this where one allocation failed: its mark came, and
     all fixes that were sent were taken; or it was sent whole, and its estimator stopped behind some of its blocks."""
     found = re.fullmatch(r"follow (whole|memory) (\d+) (\d+) true (true|false)", line)
     if not found:
@@ -106,7 +106,7 @@ def is_followed(line, size):
 
 
 def growths_answer(found, ample):
-    """Which calls of `growths` wanted memory, or nothing where a line is no answer to one refused growth."""
+    """Which call of `growths` ran out of memory, or nothing where a line is no answer to one failed allocation."""
     if found == ample:
         return "as ample"
     status, text, told = found
@@ -121,13 +121,13 @@ def growths_answer(found, ample):
         return None
     if troubled:
         return STOPPED if troubled[0].endswith(" true true") else UNREAD
-    # The program opens a line for its pump, and says "pump memory" alone where that was refused.
+    # The program opens a line for its pump, and says "pump memory" alone where that failed.
     call = "open_line" if wants[0] == "pump memory" else wants[0].split()[0]
-    return f"{call} wanted memory"
+    return f"{call} ran out of memory"
 
 
 def sweep_growths(command, folder, sweeps):
-    """All sweeps of `growths` together, in which each call has to want memory, and an estimator to stop alone."""
+    """All sweeps of `growths` together, in which each call has to run out of memory, and an estimator to stop alone."""
     total, swept = collections.Counter(), 0
     for _ in range(sweeps):
         answers, count = sweep(command, folder, growths_answer)
@@ -140,16 +140,16 @@ def sweep_growths(command, folder, sweeps):
 def is_well(name, swept, *given):
     """Sweeps, says what came of it, and returns whether each answer was one that may be."""
     try:
-        answers, growths = swept(*given)
+        answers, calls = swept(*given)
     except Wrong as wrong:
         print(f"failed: {name}: {wrong}")
         return False
     counts = ", ".join(f"{answer} {count}" for answer, count in sorted(answers.items()))
-    print(f"{name}: {growths} growths: {counts}")
+    print(f"{name}: {calls} failed calls: {counts}")
     return True
 
 
-def words():
+def read_options():
     parser = argparse.ArgumentParser(description=__doc__.split("\n\n")[0])
     parser.add_argument("homerange", type=pathlib.Path, help="the built program")
     parser.add_argument("growths", nargs="?", type=pathlib.Path, help="the built program growths, left out if not given")
@@ -158,22 +158,22 @@ def words():
 
 
 def main():
-    asked = words()
+    options = read_options()
     with tempfile.TemporaryDirectory() as room:
         folder = pathlib.Path(room)
         files = {"a.csv": FILE_A, "b.csv": FILE_B, "bad.csv": FILE_A + "A,300,x,5\n"}
         for name, text in files.items():
             (folder / name).write_text(text)
         subprocess.run(["cc", "-O2", "-shared", "-fPIC", REFUSE, "-o", folder / "refuse.so"], check=True)
-        homerange = str(asked.homerange.resolve())
+        homerange = str(options.homerange.resolve())
         found = [
-            is_well(f"homerange {words}", sweep_homerange, [homerange, *words.split()], folder)
-            for words in COMMANDS
+            is_well(f"homerange {command}", sweep_homerange, [homerange, *command.split()], folder)
+            for command in COMMANDS
         ]
-        if asked.growths:
-            name = f"growths, {asked.sweeps} sweeps"
-            found.append(is_well(name, sweep_growths, [str(asked.growths.resolve())], folder, asked.sweeps))
-    skipped = "" if asked.growths else ", 1 skipped"
+        if options.growths:
+            name = f"growths, {options.sweeps} sweeps"
+            found.append(is_well(name, sweep_growths, [str(options.growths.resolve())], folder, options.sweeps))
+    skipped = "" if options.growths else ", 1 skipped"
     print(f"{found.count(True)} passed, {found.count(False)} failed{skipped}")
     raise SystemExit(not all(found))
 

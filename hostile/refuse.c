@@ -1,5 +1,5 @@
-/* A library to preload that refuses one growth of a run: call REFUSE_AT of malloc, realloc and pthread_create,
- * counted from 1 over all threads. Without REFUSE_AT, or at 0, none is refused. The file that REFUSE_COUNT
+/* A library to preload that makes one call of a run fail: call REFUSE_AT of malloc, realloc and pthread_create,
+ * counted from 1 over all threads. Without REFUSE_AT, or at 0, none fails. The file that REFUSE_COUNT
  * names keeps the count in its first 8 bytes, also where the process ends by _exit. */
 #define _GNU_SOURCE
 #include <dlfcn.h>

@@ -36,7 +36,7 @@ from concurrent.futures import ThreadPoolExecutor
 from dataclasses import dataclass, field
 from datetime import date, datetime, timezone
 from pathlib import Path
-from typing import Any, Callable, Iterable, NamedTuple, Sequence, Union
+from typing import Any, Callable, Iterable, NamedTuple, NoReturn, Sequence, Union
 
 import numpy
 import pandas  # type: ignore[import]
@@ -219,7 +219,7 @@ def _is_name(name: str) -> bool:
 
 
 def _second(value: Any) -> int | None:
-    """The whole second since 1970 of a time, the rest of a second cut off; None where it is no time."""
+    """The whole second since 1970 of a time, fractions of a second dropped; None where it is no time."""
     if isinstance(value, str):
         if value.isascii() and value.isdigit():
             return int(value)
@@ -594,7 +594,9 @@ class Lines:
     def take(self, form: re.Pattern[str]) -> tuple[str, ...]:
         """The fields of the next line that the form has in brackets."""
         self.taken += 1
-        found = form.fullmatch(self.lines[self.taken - 1]) or self.refuse()
+        found = form.fullmatch(self.lines[self.taken - 1])
+        if found is None:
+            self.refuse()
         return found.groups()
 
     def numbers(self, form: re.Pattern[str], *known: object) -> list[int]:
@@ -610,7 +612,7 @@ class Lines:
         if self.lines[self.taken - 1:] != [f"end,{animals}"]:
             self.refuse()
 
-    def refuse(self) -> Any:
+    def refuse(self) -> NoReturn:
         """Refuses the line that was taken last."""
         line = self.lines[self.taken - 1]
         raise ReportError(f"{self.where}: line {self.taken} is '{line}', which does not fit there")
@@ -900,7 +902,7 @@ def home_range(
     animal, time, easting, northing: the columns. If left out, those with the usual titles of Movebank, move2, amt,
         adehabitatHR or homerange. Eastings and northings are in metres (homerange's own files in decimetres are divided
         by 10 first). Times are datetimes, text as 2024-05-01 00:30:04, or numbers of seconds since 1970; those without
-        a zone are UTC. The rest of a second is cut off.
+        a zone are UTC. Fractions of a second are dropped.
     use: which rows are used: a column, or a sequence of truths. If left out, a column ``use``, or all rows but those
         that Movebank has as not visible or as outliers; then fixes of several types of sensors are refused. Of rows
         that are not used only the animal has to be right.

@@ -1,6 +1,6 @@
 #!/bin/sh
 # build.sh [--anew]: proves the program and the crates that it stands on, with `rt`, and leaves it in
-# out/, with build.log, what the prover said, and SOURCES, the sums of what it was made from.
+# out/, with build.log, what the prover said, and SOURCES, the checksums of what it was made from.
 #
 # The crates are proved side by side, on a copy. A toolchain that keeps what this machine has proved before, here or in
 # another clone, proves it again with --anew alone; an older one always does. The status is 70 where the program could not

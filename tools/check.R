@@ -13,7 +13,7 @@ polygon_of <- function(east, north) {
   c(length(unique(complex(real = e, imaginary = n))), sum(e * n[after] - e[after] * n))
 }
 
-# The numbers of the lines of a kind of an animal, a line a row.
+# The numbers of the lines of a kind of an animal, one line in each row.
 numbers_of <- function(fields, kind, name) {
   lines <- Filter(function(field) length(field) == 6 && field[1] == kind && field[2] == name, fields)
   matrix(as.numeric(unlist(lapply(lines, `[`, 3:6))), ncol = 4, byrow = TRUE)
@@ -48,21 +48,21 @@ read_fixes <- function(path) {
   fixes
 }
 
-# The value of an option, which is taken out of the words.
+# The value of an option, which is taken out of the arguments.
 option <- function(name) {
-  at <- match(name, words)
+  at <- match(name, arguments)
   if (is.na(at)) return(NULL)
-  value <- words[at + 1]
-  words <<- words[-c(at, at + 1)]
+  value <- arguments[at + 1]
+  arguments <<- arguments[-c(at, at + 1)]
   value
 }
 
-words <- commandArgs(trailingOnly = TRUE)
+arguments <- commandArgs(trailingOnly = TRUE)
 levels <- option("--percent")
 unit <- option("--unit")
-lines <- readLines(words[1], encoding = "UTF-8")
+lines <- readLines(arguments[1], encoding = "UTF-8")
 fields <- strsplit(lines, ",", fixed = TRUE)
-tracks <- lapply(words[-1], read_fixes)
+tracks <- lapply(arguments[-1], read_fixes)
 in_report <- if (lines[1] == "unit,dm") "dm" else "m"
 units <- sum(startsWith(lines, "unit,"))
 if (is.null(unit)) unit <- in_report

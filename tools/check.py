@@ -86,25 +86,25 @@ def levels_of(lines, name):
     return [int(line[len(first):].split(",")[0]) for line in lines if line.startswith(first)]
 
 
-def read_words():
-    options = argparse.ArgumentParser(description=__doc__)
-    options.add_argument("report")
-    options.add_argument("files", metavar="FILE", nargs="+", help="the files of the run, in its order")
-    options.add_argument("--percent", metavar="LIST", help="the levels that were asked for [default: as in the report]")
-    options.add_argument("--unit", choices=("m", "dm"), help="the unit that was asked for [default: as in the report]")
-    return options.parse_args()
+def read_options():
+    parser = argparse.ArgumentParser(description=__doc__)
+    parser.add_argument("report")
+    parser.add_argument("files", metavar="FILE", nargs="+", help="the files of the run, in its order")
+    parser.add_argument("--percent", metavar="LIST", help="the levels that were asked for [default: as in the report]")
+    parser.add_argument("--unit", choices=("m", "dm"), help="the unit that was asked for [default: as in the report]")
+    return parser.parse_args()
 
 
 def main():
-    words = read_words()
+    options = read_options()
     try:
-        with open(words.report, encoding="utf-8") as file:
+        with open(options.report, encoding="utf-8") as file:
             found = file.read().splitlines()
-        animals = dict(map(read, words.files))
+        animals = dict(map(read, options.files))
     except OSError as fault:
         sys.exit(f"check.py: {fault.filename}: {fault.strerror}")
-    unit = words.unit or ("dm" if found[:1] == ["unit,dm"] else "m")
-    listed = words.percent.split(",") if words.percent else levels_of(found, next(iter(animals)))
+    unit = options.unit or ("dm" if found[:1] == ["unit,dm"] else "m")
+    listed = options.percent.split(",") if options.percent else levels_of(found, next(iter(animals)))
     levels = list(map(int, listed))
     wanted = list(wanted_lines(animals, levels, unit))
     for number, (line, other) in enumerate(itertools.zip_longest(wanted, found), 1):

@@ -27,16 +27,20 @@ def find_program():
         return os.environ["HOMERANGE"]
     script = Path(__file__).resolve().with_name("program.sh")
     found = subprocess.run([script], stdout=subprocess.PIPE, text=True)
-    return found.stdout.rstrip("\n") if found.returncode == 0 else sys.exit(found.returncode)
+    if found.returncode != 0:
+        sys.exit(found.returncode)
+    return found.stdout.rstrip("\n")
 
 
-def run(program, *words):
+def run(program, *arguments):
     """The lines of a report. Where there is none, ends with the program's status, once the program has said why."""
     try:
-        ended = subprocess.run([program, *words], stdout=subprocess.PIPE)
+        ended = subprocess.run([program, *arguments], stdout=subprocess.PIPE)
     except OSError as fault:
         refuse(f"{program} does not run: {fault.strerror}")
-    return ended.stdout.decode().splitlines() if ended.returncode == 0 else sys.exit(max(ended.returncode, 1))
+    if ended.returncode != 0:
+        sys.exit(max(ended.returncode, 1))
+    return ended.stdout.decode().splitlines()
 
 
 def read(path):
@@ -82,12 +86,13 @@ def corners(program, level, unit, path):
 
 
 def main():
-    options = argparse.ArgumentParser(description=__doc__, formatter_class=argparse.RawDescriptionHelpFormatter)
-    options.add_argument("level", type=int, metavar="LEVEL", help="a whole number from 1 to 100")
-    options.add_argument("file", metavar="FILE", help="a file of one animal's fixes, as homerange reads it")
-    options.add_argument("--unit", choices=("m", "dm"), default="m", help="the unit of its coordinates [default: m]")
-    words = options.parse_args()
-    print(*corners(find_program(), words.level, words.unit, words.file), sep="\n")
+    parser = argparse.ArgumentParser(description=__doc__, formatter_class=argparse.RawDescriptionHelpFormatter)
+    parser.add_argument("level", type=int, metavar="LEVEL", help="a whole number from 1 to 100")
+    parser.add_argument("file", metavar="FILE", help="a file of one animal's fixes, as homerange reads it")
+    parser.add_argument("--unit", choices=("m", "dm"), default="m", help="the unit of its coordinates [default: m]")
+    options = parser.parse_args()
+    print(*corners(find_program(), options.level, options.unit, options.file), sep="\n")
 
 
-main()
+if __name__ == "__main__":
+    main()

@@ -1,7 +1,7 @@
 #!/bin/sh
-# evidence.sh REPORT WORD ..: a run of homerange with these words, its report in the file REPORT, and beside it
-# REPORT.sha256, which ties the report to the words, the program and the files that were read, and these, where split.py
-# made them and its record split.txt stands beside them, to the export.
+# evidence.sh REPORT ARGUMENT ..: a run of homerange with these options and files, its report in the file REPORT, and
+# beside it REPORT.sha256, which ties the report to the arguments, the program and the files that were read, and these,
+# where split.py made them and its record split.txt stands beside them, to the export.
 #
 # sha256sum -c REPORT.sha256 checks all of them in the folder where this was called, which the sidecar names. The program
 # is that of program.sh: the release, or one that was built here, whose log is then put beside the report. HOMERANGE
@@ -12,7 +12,7 @@ fail() {
     exit 1
 }
 
-[ $# -ge 2 ] || fail 'give the name of the report, and then the words of homerange'
+[ $# -ge 2 ] || fail 'give the name of the report, and then the options and files of homerange'
 report=$1
 shift
 for made in "$report" "$report.sha256" "$report.build.log"; do
@@ -23,7 +23,7 @@ mine=$report.$$
 trap 'rm -f "$mine".*' EXIT
 trap 'exit 143' HUP INT TERM
 
-# The words that name files: not options, nor an option's value.
+# The arguments that name files: not options, nor an option's value.
 files() {
     while [ $# -gt 0 ]; do
         case $1 in
@@ -56,7 +56,7 @@ commit() {
     echo "$commit${changed:+, changed}"
 }
 
-# A line of SOURCES beside the repository's program: the sum of what it was made from, or of the logic.
+# A line of SOURCES beside the repository's program: the checksum of what it was made from, or of the logic.
 made_from() {
     line=$(sed -n "s/^$1 \(..*\)/\1/p" "${program%/*}/SOURCES" 2>/dev/null) || :
     echo "${line:-not known, since it does not stand beside the program}"
@@ -86,7 +86,7 @@ cat "$mine.files" "$mine.records" | tr '\n' '\0' | xargs -0 sha256sum -- >"$mine
 sha256sum --quiet -c "$mine.inputs" || fail 'a file changed while it was read'
 mv "$mine.report" "$report"
 {
-    printf '# words:' && printf " '%s'" "$@" && echo
+    printf '# arguments:' && printf " '%s'" "$@" && echo
     echo "# made: $(date -u +%Y-%m-%dT%H:%M:%SZ)"
     echo "# folder: $PWD"
     origin
@@ -100,5 +100,5 @@ mv "$mine.report" "$report"
         sha256sum "$report.build.log"
     fi
     cat "$mine.inputs"
-} >"$mine.sums"
-mv "$mine.sums" "$report.sha256"
+} >"$mine.sidecar"
+mv "$mine.sidecar" "$report.sha256"

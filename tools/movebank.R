@@ -105,7 +105,7 @@ are_used <- function(table, faults, among) {
   used
 }
 
-# Whole seconds since 1970 in UTC, and the rest of a second.
+# Whole seconds since 1970 in UTC, and the fraction of a second.
 moments <- function(table, faults, among) {
   form <- "[0-9]{4}-[0-9]{2}-[0-9]{2}([ T][0-9]{2}:[0-9]{2}(:[0-9]{2})?([.][0-9]+)?(Z|[+]00(:?00)?)?)?"
   text <- matched(table, faults, "timestamp", form, "a UTC time such as 2024-05-01 00:30:04", among)

@@ -24,7 +24,7 @@ class Record(NamedTuple):
 
     number: int  # that of the line below the header is 1; blank lines are not counted
     animal: str
-    time: tuple[int, float]  # whole seconds since 1970 in UTC, and the rest of a second
+    time: tuple[int, float]  # whole seconds since 1970 in UTC, and the fraction of a second
     used: bool  # the export has it neither as invisible nor as an outlier
     sensor: str
     grid: Optional[tuple[float, float]]  # UTM easting and northing in metres
@@ -104,7 +104,10 @@ class Row:
         text = self.text(title)
         if text == "":
             return None
-        return re.fullmatch(form, text) or self.refuse(f": {title} is '{text}' and not {wanted}")
+        found = re.fullmatch(form, text)
+        if found is None:
+            self.refuse(f": {title} is '{text}' and not {wanted}")
+        return found
 
     def number_of(self, title: str) -> Optional[float]:
         found = self.find(title, f"-?0*[0-9]{{1,12}}({self.point}[0-9]+)?", "a number of up to 12 digits")

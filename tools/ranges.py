@@ -51,18 +51,19 @@ def write_pictures(ranges, folder):
 
 
 def main():
-    options = argparse.ArgumentParser(description=__doc__, formatter_class=argparse.RawDescriptionHelpFormatter)
-    options.add_argument("folder", type=Path, metavar="FOLDER", help="the folder with report.txt and tracks")
-    options.add_argument("--zone", metavar="33N", help="the UTM zone; without it the layers have no reference system")
-    words = options.parse_args()
-    crs = words.zone and f"EPSG:{326 if words.zone[-1] == 'N' else 327}{words.zone[:-1]:0>2}"
+    parser = argparse.ArgumentParser(description=__doc__, formatter_class=argparse.RawDescriptionHelpFormatter)
+    parser.add_argument("folder", type=Path, metavar="FOLDER", help="the folder with report.txt and tracks")
+    parser.add_argument("--zone", metavar="33N", help="the UTM zone; without it the layers have no reference system")
+    options = parser.parse_args()
+    crs = options.zone and f"EPSG:{326 if options.zone[-1] == 'N' else 327}{options.zone[:-1]:0>2}"
     try:
-        ranges = read_report(words.folder / "report.txt", files=sorted(words.folder.glob("tracks/*.csv")), crs=crs)
-        write_tables(ranges, words.folder)
-        write_layers(ranges, words.folder / "ranges.gpkg")
-        write_pictures(ranges, words.folder)
+        ranges = read_report(options.folder / "report.txt", files=sorted(options.folder.glob("tracks/*.csv")), crs=crs)
+        write_tables(ranges, options.folder)
+        write_layers(ranges, options.folder / "ranges.gpkg")
+        write_pictures(ranges, options.folder)
     except (HomeRangeError, OSError) as fault:
         sys.exit(f"ranges.py: {fault}")
 
 
-main()
+if __name__ == "__main__":
+    main()

@@ -3,13 +3,13 @@
 #
 #   tracks              a file for each animal, by split.py
 #   report.txt          what homerange reports of them
-#   report.txt.sha256   the sums of the program, the report and the tracks, by evidence.sh; of more than 64 animals,
-#                       which are several runs (herd/run.sh), it is SHA256SUMS, the sums of all files
+#   report.txt.sha256   the checksums of the program, the report and the tracks, by evidence.sh; of more than 64
+#                       animals, which are several runs (herd/run.sh), it is SHA256SUMS, those of all files
 #   summary.csv, overlaps.csv, ranges.gpkg, curves.png, ranges.png     by ranges.py, of the report and the tracks
 #
 # The options are those of split.py, --unit, --zone, --sensor, --mark and --skip-unnamed, and --percent of homerange.
 # HOMERANGE names another program than that of program.sh. Needs geopandas and matplotlib. A folder that is there is
-# refused, and a call that fails leaves none. The status is 0 where all was made, 2 where words are wrong, else 1.
+# refused, and a call that fails leaves none. The status is 0 where all was made, 2 where options are wrong, else 1.
 set -eu
 # Debian's packages for Python are those of its own.
 PATH=/usr/bin:$PATH
@@ -23,7 +23,7 @@ wrong() {
     fail "$1: ranges.sh $options EXPORT INTO" 2
 }
 
-# What is left in the arguments is for split.py, once the options were gone through, and the last two words taken.
+# What is left in the arguments is for split.py, once the options were gone through, and the last two arguments taken.
 unit=m levels=50,95,100 left=$#
 while [ "$left" -gt 2 ]; do
     case $1 in
@@ -87,12 +87,12 @@ rm said
 set -- tracks/*.csv
 if [ $# -le 64 ]; then
     "$tools/evidence.sh" report.txt --percent "$levels" --unit "$unit" "$@"
-    # Where the sums name the folder, it is the one at the end.
+    # Where the sidecar names the folder, it is the one at the end.
     half="# folder: $part" whole="# folder: $into" \
-        awk '$0 == ENVIRON["half"] { $0 = ENVIRON["whole"] } { print }' report.txt.sha256 >sums
-    mv sums report.txt.sha256
+        awk '$0 == ENVIRON["half"] { $0 = ENVIRON["whole"] } { print }' report.txt.sha256 >sidecar
+    mv sidecar report.txt.sha256
 else
-    echo "ranges.sh: $# animals are several runs: sums are in SHA256SUMS, and not in report.txt.sha256" >&2
+    echo "ranges.sh: $# animals are several runs: checksums are in SHA256SUMS, and not in report.txt.sha256" >&2
     HOMERANGE=$program "$tools/herd/run.sh" tracks herd --percent "$levels" --unit "$unit"
     mv herd/report.txt report.txt
     rm -r herd

@@ -1,6 +1,6 @@
 #!/bin/sh
 # release.sh [--check]: builds the program and makes the release of it: the folder release with homerange, SOURCES (the
-# sum of what it was made from, and of the logic that it was proved in) and SHA256SUMS (of it and its manual page).
+# checksum of what it was made from, and of the logic that it was proved in) and SHA256SUMS (of it and its manual page).
 #
 # With --check it changes nothing. The status is 0 where the release is whole, of these sources and of the logic that is
 # here, and, byte for byte, the program that is built of them now.
@@ -22,15 +22,15 @@ build() {
     built=${program%/*}
 }
 
-# The sums of the release and its manual page, as they stand.
-sums() {
+# The checksums of the release and its manual page, as they stand.
+checksums() {
     (cd "$top" && sha256sum release/homerange docs/homerange.1)
 }
 
 check() {
     sum_sources
     is_of_sum "$release" || fail 'the release is not that of these sources: tools/release.sh makes it'
-    sums | cmp - "$release/SHA256SUMS" || fail 'the release is not that of its sums'
+    checksums | cmp - "$release/SHA256SUMS" || fail 'the release is not that of its checksums'
     build
     cmp "$built/SOURCES" "$release/SOURCES" || fail 'the release is of another logic'
     cmp "$built/homerange" "$release/homerange" || fail 'the release is not what these sources build'
@@ -44,7 +44,7 @@ case $*: in
         mkdir -p "$release"
         install -m 755 "$built/homerange" "$release/homerange"
         install -m 644 "$built/SOURCES" "$release/SOURCES"
-        sums >"$release/SHA256SUMS"
+        checksums >"$release/SHA256SUMS"
         ;;
     *) fail 'it takes --check alone' ;;
 esac

@@ -17,7 +17,7 @@ program_crates() {
     ' "$top/crates.txt"
 }
 
-# Puts into $sum one SHA-256 sum of those lines, and of the name and the content of each source of those crates.
+# Puts into $sum one SHA-256 checksum of those lines, and of the name and the content of each source of those crates.
 sum_sources() {
     sum=$(
         # Before the change of folder, since $top may be relative.
@@ -39,13 +39,13 @@ END
     sum=${sum%% *}
 }
 
-# Whether the program in this folder was made from sources of the sum.
+# Whether the program in this folder was made from sources of the checksum $sum.
 is_of_sum() {
     [ -x "$1/homerange" ] && [ -r "$1/SOURCES" ] && read -r _ made <"$1/SOURCES" && [ "$made" = "$sum" ]
 }
 
-# Leaves in out/ a program that was made of the sources of $sum, the log of its build, and SOURCES, the sums of what it
-# was made from.
+# Leaves in out/ a program that was made of the sources of $sum, the log of its build, and SOURCES, the checksums of
+# what it was made from.
 keep_program() {
     rm -f "$top/out/SOURCES"
     mkdir -p "$top/out" && cp "$2" "$top/out/build.log" && install -m 755 "$1" "$top/out/homerange" || return

@@ -20,26 +20,27 @@ misuse <- function(...) {
   quit(status = 2)
 }
 
-# The words of the call, by name.
-read_words <- function(words) {
+# The options of the call, by name.
+read_arguments <- function(arguments) {
   found <- list(export = character(), unit = "m", zone = NA, sensor = NA, into = "tracks", mark = FALSE,
                 "skip-unnamed" = FALSE)
   unknown <- character()
-  while (length(words)) {
-    word <- words[1]
-    words <- words[-1]
-    name <- sub("=.*", "", sub("^--", "", word))
-    given <- grepl("=", word, fixed = TRUE)
-    if (!startsWith(word, "-")) {
-      if (length(found$export)) unknown <- c(unknown, word) else found$export <- word
+  while (length(arguments)) {
+    argument <- arguments[1]
+    arguments <- arguments[-1]
+    name <- sub("=.*", "", sub("^--", "", argument))
+    given <- grepl("=", argument, fixed = TRUE)
+    if (!startsWith(argument, "-")) {
+      if (length(found$export)) unknown <- c(unknown, argument) else found$export <- argument
     } else if (name %in% c("mark", "skip-unnamed")) {
-      if (given) misuse("argument --", name, ": ignored explicit argument '", sub("^[^=]*=", "", word), "'")
+      if (given) misuse("argument --", name, ": ignored explicit argument '", sub("^[^=]*=", "", argument), "'")
       found[[name]] <- TRUE
-    } else if (startsWith(word, "--") && name %in% c("unit", "zone", "sensor", "into")) {
-      if (!given && (!length(words) || startsWith(words[1], "-"))) misuse("argument --", name, ": expected one argument")
-      found[[name]] <- if (given) sub("^[^=]*=", "", word) else words[1]
-      if (!given) words <- words[-1]
-    } else unknown <- c(unknown, word)
+    } else if (startsWith(argument, "--") && name %in% c("unit", "zone", "sensor", "into")) {
+      if (!given && (!length(arguments) || startsWith(arguments[1], "-")))
+        misuse("argument --", name, ": expected one argument")
+      found[[name]] <- if (given) sub("^[^=]*=", "", argument) else arguments[1]
+      if (!given) arguments <- arguments[-1]
+    } else unknown <- c(unknown, argument)
   }
   if (!found$unit %in% names(units))
     misuse("argument --unit: invalid choice: '", found$unit, "' (choose from 'm', 'dm')")
@@ -49,15 +50,15 @@ read_words <- function(words) {
 }
 
 # The records to write, once it is said what was left out.
-chosen <- function(words) {
-  export <- read_export(words$export, words$`skip-unnamed`)
+chosen <- function(asked) {
+  export <- read_export(asked$export, asked$`skip-unnamed`)
   for (reason in names(export$left_out))
     if (export$left_out[reason] > 0) say(export$left_out[reason], " ", reason, ": left out")
-  records <- of_sensors(export$fixes, words$sensor)
+  records <- of_sensors(export$fixes, asked$sensor)
   others <- nrow(export$fixes) - nrow(records)
   if (others) say(others, " records of other sensors: left out")
-  if (!all(records$used)) say(sum(!records$used), " outliers: ", if (words$mark) "use 0" else "left out")
-  records <- records[words$mark | records$used, ]
+  if (!all(records$used)) say(sum(!records$used), " outliers: ", if (asked$mark) "use 0" else "left out")
+  records <- records[asked$mark | records$used, ]
   for (name in sort(setdiff(export$animals, records$name), method = "radix"))
     say("no fix of '", name, "' is left: no file")
   records
@@ -106,30 +107,30 @@ write_text <- function(path, lines) {
   close(file)
 }
 
-write_track <- function(words, name, track) {
-  path <- file.path(words$into, paste0(name, ".csv"))
+write_track <- function(asked, name, track) {
+  path <- file.path(asked$into, paste0(name, ".csv"))
   if (file.exists(path)) refuse(path, " is there already, by the name of another animal")
-  use <- if (words$mark) paste0(",", as.integer(track$used))
-  write_text(path, c(paste0("animal,second,easting,northing", if (words$mark) ",use"),
+  use <- if (asked$mark) paste0(",", as.integer(track$used))
+  write_text(path, c(paste0("animal,second,easting,northing", if (asked$mark) ",use"),
                      paste0(name, ",", sprintf("%.0f", track$second), ",", track$spot, use)))
 }
 
 # The record of what was done, which tools/evidence.sh takes into the chain from export to report.
-write_record <- function(words, zone) {
-  content <- sub(" .*", "", sub("^[\\]", "", system2("sha256sum", c("--", shQuote(words$export)), stdout = TRUE)))
-  write_text(file.path(words$into, "split.txt"), c(
-    paste0("export,", words$export), paste0("sha256,", content), paste0("unit,", words$unit), paste0("zone,", zone),
+write_record <- function(asked, zone) {
+  content <- sub(" .*", "", sub("^[\\]", "", system2("sha256sum", c("--", shQuote(asked$export)), stdout = TRUE)))
+  write_text(file.path(asked$into, "split.txt"), c(
+    paste0("export,", asked$export), paste0("sha256,", content), paste0("unit,", asked$unit), paste0("zone,", zone),
     paste0("said,", said)))
 }
 
-words <- read_words(commandArgs(trailingOnly = TRUE))
-if (!is.na(words$zone) && !grepl("^([1-9]|[1-5][0-9]|60)[NS]$", words$zone))
-  refuse("--zone: ", words$zone, " is no zone as 33N")
-if (file.exists(words$into)) refuse(words$into, " is there already: remove it, or name another by --into")
-records <- chosen(words)
-found <- places_of(records, words$zone)
+asked <- read_arguments(commandArgs(trailingOnly = TRUE))
+if (!is.na(asked$zone) && !grepl("^([1-9]|[1-5][0-9]|60)[NS]$", asked$zone))
+  refuse("--zone: ", asked$zone, " is no zone as 33N")
+if (file.exists(asked$into)) refuse(asked$into, " is there already: remove it, or name another by --into")
+records <- chosen(asked)
+found <- places_of(records, asked$zone)
 say(found$said)
-records <- placed(records, found, units[[words$unit]])
+records <- placed(records, found, units[[asked$unit]])
 records$clean <- clean(records$name)
 known <- unique(records[c("name", "clean")])
 twice <- known$clean[duplicated(known$clean)]
@@ -138,7 +139,7 @@ if (length(twice)) {
   refuse("animals '", same[1], "' and '", same[2], "' would both be named ", twice[1])
 }
 tracks <- lapply(known$clean, function(name) in_order(records[records$clean == name, ], name))
-dir.create(words$into, recursive = TRUE)
-for (i in seq_along(tracks)) write_track(words, known$clean[i], tracks[[i]])
-say(nrow(records), " fixes of ", nrow(known), " animals are in ", words$into, ", in ", words$unit)
-write_record(words, found$zone)
+dir.create(asked$into, recursive = TRUE)
+for (i in seq_along(tracks)) write_track(asked, known$clean[i], tracks[[i]])
+say(nrow(records), " fixes of ", nrow(known), " animals are in ", asked$into, ", in ", asked$unit)
+write_record(asked, found$zone)

@@ -74,63 +74,65 @@ def write_record(path: pathlib.Path, export: str, unit: str, zone: str, said: Sa
     path.write_text("".join(f"{line}\n" for line in lines), encoding="utf-8")
 
 
-class Words(argparse.ArgumentParser):
+class Options(argparse.ArgumentParser):
     """Options; what is wrong with them is said in one line."""
 
     def error(self, message: str) -> NoReturn:
         self.exit(2, f"split: {message}\n")
 
 
-def read_words() -> argparse.Namespace:
-    options = Words(description=__doc__, allow_abbrev=False)
-    options.add_argument("export", help="the export, comma-separated text in UTF-8")
-    options.add_argument("--unit", choices=UNITS, default="m", help="metres or decimetres [default: m]")
-    options.add_argument("--zone", help="the UTM zone of all coordinates, such as 33N")
-    options.add_argument("--sensor", help="the types of sensors to take, separated by commas, such as gps")
-    options.add_argument("--mark", action="store_true", help="write outliers too, with 0 in a column use")
-    options.add_argument("--skip-unnamed", action="store_true", help="leave records of no animal out")
-    options.add_argument("--into", default="tracks", help="the folder to make [default: tracks]")
-    return options.parse_args()
+def read_options() -> argparse.Namespace:
+    parser = Options(description=__doc__, allow_abbrev=False)
+    parser.add_argument("export", help="the export, comma-separated text in UTF-8")
+    parser.add_argument("--unit", choices=UNITS, default="m", help="metres or decimetres [default: m]")
+    parser.add_argument("--zone", help="the UTM zone of all coordinates, such as 33N")
+    parser.add_argument("--sensor", help="the types of sensors to take, separated by commas, such as gps")
+    parser.add_argument("--mark", action="store_true", help="write outliers too, with 0 in a column use")
+    parser.add_argument("--skip-unnamed", action="store_true", help="leave records of no animal out")
+    parser.add_argument("--into", default="tracks", help="the folder to make [default: tracks]")
+    return parser.parse_args()
 
 
-def chosen(words: argparse.Namespace, said: Said) -> list[Record]:
+def chosen(options: argparse.Namespace, said: Said) -> list[Record]:
     """The records to write, once it is said what was left out."""
-    export = read(words.export, words.skip_unnamed)
+    export = read(options.export, options.skip_unnamed)
     for reason in sorted(export.left_out):
         said.say(f"{reason}: left out", export.left_out[reason])
-    records = of_sensors(export.records, words.sensor)
+    records = of_sensors(export.records, options.sensor)
     said.say("records of other sensors: left out", len(export.records) - len(records))
     outliers = sum(not record.used for record in records)
-    said.say(f"outliers: {'use 0' if words.mark else 'left out'}", outliers)
-    records = [record for record in records if words.mark or record.used]
+    said.say(f"outliers: {'use 0' if options.mark else 'left out'}", outliers)
+    records = [record for record in records if options.mark or record.used]
     for name in sorted(export.animals.difference(record.animal for record in records)):
         said.say(f"no fix of '{name}' is left: no file")
     return records
 
 
-def split(words: argparse.Namespace) -> None:
-    if words.zone is not None and not re.fullmatch("([1-9]|[1-5][0-9]|60)[NS]", words.zone):
-        refuse(f"--zone: {words.zone} is no zone as 33N")
-    if os.path.lexists(words.into):
-        refuse(f"{words.into} is there already: remove it, or name another by --into")
+def split(options: argparse.Namespace) -> None:
+    if options.zone is not None and not re.fullmatch("([1-9]|[1-5][0-9]|60)[NS]", options.zone):
+        refuse(f"--zone: {options.zone} is no zone as 33N")
+    if os.path.lexists(options.into):
+        refuse(f"{options.into} is there already: remove it, or name another by --into")
     said = Said()
-    records = chosen(words, said)
-    found = places_of(records, words.zone)
+    records = chosen(options, said)
+    found = places_of(records, options.zone)
     said.say(found.said)
-    spots = {record.number: rounded(record, place, *UNITS[words.unit]) for record, place in zip(records, found.places)}
+    unit, limit = UNITS[options.unit]
+    spots = {record.number: rounded(record, place, unit, limit) for record, place in zip(records, found.places)}
     said.say("outliers off the grid: left out", list(spots.values()).count(None))
     tracks = by_animal([record for record in records if spots[record.number]], said)
-    into = pathlib.Path(words.into)
+    into = pathlib.Path(options.into)
     into.mkdir(parents=True)
     for name, track in tracks.items():
-        write_track(into / f"{name}.csv", name, track, spots, words.mark)
-    said.say(f"{sum(map(len, tracks.values()))} fixes of {len(tracks)} animals are in {words.into}, in {words.unit}")
-    write_record(into / "split.txt", words.export, words.unit, found.zone, said)
+        write_track(into / f"{name}.csv", name, track, spots, options.mark)
+    fixes = sum(map(len, tracks.values()))
+    said.say(f"{fixes} fixes of {len(tracks)} animals are in {options.into}, in {options.unit}")
+    write_record(into / "split.txt", options.export, options.unit, found.zone, said)
 
 
 def main() -> None:
     try:
-        split(read_words())
+        split(read_options())
     except ExportFault as fault:
         sys.exit(f"split: {fault}")
 

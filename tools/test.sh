@@ -39,7 +39,7 @@ holds() {
     fi
 }
 
-# Counts what is left out for want of something.
+# Counts what is left out, since something is not there.
 skip() {
     echo "skipped: $1" | tee -a "$work/skipped"
 }

@@ -27,7 +27,9 @@ def zone_of(record: Record, wanted: Optional[str]) -> str:
         return record.zone
     if record.degrees:
         return zone_at(*record.degrees)
-    return wanted or refuse(f"record {record.number} has no utm-zone: name that of its coordinates, such as --zone 33N")
+    if wanted is None:
+        refuse(f"record {record.number} has no utm-zone: name that of its coordinates, such as --zone 33N")
+    return wanted
 
 
 def project(records: list[Record], zone: str) -> list[Optional[Place]]:

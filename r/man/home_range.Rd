@@ -4,8 +4,8 @@
 \title{Home Ranges of Tagged Animals}
 \description{
 Checks a table of location fixes, runs the program \code{homerange} on them, and reads what it answers: for each animal
-the minimum convex polygon of all fixes, percent polygons, and the range after each fix; for each two animals how many
-fixes of one lie in the polygon of the other.
+the minimum convex polygon of all fixes, percent polygons, and the range after each fix; for every pair of
+animals how many fixes of one lie in the polygon of the other.
 }
 \usage{
 home_range(x, levels = c(50, 95, 100), unit = "m", animal = NULL, time = NULL,
@@ -59,7 +59,7 @@ most. They have to be in one plane grid. Longitude and latitude, feet, web maps'
 table without a CRS are refused, and the message has the call that projects them into the UTM zone of most fixes.
 
 \strong{Order.} Animals come in the order of their first rows, and fixes in the order of time; fixes of one time stay in
-the order of their rows. Parts of a second count for the order alone.
+the order of their rows. Fractions of a second count for the order alone.
 
 \strong{Subsets} are taken in the order \code{use}, \code{from}, \code{to}, \code{months}, \code{hours}, \code{every}, and
 a message says how many fixes each of them leaves out.
@@ -68,8 +68,8 @@ a message says how many fixes each of them leaves out.
 n fixes, of fixes as near as each other the earlier. The percent polygon is the minimum convex polygon of those. Other
 programs have other rules; \code{mcp} of the package adehabitatHR often keeps one fix less.
 
-\strong{More than 64 animals} are reported by several runs, of groups of 32 animals and of each two groups, so that each
-two animals meet in one.
+\strong{More than 64 animals} are reported by several runs, of groups of 32 animals and of every pair of groups, so
+that every pair of animals is compared.
 
 The files of the runs are in a folder of their own below \code{\link{tempdir}}, which is removed at the end.
 }

@@ -2,7 +2,7 @@
 \alias{overlap}
 \alias{overlap.home_range}
 \title{Fixes of One Animal in the Range of Another}
-\description{Counts, for each two animals, the fixes of one that lie in the minimum convex polygon of the other.}
+\description{Counts, for every pair of animals, the fixes of one that lie in the minimum convex polygon of the other.}
 \usage{
 overlap(x, ...)
 

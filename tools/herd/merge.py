@@ -42,8 +42,9 @@ class Herd:
         with Report(self.out / "reports" / f"{group}.txt") as report:
             unit = report.unit()
             need(self.unit in (None, unit), f"{report.path}: another unit than in the groups before")
-            self.unit is None and self.write(unit)
-            self.unit = unit
+            if self.unit is None:
+                self.unit = unit
+                self.write(unit)
             for _ in range(self.files[group]):
                 table = Table(report, self.levels, self.write)
                 need(table.name not in self.counts, f"{report.path}: {table.name} is there twice")
@@ -106,4 +107,5 @@ def main():
     print(f"merge.py: {animals} animals, {animals * (animals - 1)} overlaps", file=sys.stderr)
 
 
-main()
+if __name__ == "__main__":
+    main()

@@ -1,9 +1,9 @@
 #!/bin/sh
 # plan.sh TRACKS OUT [OPTION ..]: what a herd's runs are to be.
 #
-# Writes OUT/groups/NNNN, the files TRACKS/*.csv in groups of at most 32, one name a line; OUT/options, the options
-# of homerange, one a line; OUT/program, the sum and the name of the program, which HOMERANGE names (if left out,
-# homerange); and OUT/steps, the runs, one a line: 'A A' for the tables of group A, 'A B' for the overlaps of groups A
+# Writes OUT/groups/NNNN, the files TRACKS/*.csv in groups of at most 32, one per line; OUT/options, the options of
+# homerange, one per line; OUT/program, the checksum and the name of the program, which HOMERANGE names (if left out,
+# homerange); and OUT/steps, the runs, one per line: 'A A' for the tables of group A, 'A B' for the overlaps of groups A
 # and B. What has not changed is left as it is, so that a run that stands is not made again. OUT/report.txt is removed.
 set -eu
 LC_ALL=C

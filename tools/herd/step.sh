@@ -3,7 +3,7 @@
 #
 # One group's report is OUT/reports/A.txt; of a pair OUT/pairs/A-B.txt has the overlap lines and the end line.
 # Does nothing where that file is there and newer than the files of its groups, the options and OUT/program, which has
-# to be the sum of the program. Else OUT/report.txt is removed: it is not of the herd's files as they are now.
+# to be the checksum of the program. Else OUT/report.txt is removed: it is not of the herd's files as they are now.
 # The status is 0 where the file is there and whole.
 set -eu
 # Names are bytes.

@@ -10,7 +10,7 @@ mkdir corners
     for place in $places; do echo "old boar,7,$place"; done
 } >corners/boar.csv
 
-# Whether these words, one text, print these corners.
+# Whether these arguments, one text, print these corners.
 has_corners() {
     # shellcheck disable=SC2086
     "$tools/corners.py" $1 >corners/found

@@ -12,12 +12,12 @@ report=evidence/report.txt
 holds 'evidence of a run' "$tools/evidence.sh" $report --percent 95,50 --unit=dm tracks/fox.csv 'tracks/otter.csv'
 "$HOMERANGE" --unit dm --percent 95,50 tracks/fox.csv tracks/otter.csv >direct
 holds 'its report is that of homerange' cmp direct $report
-holds 'its sums hold' sha256sum -c $report.sha256
-holds 'its words' grep -qxF "# words: '--percent' '95,50' '--unit=dm' 'tracks/fox.csv' 'tracks/otter.csv'" $report.sha256
+holds 'its checksums hold' sha256sum -c $report.sha256
+holds 'its arguments' grep -qxF "# arguments: '--percent' '95,50' '--unit=dm' 'tracks/fox.csv' 'tracks/otter.csv'" $report.sha256
 for file in "$HOMERANGE" $report tracks/fox.csv tracks/otter.csv tracks/split.txt; do
-    holds "a sum of $file" grep -qF "$(sha256sum "$file")" $report.sha256
+    holds "a checksum of $file" grep -qF "$(sha256sum "$file")" $report.sha256
 done
-holds 'no further sums' [ "$(grep -vc '^#' $report.sha256)" -eq 5 ]
+holds 'no further checksums' [ "$(grep -vc '^#' $report.sha256)" -eq 5 ]
 holds 'the record of the split' [ "$(sed -n 's/^# split: //p' $report.sha256)" = "$(cat tracks/split.txt)" ]
 holds 'its folder' grep -qxF "# folder: $work" $report.sha256
 for known in commit sources logic; do
@@ -27,7 +27,7 @@ holds 'no line of a sidecar is empty' is_refused grep -q -e '^$' -e '^# [a-z]*: 
 rm -rf copy
 mkdir copy
 cp -R evidence tracks copy
-holds 'sums hold in a copy of the folder' sh -c "cd copy && sha256sum -c $report.sha256"
+holds 'checksums hold in a copy of the folder' sh -c "cd copy && sha256sum -c $report.sha256"
 sed -i '3s/33N/32N/' copy/tracks/split.txt
 holds 'a changed record of the split is found' is_refused sh -c "cd copy && sha256sum -c $report.sha256"
 holds 'a report is not written over' is_refused "$tools/evidence.sh" $report tracks/fox.csv

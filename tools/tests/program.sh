@@ -1,7 +1,7 @@
 # Runs the program for real. Reports are worked out by hand, or recomputed by check.py, which goes another way.
 # shellcheck shell=sh disable=SC2154,SC2034
 
-# Runs the program with these words; what it wrote, what it told and its status are in written, told and ended.
+# Runs the program with these arguments; what it wrote, what it told and its status are in written, told and ended.
 run() {
     "$HOMERANGE" "$@" >written 2>told
     ended=$?
@@ -14,7 +14,7 @@ told() {
     test "$(wc -l <told)" -eq 1 && grep -q '^homerange: ' told && grep -qF -- "$2" told
 }
 
-# A run with these words, behind a status and a text, is refused: nothing is written, and the line has the text.
+# A run with these arguments, behind a status and a text, is refused: nothing is written, and the line has the text.
 refuses() {
     status=$1 text=$2
     shift 2
@@ -23,7 +23,7 @@ refuses() {
     holds "status $status: $text: nothing is written" [ ! -s written ]
 }
 
-# A run with these words, behind a name, writes what is on standard input.
+# A run with these arguments, behind a name, writes what is on standard input.
 reports() {
     cat >wanted
     name=$1

@@ -35,8 +35,8 @@ holds 'as many records as a file may have: the last row' grep -qx row,B,1048576,
 # shellcheck disable=SC3045
 (ulimit -v 40000 && exec "$HOMERANGE" bad.csv) >written 2>told
 ended=$?
-holds 'want of memory' told 3 'out of memory'
-holds 'want of memory: nothing is written' [ ! -s written ]
+holds 'memory runs out' told 3 'out of memory'
+holds 'memory runs out: nothing is written' [ ! -s written ]
 rm bad.csv written
 
 cp a.csv copy.csv

@@ -1,4 +1,4 @@
-# The words of the command line. The functions are those of program.sh.
+# Options. The functions are those of program.sh.
 # shellcheck shell=sh disable=SC2154,SC2034
 
 cd "$work/program" || exit 1

@@ -7,7 +7,7 @@ are_ranges() {
     PYTHONDONTWRITEBYTECODE=1 PYTHONPATH="$top/python/tests" python3 "$tools/tests/ranges.py" "$@"
 }
 
-# Whether these words are refused with this status, in words that have this text, and leave nothing.
+# Whether this command is refused with this status, in a line that has this text, and leave nothing.
 refuses_ranges() {
     status=$1
     wanted=$2
@@ -35,8 +35,8 @@ report.txt
 report.txt.sha256
 summary.csv
 tracks" ]
-    holds 'its sums hold in the folder' sh -c 'cd plan/first && sha256sum -c report.txt.sha256'
-    holds 'its sums name no half folder' is_refused grep -F first.part plan/first/report.txt.sha256
+    holds 'its checksums hold in the folder' sh -c 'cd plan/first && sha256sum -c report.txt.sha256'
+    holds 'its sidecar names no half folder' is_refused grep -F first.part plan/first/report.txt.sha256
     "$HOMERANGE" plan/first/tracks/*.csv >direct
     holds 'its report is that of homerange' cmp direct plan/first/report.txt
     cat >plan/fixes <<END
@@ -83,9 +83,9 @@ END
     holds 'ranges of 70 animals' "$make" --percent 80 plan/export.csv plan/herd
     sed 1d plan/export.csv | cut -d, -f1,3,4 >plan/fixes
     holds 'numbers of 70 animals' are_ranges plan/herd 32633 1 80 plan/fixes
-    holds 'sums of 70 animals' sh -c 'cd plan/herd && sha256sum -c SHA256SUMS'
-    holds 'a sum of each file' [ "$(wc -l <plan/herd/SHA256SUMS)" -eq $(($(find plan/herd -type f | wc -l))) ]
-    holds 'no sums of one run' [ ! -e plan/herd/report.txt.sha256 ]
+    holds 'checksums of 70 animals' sh -c 'cd plan/herd && sha256sum -c SHA256SUMS'
+    holds 'a checksum of each file' [ "$(wc -l <plan/herd/SHA256SUMS)" -eq $(($(find plan/herd -type f | wc -l))) ]
+    holds 'no checksums of one run' [ ! -e plan/herd/report.txt.sha256 ]
 
     # What is refused leaves nothing.
     export=$top/examples/export.csv

@@ -46,7 +46,7 @@ holds 'it answers in the folder above' answers "$version" '' . house/homerange
 printf '%s\n' animal,second,easting,northing a,0,1,1 >one.csv
 holds 'evidence of the release' env -u HOMERANGE house/tools/evidence.sh released.txt one.csv
 holds 'its sources and logic' [ "$(sed 's/^/# /; s/ /: /2' "$top/release/SOURCES")" = "$(grep -e '^# sources' -e '^# logic' released.txt.sha256)" ]
-holds 'its sums hold' sha256sum -c released.txt.sha256
+holds 'its checksums hold' sha256sum -c released.txt.sha256
 holds 'no log of a build' [ ! -e released.txt.build.log ]
 holds 'no commit outside git' grep -qx '# commit: not known, since git finds no clone here' released.txt.sha256
 git -C house init -q
@@ -62,7 +62,7 @@ holds 'an edit is not answered by the release' answers 'built: --version' 'homer
 holds 'what was built answers the next call' answers 'built: --version' ''
 holds 'evidence of what was built' env -u HOMERANGE PATH="$work/stand-in:$PATH" house/tools/evidence.sh built.txt one.csv
 holds 'its log' grep -qx 'rt: homerange proved' built.txt.build.log
-holds 'sums of what was built hold' sha256sum -c built.txt.sha256
+holds 'checksums of what was built hold' sha256sum -c built.txt.sha256
 holds 'an edited source is a change' grep -q '^# commit: .*, changed$' built.txt.sha256
 git -C house stash -q
 echo '// New.' >house/crates/range_plane/src/new.rt
@@ -98,7 +98,7 @@ printf '#!/none\n' >house/release/homerange
 holds 'a release that does not run here' answers 'built: --version' 'the release does not run on this machine'
 holds 'a release with a changed byte does not pass' fails checked
 
-# A release that is made anew passes, until a byte of it, of its sums or of the manual page changes.
+# A release that is made anew passes, until a byte of it, of its checksums or of the manual page changes.
 rm -rf house/release
 holds 'a release is made' env PATH="$work/stand-in:$PATH" house/tools/release.sh
 holds 'a release that was made passes' checked

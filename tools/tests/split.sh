@@ -5,15 +5,15 @@ splitters=python
 if is_here Rscript 'split.R'; then
     splitters='python r'
 fi
-if ! python3 -c 'import pyproj' 2>/dev/null; then
-    skip 'projection by pyproj: a stand-in of the tests projects'
-    export PYTHONPATH="$tools/tests/projection"
-fi
+is_projecting=true
+python3 -c 'import pyproj' 2>/dev/null || is_projecting=false
+[ "$splitters" = python ] || Rscript -e 'library(sf)' >/dev/null 2>&1 || is_projecting=false
+$is_projecting || skip 'projection: no pyproj, or no sf in R'
 stamp() { date -u -d "$1" +%s; }
 head_line=individual-local-identifier,timestamp,utm-easting,utm-northing,utm-zone,visible
 degrees=individual-local-identifier,timestamp,location-long,location-lat
 
-# Splits the export on standard input with these words, by each program; each is to end with this status.
+# Splits the export on standard input with these options, by each program; each is to end with this status.
 split_to() {
     cat >"$work/export.csv"
     status=$1

@@ -83,7 +83,7 @@ says "argument --unit: invalid choice: 'km' (choose from 'm', 'dm')"
 echo "$head_line" | split_to 2 --bogus
 says 'unrecognized arguments: --bogus'
 
-# The record of a split: the export and its sum, the unit, the zone, and what was said.
+# The record of a split: the export and its checksum, the unit, the zone, and what was said.
 printf '%s\n' "$head_line" 'a/b,2024-05-01 00:30:00,1,2,33N,' 'a/b,2024-05-01 00:40:00,,,,' | split_to 0 --unit dm
 makes split.txt <<END
 export,../export.csv

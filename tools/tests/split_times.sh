@@ -21,7 +21,7 @@ says '2 records of boar come before an earlier one: sorted by time'
 says '2 records of boar have the second of the one before: kept'
 
 # Longitude and latitude alone. The metres are those that examples/export.csv has beside them.
-if [ "$splitters" = python ] || Rscript -e 'library(sf)' >/dev/null 2>&1; then
+if $is_projecting; then
     split_to 0 <<END
 $degrees
 vixen,2024-05-01 00:00:10,15.805899,46.356742
@@ -38,12 +38,8 @@ END
     # On the middle meridian of a zone eastings are 500000, and the equator is 10000000 north in a southern one.
     printf '%s\n' "$degrees" 'a,2024-05-01 00:30:00,15,0' | split_to 0 --zone 33S
     printf '%s\n' animal,second,easting,northing "a,$(stamp '2024-05-01 00:30:00'),500000,10000000" | makes a.csv
-else
-    skip 'projection: no sf in R'
-fi
 
-# A place with longitude and latitude 0 is a fix that failed.
-if [ "$splitters" = python ] || Rscript -e 'library(sf)' >/dev/null 2>&1; then
+    # A place with longitude and latitude 0 is a fix that failed.
     printf '%s\n' "$degrees" 'a,2024-05-01 00:30:00,3,0' 'a,2024-05-01 00:40:00,0,0' 'a,2024-05-01 00:50:00,,' | split_to 0
     says '1 records have longitude and latitude 0: left out'
     says '1 records have no coordinates: left out'

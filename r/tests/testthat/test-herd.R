@@ -28,7 +28,7 @@ test_that("70 animals are those of a direct computation", {
   expect_identical(names(polygons(ranges, 50)), unique(fixes$animal))
 })
 
-test_that("64 animals take one run and 65 six, and the plan has each two animals in one", {
+test_that("64 animals take one run and 65 six, and the plan compares every pair of animals", {
   expect_length(plan_runs(64), 1)
   expect_length(plan_runs(65), 6)
   for (number in c(1, 64, 65, 96, 97, 130)) {

@@ -8,7 +8,7 @@ test_that("each status has its class, and animals stand for files", {
   skip_on_os("windows")
   classes <- paste0("homerange_", c("file", "option", "memory", "output", "cut"), "_error")
   for (status in seq_along(classes)) {
-    # The fifth and sixth words are the files.
+    # The fifth and sixth arguments are the files.
     local_program(sprintf("echo \"homerange: $5: record 2: what the program says of $6\" >&2; exit %d", status))
     fault <- expect_error(quietly(home_range(fixes())), class = classes[status])
     expect_identical(class(fault), c(classes[status], "homerange_error", "error", "condition"))

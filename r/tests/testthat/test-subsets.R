@@ -89,7 +89,7 @@ test_that("fixes are sorted by time, which is said", {
   turns <- rbind(spring(), transform(spring(), id = "boar"))[c(rbind(1:8, 9:16)), ]
   expect_false(any(grepl("sorted", capture_messages(ranges <- home_range(turns)))))
   expect_identical(ranges$animals$animal, c("hare", "boar"))
-  # Parts of a second count, and fixes of one time stay in order.
+  # Fractions of a second count, and fixes of one time stay in order.
   parts <- data.frame(animal = "a", second = c(7.9, 7.1, 7.9), easting = 1:3, northing = 1:3)
   expect_equal(quietly(home_range(parts))$fixes$easting, c(2, 1, 3))
 })
