@@ -527,9 +527,9 @@ def _find_program(program: str | os.PathLike[str] | None) -> str:
 
 def _call(program: str, levels: str, unit: str, folder: str, numbers: Sequence[int], names: Sequence[str]) -> str:
     """The report of a run of the files with these numbers in the folder. Faults name the animal and not its file."""
-    words = [program, "--percent", levels, "--unit", unit, *(f"{number}.csv" for number in numbers)]
+    command = [program, "--percent", levels, "--unit", unit, *(f"{number}.csv" for number in numbers)]
     try:
-        run = subprocess.run(words, cwd=folder, stdin=subprocess.DEVNULL, capture_output=True)
+        run = subprocess.run(command, cwd=folder, stdin=subprocess.DEVNULL, capture_output=True)
     except OSError as fault:
         raise ProgramError(f"{program} does not run: {fault.strerror}") from fault
     if run.returncode == 0:
