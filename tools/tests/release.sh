@@ -35,9 +35,6 @@ answers() {
 checked() {
     PATH="$work/stand-in:$PATH" house/tools/release.sh --check
 }
-fails() {
-    ! "$@"
-}
 version=$("$HOMERANGE" --version)
 
 holds 'the release answers at once' answers "$version" ''
@@ -55,7 +52,7 @@ git -C house add .
 git -C house -c user.name=Den -c user.email=den@example.org commit -q -m 'A house'
 holds 'evidence in a clone' env -u HOMERANGE house/tools/evidence.sh cloned.txt one.csv
 holds 'its commit' grep -qx "# commit: $(git -C house rev-parse HEAD)" cloned.txt.sha256
-holds 'a release of another logic and program does not pass' fails checked
+holds 'a release of another logic and program does not pass' is_refused checked
 rm -rf house/out
 printf '\n// An edit.\n' >>house/crates/range_plane/src/lib.rt
 holds 'an edit is not answered by the release' answers 'built: --version' 'homerange: homerange proved'
@@ -73,7 +70,7 @@ holds 'evidence without a logic' env -u HOMERANGE PATH="$work/stand-in:$PATH" ho
 holds 'no logic is said' grep -qx '# logic: not known, since it does not stand beside the program' none.txt.sha256
 rm house/crates/range_plane/src/new.rt
 git -C house stash pop -q
-holds 'a release of other sources does not pass' fails checked
+holds 'a release of other sources does not pass' is_refused checked
 echo '// Another.' >>house/crates/range_words/src/version.rt
 : >stand-in/fails
 holds 'an edit is not answered by what was built before' answers '' 'FAILED: range_plane'
@@ -96,7 +93,7 @@ rm stand-in/old
 rm -rf house/out
 printf '#!/none\n' >house/release/homerange
 holds 'a release that does not run here' answers 'built: --version' 'the release does not run on this machine'
-holds 'a release with a changed byte does not pass' fails checked
+holds 'a release with a changed byte does not pass' is_refused checked
 
 # A release that is made anew passes, until a byte of it, of its checksums or of the manual page changes.
 rm -rf house/release
@@ -105,7 +102,7 @@ holds 'a release that was made passes' checked
 for file in release/homerange release/SOURCES release/SHA256SUMS docs/homerange.1; do
     cp "house/$file" saved
     printf 'x' >>"house/$file"
-    holds "a release beside a changed $file does not pass" fails checked
+    holds "a release beside a changed $file does not pass" is_refused checked
     cp saved "house/$file"
 done
 holds 'a release as it was passes again' checked
