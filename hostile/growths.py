@@ -5,11 +5,11 @@
 HOMERANGE and GROWTHS are the built programs (`rt ci` leaves both in `crates/NAME/out/NAME`). Where a run makes N of these
 calls, it is run N times, the k-th with a failure of its k-th call, by `refuse.c`, which is preloaded. How threads meet
 decides which call is the k-th, so a sweep ends at a k that no call of its run reaches, and `growths`, in which they meet
-in more ways, is swept several times (`--sweeps`; all that was ever looked at were 50). Each line of `growths` has to be
-as with ample memory, or to say that its call ran out of memory and what that may leave, and each call has to say so in
-some run. `homerange` has to end with status 3 and its one line, nothing written, which has to come at least once, or as
-with ample memory. Prints what was swept and how often each answer came; the last line is 'N passed, M failed', of
-commands that were swept. Needs `cc`.
+in more ways, is swept several times (`--sweeps`; all that was ever looked at were 50). Each run has to end within a
+minute: one whose threads wait for each other would not. Each line of `growths` has to be as with ample memory, or to say
+that its call ran out of memory and what that may leave, and each call has to say so in some run. `homerange` has to end
+with status 3 and its one line, nothing written, which has to come at least once, or as with ample memory. Prints what
+was swept and how often each answer came; the last line is 'N passed, M failed', of commands that were swept. Needs `cc`.
 """
 
 import argparse
@@ -25,6 +25,7 @@ FILE_A = "animal,second,easting,northing\nA,0,0,0\nA,60,10,0\nA,120,10,10\nA,180
 FILE_B = "animal,second,easting,northing\nB,0,5,5\nB,60,10,5\nB,120,20,5\n"
 SIZES = (5, 3)
 BLOCK = 2
+SECONDS = 60
 MEMORY = ("homerange: out of memory\n", "homerange: out of memory, or a thread could not be started\n")
 STOPPED = "an estimator stopped"
 UNREAD = "a reader ran out of memory"
@@ -57,9 +58,18 @@ def run(command, folder, failing):
     """Status, output, standard error and number of calls of a run in which this call fails, or none for 0."""
     count = folder / "count"
     environment = {"LD_PRELOAD": f"{folder}/refuse.so", "REFUSE_AT": str(failing), "REFUSE_COUNT": str(count)}
-    done = subprocess.run(
-        command, cwd=folder, env=environment, stdin=subprocess.DEVNULL, capture_output=True, text=True, timeout=60
-    )
+    try:
+        done = subprocess.run(
+            command,
+            cwd=folder,
+            env=environment,
+            stdin=subprocess.DEVNULL,
+            capture_output=True,
+            text=True,
+            timeout=SECONDS,
+        )
+    except subprocess.TimeoutExpired:
+        raise Wrong(f"call {failing} failed: no end within {SECONDS} seconds") from None
     return done.returncode, done.stdout, done.stderr, struct.unpack("<q", count.read_bytes()[:8])[0]
 
 
