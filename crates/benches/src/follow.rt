@@ -3,7 +3,7 @@
 use bench_tracks::{cloud, read_points, shuffle, spiral, walk};
 use itoa::Buffer;
 use range_collect::{Followed, follow};
-use range_plan::Plan;
+use range_options::Plan;
 use range_plane::{Point, Scale};
 use range_pump::FreeGate;
 use std::alloc::{AllocError, Global};

@@ -1,5 +1,6 @@
 -- A file of which nothing was lost was handed on whole, so what is known of it is what its source gives.
-use Rattle.std.proofs.Common.{◌≡◌, ◌≢◌, ◌≤◌, ℕ, ◌+◌, Bool, true, false, List, [], ◌∷◌, length, Option, Some, None, Ok, Err, IfSome, refl, sym, ap, subst, ◌∙◌, arith}
+use Rattle.std.proofs.Common.{◌≡◌, ◌≢◌, ◌≤◌, ℕ, ◌+◌, Bool, true, false, List, [], ◌∷◌, length, Option, Some, None, Ok, Err, IfSome, refl, sym, ap, subst, ◌∙◌}
+use Rattle.std.proofs.Common.{arith}
 use Rattle.std.specs.List.{AllZip}
 use Rattle.std.specs.declared.clone.Clone.{Ghosts}
 use Rattle.range_plane.specs.Fix.{fix_limit}
@@ -9,12 +10,13 @@ use Rattle.range_fixes.specs.declared.fault.ReadFault.TheVariants as reads
 use Rattle.range_fixes.specs.Progress.{is_of_text}
 use Rattle.range_fixes.specs.Reading.{Reading}
 use Rattle.range_line.specs.Laws.{LastMessagesComeNext, StreamsAreLawful}
-use Rattle.range_plan.specs.Limits.{block_limit}
+use Rattle.range_options.specs.Limits.{block_limit}
 use Rattle.range_line.specs.Lines.{FeederView}
 use Rattle.range_line.specs.Messages.{IsLawful, block_count, blocks, fixes, message, stream, the_mark}
 use Rattle.range_estimator.specs.Estimation.{Estimation}
-use Rattle.range_collect.specs.Follow.{IsFollowed, IsResult}
-use Rattle.integers_and_lists.specs.Pairs.{PairedFrom}
+use Rattle.range_collect.specs.Follow.{IsFollowedAs, IsResult}
+use Rattle.range_collect.specs.Results.{IsFollowed}
+use Rattle.range_lemmas.specs.Pairs.{PairedFrom}
 use Rattle.range_pump.specs.Pump.{IsReadAs, IsSent, Read}
 use Rattle.range_collect.specs.declared.followed.Followed.{Followed}
 use Rattle.range_analysis.specs.Entries.{entries_of, entry_of, lost, wants_memory}
@@ -26,7 +28,8 @@ sent_whole : StreamsAreLawful → LastMessagesComeNext → (feeder : FeederView)
     → IsSent feeder all size read → feeder.closed ≡ true → IsLawful feeder.sent feeder.file → fixes feeder.sent feeder.file ≡ all
 sent_whole streams next feeder all size read some small sent closed lawful =
     let whole : feeder.sent ≡ stream feeder.file all size = (sent.closed closed).0 in
-    let mark = next (blocks feeder.file all size (block_count all size)) (message feeder.file (length all) the_mark) (subst (λ l. IsLawful l feeder.file) whole lawful) in
+    let mark = next (blocks feeder.file all size (block_count all size)) (message feeder.file (length all) the_mark)
+    (subst (λ l. IsLawful l feeder.file) whole lawful) in
     let few : length all ≤ fix_limit = omega (arith, mark.place, mark.room) in
     ap (λ l. fixes l feeder.file) whole ∙ (streams feeder.file all size some small few).1
 
@@ -42,13 +45,14 @@ told_fault : (source : Option Reading) (all : List Fix) (fault : ReadFault) → 
 told_fault None all fault told = tt
 told_fault (Some r) all fault told = λ text. (told.fault fault refl text).1
 
--- a reader that did not want memory has another fault
+-- a reader that had the memory it asked for has another fault
 other_fault : (fault : ReadFault) → wants_memory (Err fault) ≡ false → fault ≢ reads.OutOfMemory
 other_fault fault none = λ e. cc (none, e)
 
 module _ (streams : StreamsAreLawful) (next : LastMessagesComeNext) (size : ℕ) (some : 1 ≤ size) (small : size ≤ block_limit) where
   -- one file
-  file_given : (source : Option Reading) (number : ℕ) (feeder : FeederView) (read : Read) (e : Estimation) (mark : Bool) → IsFollowed source number size feeder read e mark
+  file_given : (source : Option Reading) (number : ℕ) (feeder : FeederView) (read : Read) (e : Estimation) (mark : Bool)
+      → IsFollowedAs source number size feeder read e mark
       → IsResult feeder read e mark → mark ≡ true → e.stopped ≡ false → wants_memory read ≡ false → Gives source (entry_of read e.fixes)
   file_given source number feeder (Ok name) e mark f result marked running fed =
       let lawful = subst (λ n. IsLawful feeder.sent n) (sym f.file) f.lawful in
@@ -61,7 +65,7 @@ module _ (streams : StreamsAreLawful) (next : LastMessagesComeNext) (size : ℕ)
 
   -- all files, the first of them having this number
   pub files_given : {A : Type 0} {clone : Ghosts A} (number : ℕ) (sources : List (Option Reading)) (followed : List (Followed A clone))
-      → PairedFrom (λ file source f. IsFollowed source file size f.feeder f.read f.estimator f.marked) number sources followed → lost followed ≡ None
+      → PairedFrom (λ file source f. IsFollowed source file size f) number sources followed → lost followed ≡ None
       → AllZip Gives sources (entries_of followed)
   files_given number [] [] paired none = tt
   files_given number [] (f ∷ followed) paired none = absurd paired

@@ -14,14 +14,15 @@ none_lost true file none = cc
 none_lost false None none = (refl, refl)
 none_lost false (Some file) none = cc
 
--- the mark of the file was taken, and memory was not wanting for it
+-- the mark of the file was taken, and memory did not run out for it
 pub record IsKept {A : Type 0} {clone : Ghosts A} (f : Followed A clone) : Type 0 where
   pub marked : f.marked ≡ true
   pub running : f.estimator.stopped ≡ false
   pub read : wants_memory f.read ≡ false
 
 -- nothing was lost of the first file, nor of the others
-pub first_kept : {A : Type 0} {clone : Ghosts A} (all : List (Followed A clone)) (f : Followed A clone) (rest : List (Followed A clone)) → all ≡ f ∷ rest → lost all ≡ None
+pub first_kept : {A : Type 0} {clone : Ghosts A} (all : List (Followed A clone)) (f : Followed A clone) (rest : List (Followed A clone)) → all ≡ f ∷ rest
+    → lost all ≡ None
     → IsKept f × (lost rest ≡ None)
 first_kept all f rest step none =
     let parts = none_lost _ _ (subst (λ l. lost l ≡ None) step none) in

@@ -1,10 +1,11 @@
 -- What the sources come to, by what their files gave.
-use Rattle.std.proofs.Common.{◌≡◌, ℕ, suc, ◌+◌, ◌<◌, Bool, true, false, List, [], ◌∷◌, length, Option, Some, None, Result, Ok, Err, IfOk, IfErr, MatchResult, if◌then◌else◌, refl, sym, ap, subst, arith}
+use Rattle.std.proofs.Common.{◌≡◌, ℕ, suc, ◌+◌, ◌<◌, Bool, true, false, List, [], ◌∷◌, length, Option, Some, None, Result, Ok, Err, IfOk, IfErr, MatchResult}
+use Rattle.std.proofs.Common.{if◌then◌else◌, refl, sym, ap, subst, arith}
 use Rattle.std.specs.Prelude.{option_map}
 use Rattle.std.specs.List.{AllZip, list_any, position}
 use Rattle.std.specs.declared.clone.Clone.{Ghosts}
 use Rattle.std.proofs.lemmas.Option.{none-some, same_Some}
-use Rattle.integers_and_lists.specs.Pairs.{PairedFrom}
+use Rattle.range_lemmas.specs.Pairs.{PairedFrom}
 use Rattle.range_collect.specs.declared.followed.Followed.{Followed}
 use Rattle.range_plane.specs.declared.scale.Scale.{Scale}
 use Rattle.range_fixes.specs.Reading.{Reading}
@@ -32,9 +33,11 @@ lost_by sources false None fault within is = absurd (none-some fault is)
 module _ {A : Type 0} {clone : Ghosts A} (sources : List (Option Reading)) (followed : List (Followed A clone)) (count : length followed ≡ length sources) where
   lost_is_none : (fault : AnalyseFault) → lost followed ≡ Some fault → HasNoAnalysisOf sources fault
   lost_is_none fault is =
-      lost_by sources (list_any lacks_memory followed) (position is_cut followed) fault (λ file at. let within = place_within is_cut followed file at in omega (arith, count, within)) is
+      lost_by sources (list_any lacks_memory followed) (position is_cut followed) fault
+      (λ file at. let within = place_within is_cut followed file at in omega (arith, count, within)) is
 
-  none_of_entries : (fault : AnalyseFault) → AllZip Gives sources (entries_of followed) → HasNoAnalysis (entries_of followed) fault → HasNoAnalysisOf sources fault
+  none_of_entries : (fault : AnalyseFault) → AllZip Gives sources (entries_of followed) → HasNoAnalysis (entries_of followed) fault
+      → HasNoAnalysisOf sources fault
   none_of_entries OutOfMemory given none = tt
   none_of_entries (LineCut file) given none = absurd none
   none_of_entries (File file fault) given none = (entries_of followed, given, none)

@@ -7,7 +7,8 @@ not_there : {X : Type 0} (b : Bool) (x : X) → cond b (Some x) None ≡ None �
 not_there true x none = cc
 not_there false x none = refl
 
-step_over : (b : Bool) (k n : ℕ) → cond (nat_lt (cond (not b) (1 + k) 0) (suc n)) (Some (cond (not b) (1 + k) 0)) None ≡ None → (b ≡ false) × (nat_lt k n ≡ false)
+step_over : (b : Bool) (k n : ℕ) → cond (nat_lt (cond (not b) (1 + k) 0) (suc n)) (Some (cond (not b) (1 + k) 0)) None ≡ None → (b ≡ false)
+    × (nat_lt k n ≡ false)
 step_over true k n none =
     let here = not_there (nat_lt 0 (suc n)) 0 none in
     absurd (grind (arith, nat_tests, here))

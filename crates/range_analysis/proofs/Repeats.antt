@@ -1,5 +1,6 @@
 -- The first repeat of a list of names, as a loop over a set finds it.
-use Rattle.std.proofs.Common.{◌≡◌, ℕ, ◌+◌, ◌<◌, Bool, true, false, List, [], ◌∷◌, ◌++◌, length, get_or, map, take, Some, sym, ap, ◌∙◌, arith, inl, inr, if◌then◌else◌}
+use Rattle.std.proofs.Common.{◌≡◌, ℕ, ◌+◌, ◌<◌, Bool, true, false, List, [], ◌∷◌, ◌++◌, length, get_or, map, take, Some, sym, ap, ◌∙◌, arith, inl, inr}
+use Rattle.std.proofs.Common.{if◌then◌else◌}
 use Rattle.std.specs.Prelude.{slice_get}
 use Rattle.std.specs.Bool.{Decides}
 use Rattle.std.specs.Borrow.{Bor}
@@ -37,7 +38,8 @@ module _ (same : Key → Key → Bool) (decides : (x y : Key) → Decides (same 
         sym (get_or-map (λ (x : Key). x.now) keys i k [] below) ∙ (ap (λ l. get_or l i []) next.seen ∙ get_or-take place names i [] before)
 
     -- a name that was there stands at the place where the set has it
-    pub repeat_found : (after : List Key) (first : ℕ) (found : Key) → list_any (same key) keys ≡ true → after ≡ insert_key same keys key → slice_get after first ≡ Some found → same key found ≡ true
+    pub repeat_found : (after : List Key) (first : ℕ) (found : Key) → list_any (same key) keys ≡ true → after ≡ insert_key same keys key
+        → slice_get after first ≡ Some found → same key found ≡ true
         → (first < place) × (name_at names first ≡ name_at names place)
     repeat_found after first found old inserted at equal =
         let stays : after ≡ keys = inserted ∙ ap (λ b. if b then keys else (keys ++ key ∷ [])) old in
@@ -50,7 +52,8 @@ module _ (same : Key → Key → Bool) (decides : (x y : Key) → Decides (same 
     pub seen_more : (after : List Key) → list_any (same key) keys ≡ false → after ≡ insert_key same keys key → texts after ≡ take (place + 1) names
     seen_more after new inserted =
         let pushed : after ≡ keys ++ key ∷ [] = inserted ∙ ap (λ b. if b then keys else (keys ++ key ∷ [])) new in
-        ap texts pushed ∙ (map-append (λ (k : Key). k.now) keys (key ∷ []) ∙ (ap (λ l. l ++ key.now ∷ []) next.seen ∙ (ap (λ n. take place names ++ n ∷ []) next.next ∙ sym (take_more names place [] next.within))))
+        ap texts pushed ∙ (map-append (λ (k : Key). k.now) keys (key ∷ [])
+        ∙ (ap (λ l. l ++ key.now ∷ []) next.seen ∙ (ap (λ n. take place names ++ n ∷ []) next.next ∙ sym (take_more names place [] next.within))))
 
     pub differ_more : list_any (same key) keys ≡ false → DifferBefore names place → DifferBefore names (place + 1)
     differ_more new differ i j before below equal = elim (cases_lt j place) [
@@ -58,7 +61,8 @@ module _ (same : Key → Key → Bool) (decides : (x y : Key) → Decides (same 
       | inr over ↦
           let last : j ≡ place = omega arith in
           let before_last : i < place = omega arith in
-          let hit : same key (get_or keys i key) ≡ true = (decides key (get_or keys i key)).1 (next.next ∙ (ap (name_at names) (sym last) ∙ (sym equal ∙ sym (earlier i key before_last)))) in
+          let hit : same key (get_or keys i key) ≡ true = (decides key (get_or keys i key)).1
+          (next.next ∙ (ap (name_at names) (sym last) ∙ (sym equal ∙ sym (earlier i key before_last)))) in
           let any = list_any_at (same key) keys i key (omega (arith, count, before_last)) hit in
           cc
     ]

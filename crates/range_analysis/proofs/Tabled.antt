@@ -15,7 +15,8 @@ use Rattle.range_analysis.specs.Names.{IsFirstRepeat}
 use Rattle.range_analysis.specs.Tracks.{entries_in}
 use Rattle.range_analysis.proofs.Tracking.{entries_count}
 
-animals_of : (levels : List ℕ) (tracks : List Track) (animals : List Animal) → AllZip (IsAnimalOn levels) tracks animals → AllZip (IsAnimalOf levels) (entries_in tracks) animals
+animals_of : (levels : List ℕ) (tracks : List Track) (animals : List Animal) → AllZip (IsAnimalOn levels) tracks animals
+    → AllZip (IsAnimalOf levels) (entries_in tracks) animals
 animals_of levels [] [] each = tt
 animals_of levels [] (a ∷ animals) each = absurd each
 animals_of levels (t ∷ tracks) [] each = absurd each
@@ -25,8 +26,10 @@ points_are : (tracks : List Track) → map points_in (entries_in tracks) ≡ poi
 points_are [] = refl
 points_are (t ∷ tracks) = ap (λ (l : List (List Position)). points_of t.estimator.fixes ∷ l) (points_are tracks)
 
-pub tabled : (levels : List ℕ) (unit : Scale) (tracks : List Track) (entries : List Entry) (analysis : Analysis) → entries_in tracks ≡ entries → first_bad entries ≡ None → IsFirstRepeat (names_of (entries_in tracks)) None
-    → AllZip (IsAnimalOn levels) tracks analysis.animals → AllZip (IsOverlap (points_on tracks)) (pairs (length tracks)) analysis.overlaps → analysis.unit ≡ unit → IsAnalysis entries levels unit analysis
+pub tabled : (levels : List ℕ) (unit : Scale) (tracks : List Track) (entries : List Entry) (analysis : Analysis) → entries_in tracks ≡ entries
+    → first_bad entries ≡ None → IsFirstRepeat (names_of (entries_in tracks)) None
+    → AllZip (IsAnimalOn levels) tracks analysis.animals → AllZip (IsOverlap (points_on tracks)) (pairs (length tracks)) analysis.overlaps
+    → analysis.unit ≡ unit → IsAnalysis entries levels unit analysis
 tabled levels unit tracks entries analysis same good differ animals overlaps in_unit = record {
   whole = good;
   differ = rw same at differ;

@@ -28,7 +28,8 @@ names_in (t ∷ tracks) = ap (λ l. t.name ∷ l) (names_in tracks)
 pub names_count : (tracks : List Track) → length (names_of (entries_in tracks)) ≡ length tracks
 names_count tracks = ap length (names_in tracks) ∙ length-map tracks (λ t. t.name)
 
-pub name_is : (tracks : List Track) (place : ℕ) (track : Track) → place < length tracks → track ≡ get_or tracks place track → track.name ≡ name_at (names_of (entries_in tracks)) place
+pub name_is : (tracks : List Track) (place : ℕ) (track : Track) → place < length tracks → track ≡ get_or tracks place track
+    → track.name ≡ name_at (names_of (entries_in tracks)) place
 name_is tracks place track within is =
     ap (λ t. t.name) is ∙ (sym (get_or-map (λ (t : Track). t.name) tracks place track [] within) ∙ ap (λ l. get_or l place []) (sym (names_in tracks)))
 
@@ -36,11 +37,13 @@ pub entries_count : (tracks : List Track) → length (entries_in tracks) ≡ len
 entries_count tracks = length-map tracks (λ t. good t.name t.estimator.fixes)
 
 -- there are as many tracks as files
-pub tracks_count : {A : Type 0} {clone : Ghosts A} (tracks : List Track) (followed : List (Followed A clone)) → entries_in tracks ≡ entries_of followed → length tracks ≡ length followed
+pub tracks_count : {A : Type 0} {clone : Ghosts A} (tracks : List Track) (followed : List (Followed A clone)) → entries_in tracks ≡ entries_of followed
+    → length tracks ≡ length followed
 tracks_count tracks followed same =
     omega (arith, ap length same, entries_count tracks, length-map followed (λ f. entry_of f.read f.estimator.fixes))
 
-pub repeat_within : (tracks : List Track) (first second : ℕ) → IsFirstRepeat (names_of (entries_in tracks)) (Some (first, second)) → (first < length tracks) × (second < length tracks)
+pub repeat_within : (tracks : List Track) (first second : ℕ) → IsFirstRepeat (names_of (entries_in tracks)) (Some (first, second)) → (first < length tracks)
+    × (second < length tracks)
 repeat_within tracks first second repeat =
     let count = names_count tracks in
     (omega (arith, count, repeat.0, repeat.1), omega (arith, count, repeat.1))

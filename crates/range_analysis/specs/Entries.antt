@@ -44,12 +44,12 @@ abbrev pub points_in : Entry → List Position
 points_in (good name fixes) = points_of fixes
 points_in (bad fault) = []
 
--- the reader wanted memory
+-- the reader ran out of memory
 abbrev pub wants_memory : Read → Bool
 wants_memory (Err reads.OutOfMemory) = true
 wants_memory read = false
 
--- memory was wanting for the file, to its reader or to its estimator
+-- memory ran out for the file, in its reader or in its estimator
 abbrev pub lacks_memory : {A : Type 0} {clone : Ghosts A} → Followed A clone → Bool
 lacks_memory f = f.estimator.stopped || wants_memory f.read
 
@@ -57,7 +57,7 @@ lacks_memory f = f.estimator.stopped || wants_memory f.read
 abbrev pub is_cut : {A : Type 0} {clone : Ghosts A} → Followed A clone → Bool
 is_cut f = not f.marked
 
--- why files that were followed cannot be judged by what their readers say: want of memory, else the first file whose mark was not taken
+-- why files that were followed cannot be judged by what their readers say: out of memory, else the first file whose mark was not taken
 abbrev pub lost : {A : Type 0} {clone : Ghosts A} → List (Followed A clone) → Option AnalyseFault
 lost followed =
     if list_any lacks_memory followed then Some OutOfMemory

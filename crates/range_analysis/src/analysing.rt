@@ -1,16 +1,15 @@
 // From the sources to their analysis.
 
-ghost use Rattle.std.specs.Prelude.{◌≤◌, All, IfErr, IfOk, map, vec_len};
-ghost use Rattle.range_fixes.specs.Reading.{reading_from};
-ghost use Rattle.range_plan.specs.Limits.{file_limit};
-ghost use Rattle.range_stats.specs.Levels.{IsLevel};
+ghost use Rattle.std.specs.Prelude.{◌≤◌, IfErr, IfOk, vec_len};
+ghost use Rattle.range_fixes.specs.Reading.{readings};
+ghost use Rattle.range_options.specs.Limits.{file_limit};
 ghost use Rattle.range_analysis.specs.Sources.{HasNoAnalysisOf, IsAnalysisOf};
 
 use crate::fault::AnalyseFault;
 use crate::judging::judge;
 use range_collect::follow;
 use range_line::{last_messages_come_next, streams_are_lawful};
-use range_plan::Plan;
+use range_options::{Levels, Plan};
 use range_pump::Gate;
 use range_tables::Analysis;
 use std::alloc::Global;
@@ -18,25 +17,25 @@ use std::io::Read;
 use std::sync::Wait;
 use std::thread::Threads;
 
-/// The analysis of 1 to [`FILE_LIMIT`](range_plan::FILE_LIMIT) files, which are followed side by side as
+/// The analysis of 1 to [`FILE_LIMIT`](range_options::FILE_LIMIT) files, which are followed side by side as
 /// [`follow`] says, with a percent polygon of each animal at each of the levels.
 ///
 /// # Errors
 ///
-/// As [`judge`] says; `OutOfMemory` also where the files could not be followed for want of memory or of a
-/// thread.
+/// As [`judge`] says; `OutOfMemory` also where the files could not be followed since memory ran out or a
+/// thread could not be started.
 pub fn analyse<R: Wait + Threads + Sync, S: Read + Send + Drop, G: Gate>(
     rt: &R,
     alloc: Global,
     sources: Vec<S>,
     gate: &G,
     plan: Plan,
-    levels: &[u8],
+    levels: &Levels,
 ) -> Result<Analysis, AnalyseFault>
     requires sources { (1 ≤ vec_len sources) × (vec_len sources ≤ file_limit) }
-    requires levels { All IsLevel levels.now }
-    ensures analysis { IfOk result (IsAnalysisOf (map (reading_from S.remaining plan.unit) sources.items) levels.now plan.unit) }
-    ensures fault { IfErr result (HasNoAnalysisOf (map (reading_from S.remaining plan.unit) sources.items)) }
+    ensures analysis { IfOk result
+        (IsAnalysisOf (readings S.remaining plan.unit sources.items) levels.now plan.unit) }
+    ensures fault { IfErr result (HasNoAnalysisOf (readings S.remaining plan.unit sources.items)) }
 {
     streams_are_lawful();
     last_messages_come_next();

@@ -12,7 +12,7 @@ use thiserror::Error;
 /// wrong with, since only who opened them knows what they are called.
 #[derive(PartialEq, Eq, Debug, Drop, Error)]
 pub enum AnalyseFault {
-    /// A growth was refused for want of memory, or the start of a thread.
+    /// An allocation failed, or a thread could not be started.
     #[error("out of memory, or a thread could not be started")]
     OutOfMemory,
     /// Not all fixes of a file, and the mark after them, were handed on.
@@ -20,7 +20,7 @@ pub enum AnalyseFault {
     LineCut {
         file: u32,
     },
-    /// A file cannot be read to its end. This is the first such file; the fault is neither want of memory
+    /// A file cannot be read to its end. This is the first such file; the fault is neither out of memory
     /// nor `Gone`.
     #[error("{fault}")]
     File {

@@ -1,8 +1,7 @@
 // What files that were followed come to.
 
-ghost use Rattle.std.specs.Prelude.{◌≡◌, ◌≤◌, false, true, All, Err, IfErr, IfOk, MatchResult, None, Some, vec_len};
-ghost use Rattle.range_plan.specs.Limits.{file_limit};
-ghost use Rattle.range_stats.specs.Levels.{IsLevel};
+ghost use Rattle.std.specs.Prelude.{◌≡◌, ◌≤◌, false, true, Err, IfErr, IfOk, MatchResult, None, Some, vec_len};
+ghost use Rattle.range_options.specs.Limits.{file_limit};
 ghost use Rattle.range_analysis.specs.Analysis.{HasNoAnalysis, IsAnalysis};
 ghost use Rattle.range_analysis.specs.Entries.{bad, entries_of, entry_of, first_bad, good, lost, names_of};
 ghost use Rattle.range_analysis.specs.Names.{IsFirstRepeat};
@@ -13,6 +12,7 @@ use crate::losses::lost;
 use crate::names::first_repeat;
 use range_collect::Followed;
 use range_fixes::ReadFault;
+use range_options::Levels;
 use range_plane::Scale;
 use range_tables::{Analysis, Track, tabulate};
 use std::alloc::Global;
@@ -22,7 +22,8 @@ use std::thread::Threads;
 fn track(followed: Followed) -> Result<Track, ReadFault>
     requires whole { (followed.marked ≡ true) × (followed.estimator.stopped ≡ false) }
     ensures { MatchResult result
-        (λ track. entry_of followed.read followed.estimator.fixes ≡ good track.name track.estimator.fixes)
+        (λ track. entry_of followed.read followed.estimator.fixes
+        ≡ good track.name track.estimator.fixes)
         (λ fault. entry_of followed.read followed.estimator.fixes ≡ bad fault) }
 {
     let Followed {
@@ -70,23 +71,22 @@ fn same_animal(mut tracks: Vec<Track>, first: usize, second: usize) -> AnalyseFa
     }
 }
 
-/// The analysis of 1 to [`FILE_LIMIT`](range_plan::FILE_LIMIT) files that were followed, with a percent
+/// The analysis of 1 to [`FILE_LIMIT`](range_options::FILE_LIMIT) files that were followed, with a percent
 /// polygon of each animal at each of the levels. The unit is that of the files' coordinates.
 ///
 /// # Errors
 ///
-/// The first of these: memory was wanting for a file; the first file whose mark was not taken; the first
-/// that could not be read to its end; the first animal that stands in an earlier file. Want of memory for
-/// the analysis itself may come before the last two.
+/// The first of these: memory ran out for a file; the first file whose mark was not taken; the first
+/// that could not be read to its end; the first animal that stands in an earlier file. Running out of memory for
+/// the analysis itself may come before the last three.
 pub fn judge<R: Threads + Sync>(
     rt: &R,
     alloc: Global,
     followed: Vec<Followed>,
-    levels: &[u8],
+    levels: &Levels,
     unit: Scale,
 ) -> Result<Analysis, AnalyseFault>
     requires files { (1 ≤ vec_len followed) × (vec_len followed ≤ file_limit) }
-    requires levels { All IsLevel levels.now }
     ensures lost { (fault : AnalyseFault) → lost followed.items ≡ Some fault → result ≡ Err fault }
     ensures judged { lost followed.items ≡ None → MatchResult result
         (IsAnalysis (entries_of followed.items) levels.now unit)

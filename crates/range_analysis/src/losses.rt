@@ -1,22 +1,22 @@
-// Files of which something was lost on the way: memory was wanting, or their mark was not taken.
+// Files of which something was lost on the way: memory ran out, or their mark was not taken.
 
 ghost use Rattle.std.specs.Prelude.{◌≡◌, ◌<◌, ◌≤◌, IfSome, length};
 ghost use Rattle.std.specs.List.{list_any, position};
-ghost use Rattle.range_plan.specs.Limits.{file_limit};
+ghost use Rattle.range_options.specs.Limits.{file_limit};
 ghost use Rattle.range_analysis.specs.Entries.{is_cut, lacks_memory, lost};
 
 use crate::fault::AnalyseFault;
 use range_collect::Followed;
 use range_fixes::ReadFault;
 
-// Whether the file's reader or its estimator wanted memory.
+// Whether the file's reader or its estimator ran out of memory.
 fn lacks_memory(followed: &Followed) -> bool
     ensures { result ≡ lacks_memory followed.now }
 {
     followed.estimator.stopped() || matches!(followed.read, Err(ReadFault::OutOfMemory))
 }
 
-// Whether memory was wanting for a file.
+// Whether memory ran out for a file.
 fn any_lacks_memory(followed: &[Followed]) -> bool
     ensures { result ≡ list_any lacks_memory followed.now }
 {
@@ -31,7 +31,7 @@ fn first_cut(followed: &[Followed]) -> Option<usize>
     followed.iter().position(|file| !file.marked)
 }
 
-// Why these files cannot be judged by what their readers say: want of memory, else the first line that
+// Why these files cannot be judged by what their readers say: out of memory, else the first line that
 // was cut.
 pub(crate) fn lost(followed: &[Followed]) -> Option<AnalyseFault>
     requires files { length followed.now ≤ file_limit }

@@ -1,5 +1,6 @@
 -- What estimators hold after a message.
-use Rattle.std.proofs.Common.{◌≡◌, ◌≢◌, ℕ, ◌+◌, ◌*◌, ◌-◌, ◌/◌, ◌<◌, ◌≤◌, List, [], ◌∷◌, ◌++◌, length, refl, ap, sym, subst, ◌∙◌, arith, false, cond, set, map, Contains, slice_get, Some, inl, inr, ◌==◌}
+use Rattle.std.proofs.Common.{◌≡◌, ◌≢◌, ℕ, ◌+◌, ◌*◌, ◌-◌, ◌/◌, ◌<◌, ◌≤◌, List, [], ◌∷◌, ◌++◌, length, refl, ap, sym, subst, ◌∙◌, arith, false, cond, set, map}
+use Rattle.std.proofs.Common.{Contains, slice_get, Some, inl, inr, ◌==◌}
 use Rattle.std.proofs.lemmas.Bool.Decides.{nat_tests}
 use Rattle.std.proofs.lemmas.List.{append-nil}
 use Rattle.std.proofs.Math.Nat.{mul-div_cancel}
@@ -12,7 +13,7 @@ use Rattle.range_line.specs.Messages.{fixes, fixes_in, joined, of_file, IsLawful
 use Rattle.range_estimator.specs.Estimation.{Estimation}
 use Rattle.range_collect.specs.Follow.{Holds}
 use Rattle.range_collect.specs.Work.{EachHolds}
-use Rattle.integers_and_lists.proofs.Places.{mapped, range_at, set_or_kept}
+use Rattle.range_lemmas.proofs.Places.{mapped, range_at, set_or_kept}
 
 -- ---- the estimators of a line
 pub place_is : (first step place file : ℕ) → 1 ≤ step → file ≡ first + place * step → (file - first) / step ≡ place
@@ -31,8 +32,8 @@ is_at places first step count file some contained =
     let p = (places first step count file).0 contained in
     record { place = p.0; below = p.1; file_is = p.2; index = place_is first step p.0 file some p.2 }
 
-apart : (first step p q : ℕ) → 1 ≤ step → p ≢ q → first + p * step ≢ first + q * step
-apart first step p q some differ same =
+different_files : (first step p q : ℕ) → 1 ≤ step → p ≢ q → first + p * step ≢ first + q * step
+different_files first step p q some differ same =
     differ (sym (place_is first step p (first + p * step) some refl) ∙ place_is first step q (first + p * step) some same)
 
 own_fixes : (file number : ℕ) (block : List Fix) → file ≡ number → cond (file == number) block [] ≡ block
@@ -50,17 +51,20 @@ each_holds_more adds first step taken m es i old new some file at given holds pl
     elim (set_or_kept es i new place e is) as (λ _. Holds e (fixes (taken ++ m ∷ []) number)) [
       | inl this ↦
           (let same : m.file ≡ number = file ∙ ap (λ (p : ℕ). first + p * step) (sym this.0) in
-          let all : fixes (taken ++ m ∷ []) number ≡ fixes taken number ++ fixes_in m.body = more ∙ ap (λ (l : List Fix). fixes taken number ++ l) (own_fixes m.file number (fixes_in m.body) same) in
+          let all : fixes (taken ++ m ∷ []) number ≡ fixes taken number ++ fixes_in m.body = more
+          ∙ ap (λ (l : List Fix). fixes taken number ++ l) (own_fixes m.file number (fixes_in m.body) same) in
           let was : slice_get es place ≡ Some old = subst (λ (p : ℕ). slice_get es p ≡ Some old) (sym this.0) at in
           subst (λ (x : Estimation). Holds x (fixes (taken ++ m ∷ []) number)) this.1 (rw all (given (fixes taken number) (holds place old was))))
       | inr other ↦
-          (let differ : m.file ≢ number = λ same. apart first step i place some (λ e. other.0 (sym e)) (sym file ∙ same) in
-          let all : fixes (taken ++ m ∷ []) number ≡ fixes taken number = more ∙ (ap (λ (l : List Fix). fixes taken number ++ l) (no_fixes m.file number (fixes_in m.body) differ) ∙ append-nil (fixes taken number)) in
+          (let differ : m.file ≢ number = λ same. different_files first step i place some (λ e. other.0 (sym e)) (sym file ∙ same) in
+          let all : fixes (taken ++ m ∷ []) number ≡ fixes taken number = more
+          ∙ (ap (λ (l : List Fix). fixes taken number ++ l) (no_fixes m.file number (fixes_in m.body) differ) ∙ append-nil (fixes taken number)) in
           rw all (holds place e other.1))
     ]
 
 -- the message's fixes are few enough for an estimator that has not stopped
-pub few : LastMessagesComeNext → (taken : List Message) (m : Message) (e : Estimation) → IsLawful (taken ++ m ∷ []) m.file → Holds e (fixes taken m.file) → e.stopped ≡ false
+pub few : LastMessagesComeNext → (taken : List Message) (m : Message) (e : Estimation) → IsLawful (taken ++ m ∷ []) m.file → Holds e (fixes taken m.file)
+    → e.stopped ≡ false
     → length e.fixes + length (fixes_in m.body) ≤ fix_limit
 few last taken m e lawful holds running =
     let room = (last taken m lawful).room in

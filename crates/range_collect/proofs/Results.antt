@@ -1,36 +1,38 @@
 -- The results of all files, from those of the lines that they were dealt to.
-use Rattle.std.proofs.Common.{◌≡◌, ℕ, zero, suc, ◌+◌, ◌*◌, ◌/◌, ◌%◌, ◌<◌, ◌≤◌, List, length, map, min, ap, sym, subst, ◌∙◌, arith, slice_get, Some, Option, inl, inr, ◌⊎◌}
+use Rattle.std.proofs.Common.{◌≡◌, ℕ, zero, suc, ◌+◌, ◌*◌, ◌/◌, ◌%◌, ◌<◌, ◌≤◌, List, length, map, min, ap, sym, subst, ◌∙◌, arith, slice_get, Some, Option, inl}
+use Rattle.std.proofs.Common.{inr, ◌⊎◌}
 use Rattle.std.proofs.Math.Nat.{mod-add-div', mod-eq_of_lt, mod-lt}
 use Rattle.std.proofs.lemmas.Option.{same_Some, slice_get_within}
 use Rattle.std.specs.declared.clone.Clone.{Ghosts}
 use Rattle.range_fixes.specs.Reading.{Reading}
 use Rattle.range_line.specs.Lines.{first_file}
-use Rattle.range_collect.specs.Follow.{IsFollowed}
-use Rattle.range_collect.specs.Lanes.{AreLanesFollowed, Dealt, IsLaneFollowed}
+use Rattle.range_collect.specs.Results.{IsFollowed}
+use Rattle.range_collect.specs.LineFiles.{AreLinesFollowed, Dealt, IsLineFollowed}
 use Rattle.range_collect.specs.declared.followed.Followed.{Followed}
 use Rattle.range_collect.proofs.Deals.{dealt_at, dealt_short}
-use Rattle.integers_and_lists.proofs.Places.{map_length, mapped_from, of_all, same_places, there_is}
+use Rattle.range_lemmas.proofs.Places.{map_length, mapped_from, of_all, same_places, there_is}
 
--- ---- lanes
--- a dealt list's member is in the lane that its place leaves over
-dealt_place : {X : Type 0} (xs : List X) (lanes : List (List X)) (place : ℕ) (x : X) → Dealt xs lanes → 0 < length lanes → slice_get xs place ≡ Some x
-    → (lane : List X) × (slice_get lanes (place % length lanes) ≡ Some lane) × (slice_get lane (place / length lanes) ≡ Some x)
-dealt_place xs lanes place x dealt some is =
-    let w : ℕ = length lanes in
-    dealt_at xs lanes (place % w) (place / w) x dealt (mod-lt place some) (subst (λ (i : ℕ). slice_get xs i ≡ Some x) (sym (mod-add-div' place w)) is)
+-- ---- shares
+-- a dealt list's member is in the share that its place leaves over
+dealt_place : {X : Type 0} (xs : List X) (shares : List (List X)) (place : ℕ) (x : X) → Dealt xs shares → 0 < length shares → slice_get xs place ≡ Some x
+    → (share : List X) × (slice_get shares (place % length shares) ≡ Some share) × (slice_get share (place / length shares) ≡ Some x)
+dealt_place xs shares place x dealt some is =
+    let w : ℕ = length shares in
+    dealt_at xs shares (place % w) (place / w) x dealt (mod-lt place some) (subst (λ (i : ℕ). slice_get xs i ≡ Some x) (sym (mod-add-div' place w)) is)
 
--- no lane is empty where there are at most as many as members, nor longer than the list
-pub lane_sizes : {X : Type 0} (xs : List X) (lanes : List (List X)) (place : ℕ) (lane : List X) → Dealt xs lanes → length lanes ≤ length xs → slice_get lanes place ≡ Some lane
-    → (1 ≤ length lane) × (length lane ≤ length xs)
-lane_sizes xs lanes place lane dealt few is =
-    let below = slice_get_within lanes place lane is in
+-- no share is empty where there are at most as many as members, nor longer than the list
+pub share_sizes : {X : Type 0} (xs : List X) (shares : List (List X)) (place : ℕ) (share : List X) → Dealt xs shares → length shares ≤ length xs
+    → slice_get shares place ≡ Some share
+    → (1 ≤ length share) × (length share ≤ length xs)
+share_sizes xs shares place share dealt few is =
+    let below = slice_get_within shares place share is in
     let x = there_is xs place (omega (arith, below, few)) in
-    let index : place ≡ place + 0 * length lanes = omega arith in
-    let at = dealt_at xs lanes place 0 x.0 dealt below (subst (λ (i : ℕ). slice_get xs i ≡ Some x.0) index x.1) in
-    let same : at.0 ≡ lane = same_Some at.0 lane (sym at.1 ∙ is) in
+    let index : place ≡ place + 0 * length shares = omega arith in
+    let at = dealt_at xs shares place 0 x.0 dealt below (subst (λ (i : ℕ). slice_get xs i ≡ Some x.0) index x.1) in
+    let same : at.0 ≡ share = same_Some at.0 share (sym at.1 ∙ is) in
     let some = slice_get_within at.0 0 x.0 at.2 in
     let length_is = ap length same in
-    (omega (arith, some, length_is), dealt_short xs lanes place lane dealt is)
+    (omega (arith, some, length_is), dealt_short xs shares place share dealt is)
 
 within : (n workers : ℕ) → (workers ≤ n) ⊎ (n < workers)
 within n zero = inl (omega arith)
@@ -61,62 +63,69 @@ same_under i j n workers w is below_i below_j same =
     ]
 
 -- ---- one line's results, by other words
-pub same_lane : {A : Type 0} {clone : Ghosts A} (first step block place w size : ℕ) (told sources : List (Option Reading)) (results followed : List (Followed A clone))
-    → first ≡ place → step ≡ w → block ≡ size → told ≡ sources → results ≡ followed → IsLaneFollowed first step block told results → IsLaneFollowed place w size sources followed
-same_lane first step block place w size told sources results followed e1 e2 e3 e4 e5 is = rw (← e1, ← e2, ← e3, ← e4, ← e5) is
+pub same_line_followed : {A : Type 0} {clone : Ghosts A} (first step block place w size : ℕ) (told sources : List (Option Reading))
+    (results followed : List (Followed A clone))
+    → first ≡ place → step ≡ w → block ≡ size → told ≡ sources → results ≡ followed → IsLineFollowed first step block told results
+    → IsLineFollowed place w size sources followed
+same_line_followed first step block place w size told sources results followed e1 e2 e3 e4 e5 is = rw (← e1, ← e2, ← e3, ← e4, ← e5) is
 
 -- ---- the results of all lines
-module _ {A : Type 0} {clone : Ghosts A} (size : ℕ) (sources : List (Option Reading)) (lanes : List (List (Option Reading))) (results : List (List (Followed A clone))) where
-  pub lanes_alike : AreLanesFollowed size lanes results → map length results ≡ map length lanes
-  lanes_alike are = same_places (map length results) (map length lanes) (map_length length results ∙ (are.count ∙ sym (map_length length lanes))) (λ place x y in_results in_lanes.
+module _ {A : Type 0} {clone : Ghosts A} (size : ℕ) (sources : List (Option Reading)) (shares : List (List (Option Reading)))
+    (results : List (List (Followed A clone))) where
+  pub shares_alike : AreLinesFollowed size shares results → map length results ≡ map length shares
+  shares_alike are = same_places (map length results) (map length shares) (map_length length results ∙ (are.count ∙ sym (map_length length shares)))
+      (λ place x y in_results in_shares.
       let r = mapped_from length results place x in_results in
-      let l = mapped_from length lanes place y in_lanes in
+      let l = mapped_from length shares place y in_shares in
       sym r.2 ∙ ((are.each place l.0 r.0 l.1 r.1).count ∙ l.2))
 
-  pub file_followed : (all : List (Followed A clone)) → Dealt sources lanes → Dealt all results → AreLanesFollowed size lanes results → 0 < length lanes
+  pub file_followed : (all : List (Followed A clone)) → Dealt sources shares → Dealt all results → AreLinesFollowed size shares results → 0 < length shares
       → (place : ℕ) (source : Option Reading) (f : Followed A clone) → slice_get sources place ≡ Some source → slice_get all place ≡ Some f
-      → IsFollowed source place size f.feeder f.read f.estimator f.marked
+      → IsFollowed source place size f
   file_followed all dealt merged are some place source f in_sources in_all =
-      let w : ℕ = length lanes in
-      let lane = dealt_place sources lanes place source dealt some in_sources in
+      let w : ℕ = length shares in
+      let share = dealt_place sources shares place source dealt some in_sources in
       let some_results : 0 < length results = (let count = are.count in omega (arith, count, some)) in
       let count : length results ≡ w = are.count in
       let result = dealt_place all results place f merged some_results in_all in
       let in_results : slice_get results (place % w) ≡ Some result.0 = subst (λ (n : ℕ). slice_get results (place % n) ≡ Some result.0) count result.1 in
       let in_result : slice_get result.0 (place / w) ≡ Some f = subst (λ (n : ℕ). slice_get result.0 (place / n) ≡ Some f) count result.2 in
-      let followed = (are.each (place % w) lane.0 result.0 lane.1 in_results).followed (place / w) source f lane.2 in_result in
-      subst (λ (n : ℕ). IsFollowed source n size f.feeder f.read f.estimator f.marked) (mod-add-div' place w) followed
+      let followed = (are.each (place % w) share.0 result.0 share.1 in_results).followed (place / w) source f share.2 in_result in
+      subst (λ (n : ℕ). IsFollowed source n size f) (mod-add-div' place w) followed
 
-  pub same_line : (all : List (Followed A clone)) → Dealt all results → AreLanesFollowed size lanes results → 0 < length lanes
-      → (i j : ℕ) (f g : Followed A clone) → slice_get all i ≡ Some f → slice_get all j ≡ Some g → i % length lanes ≡ j % length lanes → f.feeder.line ≡ g.feeder.line
+  pub same_line : (all : List (Followed A clone)) → Dealt all results → AreLinesFollowed size shares results → 0 < length shares
+      → (i j : ℕ) (f g : Followed A clone) → slice_get all i ≡ Some f → slice_get all j ≡ Some g → i % length shares ≡ j % length shares
+      → f.feeder.line ≡ g.feeder.line
   same_line all merged are some i j f g in_i in_j same =
-      let count : length results ≡ length lanes = are.count in
+      let count : length results ≡ length shares = are.count in
       let some_results : 0 < length results = omega (arith, count, some) in
       let over : j % length results ≡ i % length results = rw count (sym same) in
       let a = dealt_place all results i f merged some_results in_i in
       let b = dealt_place all results j g merged some_results in_j in
-      let lane_is : b.0 ≡ a.0 = same_Some b.0 a.0 (sym (subst (λ (k : ℕ). slice_get results k ≡ Some b.0) over b.1) ∙ a.1) in
-      let in_a : slice_get a.0 (j / length results) ≡ Some g = subst (λ (l : List (Followed A clone)). slice_get l (j / length results) ≡ Some g) lane_is b.2 in
+      let share_is : b.0 ≡ a.0 = same_Some b.0 a.0 (sym (subst (λ (k : ℕ). slice_get results k ≡ Some b.0) over b.1) ∙ a.1) in
+      let in_a : slice_get a.0 (j / length results) ≡ Some g = subst
+      (λ (l : List (Followed A clone)). slice_get l (j / length results) ≡ Some g) share_is b.2 in
       let below = slice_get_within results (i % length results) a.0 a.1 in
-      let source = there_is lanes (i % length results) (omega (arith, below, count)) in
-      let lane = are.each (i % length results) source.0 a.0 source.1 a.1 in
-      let P : Followed A clone → Type 0 = λ x. x.feeder.line ≡ lane.line in
-      of_all P a.0 (i / length results) f lane.of_line a.2 ∙ sym (of_all P a.0 (j / length results) g lane.of_line in_a)
+      let source = there_is shares (i % length results) (omega (arith, below, count)) in
+      let share = are.each (i % length results) source.0 a.0 source.1 a.1 in
+      let P : Followed A clone → Type 0 = λ x. x.feeder.line ≡ share.line in
+      of_all P a.0 (i / length results) f share.of_line a.2 ∙ sym (of_all P a.0 (j / length results) g share.of_line in_a)
 
   -- the line of a file begins with the number that its place leaves over
-  line_begins : (all : List (Followed A clone)) → Dealt all results → AreLanesFollowed size lanes results → 0 < length lanes
-      → (i : ℕ) (f : Followed A clone) → slice_get all i ≡ Some f → first_file f.feeder.line ≡ i % length lanes
+  line_begins : (all : List (Followed A clone)) → Dealt all results → AreLinesFollowed size shares results → 0 < length shares
+      → (i : ℕ) (f : Followed A clone) → slice_get all i ≡ Some f → first_file f.feeder.line ≡ i % length shares
   line_begins all merged are some i f in_i =
-      let count : length results ≡ length lanes = are.count in
+      let count : length results ≡ length shares = are.count in
       let some_results : 0 < length results = omega (arith, count, some) in
       let a = dealt_place all results i f merged some_results in_i in
       let below = slice_get_within results (i % length results) a.0 a.1 in
-      let source = there_is lanes (i % length results) (omega (arith, below, count)) in
-      let lane = are.each (i % length results) source.0 a.0 source.1 a.1 in
-      let of_line = of_all (λ (x : Followed A clone). x.feeder.line ≡ lane.line) a.0 (i / length results) f lane.of_line a.2 in
-      ap first_file of_line ∙ (lane.begins ∙ ap (λ (n : ℕ). i % n) count)
+      let source = there_is shares (i % length results) (omega (arith, below, count)) in
+      let share = are.each (i % length results) source.0 a.0 source.1 a.1 in
+      let of_line = of_all (λ (x : Followed A clone). x.feeder.line ≡ share.line) a.0 (i / length results) f share.of_line a.2 in
+      ap first_file of_line ∙ (share.begins ∙ ap (λ (n : ℕ). i % n) count)
 
-  pub same_place : (all : List (Followed A clone)) → Dealt all results → AreLanesFollowed size lanes results → 0 < length lanes
-      → (i j : ℕ) (f g : Followed A clone) → slice_get all i ≡ Some f → slice_get all j ≡ Some g → f.feeder.line ≡ g.feeder.line → i % length lanes ≡ j % length lanes
+  pub same_place : (all : List (Followed A clone)) → Dealt all results → AreLinesFollowed size shares results → 0 < length shares
+      → (i j : ℕ) (f g : Followed A clone) → slice_get all i ≡ Some f → slice_get all j ≡ Some g → f.feeder.line ≡ g.feeder.line
+      → i % length shares ≡ j % length shares
   same_place all merged are some i j f g in_i in_j same =
       sym (line_begins all merged are some i f in_i) ∙ (ap first_file same ∙ line_begins all merged are some j g in_j)

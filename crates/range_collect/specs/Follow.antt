@@ -15,7 +15,7 @@ pub record Holds (e : Estimation) (sent : List Fix) : Type 0 where
   pub whole : e.stopped ≡ false → e.fixes ≡ sent
 
 -- the file with this number, of which this is the reading where its source tells its bytes, was followed in blocks of this size
-pub record IsFollowed (source : Option Reading) (number size : ℕ) (feeder : FeederView) (read : Read) (e : Estimation) (mark : Bool) : Type 0 where
+pub record IsFollowedAs (source : Option Reading) (number size : ℕ) (feeder : FeederView) (read : Read) (e : Estimation) (mark : Bool) : Type 0 where
   pub file : feeder.file ≡ number
   pub ended : feeder.ended ≡ true
   pub pumped : IsPumpedFrom source size feeder read
@@ -26,7 +26,8 @@ pub record IsFollowed (source : Option Reading) (number size : ℕ) (feeder : Fe
   pub estimate : IsEstimate e.fixes e.rows e.corners
   pub marked : mark ≡ feeder.closed
 
--- what is true of every result: a mark was sent where it was taken, a block was handed back only before it, and a file that was read to its end and taken whole has a fix
+-- what is true of every result: a mark was sent where it was taken, a block was handed back only before it, and a file that was read to its end and taken whole
+-- has a fix
 pub record IsResult (feeder : FeederView) (read : Read) (e : Estimation) (mark : Bool) : Type 0 where
   pub marked : mark ≡ true → feeder.closed ≡ true
   pub gone : read ≡ Err Gone → feeder.closed ≡ false

@@ -1,3 +1,4 @@
 pub mod Follow
-pub mod Lanes
+pub mod LineFiles
+pub mod Results
 pub mod Work

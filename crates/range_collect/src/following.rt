@@ -1,16 +1,16 @@
 // All files, followed side by side.
 
-ghost use Rattle.std.specs.Prelude.{◌≡◌, ◌≤◌, ◌↔◌, ℕ, ◌%◌, Some, map, slice_get, length, IfOk, vec_len};
-ghost use Rattle.range_fixes.specs.Reading.{reading_from};
-ghost use Rattle.range_plan.specs.Limits.{file_limit};
-ghost use Rattle.range_collect.specs.Follow.{IsFollowed};
-ghost use Rattle.integers_and_lists.specs.Pairs.{Paired};
+ghost use Rattle.std.specs.Prelude.{◌≡◌, ◌≤◌, ◌↔◌, ℕ, ◌%◌, Some, slice_get, length, IfOk, vec_len};
+ghost use Rattle.range_fixes.specs.Reading.{readings};
+ghost use Rattle.range_options.specs.Limits.{file_limit};
+ghost use Rattle.range_collect.specs.Results.{AreFollowed};
 
 use crate::dealing::deal;
 use crate::followed::Followed;
-use crate::lines::follow_lanes;
+use crate::job::Job;
+use crate::lines::follow_lines;
 use crate::merging::merge;
-use range_plan::Plan;
+use range_options::Plan;
 use range_plane::OutOfMemory;
 use range_pump::Gate;
 use std::alloc::{Allocator, Global};
@@ -18,7 +18,7 @@ use std::io::Read;
 use std::sync::Wait;
 use std::thread::Threads;
 
-/// Follows 1 to [`FILE_LIMIT`](range_plan::FILE_LIMIT) files at once, which are numbered from 0 in the
+/// Follows 1 to [`FILE_LIMIT`](range_options::FILE_LIMIT) files at once, which are numbered from 0 in the
 /// order of their sources. Each file is read by a pump, a thread of its own, which sends its fixes in blocks
 /// on a line, a channel that the files with numbers of one remainder by `plan.workers` share. Each line has
 /// a worker, a thread too, which gives each block to the estimator of its file. Gives the result of each
@@ -28,8 +28,8 @@ use std::thread::Threads;
 ///
 /// # Errors
 ///
-/// Where a growth or the start of a thread was refused; every thread that was started has ended. A reader
-/// or an estimator that was refused memory ends nothing but its own work, and its file's result says so.
+/// Where an allocation failed or a thread could not be started; every thread that was started has ended. A reader
+/// or an estimator without memory ends nothing but its own work, and the result of its file says so.
 pub fn follow<
     R: Wait + Threads + Sync,
     S: Read + Send + Drop,
@@ -44,13 +44,22 @@ pub fn follow<
     plan: Plan,
 ) -> Result<Vec<Followed<A>, A>, OutOfMemory>
     requires sources { (1 ≤ vec_len sources) × (vec_len sources ≤ file_limit) }
-    ensures followed { IfOk result (λ all. Paired (λ file source f. IsFollowed source file plan.block f.feeder f.read f.estimator f.marked) (map (reading_from S.remaining plan.unit) sources.items) all.items) }
-    ensures lines { IfOk result (λ all. (i j : ℕ) (f g : _) → slice_get all.items i ≡ Some f → slice_get all.items j ≡ Some g
+    ensures followed { IfOk result
+        (λ all. AreFollowed plan.block (readings S.remaining plan.unit sources.items) all.items) }
+    ensures lines { IfOk result (λ all. (i j : ℕ) (f g : _) → slice_get all.items i ≡ Some f
+        → slice_get all.items j ≡ Some g
         → (i % plan.workers ≡ j % plan.workers) ↔ (f.feeder.line ≡ g.feeder.line)) }
 {
     let count = sources.len();
-    let lanes = deal(alloc, sources, count.min(plan.workers as usize))?;
-    let results = follow_lanes(rt, alloc, global, lanes, gate, plan)?;
+    let shares = deal(alloc, sources, count.min(plan.workers as usize))?;
+    let job = Job {
+        rt,
+        alloc,
+        global,
+        gate,
+        plan,
+    };
+    let results = follow_lines(&job, shares)?;
     let all = merge(alloc, results, count)?;
     Ok(all)
 }

@@ -5,12 +5,13 @@
 mod dealing;
 mod followed;
 mod following;
-mod lane;
+mod job;
 mod lines;
 mod merging;
 mod numbers;
 mod pairing;
 mod worker;
+mod working;
 
 pub use followed::Followed;
 pub use following::follow;

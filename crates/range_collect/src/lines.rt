@@ -1,19 +1,20 @@
 // The lines, each in a thread of its own.
 
 ghost use Rattle.std.specs.Prelude.{◌≡◌, ℕ, ◌≤◌, [], false, All, IfOk, OnOk, Some, map, slice_get, vec_len, vec_capacity};
-ghost use Rattle.range_fixes.specs.Reading.{reading_from};
-ghost use Rattle.range_plan.specs.Limits.{file_limit};
-ghost use Rattle.range_collect.specs.Lanes.{AreLanesFollowed, IsLaneFollowed};
+ghost use Rattle.range_fixes.specs.Reading.{readings};
+ghost use Rattle.range_options.specs.Limits.{file_limit};
+ghost use Rattle.range_collect.specs.LineFiles.{AreLinesFollowed, IsLineFollowed};
 
 use crate::followed::Followed;
-use crate::lane::{Lane, read_lane};
+use crate::job::Job;
 use crate::numbers::Numbers;
 use crate::pairing::pair;
-use range_plan::Plan;
+use crate::working::{RunLine, run_line};
+use range_options::Plan;
 use range_plane::OutOfMemory;
 use range_pump::Gate;
 use range_pump_threads::small_stack;
-use std::alloc::{Allocator, Global};
+use std::alloc::Allocator;
 use std::io::Read;
 use std::snapshot::Snapshot;
 use std::sync::Wait;
@@ -32,39 +33,35 @@ struct LineOf<S: Drop, A: Allocator> {
 
 impl<S: Read + Drop, A: Allocator + Clone + Copy> Promise<Results<A>> for LineOf<S, A> {
     ghost use Rattle.std.specs.Prelude.{IfOk, map};
-    ghost use Rattle.range_fixes.specs.Reading.{reading_from};
-    ghost use Rattle.range_collect.specs.Lanes.{IsLaneFollowed};
+    ghost use Rattle.range_fixes.specs.Reading.{readings};
+    ghost use Rattle.range_collect.specs.LineFiles.{IsLineFollowed};
 
-    ghost kept_by = { λ p r. IfOk r (λ all. IsLaneFollowed p.numbers.first p.numbers.step p.plan.block (map (reading_from S.remaining p.plan.unit) p.sources.value.items) all.items) };
+    ghost kept_by = { λ p r. IfOk r
+        (λ all. IsLineFollowed p.numbers.first p.numbers.step p.plan.block
+        (readings S.remaining p.plan.unit p.sources.value.items) all.items) };
 }
 
 type LineHandle<S, A> = PromisedHandle<Results<A>, LineOf<S, A>>;
 
 // Follows the files of a line, with a thread for each pump and this one as the worker.
-fn follow_lane<
+fn follow_line<
     R: Wait + Threads + Sync,
     S: Read + Send + Drop,
     A: Allocator + Clone + Copy + Send + Sync,
     G: Gate,
->(
-    rt: &R,
-    alloc: A,
-    global: Global,
-    sources: Vec<S, A>,
-    gate: &G,
-    numbers: Numbers,
-    plan: Plan,
-) -> Results<A>
+>(job: &Job<'_, R, A, G>, sources: Vec<S, A>, numbers: Numbers) -> Results<A>
     requires { (1 ≤ vec_len sources) × (vec_len sources ≤ file_limit) }
-    ensures { IfOk result (λ all. IsLaneFollowed numbers.first numbers.step plan.block (map (reading_from S.remaining plan.unit) sources.items) all.items) }
+    ensures { IfOk result
+        (λ all. IsLineFollowed numbers.first numbers.step job.now.plan.block
+        (readings S.remaining job.now.plan.unit sources.items) all.items) }
 {
-    let Lane {
+    let RunLine {
         feeders,
         reads,
         worker,
-    } = read_lane(rt, alloc, global, sources, gate, numbers, plan)?;
-    let (feeders, estimators) = worker.drain(rt, feeders, gate);
-    let results = pair(alloc, feeders, reads, estimators)?;
+    } = run_line(job, sources, numbers)?;
+    let (feeders, estimators) = worker.drain(job.rt, feeders, job.gate);
+    let results = pair(job.alloc, feeders, reads, estimators)?;
     Ok(results)
 }
 
@@ -77,30 +74,29 @@ fn start_line<
     A: Allocator + Clone + Copy + Send + Sync + 's,
     G: Gate,
 >(
-    rt: &'s R,
+    job: &'s Job<'s, R, A, G>,
     scope: &'s Scope<'s, E>,
-    alloc: A,
-    global: Global,
     sources: Vec<S, A>,
-    gate: &'s G,
     numbers: Numbers,
-    plan: Plan,
 ) -> Result<LineHandle<S, A>, OutOfMemory>
     requires some { (1 ≤ vec_len sources) × (vec_len sources ≤ file_limit) }
-    ensures { IfOk result (λ h. (h.promise.sources.value ≡ sources) × (h.promise.numbers ≡ numbers) × (h.promise.plan ≡ plan)) }
+    ensures { IfOk result (λ h. (h.promise.sources.value ≡ sources) × (h.promise.numbers ≡ numbers)
+        × (h.promise.plan ≡ job.now.plan)) }
 {
     let promise = LineOf {
         sources: Snapshot::of(&sources),
         numbers,
-        plan,
+        plan: job.plan,
     };
     match small_stack().spawn_scoped_with(
         scope,
         promise,
         move || -> Results<A>
             requires { (1 ≤ vec_len sources) × (vec_len sources ≤ file_limit) }
-            ensures { IfOk result (λ all. IsLaneFollowed numbers.first numbers.step plan.block (map (reading_from S.remaining plan.unit) sources.items) all.items) }
-        { follow_lane(rt, alloc, global, sources, gate, numbers, plan) },
+            ensures { IfOk result
+                (λ all. IsLineFollowed numbers.first numbers.step job.entry.now.plan.block
+                (readings S.remaining job.entry.now.plan.unit sources.items) all.items) }
+        { follow_line(job, sources, numbers) },
     ) {
         Ok(handle) => Ok(handle),
         Err(_) => Err(OutOfMemory),
@@ -116,28 +112,27 @@ fn start_lines<
     A: Allocator + Clone + Copy + Send + Sync + 's,
     G: Gate,
 >(
-    rt: &'s R,
+    job: &'s Job<'s, R, A, G>,
     scope: &'s Scope<'s, E>,
-    alloc: A,
-    global: Global,
-    lanes: Vec<Vec<S, A>, A>,
-    gate: &'s G,
-    plan: Plan,
+    shares: Vec<Vec<S, A>, A>,
     handles: &mut Vec<LineHandle<S, A>, A>,
 ) -> Result<(), OutOfMemory>
-    requires lanes { vec_len lanes ≤ file_limit }
-    requires sources { All (λ lane. (1 ≤ vec_len lane) × (vec_len lane ≤ file_limit)) lanes.items }
-    requires room { (handles.old.items ≡ []) × (vec_len lanes ≤ vec_capacity handles.old) }
-    ensures sources { OnOk result (map (λ h. h.promise.sources.value) handles.new.items ≡ lanes.items) }
+    requires shares { vec_len shares ≤ file_limit }
+    requires sources { All (λ share. (1 ≤ vec_len share)
+        × (vec_len share ≤ file_limit)) shares.items }
+    requires room { (handles.old.items ≡ []) × (vec_len shares ≤ vec_capacity handles.old) }
+    ensures sources { OnOk result (map (λ h. h.promise.sources.value) handles.new.items
+        ≡ shares.items) }
     ensures numbers { (place : ℕ) (h : _) → slice_get handles.new.items place ≡ Some h
-        → (h.promise.numbers.first ≡ place) × (h.promise.numbers.step ≡ vec_len lanes) × (h.promise.plan ≡ plan) }
-    ensures few { vec_len handles.new ≤ vec_len lanes }
+        → (h.promise.numbers.first ≡ place) × (h.promise.numbers.step ≡ vec_len shares)
+        × (h.promise.plan ≡ job.now.plan) }
+    ensures few { vec_len handles.new ≤ vec_len shares }
 {
-    let step = lanes.len() as u32;
+    let step = shares.len() as u32;
     let mut first = 0;
-    for sources in lanes {
+    for sources in shares {
         let numbers = Numbers { first, step };
-        let handle = start_line(rt, scope, alloc, global, sources, gate, numbers, plan)?;
+        let handle = start_line(job, scope, sources, numbers)?;
         handles.push_reserved(handle);
         first += 1;
     }
@@ -152,8 +147,10 @@ fn join_lines<R: Threads, S: Read + Drop, A: Allocator + Clone + Copy>(
 ) -> Result<Vec<Vec<Followed<A>, A>, A>, OutOfMemory>
     requires room { (all.items ≡ []) × (vec_len handles ≤ vec_capacity all) }
     ensures count { IfOk result (λ all. vec_len all ≡ vec_len handles) }
-    ensures followed { IfOk result (λ all. (place : ℕ) (h r : _) → slice_get handles.items place ≡ Some h → slice_get all.items place ≡ Some r
-        → IsLaneFollowed h.promise.numbers.first h.promise.numbers.step h.promise.plan.block (map (reading_from S.remaining h.promise.plan.unit) h.promise.sources.value.items) r.items) }
+    ensures followed { IfOk result (λ all. (place : ℕ) (h r : _)
+        → slice_get handles.items place ≡ Some h → slice_get all.items place ≡ Some r
+        → IsLineFollowed h.promise.numbers.first h.promise.numbers.step h.promise.plan.block
+        (readings S.remaining h.promise.plan.unit h.promise.sources.value.items) r.items) }
 {
     let mut refused = false;
     for handle in handles {
@@ -174,51 +171,56 @@ fn run_lines<
     A: Allocator + Clone + Copy + Send + Sync + 's,
     G: Gate,
 >(
-    rt: &'s R,
+    job: &'s Job<'s, R, A, G>,
     scope: &'s Scope<'s, E>,
-    alloc: A,
-    global: Global,
-    lanes: Vec<Vec<S, A>, A>,
-    gate: &'s G,
-    plan: Plan,
+    shares: Vec<Vec<S, A>, A>,
 ) -> Result<Vec<Vec<Followed<A>, A>, A>, OutOfMemory>
-    requires lanes { vec_len lanes ≤ file_limit }
-    requires sources { All (λ lane. (1 ≤ vec_len lane) × (vec_len lane ≤ file_limit)) lanes.items }
-    ensures { IfOk result (λ all. AreLanesFollowed plan.block (map (λ lane. map (reading_from S.remaining plan.unit) lane.items) lanes.items) (map (λ r. r.items) all.items)) }
+    requires shares { vec_len shares ≤ file_limit }
+    requires sources { All (λ share. (1 ≤ vec_len share)
+        × (vec_len share ≤ file_limit)) shares.items }
+    ensures { IfOk result
+        (λ all. AreLinesFollowed job.now.plan.block
+        (map (λ share. readings S.remaining job.now.plan.unit share.items) shares.items)
+        (map (λ r. r.items) all.items)) }
 {
-    let mut handles = Vec::with_capacity(alloc, lanes.len())?;
-    let results = Vec::with_capacity(alloc, lanes.len())?;
-    let started = start_lines(rt, scope, alloc, global, lanes, gate, plan, &mut handles);
-    let joined = join_lines(rt, handles, results);
+    let mut handles = Vec::with_capacity(job.alloc, shares.len())?;
+    let results = Vec::with_capacity(job.alloc, shares.len())?;
+    let started = start_lines(job, scope, shares, &mut handles);
+    let joined = join_lines(job.rt, handles, results);
     started?;
     let all = joined?;
     Ok(all)
 }
 
 // Follows the files of all lines at once.
-pub(crate) fn follow_lanes<
+pub(crate) fn follow_lines<
     R: Wait + Threads + Sync,
     S: Read + Send + Drop,
     A: Allocator + Clone + Copy + Send + Sync,
     G: Gate,
 >(
-    rt: &R,
-    alloc: A,
-    global: Global,
-    lanes: Vec<Vec<S, A>, A>,
-    gate: &G,
-    plan: Plan,
+    job: &Job<'_, R, A, G>,
+    shares: Vec<Vec<S, A>, A>,
 ) -> Result<Vec<Vec<Followed<A>, A>, A>, OutOfMemory>
-    requires lanes { vec_len lanes ≤ file_limit }
-    requires sources { All (λ lane. (1 ≤ vec_len lane) × (vec_len lane ≤ file_limit)) lanes.items }
-    ensures { IfOk result (λ all. AreLanesFollowed plan.block (map (λ lane. map (reading_from S.remaining plan.unit) lane.items) lanes.items) (map (λ r. r.items) all.items)) }
+    requires shares { vec_len shares ≤ file_limit }
+    requires sources { All (λ share. (1 ≤ vec_len share)
+        × (vec_len share ≤ file_limit)) shares.items }
+    ensures { IfOk result
+        (λ all. AreLinesFollowed job.now.plan.block
+        (map (λ share. readings S.remaining job.now.plan.unit share.items) shares.items)
+        (map (λ r. r.items) all.items)) }
 {
     thread::scope(
         thread::scope_env(),
-        rt,
+        job.rt,
         move |scope| -> Result<Vec<Vec<Followed<A>, A>, A>, OutOfMemory>
-            requires { (vec_len lanes ≤ file_limit) × All (λ lane. (1 ≤ vec_len lane) × (vec_len lane ≤ file_limit)) lanes.items }
-            ensures { IfOk result (λ all. AreLanesFollowed plan.block (map (λ lane. map (reading_from S.remaining plan.unit) lane.items) lanes.items) (map (λ r. r.items) all.items)) }
-        { run_lines(rt, scope, alloc, global, lanes, gate, plan) },
+            requires { (vec_len shares ≤ file_limit)
+                × All (λ share. (1 ≤ vec_len share) × (vec_len share ≤ file_limit)) shares.items }
+            ensures { IfOk result
+                (λ all. AreLinesFollowed job.entry.now.plan.block
+                (map (λ share. readings S.remaining job.entry.now.plan.unit share.items)
+                shares.items)
+                (map (λ r. r.items) all.items)) }
+        { run_lines(job, scope, shares) },
     )
 }

@@ -1,6 +1,6 @@
 // The numbers of the files of a line.
 
-ghost use Rattle.range_collect.specs.Lanes.{AreNumbers};
+ghost use Rattle.range_collect.specs.LineFiles.{AreNumbers};
 
 // The first file of a line, and the step from each to the next.
 #[derive(Clone, Copy)]

@@ -4,7 +4,7 @@ ghost use Rattle.std.specs.Prelude.{◌≡◌, ℕ, All, map, slice_get, Some, I
 ghost use Rattle.range_line.specs.Lines.{FeederView};
 ghost use Rattle.range_estimator.specs.Estimation.{Estimation};
 ghost use Rattle.range_collect.specs.Follow.{IsResult};
-ghost use Rattle.range_collect.specs.Lanes.{IsSeen};
+ghost use Rattle.range_collect.specs.LineFiles.{IsSeen};
 ghost use Rattle.range_pump.specs.Pump.{Read};
 
 use crate::followed::Followed;
@@ -21,9 +21,11 @@ fn followed<A: Allocator + Clone + Copy>(
     estimator: Estimator<A>,
 ) -> Followed<A>
     requires result { IsResult feeder read estimator feeder.closed }
-    ensures parts { (result.feeder ≡ feeder) × (result.read ≡ read) × (result.estimator ≡ estimator) }
+    ensures parts { (result.feeder ≡ feeder) × (result.read ≡ read)
+        × (result.estimator ≡ estimator) }
     ensures seen { IsSeen result.feeder result.estimator result.marked }
 {
+    feeder.sends_lawfully();
     let marked = feeder.closed();
     // An estimator whose rows are looked at is known to have those of its fixes.
     let _ = estimator.rows();
@@ -43,8 +45,10 @@ pub(crate) fn pair<A: Allocator + Clone + Copy>(
     estimators: Vec<Estimator<A>, A>,
 ) -> Result<Vec<Followed<A>, A>, OutOfMemory>
     requires counts { (vec_len feeders ≡ vec_len reads) × (vec_len estimators ≡ vec_len reads) }
-    requires results { (place : ℕ) (f : FeederView) (r : Read) (e : Estimation) → slice_get feeders.items place ≡ Some f
-        → slice_get reads.items place ≡ Some r → slice_get estimators.items place ≡ Some e → IsResult f r e f.closed }
+    requires results { (place : ℕ) (f : FeederView) (r : Read) (e : Estimation)
+        → slice_get feeders.items place ≡ Some f
+        → slice_get reads.items place ≡ Some r → slice_get estimators.items place ≡ Some e
+        → IsResult f r e f.closed }
     ensures feeders { IfOk result (λ all. map (λ f. f.feeder) all.items ≡ feeders.items) }
     ensures reads { IfOk result (λ all. map (λ f. f.read) all.items ≡ reads.items) }
     ensures estimators { IfOk result (λ all. map (λ f. f.estimator) all.items ≡ estimators.items) }

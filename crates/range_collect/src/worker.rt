@@ -39,14 +39,17 @@ impl<A: Allocator + Clone + Copy> Model for Worker<A> {
 
     ghost view = { λ w. w.taker };
 
-    ghost invariant = { λ w. (w.taker.files ≡ files_from w.numbers.first w.numbers.step (vec_len w.estimators))
+    ghost invariant = { λ w. (w.taker.files
+        ≡ files_from w.numbers.first w.numbers.step (vec_len w.estimators))
         × EachHolds w.numbers.first w.numbers.step w.taker.taken w.estimators.items };
 }
 
 // Gives the fixes of a message to the estimator of its file, unless that has stopped.
 fn receive<A: Allocator + Copy>(estimator: &mut Estimator<A>, body: Body)
-    requires few { estimator.old.stopped ≡ false → length estimator.old.fixes + length (fixes_in body) ≤ fix_limit }
-    ensures { (fixes : List Fix) → Holds estimator.old fixes → Holds estimator.new (fixes ++ fixes_in body) }
+    requires few { estimator.old.stopped ≡ false
+        → length estimator.old.fixes + length (fixes_in body) ≤ fix_limit }
+    ensures { (fixes : List Fix) → Holds estimator.old fixes
+        → Holds estimator.new (fixes ++ fixes_in body) }
 {
     let Body::Block(block) = body else {
         return;
@@ -63,8 +66,10 @@ fn give<A: Allocator + Copy, G: Gate>(
     message: Message,
     gate: &G,
 )
-    requires next { (taken : List Message) × ComesTo numbers.first numbers.step taken message estimators.old.items }
-    ensures holds { (taken : List Message) → EachHolds numbers.first numbers.step taken estimators.old.items
+    requires next { (taken : List Message)
+        × ComesTo numbers.first numbers.step taken message estimators.old.items }
+    ensures holds { (taken : List Message)
+        → EachHolds numbers.first numbers.step taken estimators.old.items
         → EachHolds numbers.first numbers.step (taken ++ message ∷ []) estimators.new.items }
     ensures len { vec_len estimators.new ≡ vec_len estimators.old }
 {
@@ -142,7 +147,8 @@ impl<A: Allocator + Clone + Copy> Worker<A> {
         requires line { AreOfLine feeders.items self.line }
         requires files { map (λ f. f.file) feeders.items ≡ self.files }
         ensures feeders { result.0.items ≡ map ended_feeder feeders.items }
-        ensures holds { (place : ℕ) (f : FeederView) (e : Estimation) → slice_get result.0.items place ≡ Some f
+        ensures holds { (place : ℕ) (f : FeederView) (e : Estimation)
+            → slice_get result.0.items place ≡ Some f
             → slice_get result.1.items place ≡ Some e → Holds e (joined f.sent) }
         ensures count { vec_len result.1 ≡ vec_len result.0 }
     {

@@ -1,2 +1,3 @@
 pub mod Obeying
+pub mod Output
 pub mod Status

@@ -27,7 +27,7 @@ sources_of read input = sources_over (input read.options.plan.unit) read.files.i
 
 -- the report that the words ask for was written, and nothing else
 abbrev pub Reports : Words → Input → Option (List ℕ) → Option (List ℕ) → Type 0
-Reports read input old new = WritesReport (sources_of read input) read.options.levels.items read.options.plan.unit old new
+Reports read input old new = WritesReport (sources_of read input) read.options.levels read.options.plan.unit old new
 
 -- the words ask for help or for the version, and this is its text
 abbrev pub AskFor : List Text → String Global → Type 0
@@ -70,21 +70,21 @@ abbrev pub IsOfRun : Words → Input → Refusal → Type 0
 IsOfRun read input refusals.OutOfMemory = ⊤
 IsOfRun read input (refusals.Unopened path reason) = IsFileOf read.files.items path
 IsOfRun read input (refusals.Run files fault reason) =
-    (files ≡ read.files) × Explains (sources_of read input) read.options.levels.items read.options.plan.unit fault
+    (files ≡ read.files) × Explains (sources_of read input) read.options.levels read.options.plan.unit fault
 IsOfRun read input refusal = ⊥
 
 -- a fault of words that is told by itself: not a wish for help or for the version, and not what `clap` says
-abbrev pub IsPlain : WordFault → Type 0
-IsPlain (words.Help text) = ⊥
-IsPlain (words.Version text) = ⊥
-IsPlain (words.BadWords text) = ⊥
-IsPlain fault = ⊤
+abbrev pub IsToldAlone : WordFault → Type 0
+IsToldAlone (words.Help text) = ⊥
+IsToldAlone (words.Version text) = ⊥
+IsToldAlone (words.BadWords text) = ⊥
+IsToldAlone fault = ⊤
 
 -- why the words are not obeyed: each refusal only where the words allow it
 abbrev pub IsTold : List Text → Input → Refusal → Type 0
 IsTold said input refusals.OutOfMemory = ⊤
 IsTold said input (refusals.NotText word) = ⊥
 IsTold said input (refusals.BadWords line) = (text : String Global) × IsRefusalOf said (words.BadWords text)
-IsTold said input (refusals.Words fault) = IsPlain fault × IsRefusalOf said fault
+IsTold said input (refusals.Words fault) = IsToldAlone fault × IsRefusalOf said fault
 IsTold said input (refusals.Unwritten reason) = (text : String Global) × AskFor said text
 IsTold said input refusal = (read : Words) × AreWordsOf said read × IsOfRun read input refusal

@@ -26,7 +26,10 @@ pub fn answer<
     W: Write,
     X: Write,
 >(rt: &R, environment: &E, input: S, out: &mut Output<W>, errors: &mut X) -> u8
-    ensures done { result ≡ 0 → (said : List Text) × IsObeyed said (λ unit. reading_from S.remaining unit input) (W.contents out.old.writer) (W.contents out.new.writer) }
+    ensures done { result ≡ 0 → (said : List Text)
+        × IsObeyed said
+        (λ unit. reading_from S.remaining unit input) (W.contents out.old.writer)
+        (W.contents out.new.writer) }
     ensures unwritten { result ≢ 0 → result ≢ 4 → out.new ≡ out.old }
     ensures quiet { result ≡ 0 → errors.new ≡ errors.old }
     ensures limit { result ≤ 5 }

@@ -18,7 +18,7 @@ const IS_A_DIRECTORY: i32 = 21;
 ///
 /// # Errors
 ///
-/// The first file that cannot be opened to be read, such as a folder; or want of memory.
+/// The first file that cannot be opened to be read, such as a folder; or that memory ran out.
 pub(crate) fn open_all<'a, R: Files>(
     rt: &R,
     alloc: Global,

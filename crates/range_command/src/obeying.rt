@@ -32,7 +32,10 @@ pub fn program<
     S: Read + Send + Drop,
     W: Write,
 >(rt: &R, environment: &E, input: S, out: &mut Output<W>) -> Result<(), Refusal>
-    ensures done { OnOk result ((said : List Text) × IsObeyed said (λ unit. reading_from S.remaining unit input) (W.contents out.old.writer) (W.contents out.new.writer)) }
+    ensures done { OnOk result ((said : List Text)
+        × IsObeyed said
+        (λ unit. reading_from S.remaining unit input) (W.contents out.old.writer)
+        (W.contents out.new.writer)) }
     ensures unwritten { IfErr result (λ refusal. refusal_status refusal ≢ 4 → out.new ≡ out.old) }
 {
     let words = command_words(environment, rt.alloc())?;
@@ -45,8 +48,12 @@ pub fn obey<
     S: Read + Send + Drop,
     W: Write,
 >(rt: &R, words: &[String], input: S, out: &mut Output<W>) -> Result<(), Refusal>
-    ensures done { OnOk result (IsObeyed (map string_bytes words.now) (λ unit. reading_from S.remaining unit input) (W.contents out.old.writer) (W.contents out.new.writer)) }
-    ensures told { IfErr result (IsTold (map string_bytes words.now) (λ unit. reading_from S.remaining unit input)) }
+    ensures done { OnOk result
+        (IsObeyed (map string_bytes words.now)
+        (λ unit. reading_from S.remaining unit input) (W.contents out.old.writer)
+        (W.contents out.new.writer)) }
+    ensures told { IfErr result
+        (IsTold (map string_bytes words.now) (λ unit. reading_from S.remaining unit input)) }
     ensures unwritten { IfErr result (λ refusal. refusal_status refusal ≢ 4 → out.new ≡ out.old) }
 {
     obey_with_gate(rt, words, input, &FreeGate, out)
@@ -59,8 +66,12 @@ pub fn obey_with_gate<
     W: Write,
     G: Gate,
 >(rt: &R, words: &[String], input: S, gate: &G, out: &mut Output<W>) -> Result<(), Refusal>
-    ensures done { OnOk result (IsObeyed (map string_bytes words.now) (λ unit. reading_from S.remaining unit input) (W.contents out.old.writer) (W.contents out.new.writer)) }
-    ensures told { IfErr result (IsTold (map string_bytes words.now) (λ unit. reading_from S.remaining unit input)) }
+    ensures done { OnOk result
+        (IsObeyed (map string_bytes words.now)
+        (λ unit. reading_from S.remaining unit input) (W.contents out.old.writer)
+        (W.contents out.new.writer)) }
+    ensures told { IfErr result
+        (IsTold (map string_bytes words.now) (λ unit. reading_from S.remaining unit input)) }
     ensures unwritten { IfErr result (λ refusal. refusal_status refusal ≢ 4 → out.new ≡ out.old) }
 {
     let alloc = rt.alloc();
@@ -75,7 +86,8 @@ pub fn obey_with_gate<
 
 // Writes the help or the version.
 fn write_reply<W: Write>(alloc: Global, text: &str, out: &mut Output<W>) -> Result<(), Refusal>
-    ensures text { OnOk result (Appends (W.contents out.old.writer) (W.contents out.new.writer) text.now) }
+    ensures text { OnOk result
+        (Appends (W.contents out.old.writer) (W.contents out.new.writer) text.now) }
     ensures refusal { IfErr result IsOfReply }
 {
     if write_text(out, text.as_bytes()).is_ok() {

@@ -1,10 +1,11 @@
 // Where the program writes, and why a write failed.
 
-ghost use Rattle.std.specs.Prelude.{◌≡◌};
+ghost use Rattle.std.specs.Prelude.{◌≡◌, None};
 
 use crate::retry::write_again;
 use std::io;
 use std::io::{ErrorKind, Write};
+use std::marker::Model;
 
 /// A writer that tries a write again, up to 16 times in all, where a signal interrupts it, and that keeps
 /// the reason of its last failure.
@@ -14,10 +15,18 @@ pub struct Output<W> {
     failure: Option<io::Error>,
 }
 
+impl<W> Model for Output<W> {
+    ghost use Rattle.range_command.specs.Output.{Outlet};
+
+    ghost Value = { Outlet W };
+
+    ghost view = { λ o. record { writer = o.writer; failure = o.failure } };
+}
+
 impl<W> Output<W> {
     /// An output that has not failed.
     pub fn new(writer: W) -> Output<W>
-        ensures { result.writer ≡ writer }
+        ensures { result ≡ record { writer = writer; failure = None } }
     {
         Output {
             writer,

@@ -16,7 +16,7 @@ use std::{fmt, io};
 /// Why the program ends without its report. It is shown in one line.
 #[derive(Drop)]
 pub enum Refusal {
-    /// A growth was refused for want of memory.
+    /// An allocation failed.
     OutOfMemory,
     /// This word of the command line is not UTF-8; the first behind the program's name is word 1.
     NotText {
@@ -66,7 +66,7 @@ impl Refusal {
     }
 
     /// The status with which the program ends: 1 for a file that cannot be opened, 2 for words that are
-    /// refused, 3 for want of memory, 4 for help or a version that cannot be written, and that of the run where there was one.
+    /// refused, 3 where memory ran out, 4 for help or a version that cannot be written, and that of the run where there was one.
     pub fn status(&self) -> u8
         ensures { result ≡ refusal_status self.now }
     {

@@ -1,9 +1,8 @@
 // A run over the files of the words, or over the input where they name none.
 
-ghost use Rattle.std.specs.Prelude.{◌≡◌, ◌≢◌, ◌≤◌, ◌∷◌, [], All, IfErr, IfOk, OnOk, vec_len};
+ghost use Rattle.std.specs.Prelude.{◌≡◌, ◌≢◌, ◌≤◌, ◌∷◌, [], IfErr, IfOk, OnOk, vec_len};
 ghost use Rattle.range_fixes.specs.Reading.{reading_from};
-ghost use Rattle.range_plan.specs.Limits.{file_limit};
-ghost use Rattle.range_stats.specs.Levels.{IsLevel};
+ghost use Rattle.range_options.specs.Limits.{file_limit};
 ghost use Rattle.range_command.specs.Obeying.{IsOfRun, Reports};
 ghost use Rattle.range_command.specs.Status.{refusal_status};
 
@@ -33,8 +32,10 @@ pub(crate) fn run_over<
     G: Gate,
 >(rt: &R, words: Words, input: S, gate: &G, out: &mut Output<W>) -> Result<(), Refusal>
     requires files { vec_len words.files ≤ file_limit }
-    requires levels { All IsLevel words.options.levels.items }
-    ensures done { OnOk result (Reports words (λ unit. reading_from S.remaining unit input) (W.contents out.old.writer) (W.contents out.new.writer)) }
+    ensures done { OnOk result
+        (Reports words
+        (λ unit. reading_from S.remaining unit input) (W.contents out.old.writer)
+        (W.contents out.new.writer)) }
     ensures told { IfErr result (IsOfRun words (λ unit. reading_from S.remaining unit input)) }
     ensures unwritten { IfErr result (λ refusal. refusal_status refusal ≢ 4 → out.new ≡ out.old) }
 {

@@ -14,7 +14,7 @@ const FIRST_ROOM: usize = 256;
 ///
 /// # Errors
 ///
-/// The first word that is not UTF-8; or want of memory.
+/// The first word that is not UTF-8; or that memory ran out.
 pub(crate) fn command_words<E: Env>(env: &E, alloc: Global) -> Result<Vec<String>, Refusal> {
     let Ok(mut words) = vec![in alloc; String::from_str(alloc, PROGRAM)?] else {
         return Err(Refusal::OutOfMemory);

@@ -1,4 +1,4 @@
 pub mod Beginning
-pub mod Blocks
+pub mod MarkedBlocks
 pub mod Sets
-pub mod Tables
+pub mod TableSteps

@@ -6,8 +6,8 @@ use Rattle.range_plane.specs.Covering.{Covers, advance, is_covered}
 use Rattle.range_plane.specs.Laws.{CornersCoverTheSet, CoveredIsDecided, CoveringIsReaching, CoveringMembersAreCorners, LargerSetsCoverMore}
 use Rattle.range_plane.specs.Plane.{Position}
 use Rattle.range_plane.specs.Polygon.{IsPolygon}
-use Rattle.integers_and_lists.proofs.Integers.{linear}
-use Rattle.integers_and_lists.proofs.Members.{contained, here, there}
+use Rattle.range_lemmas.proofs.Integers.{linear}
+use Rattle.range_lemmas.proofs.Members.{contained, contains_first, contains_later}
 
 -- no point is behind itself
 advance_itself : (d p : Position) → pos 0 ≤ℤ advance d p p
@@ -22,23 +22,27 @@ covers_member : CoveringIsReaching → (S : List Position) (p : Position) → Co
 covers_member reaching S p m = (reaching S p).1 (λ d. (p, m, advance_itself d p))
 
 -- the same members have the same polygon
-same_members : CoveringIsReaching → CoveringMembersAreCorners → CornersCoverTheSet → (S T L : List Position) → ((x : Position) → Contains S x → Contains T x) → ((x : Position) → Contains T x → Contains S x)
+same_members : CoveringIsReaching → CoveringMembersAreCorners → CornersCoverTheSet → (S T L : List Position) → ((x : Position) → Contains S x → Contains T x)
+    → ((x : Position) → Contains T x → Contains S x)
     → IsPolygon S L → IsPolygon T L
 same_members reaching corners cover S T L to from polygon =
-    corners T L (λ x m. to x ((polygon.corners x).0 m).member) (λ x m. (cover S L polygon x).1 (covers_member reaching S x (from x m))) polygon.distinct polygon.least_first polygon.convex
+    corners T L (λ x m. to x ((polygon.corners x).0 m).member) (λ x m. (cover S L polygon x).1
+    (covers_member reaching S x (from x m))) polygon.distinct polygon.least_first polygon.convex
 
 -- a point at the end of a list instead of at its front
-pub polygon_pushed : CoveringIsReaching → CoveringMembersAreCorners → CornersCoverTheSet → (S L : List Position) (p : Position) → IsPolygon (p ∷ S) L → IsPolygon (S ++ p ∷ []) L
+pub polygon_pushed : CoveringIsReaching → CoveringMembersAreCorners → CornersCoverTheSet → (S L : List Position) (p : Position) → IsPolygon (p ∷ S) L
+    → IsPolygon (S ++ p ∷ []) L
 polygon_pushed reaching corners cover S L p polygon = same_members reaching corners cover (p ∷ S) (S ++ p ∷ []) L to from polygon
   where
     to : (x : Position) → Contains (p ∷ S) x → Contains (S ++ p ∷ []) x
     to x m = elim (contained p S x m) [ inl e ↦ subst (Contains (S ++ p ∷ [])) (sym e) (Contains-push S p) | inr k ↦ Contains-append_left S (p ∷ []) x k ]
 
     from : (x : Position) → Contains (S ++ p ∷ []) x → Contains (p ∷ S) x
-    from x m = elim (Contains-push_cases S p x m) [ inl k ↦ there p S x k | inr e ↦ subst (Contains (p ∷ S)) e (here p S) ]
+    from x m = elim (Contains-push_cases S p x m) [ inl k ↦ contains_later p S x k | inr e ↦ subst (Contains (p ∷ S)) e (contains_first p S) ]
 
 -- what a polygon covers is covered by that of more points
-pub covered_later : CoveredIsDecided → CornersCoverTheSet → LargerSetsCoverMore → (S T L M : List Position) (p : Position) → IsPolygon S L → IsPolygon (S ++ T) M
+pub covered_later : CoveredIsDecided → CornersCoverTheSet → LargerSetsCoverMore → (S T L M : List Position) (p : Position) → IsPolygon S L
+    → IsPolygon (S ++ T) M
     → IsTrue (is_covered L p) → IsTrue (is_covered M p)
 covered_later decided cover larger S T L M p before after covered =
     let first = (cover S L before p).0 ((decided L p).0 covered) in

@@ -23,7 +23,7 @@ abbrev pub fixes_of : List Row → List Position → List Fix
 fixes_of rows points = zip2 fix_at rows points
 
 -- what is true of every table
-pub record IsKept (rows : List Row) (points : List Position) (hull : Hull) : Type 0 where
+pub record IsSoundTable (rows : List Row) (points : List Position) (hull : Hull) : Type 0 where
   pub count : length rows ≡ length points
   pub counted : hull.inserted + hull.skipped ≡ length rows
   pub estimate : IsEstimate (fixes_of rows points) rows hull.corners

@@ -49,7 +49,8 @@ impl<A: Allocator + Copy> Model for Estimator<A> {
 impl<A: Allocator + Copy> Estimator<A> {
     /// The estimator of no fixes. It takes no memory.
     pub fn new(alloc: A) -> Estimator<A>
-        ensures value { result ≡ record { fixes = []; rows = []; corners = []; tested = 0; stopped = false } }
+        ensures value { result
+            ≡ record { fixes = []; rows = []; corners = []; tested = 0; stopped = false } }
         ensures estimate { IsEstimate result.fixes result.rows result.corners }
     {
         Estimator {
@@ -60,13 +61,14 @@ impl<A: Allocator + Copy> Estimator<A> {
     }
 
     /// Takes the next fixes of the file. Only those that the polygon does not cover as it stands before the
-    /// block are tested for a new corner. Where memory is wanting, no fix is taken and the estimator stops.
+    /// block are tested for a new corner. Where memory runs out, no fix is taken and the estimator stops.
     pub fn take_block(&mut self, block: &[Fix]) -> Result<(), OutOfMemory>
         requires running { self.old.stopped ≡ false }
         requires few { length self.old.fixes + length block.now ≤ fix_limit }
         ensures fixes { OnOk result (self.new.fixes ≡ self.old.fixes ++ block.now) }
         ensures tested { OnOk result (self.new.tested
-            ≡ self.old.tested + count_by (λ p. not (is_covered self.old.corners p)) (points_of block.now)) }
+            ≡ self.old.tested
+            + count_by (λ p. not (is_covered self.old.corners p)) (points_of block.now)) }
         ensures running { OnOk result (self.new.stopped ≡ false) }
         ensures refused { OnErr result (self.new ≡ record self.old { stopped = true }) }
         ensures estimate { IsEstimate self.new.fixes self.new.rows self.new.corners }
@@ -118,7 +120,7 @@ impl<A: Allocator + Copy> Estimator<A> {
         self.table.into_parts()
     }
 
-    /// Whether memory was wanting for a block. A stopped estimator takes no more.
+    /// Whether memory ran out for a block. A stopped estimator takes no more.
     pub fn stopped(&self) -> bool
         ensures { result ≡ self.now.stopped }
     {

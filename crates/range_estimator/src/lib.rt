@@ -5,9 +5,7 @@
 mod estimator;
 mod marker;
 mod row;
-mod rows;
 mod table;
 
 pub use estimator::Estimator;
-pub use row::Row;
-pub use rows::Rows;
+pub use row::{Row, Rows};

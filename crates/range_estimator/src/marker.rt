@@ -62,7 +62,8 @@ impl<A: Allocator + Copy> Marker<A> {
     pub(crate) fn mark(&mut self, table: &Table<A>, block: &[Fix]) -> Result<(), OutOfMemory>
         requires { IfSome self.old.copy (λ corners. corners ≡ table.now.corners) }
         ensures copy { IfSome self.new.copy (λ corners. corners ≡ table.now.corners) }
-        ensures marks { OnOk result (self.new.marks ≡ map (is_covered table.now.corners) (points_of block.now)) }
+        ensures marks { OnOk result (self.new.marks
+            ≡ map (is_covered table.now.corners) (points_of block.now)) }
     {
         let corners = table.corner_count() as usize;
         if self.copy.is_none() && corners / CORNERS_A_FIX > block.len() {
@@ -82,7 +83,8 @@ impl<A: Allocator + Copy> Marker<A> {
     // Marks which points of a block the table's polygon covers, by its hull.
     fn mark_uncopied(&mut self, table: &Table<A>, block: &[Fix]) -> Result<(), OutOfMemory>
         ensures copy { self.new.copy ≡ self.old.copy }
-        ensures marks { OnOk result (self.new.marks ≡ map (is_covered table.now.corners) (points_of block.now)) }
+        ensures marks { OnOk result (self.new.marks
+            ≡ map (is_covered table.now.corners) (points_of block.now)) }
     {
         self.marks.clear();
         self.marks.reserve(block.len())?;

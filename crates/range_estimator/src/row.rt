@@ -1,4 +1,6 @@
-// A row of the table of incremental area analysis.
+// The rows of the table of incremental area analysis.
+
+use range_lists::List;
 
 /// A row of the table of incremental area analysis (Harris et al. 1990): the range after one of the fixes.
 #[derive(Clone, Copy, PartialEq, Eq, Debug)]
@@ -10,3 +12,6 @@ pub struct Row {
     /// The doubled area within that polygon, in squares of the unit.
     pub area2: u128,
 }
+
+/// The rows of a table, in the order of the fixes.
+pub type Rows = List<Row>;

@@ -28,7 +28,7 @@ pub(crate) struct Table<A: Allocator> {
 
 impl<A: Allocator> Model for Table<A> {
     ghost use Rattle.std.specs.Prelude.{◌-◌, min, vec_len, vec_capacity};
-    ghost use Rattle.range_estimator.specs.Table.{TableView, IsKept, fixes_of};
+    ghost use Rattle.range_estimator.specs.Table.{TableView, IsSoundTable, fixes_of};
 
     ghost Value = { TableView };
 
@@ -40,7 +40,7 @@ impl<A: Allocator> Model for Table<A> {
       spare = min (min t.columns.spare t.hull.spare) (vec_capacity t.rows - vec_len t.rows);
     } };
 
-    ghost invariant = { λ t. IsKept t.rows.items t.columns.points t.hull };
+    ghost invariant = { λ t. IsSoundTable t.rows.items t.columns.points t.hull };
 }
 
 // Adds a point to a hull; where it is covered, by counting it alone.
@@ -48,9 +48,11 @@ fn add_point<A: Allocator>(hull: &mut OnlineHull<A>, p: Point, covered: bool)
     requires room { 0 < hull.old.spare }
     requires few { hull.old.inserted + hull.old.skipped < fix_limit }
     requires covered { covered ≡ true → IsTrue (is_covered hull.old.corners p) }
-    ensures set { (S : List Position) → IsPolygon S hull.old.corners → IsPolygon (p ∷ S) hull.new.corners }
+    ensures set { (S : List Position) → IsPolygon S hull.old.corners
+        → IsPolygon (p ∷ S) hull.new.corners }
     ensures inserted { hull.new.inserted ≡ hull.old.inserted + (if covered then 0 else 1) }
-    ensures points { hull.new.inserted + hull.new.skipped ≡ hull.old.inserted + hull.old.skipped + 1 }
+    ensures points { hull.new.inserted + hull.new.skipped ≡ hull.old.inserted + hull.old.skipped
+        + 1 }
     ensures covered { covered ≡ true → hull.new.corners ≡ hull.old.corners }
     ensures spare { hull.old.spare ≤ hull.new.spare + 1 }
 {
@@ -124,7 +126,8 @@ impl<A: Allocator> Table<A> {
         ensures fixes { self.new.fixes ≡ self.old.fixes ++ block.now }
         ensures estimate { IsEstimate self.new.fixes self.new.rows self.new.corners }
         ensures tested { self.new.tested
-            ≡ self.old.tested + count_by (λ p. not (is_covered self.old.corners p)) (points_of block.now) }
+            ≡ self.old.tested
+            + count_by (λ p. not (is_covered self.old.corners p)) (points_of block.now) }
         ensures untested { self.new.tested ≡ self.old.tested → self.new.corners ≡ self.old.corners }
     {
         corners_cover_the_set();

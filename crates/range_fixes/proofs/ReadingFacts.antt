@@ -1,5 +1,6 @@
 -- What one record adds to a reading.
-use Rattle.std.proofs.Common.{◌≡◌, ◌≢◌, ◌+◌, ◌<◌, ◌≤◌, ℕ, Bool, true, false, cond, eqb, List, [], ◌∷◌, Option, Some, None, Result, Ok, Err, refl, ◌∙◌, IfErr, IfOk, IfSome, IsTrue, rules, tests, not, nat_lt}
+use Rattle.std.proofs.Common.{◌≡◌, ◌≢◌, ◌+◌, ◌<◌, ◌≤◌, ℕ, Bool, true, false, cond, eqb, List, [], ◌∷◌, Option, Some, None, Result, Ok, Err, refl, ◌∙◌, IfErr}
+use Rattle.std.proofs.Common.{IfOk, IfSome, IsTrue, rules, tests, not, nat_lt}
 use Rattle.std.specs.Option.{option_map}
 use Rattle.std.proofs.lemmas.Bool.{false≢true}
 use Rattle.std.specs.Str.{bytes_eq}
@@ -13,82 +14,92 @@ use Rattle.range_fixes.specs.declared.checks.Checked.{Checked}
 use Rattle.range_fixes.specs.declared.fault.ReadFault.{ReadFault}
 use Rattle.range_fixes.specs.declared.fault.ReadFault.TheVariants.{BadName, OtherAnimal, NotNumber, TooLarge, SecondFalls, BadUse, TooManyFixes, Gone}
 use Rattle.range_fixes.specs.Check.{animal_in, checked_in, checks_of, falls, fix_in, is_other, number_in, used_in, ◌>>=◌}
-use Rattle.range_fixes.specs.Field.{Record, first_field, is_name, is_number}
+use Rattle.range_numbers.specs.Number.{is_number}
+use Rattle.range_fixes.specs.Field.{Record, first_field, is_name}
 use Rattle.range_fixes.specs.Previous.{Previous, then_previous}
 use Rattle.range_fixes.specs.Progress.{is_of_text}
 use Rattle.range_fixes.specs.Reading.{Passed, if_passes, no_more, none_passed, passed_after, reading_by, then_passed}
 use Rattle.range_fixes.specs.Records.{TakesRecord}
 use Rattle.range_fixes.specs.Reader.{IsWithin}
 use Rattle.range_fixes.specs.Steps.{Leads}
-use Rattle.range_fixes.proofs.CheckFacts.{checked-cases}
+use Rattle.range_fixes.proofs.CheckFacts.{checked_cases}
 
 -- what is left where there is no record
-pub takes-none : {X : Type 0} (read : List Record → X) (left : Option (List Record)) (fields : Record) (after : Option (List Record)) (r : X)
+pub takes_none : {X : Type 0} (read : List Record → X) (left : Option (List Record)) (fields : Record) (after : Option (List Record)) (r : X)
     → TakesRecord left false fields after → read [] ≡ r → Leads (option_map read left) (Some r)
-takes-none read None fields after r t e = tt
-takes-none read (Some records) fields after r t e = rw (t, e) refl
+takes_none read None fields after r t e = tt
+takes_none read (Some records) fields after r t e = rw (t, e) refl
 
 -- where there is one that ends the reading
-pub takes-last : {X : Type 0} (read : List Record → X) (left : Option (List Record)) (fields : Record) (after : Option (List Record)) (r : X)
+pub takes_last : {X : Type 0} (read : List Record → X) (left : Option (List Record)) (fields : Record) (after : Option (List Record)) (r : X)
     → TakesRecord left true fields after → ((records : List Record) → read (fields ∷ records) ≡ r) → Leads (option_map read left) (Some r)
-takes-last read None fields after r t e = tt
-takes-last read (Some records) fields after r t e = rw (t.1, e t.0) refl
+takes_last read None fields after r t e = tt
+takes_last read (Some records) fields after r t e = rw (t.1, e t.0) refl
 
 -- and where the reading goes on behind it
-pub takes-more : {X : Type 0} (read more : List Record → X) (left : Option (List Record)) (fields : Record) (after : Option (List Record))
-    → TakesRecord left true fields after → ((records : List Record) → read (fields ∷ records) ≡ more records) → Leads (option_map read left) (option_map more after)
-takes-more read more None fields after t e = tt
-takes-more read more (Some records) fields after t e = rw (t.1, t.2, e t.0) refl
+pub takes_more : {X : Type 0} (read more : List Record → X) (left : Option (List Record)) (fields : Record) (after : Option (List Record))
+    → TakesRecord left true fields after → ((records : List Record) → read (fields ∷ records) ≡ more records)
+    → Leads (option_map read left) (option_map more after)
+takes_more read more None fields after t e = tt
+takes_more read more (Some records) fields after t e = rw (t.1, t.2, e t.0) refl
 
-pub leads-far : {X : Type 0} (a b c : Option X) → Leads a b → Leads b c → Leads a c
-leads-far None b c l m = tt
-leads-far (Some x) None c l m = cc l
-leads-far (Some x) (Some y) c l m = m ∙ l
+pub leads_far : {X : Type 0} (a b c : Option X) → Leads a b → Leads b c → Leads a c
+leads_far None b c l m = tt
+leads_far (Some x) None c l m = cc l
+leads_far (Some x) (Some y) c l m = m ∙ l
 
 -- what is known of records is known of the reading that they make
-pub leads-end : (given : ℕ) (read : List Record → Passed) (left : Option (List Record)) (p : Passed)
+pub leads_end : (given : ℕ) (read : List Record → Passed) (left : Option (List Record)) (p : Passed)
     → Leads (option_map read left) (Some p) → Leads (option_map (λ records. reading_by given (read records)) left) (Some (reading_by given p))
-leads-end given read None p l = tt
-leads-end given read (Some records) p l = let same : p ≡ read records = cc in rw same refl
+leads_end given read None p l = tt
+leads_end given read (Some records) p l = let same : p ≡ read records = cc in rw same refl
 
-pub at-end : (unit : Scale) (has_use : Bool) (read : ℕ) (previous : Option Previous) → passed_after unit has_use read previous [] ≡ none_passed previous None
+pub at_end : (unit : Scale) (has_use : Bool) (read : ℕ) (previous : Option Previous) → passed_after unit has_use read previous [] ≡ none_passed previous None
 unfolding passed_after
-at-end unit has_use read previous = refl
+at_end unit has_use read previous = refl
 
-pub too-many : (unit : Scale) (has_use : Bool) (previous : Option Previous) (fields : Record) (records : List Record) → passed_after unit has_use fix_limit previous (fields ∷ records) ≡ none_passed previous (Some TooManyFixes)
+pub too_many : (unit : Scale) (has_use : Bool) (previous : Option Previous) (fields : Record) (records : List Record)
+    → passed_after unit has_use fix_limit previous (fields ∷ records) ≡ none_passed previous (Some TooManyFixes)
 unfolding passed_after
-too-many unit has_use previous fields records = refl
+too_many unit has_use previous fields records = refl
 
-pub one-passes : (unit : Scale) (has_use : Bool) (read : ℕ) (previous : Option Previous) (fields : Record) (one : Checked) (records : List Record) → read < fix_limit → checked_in unit has_use (read + 1) previous fields ≡ Ok one
-    → passed_after unit has_use read previous (fields ∷ records) ≡ then_passed one (passed_after unit has_use (read + 1) (Some (then_previous previous (first_field fields) one.fix.second)) records)
+pub one_passes : (unit : Scale) (has_use : Bool) (read : ℕ) (previous : Option Previous) (fields : Record) (one : Checked) (records : List Record)
+    → read < fix_limit → checked_in unit has_use (read + 1) previous fields ≡ Ok one
+    → passed_after unit has_use read previous (fields ∷ records) ≡ then_passed one
+    (passed_after unit has_use (read + 1) (Some (then_previous previous (first_field fields) one.fix.second)) records)
 unfolding passed_after
-one-passes unit has_use read previous fields one records h e =
+one_passes unit has_use read previous fields one records h e =
     let below : eqb read fix_limit ≡ false = search (rules, tests) in
     rw (below, e) refl
 
-pub one-fails : (unit : Scale) (has_use : Bool) (read : ℕ) (previous : Option Previous) (fields : Record) (fault : ReadFault) (records : List Record) → read < fix_limit → checked_in unit has_use (read + 1) previous fields ≡ Err fault
+pub one_fails : (unit : Scale) (has_use : Bool) (read : ℕ) (previous : Option Previous) (fields : Record) (fault : ReadFault) (records : List Record)
+    → read < fix_limit → checked_in unit has_use (read + 1) previous fields ≡ Err fault
     → passed_after unit has_use read previous (fields ∷ records) ≡ none_passed previous (Some fault)
 unfolding passed_after
-one-fails unit has_use read previous fields fault records h e =
+one_fails unit has_use read previous fields fault records h e =
     let below : eqb read fix_limit ≡ false = search (rules, tests) in
     rw (below, e) refl
 
 -- the animal of records is that of the record before
-pub animal-after : (unit : Scale) (has_use : Bool) (read : ℕ) (previous : Previous) (records : List Record) → (passed_after unit has_use read (Some previous) records).animal ≡ Some previous.animal
+pub animal_after : (unit : Scale) (has_use : Bool) (read : ℕ) (previous : Previous) (records : List Record)
+    → (passed_after unit has_use read (Some previous) records).animal ≡ Some previous.animal
 unfolding passed_after
-animal-after unit has_use read previous [] = refl
-animal-after unit has_use read previous (fields ∷ records) =
-    by (eqb read fix_limit) (checked_in unit has_use (read + 1) (Some previous) fields) (λ second. animal-after unit has_use (read + 1) (record previous { second = second }) records)
+animal_after unit has_use read previous [] = refl
+animal_after unit has_use read previous (fields ∷ records) =
+    by (eqb read fix_limit) (checked_in unit has_use (read + 1) (Some previous) fields)
+    (λ second. animal_after unit has_use (read + 1) (record previous { second = second }) records)
   where
     by : (b : Bool) (checked : Result Checked ReadFault)
         → ((second : ℕ) → (passed_after unit has_use (read + 1) (Some (record previous { second = second })) records).animal ≡ Some previous.animal)
-        → (cond b (none_passed (Some previous) (Some TooManyFixes)) (if_passes (Some previous) checked (λ one. passed_after unit has_use (read + 1) (Some (record previous { second = one.fix.second })) records))).animal ≡ Some previous.animal
+        → (cond b (none_passed (Some previous) (Some TooManyFixes))
+        (if_passes (Some previous) checked (λ one. passed_after unit has_use (read + 1)
+        (Some (record previous { second = one.fix.second })) records))).animal ≡ Some previous.animal
     by true checked more = refl
     by false (Err fault) more = refl
     by false (Ok one) more = more one.fix.second
 
-pub later-end : (given : ℕ) (previous : Option Previous) → 0 < given → reading_by given (none_passed previous None) ≡ no_more previous None
-later-end given previous h =
+pub later_end : (given : ℕ) (previous : Option Previous) → 0 < given → reading_by given (none_passed previous None) ≡ no_more previous None
+later_end given previous h =
     let some : eqb (given + 0) 0 ≡ false = search (rules, tests) in
     rw some refl
 
@@ -96,84 +107,96 @@ later-end given previous h =
 abbrev IsOwn : {A : Type 0} → Result A ReadFault → Type 0
 IsOwn r = IfErr r (λ fault. is_of_text fault ≡ true)
 
-own-bind : {A B : Type 0} (r : Result A ReadFault) (f : A → Result B ReadFault) → IsOwn r → ((x : A) → IsOwn (f x)) → IsOwn (r >>= f)
-own-bind (Ok x) f h k = k x
-own-bind (Err e) f h k = h
+own_bind : {A B : Type 0} (r : Result A ReadFault) (f : A → Result B ReadFault) → IsOwn r → ((x : A) → IsOwn (f x)) → IsOwn (r >>= f)
+own_bind (Ok x) f h k = k x
+own_bind (Err e) f h k = h
 
-own-cond : {A : Type 0} (b : Bool) (x y : Result A ReadFault) → IsOwn x → IsOwn y → IsOwn (cond b x y)
-own-cond true x y h k = h
-own-cond false x y h k = k
+own_cond : {A : Type 0} (b : Bool) (x y : Result A ReadFault) → IsOwn x → IsOwn y → IsOwn (cond b x y)
+own_cond true x y h k = h
+own_cond false x y h k = k
 
-own-animal : (rec : ℕ) (previous : Option Previous) (name : List ℕ) → IsOwn (animal_in rec previous name)
-own-animal rec previous name =
-    own-cond (not (is_name name)) (Err (BadName rec)) _ refl (own-cond (is_other previous name) (Err (OtherAnimal rec)) _ refl tt)
+own_animal : (rec : ℕ) (previous : Option Previous) (name : List ℕ) → IsOwn (animal_in rec previous name)
+own_animal rec previous name =
+    own_cond (not (is_name name)) (Err (BadName rec)) _ refl (own_cond (is_other previous name) (Err (OtherAnimal rec)) _ refl tt)
 
-own-number : (unit : Scale) (rec field most : ℕ) (bytes : List ℕ) → IsOwn (number_in unit rec field most bytes)
-own-number unit rec field most bytes =
-    own-cond (not (is_number bytes)) (Err (NotNumber rec field)) _ refl (own-cond (nat_lt most (digits_value 10 bytes)) (Err (TooLarge rec field unit)) _ refl tt)
+own_number : (unit : Scale) (rec field most : ℕ) (bytes : List ℕ) → IsOwn (number_in unit rec field most bytes)
+own_number unit rec field most bytes =
+    own_cond (not (is_number bytes)) (Err (NotNumber rec field)) _ refl
+    (own_cond (nat_lt most (digits_value 10 bytes)) (Err (TooLarge rec field unit)) _ refl tt)
 
-own-fix : (unit : Scale) (rec : ℕ) (previous : Option Previous) (a b c d : List ℕ) → IsOwn (fix_in unit rec previous a b c d)
-own-fix unit rec previous a b c d =
-    own-bind _ _ (own-animal rec previous a) (λ _. own-bind _ _ (own-number unit rec 1 _ b) (λ s. own-bind _ _ (own-number unit rec 2 _ c) (λ e. own-bind _ _ (own-number unit rec 3 _ d) (λ n. own-cond (falls previous s) (Err (SecondFalls rec)) _ refl tt))))
+own_fix : (unit : Scale) (rec : ℕ) (previous : Option Previous) (a b c d : List ℕ) → IsOwn (fix_in unit rec previous a b c d)
+own_fix unit rec previous a b c d =
+    own_bind _ _ (own_animal rec previous a) (λ _. own_bind _ _ (own_number unit rec 1 _ b)
+    (λ s. own_bind _ _ (own_number unit rec 2 _ c) (λ e. own_bind _ _ (own_number unit rec 3 _ d)
+    (λ n. own_cond (falls previous s) (Err (SecondFalls rec)) _ refl tt))))
 
-own-used : (rec : ℕ) (bytes : List ℕ) → IsOwn (used_in rec bytes)
-own-used rec bytes = own-cond (bytes_eq bytes (codes "1")) (Ok true) _ tt (own-cond (bytes_eq bytes (codes "0")) (Ok false) (Err (BadUse rec)) tt refl)
+own_used : (rec : ℕ) (bytes : List ℕ) → IsOwn (used_in rec bytes)
+own_used rec bytes = own_cond (bytes_eq bytes (codes "1")) (Ok true) _ tt (own_cond (bytes_eq bytes (codes "0")) (Ok false) (Err (BadUse rec)) tt refl)
 
-own-checks : (unit : Scale) (rec : ℕ) (previous : Option Previous) (a b c d e : List ℕ) → IsOwn (checks_of unit rec previous a b c d e)
-own-checks unit rec previous a b c d e = own-bind _ _ (own-fix unit rec previous a b c d) (λ fix. own-bind _ _ (own-used rec e) (λ used. tt))
+own_checks : (unit : Scale) (rec : ℕ) (previous : Option Previous) (a b c d e : List ℕ) → IsOwn (checks_of unit rec previous a b c d e)
+own_checks unit rec previous a b c d e = own_bind _ _ (own_fix unit rec previous a b c d) (λ fix. own_bind _ _ (own_used rec e) (λ used. tt))
 
-own-checked : (unit : Scale) (has_use : Bool) (rec : ℕ) (previous : Option Previous) (fields : Record) → IsOwn (checked_in unit has_use rec previous fields)
-own-checked unit has_use rec previous = checked-cases unit has_use rec previous (λ fields. IsOwn) (λ a b c d e more. own-checks unit rec previous a b c d e) (λ fields. refl)
+own_checked : (unit : Scale) (has_use : Bool) (rec : ℕ) (previous : Option Previous) (fields : Record) → IsOwn (checked_in unit has_use rec previous fields)
+own_checked unit has_use rec previous = checked_cases unit has_use rec previous (λ fields. IsOwn) (λ a b c d e more. own_checks unit rec previous a b c d e)
+    (λ fields. refl)
 
 -- a fault of a record is one of the text
-pub text-fault : (unit : Scale) (has_use : Bool) (rec : ℕ) (previous : Option Previous) (fields : Record) (fault : ReadFault) → checked_in unit has_use rec previous fields ≡ Err fault → is_of_text fault ≡ true
-text-fault unit has_use rec previous fields fault e = let own = own-checked unit has_use rec previous fields in rw e at own
+pub text_fault : (unit : Scale) (has_use : Bool) (rec : ℕ) (previous : Option Previous) (fields : Record) (fault : ReadFault)
+    → checked_in unit has_use rec previous fields ≡ Err fault → is_of_text fault ≡ true
+text_fault unit has_use rec previous fields fault e = let own = own_checked unit has_use rec previous fields in rw e at own
 
-pub not-gone : (fault : ReadFault) → is_of_text fault ≡ true → fault ≢ Gone
-not-gone fault own = λ gone. false≢true (rw gone at own)
+pub not_gone : (fault : ReadFault) → is_of_text fault ≡ true → fault ≢ Gone
+not_gone fault own = λ gone. false≢true (rw gone at own)
 
 -- what holds of each value that a step may give holds of what the steps give together
-ok-bind : {A B : Type 0} (P : B → Type 0) (r : Result A ReadFault) (f : A → Result B ReadFault) → ((x : A) → r ≡ Ok x → IfOk (f x) P) → IfOk (r >>= f) P
-ok-bind P (Ok x) f h = h x refl
-ok-bind P (Err e) f h = tt
+ok_bind : {A B : Type 0} (P : B → Type 0) (r : Result A ReadFault) (f : A → Result B ReadFault) → ((x : A) → r ≡ Ok x → IfOk (f x) P) → IfOk (r >>= f) P
+ok_bind P (Ok x) f h = h x refl
+ok_bind P (Err e) f h = tt
 
-ok-cond : {A : Type 0} (P : A → Type 0) (b : Bool) (x y : Result A ReadFault) → (b ≡ true → IfOk x P) → (b ≡ false → IfOk y P) → IfOk (cond b x y) P
-ok-cond P true x y h k = h refl
-ok-cond P false x y h k = k refl
+ok_cond : {A : Type 0} (P : A → Type 0) (b : Bool) (x y : Result A ReadFault) → (b ≡ true → IfOk x P) → (b ≡ false → IfOk y P) → IfOk (cond b x y) P
+ok_cond P true x y h k = h refl
+ok_cond P false x y h k = k refl
 
-name-within : (rec : ℕ) (previous : Option Previous) (name : List ℕ) → IfOk (animal_in rec previous name) (λ _. IsTrue (is_name name))
-name-within rec previous name =
-    ok-cond _ (not (is_name name)) (Err (BadName rec)) _ (λ _. tt) (λ e. ok-cond _ (is_other previous name) (Err (OtherAnimal rec)) (Ok tt) (λ _. tt) (λ _. search (rules, tests)))
+name_within : (rec : ℕ) (previous : Option Previous) (name : List ℕ) → IfOk (animal_in rec previous name) (λ _. IsTrue (is_name name))
+name_within rec previous name =
+    ok_cond _ (not (is_name name)) (Err (BadName rec)) _ (λ _. tt)
+    (λ e. ok_cond _ (is_other previous name) (Err (OtherAnimal rec)) (Ok tt) (λ _. tt) (λ _. search (rules, tests)))
 
-number-within : (unit : Scale) (rec field most : ℕ) (bytes : List ℕ) → IfOk (number_in unit rec field most bytes) (λ n. n ≤ most)
-number-within unit rec field most bytes =
-    ok-cond _ (not (is_number bytes)) (Err (NotNumber rec field)) _ (λ _. tt)
-    (λ _. ok-cond _ (nat_lt most (digits_value 10 bytes)) (Err (TooLarge rec field unit)) (Ok (digits_value 10 bytes)) (λ _. tt) (λ e. search (rules, tests)))
+number_within : (unit : Scale) (rec field most : ℕ) (bytes : List ℕ) → IfOk (number_in unit rec field most bytes) (λ n. n ≤ most)
+number_within unit rec field most bytes =
+    ok_cond _ (not (is_number bytes)) (Err (NotNumber rec field)) _ (λ _. tt)
+    (λ _. ok_cond _ (nat_lt most (digits_value 10 bytes)) (Err (TooLarge rec field unit)) (Ok (digits_value 10 bytes)) (λ _. tt) (λ e. search (rules, tests)))
 
 -- what is within its limits in a record of this name
 abbrev IsFixWithin : List ℕ → Fix → Type 0
 IsFixWithin name fix = (fix.second ≤ second_limit) × IsTrue (is_name name)
 
-fix-within : (unit : Scale) (rec : ℕ) (previous : Option Previous) (a b c d : List ℕ) → IfOk (fix_in unit rec previous a b c d) (IsFixWithin a)
-fix-within unit rec previous a b c d =
-    ok-bind _ (animal_in rec previous a) _ (λ u named. ok-bind _ (number_in unit rec 1 second_limit b) _ (λ s counted. ok-bind _ (number_in unit rec 2 (limit unit) c) _ (λ e _. ok-bind _ (number_in unit rec 3 (limit unit) d) _ (λ n _.
-    ok-cond _ (falls previous s) (Err (SecondFalls rec)) _ (λ _. tt) (λ _.
-    let name = name-within rec previous a in
-    let second = number-within unit rec 1 second_limit b in
+fix_within : (unit : Scale) (rec : ℕ) (previous : Option Previous) (a b c d : List ℕ) → IfOk (fix_in unit rec previous a b c d) (IsFixWithin a)
+fix_within unit rec previous a b c d =
+    ok_bind _ (animal_in rec previous a) _ (λ u named. ok_bind _ (number_in unit rec 1 second_limit b) _
+    (λ s counted. ok_bind _ (number_in unit rec 2 (limit unit) c) _ (λ e _. ok_bind _ (number_in unit rec 3 (limit unit) d) _ (λ n _.
+    ok_cond _ (falls previous s) (Err (SecondFalls rec)) _ (λ _. tt) (λ _.
+    let name = name_within rec previous a in
+    let second = number_within unit rec 1 second_limit b in
     (rw counted at second, rw named at name))))))
 
-checks-within : (unit : Scale) (rec : ℕ) (previous : Option Previous) (a b c d e : List ℕ) → IfOk (checks_of unit rec previous a b c d e) (λ one. IsFixWithin a one.fix)
-checks-within unit rec previous a b c d e =
-    ok-bind _ (fix_in unit rec previous a b c d) _ (λ fix passed. ok-bind _ (used_in rec e) _ (λ used _. let within = fix-within unit rec previous a b c d in rw passed at within))
+checks_within : (unit : Scale) (rec : ℕ) (previous : Option Previous) (a b c d e : List ℕ)
+    → IfOk (checks_of unit rec previous a b c d e) (λ one. IsFixWithin a one.fix)
+checks_within unit rec previous a b c d e =
+    ok_bind _ (fix_in unit rec previous a b c d) _ (λ fix passed. ok_bind _ (used_in rec e) _
+    (λ used _. let within = fix_within unit rec previous a b c d in rw passed at within))
 
 -- a record that passes is within the limits of names and seconds
-pub passed-within : (unit : Scale) (has_use : Bool) (rec : ℕ) (previous : Option Previous) (fields : Record) (one : Checked) → checked_in unit has_use rec previous fields ≡ Ok one
+pub passed_within : (unit : Scale) (has_use : Bool) (rec : ℕ) (previous : Option Previous) (fields : Record) (one : Checked)
+    → checked_in unit has_use rec previous fields ≡ Ok one
     → (one.fix.second ≤ second_limit) × IsTrue (is_name (first_field fields))
-passed-within unit has_use rec previous fields one e =
-    let within = checked-cases unit has_use rec previous (λ fields checked. IfOk checked (λ one. IsFixWithin (first_field fields) one.fix)) (λ a b c d e more. checks-within unit rec previous a b c d e) (λ fields. tt) fields in
+passed_within unit has_use rec previous fields one e =
+    let within = checked_cases unit has_use rec previous (λ fields checked. IfOk checked (λ one. IsFixWithin (first_field fields) one.fix))
+    (λ a b c d e more. checks_within unit rec previous a b c d e) (λ fields. tt) fields in
     rw e at within
 
 -- and so is what it leaves as the record before
-pub then-within : (previous : Option Previous) (name : List ℕ) (second : ℕ) → IfSome previous IsWithin → (second ≤ second_limit) × IsTrue (is_name name) → IsWithin (then_previous previous name second)
-then-within None name second h within = record { name = within.1; second = within.0 }
-then-within (Some previous) name second h within = record { name = h.name; second = within.0 }
+pub then_within : (previous : Option Previous) (name : List ℕ) (second : ℕ) → IfSome previous IsWithin → (second ≤ second_limit) × IsTrue (is_name name)
+    → IsWithin (then_previous previous name second)
+then_within None name second h within = record { name = within.1; second = within.0 }
+then_within (Some previous) name second h within = record { name = h.name; second = within.0 }

@@ -10,7 +10,8 @@ use Rattle.range_plane.specs.declared.scale.Scale.{Scale}
 use Rattle.range_fixes.specs.declared.checks.Checked.{Checked}
 use Rattle.range_fixes.specs.declared.fault.ReadFault.{ReadFault}
 use Rattle.range_fixes.specs.declared.fault.ReadFault.TheVariants.{WrongFieldCount, BadName, OtherAnimal, NotNumber, TooLarge, SecondFalls, BadUse}
-use Rattle.range_fixes.specs.Field.{Record, is_name, is_number, width}
+use Rattle.range_numbers.specs.Number.{is_number}
+use Rattle.range_fixes.specs.Field.{Record, is_name, width}
 use Rattle.range_fixes.specs.Previous.{Previous}
 
 -- another animal than that of the records before

@@ -1,24 +1,21 @@
 -- The fields of a record.
-use Rattle.std.specs.Prelude.{ℕ, Bool, true, false, List, [], ◌∷◌, ◌++◌, ◌&&◌, ◌||◌, not, length, nat_lt, nat_le, ◌==◌, codes, Option, Some, None, if◌then◌else◌}
+use Rattle.std.specs.Prelude.{ℕ, Bool, true, false, List, [], ◌∷◌, ◌++◌, ◌&&◌, ◌||◌, not, length, nat_lt, nat_le, ◌==◌, codes, Option, Some, None}
+use Rattle.std.specs.Prelude.{if◌then◌else◌}
 use Rattle.std.specs.List.{list_all}
-use Rattle.std.specs.Char.{is_ascii_digit}
 use Rattle.std.specs.Str.{bytes_eq}
+use Rattle.range_fixes.specs.declared.checks.TheConstants.{NAME_LIMIT}
 
 -- a record, by the bytes of its fields
 abbrev pub Record : Type 0
 Record = List (List ℕ)
 
--- one or more digits, and nothing else
-abbrev pub is_number : List ℕ → Bool
-is_number bytes = nat_lt 0 (length bytes) && list_all is_ascii_digit bytes
-
 -- no control byte, comma, double quote or delete
 abbrev pub is_name_byte : ℕ → Bool
 is_name_byte b = nat_le 32 b && not (b == 44) && not (b == 34) && not (b == 127)
 
--- one to 32 such bytes
+-- one or more such bytes, and no more than a name may have
 abbrev pub is_name : List ℕ → Bool
-is_name bytes = nat_lt 0 (length bytes) && nat_le (length bytes) 32 && list_all is_name_byte bytes
+is_name bytes = nat_lt 0 (length bytes) && nat_le (length bytes) NAME_LIMIT && list_all is_name_byte bytes
 
 -- the byte order mark, U+FEFF in UTF-8
 abbrev pub byte_order_mark : List ℕ

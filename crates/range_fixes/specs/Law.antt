@@ -15,11 +15,13 @@ abbrev pub previous_at : Option Previous → List Record → List Checked → �
 previous_at previous records checked zero = previous
 previous_at previous [] checked (suc k) = None
 previous_at previous (fields ∷ records) [] (suc k) = None
-previous_at previous (fields ∷ records) (one ∷ checked) (suc k) = previous_at (Some (then_previous previous (first_field fields) one.fix.second)) records checked k
+previous_at previous (fields ∷ records) (one ∷ checked) (suc k) =
+    previous_at (Some (then_previous previous (first_field fields) one.fix.second)) records checked k
 
 -- the check of the record at a place, by its number
 abbrev pub check_at : Scale → Bool → ℕ → Option Previous → List Record → List Checked → ℕ → Result Checked ReadFault
-check_at unit has_use read previous records checked k = checked_in unit has_use (read + k + 1) (previous_at previous records checked k) (slice_index_or records k [])
+check_at unit has_use read previous records checked k = checked_in unit has_use (read + k + 1) (previous_at previous records checked k)
+    (slice_index_or records k [])
 
 -- the name of the records before, or else of the first that passes
 abbrev pub animal_of : Option Previous → List Record → List Checked → Option (List ℕ)

@@ -1,5 +1,6 @@
 -- How far a reader of fixes is.
-use Rattle.std.specs.Prelude.{◌≡◌, ◌⊎◌, ◌≤◌, ◌<◌, ◌+◌, ℕ, Bool, true, false, List, length, drop, slice_get, Option, Some, None, Result, Ok, Err, IsSome, IfSome, IsSomeAnd, ⊤, ◌≢◌, ◌==◌, if◌then◌else◌}
+use Rattle.std.specs.Prelude.{◌≡◌, ◌⊎◌, ◌≤◌, ◌<◌, ◌+◌, ℕ, Bool, true, false, List, length, drop, slice_get, Option, Some, None, Result, Ok, Err, IsSome, IfSome}
+use Rattle.std.specs.Prelude.{IsSomeAnd, ⊤, ◌≢◌, ◌==◌, if◌then◌else◌}
 use Rattle.range_plane.specs.declared.fix.Fix.{Fix}
 use Rattle.range_fixes.specs.declared.fault.ReadFault.{ReadFault}
 use Rattle.range_fixes.specs.declared.fault.ReadFault.TheVariants as faults

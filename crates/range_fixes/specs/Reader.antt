@@ -1,5 +1,6 @@
 -- A reader of fixes, by its progress.
-use Rattle.std.specs.Prelude.{◌≡◌, ◌≢◌, ⊤, ◌≤◌, ◌<◌, ◌+◌, ℕ, Bool, true, false, List, length, drop, Option, Some, None, IfSome, IsSome, IsTrue, option_map, ◌==◌, if◌then◌else◌}
+use Rattle.std.specs.Prelude.{◌≡◌, ◌≢◌, ⊤, ◌≤◌, ◌<◌, ◌+◌, ℕ, Bool, true, false, List, length, drop, Option, Some, None, IfSome, IsSome, IsTrue, option_map}
+use Rattle.std.specs.Prelude.{◌==◌, if◌then◌else◌}
 use Rattle.range_plane.specs.Fix.{fix_limit, second_limit}
 use Rattle.range_plane.specs.declared.scale.Scale.{Scale}
 use Rattle.range_fixes.specs.declared.fault.ReadFault.{ReadFault}

@@ -89,3 +89,7 @@ reading unit bytes = reading_of unit (records default_config (strip_bom bytes))
 -- what a source says, where it tells its bytes
 abbrev pub reading_from : {S : Type 0} → (S → Option (List ℕ)) → Scale → S → Option Reading
 reading_from remaining unit source = option_map (reading unit) (remaining source)
+
+-- what each of these sources says
+abbrev pub readings : {S : Type 0} → (S → Option (List ℕ)) → Scale → List S → List (Option Reading)
+readings remaining unit sources = map (reading_from remaining unit) sources

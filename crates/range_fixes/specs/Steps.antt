@@ -20,16 +20,18 @@ Leads None after = ⊤
 Leads (Some x) after = after ≡ Some x
 
 -- what an answer on the next record says of those that were left, which so many come before
-abbrev pub Takes : Option Passed → Scale → Bool → ℕ → Result (Option Checked) ReadFault → Option Previous → Option (List Record) → Type 0
-Takes rest unit has_use read (Ok (Some one)) new left = Leads rest (option_map (λ records. then_passed one (passed_after unit has_use (read + 1) new records)) left)
-Takes rest unit has_use read (Ok None) new left = Leads rest (Some (none_passed new None))
-Takes rest unit has_use read (Err fault) new left = is_of_text fault ≡ true → Leads rest (Some (none_passed new (Some fault)))
+abbrev pub TakesRecords : Option Passed → Scale → Bool → ℕ → Result (Option Checked) ReadFault → Option Previous → Option (List Record) → Type 0
+TakesRecords rest unit has_use read (Ok (Some one)) new left = Leads rest
+    (option_map (λ records. then_passed one (passed_after unit has_use (read + 1) new records)) left)
+TakesRecords rest unit has_use read (Ok None) new left = Leads rest (Some (none_passed new None))
+TakesRecords rest unit has_use read (Err fault) new left = is_of_text fault ≡ true → Leads rest (Some (none_passed new (Some fault)))
 
 -- what an answer says of the reading of the records that were left, which so many fixes come before
-abbrev pub Gives : Option Reading → Scale → ℕ → Result (Option Fix) ReadFault → Option Bool → ℕ → Option Previous → Option (List Record) → Type 0
-Gives rest unit given (Ok (Some fix)) header read new left = Leads rest (option_map (λ records. then_fixes fix (rest_of unit header read (given + 1) new records)) left)
-Gives rest unit given (Ok None) header read new left = Leads rest (Some (no_more new None))
-Gives rest unit given (Err fault) header read new left = is_of_text fault ≡ true → Leads rest (Some (no_more new (Some fault)))
+abbrev pub GivesFix : Option Reading → Scale → ℕ → Result (Option Fix) ReadFault → Option Bool → ℕ → Option Previous → Option (List Record) → Type 0
+GivesFix rest unit given (Ok (Some fix)) header read new left = Leads rest
+    (option_map (λ records. then_fixes fix (rest_of unit header read (given + 1) new records)) left)
+GivesFix rest unit given (Ok None) header read new left = Leads rest (Some (no_more new None))
+GivesFix rest unit given (Err fault) header read new left = is_of_text fault ≡ true → Leads rest (Some (no_more new (Some fault)))
 
 -- the animal stays that of the first record
 abbrev pub KeepsAnimal : Option Previous → Option Previous → Type 0

@@ -1,15 +1,15 @@
 // What a record says, and what is wrong with it.
 
-ghost use Rattle.std.specs.Prelude.{◌≡◌, ◌≢◌, ◌∷◌, ◌^◌, ◌<◌, [], length, IfSome, MatchOption, option_map};
+ghost use Rattle.std.specs.Prelude.{◌≡◌, ◌≢◌, ◌∷◌, ◌<◌, [], length, IfSome, MatchOption, option_map};
 ghost use Rattle.csv.specs.Records.{fields_of};
 ghost use Rattle.range_fixes.specs.Check.{IsSplit, animal_in, checked_in, falls, fix_in, number_in, used_in};
 ghost use Rattle.range_fixes.specs.Reader.{IsWithin};
 ghost use Rattle.range_fixes.specs.Field.{first_field, header_of, is_name, is_name_byte, names_animal, width};
 
 use crate::fault::ReadFault;
-use crate::number::value_of;
 use crate::previous::Previous;
 use csv::ByteRecord;
+use range_numbers::{VALUE_LIMIT, value_of};
 use range_plane::{Fix, Point, SECOND_LIMIT, Scale};
 
 // How many fields the header and each record have, without the column `use` and with it.
@@ -51,7 +51,8 @@ struct Fields<'a> {
 // The fields of a record, if it has as many as the header asks.
 fn fields_in(row: &ByteRecord, has_use: bool) -> Option<Fields<'_>>
     ensures { MatchOption result (length (fields_of row.now) ≢ width has_use)
-        (λ f. IsSplit has_use (fields_of row.now) f.name.now f.second.now f.easting.now f.northing.now f.used.now) }
+        (λ f. IsSplit has_use
+        (fields_of row.now) f.name.now f.second.now f.easting.now f.northing.now f.used.now) }
 {
     if row.len() != width(has_use) {
         return None;
@@ -133,7 +134,7 @@ fn check_animal(name: &[u8], rec: u32, previous: Option<&Previous>) -> Result<()
 
 // The number of a field, which may be as great as the limit.
 fn number_in(bytes: &[u8], unit: Scale, rec: u32, field: u32, limit: u64) -> Result<u64, ReadFault>
-    requires { limit < 2 ^ 60 }
+    requires { limit < VALUE_LIMIT }
     ensures { result ≡ number_in unit rec field limit bytes.now }
 {
     let Some(value) = value_of(bytes, limit) else {
@@ -164,7 +165,8 @@ fn fix_in(
 ) -> Result<Fix, ReadFault>
     requires within { IfSome previous (λ p. IsWithin p.now) }
     ensures { result ≡ fix_in unit rec (option_map (λ p. p.now) previous.entry)
-        fields.entry.name.now fields.entry.second.now fields.entry.easting.now fields.entry.northing.now }
+        fields.entry.name.now fields.entry.second.now
+        fields.entry.easting.now fields.entry.northing.now }
 {
     let limit = unit.limit() as u64;
     check_animal(fields.name, rec, previous)?;
@@ -200,7 +202,8 @@ pub(crate) fn checked_in(
     previous: Option<&Previous>,
 ) -> Result<Checked, ReadFault>
     requires within { IfSome previous (λ p. IsWithin p.now) }
-    ensures { result ≡ checked_in unit has_use rec (option_map (λ p. p.now) previous.entry) (fields_of row.now) }
+    ensures { result ≡ checked_in unit has_use rec (option_map (λ p. p.now) previous.entry)
+        (fields_of row.now) }
 {
     let Some(fields) = fields_in(row, has_use) else {
         let found = row.len() as u64;

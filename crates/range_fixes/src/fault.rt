@@ -8,7 +8,7 @@ use std::fmt;
 /// 1, and `field` that of the field, the animal being 0.
 #[derive(Clone, Copy, PartialEq, Eq, Debug)]
 pub enum ReadFault {
-    /// A growth was refused for want of memory.
+    /// An allocation failed.
     OutOfMemory,
     /// A read of the source failed.
     Read,

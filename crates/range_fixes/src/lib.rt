@@ -10,7 +10,6 @@ mod checks;
 mod fault;
 mod law;
 mod name;
-mod number;
 mod previous;
 mod reader;
 mod records;

@@ -6,7 +6,7 @@ ghost use Rattle.range_fixes.specs.Field.{is_name};
 ghost use Rattle.range_fixes.specs.Progress.{Answers, IsHurt, Leaves, Moves, Reads, Taken, is_of_text};
 ghost use Rattle.range_fixes.specs.Reading.{Reading, no_more, passed_after, reading_from, reading_of};
 ghost use Rattle.range_fixes.specs.Reader.{HeaderFits, IsWithin, below};
-ghost use Rattle.range_fixes.specs.Steps.{Gives, KeepsAnimal, Leads, Takes, rest_of};
+ghost use Rattle.range_fixes.specs.Steps.{GivesFix, KeepsAnimal, Leads, TakesRecords, rest_of};
 
 use crate::checks::{Checked, checked_in, header_of, name_of};
 use crate::fault::ReadFault;
@@ -61,11 +61,13 @@ impl<R: Read + Drop> Model for FixReader<R> {
 fn take_header<R: Read + Drop>(records: &mut Records<R>) -> Result<bool, ReadFault>
     requires { records.old.stopped ≡ false }
     ensures going { OnOk result (records.new.stopped ≡ false) }
-    ensures header { IfOk result (λ has_use. (unit : Scale) → Leads (option_map (reading_of unit) records.old.left)
+    ensures header { IfOk result (λ has_use. (unit : Scale)
+        → Leads (option_map (reading_of unit) records.old.left)
         (option_map (rest_of unit (Some has_use) 0 0 None) records.new.left)) }
     ensures below { IfOk result (λ _. Leads (below None records.old.left) records.new.left) }
     ensures fault { IfErr result (λ fault. (unit : Scale) → is_of_text fault ≡ true
-        → Leads (option_map (reading_of unit) records.old.left) (Some (no_more None (Some fault)))) }
+        → Leads (option_map (reading_of unit) records.old.left)
+        (Some (no_more None (Some fault)))) }
     ensures own { IfErr result (λ fault. fault ≢ ReadFault.Gone) }
     ensures hurt { IfErr result (λ fault. is_of_text fault ≡ false → records.new.stopped ≡ true) }
 {
@@ -91,19 +93,24 @@ fn take_record<R: Read + Drop>(
     requires limit { read.old ≤ fix_limit }
     requires within { IfSome previous.old IsWithin }
     ensures going { OnOk result (records.new.stopped ≡ false) }
-    ensures read { IfOk result (λ o. MatchOption o (read.new ≡ read.old) (λ one. (read.new ≡ read.old + 1) × (read.new ≤ fix_limit) × (one.fix.second ≤ second_limit))) }
+    ensures read { IfOk result (λ o. MatchOption o (read.new
+        ≡ read.old) (λ one. (read.new ≡ read.old + 1) × (read.new ≤ fix_limit)
+        × (one.fix.second ≤ second_limit))) }
     ensures limit { (read.old ≤ read.new) × (read.new ≤ fix_limit + 1) }
-    ensures taken { read.old < read.new → Taken (option_map length records.old.left) 1 (option_map length records.new.left) }
+    ensures taken { read.old < read.new
+        → Taken (option_map length records.old.left) 1 (option_map length records.new.left) }
     ensures none { result ≡ Ok None → IfSome records.old.left (λ left. left ≡ []) }
     ensures one { read.new ≤ read.old + 1 }
     ensures failed { read.new ≡ read.old → OnErr result (records.new.stopped ≡ true) }
-    ensures takes { Takes (option_map (passed_after unit has_use read.old previous.old) records.old.left)
+    ensures takes { TakesRecords
+        (option_map (passed_after unit has_use read.old previous.old) records.old.left)
         unit has_use read.old result previous.new records.new.left }
     ensures named { IfOk result (λ o. IfSome o (λ one. IsSome previous.new)) }
     ensures animal { KeepsAnimal previous.old previous.new }
     ensures within { IfSome previous.new IsWithin }
     ensures own { IfErr result (λ fault. fault ≢ ReadFault.Gone) }
-    ensures hurt { IfErr result (λ fault. is_of_text fault ≡ false → (records.new.stopped ≡ true) ⊎ ((fault ≡ ReadFault.OutOfMemory) × (previous.old ≡ None))) }
+    ensures hurt { IfErr result (λ fault. is_of_text fault ≡ false → (records.new.stopped ≡ true)
+        ⊎ ((fault ≡ ReadFault.OutOfMemory) × (previous.old ≡ None))) }
 {
     if !records.advance()? {
         return Ok(None);
@@ -133,18 +140,22 @@ fn take_next<R: Read + Drop>(
     requires within { IfSome previous.old IsWithin }
     requires header { HeaderFits header.old read.old given previous.old }
     ensures going { OnOk result (records.new.stopped ≡ false) }
-    ensures read { IfOk result (λ o. IfSome o (λ fix. (read.old < read.new) × (read.new ≤ fix_limit) × (fix.second ≤ second_limit))) }
+    ensures read { IfOk result (λ o. IfSome o (λ fix. (read.old < read.new) × (read.new ≤ fix_limit)
+        × (fix.second ≤ second_limit))) }
     ensures limit { (read.old ≤ read.new) × (read.new ≤ fix_limit + 1) }
     ensures taken { read.old < read.new → records.new.stopped ≡ false
-        → Leaves (option_map length (below header.old records.old.left)) (read.new - read.old) result (option_map length records.new.left) }
-    ensures gives { Gives (option_map (rest_of unit header.old read.old given previous.old) records.old.left)
+        → Leaves (option_map length (below header.old records.old.left))
+        (read.new - read.old) result (option_map length records.new.left) }
+    ensures gives { GivesFix
+        (option_map (rest_of unit header.old read.old given previous.old) records.old.left)
         unit given result header.new read.new previous.new records.new.left }
     ensures header { HeaderFits header.new read.new given previous.new }
     ensures named { IfOk result (λ o. IfSome o (λ fix. IsSome header.new × IsSome previous.new)) }
     ensures animal { KeepsAnimal previous.old previous.new }
     ensures within { IfSome previous.new IsWithin }
     ensures own { IfErr result (λ fault. fault ≢ ReadFault.Gone) }
-    ensures hurt { IfErr result (λ fault. is_of_text fault ≡ false → (records.new.stopped ≡ true) ⊎ ((fault ≡ ReadFault.OutOfMemory) × (previous.old ≡ None))) }
+    ensures hurt { IfErr result (λ fault. is_of_text fault ≡ false → (records.new.stopped ≡ true)
+        ⊎ ((fault ≡ ReadFault.OutOfMemory) × (previous.old ≡ None))) }
     ensures end { result ≡ Ok None → 0 < given }
 {
     let has_use = match *header {
@@ -197,11 +208,13 @@ impl<R: Read + Drop> FixReader<R> {
     /// and each call reads records up to the next that is used. After a fault every call answers that fault,
     /// and name and count stay. `Read` is answered only where the source failed, which is not retried.
     pub fn next(&mut self) -> Result<Option<Fix>, ReadFault>
-        ensures failed { IfSome self.old.fault (λ fault. (result ≡ Err fault) × (self.new ≡ self.old)) }
+        ensures failed { IfSome self.old.fault (λ fault. (result ≡ Err fault)
+            × (self.new ≡ self.old)) }
         ensures ended { self.old.ended ≡ true → (result ≡ Ok None) × (self.new ≡ self.old) }
         ensures moves { Moves self.old result self.new }
         ensures limit { self.new.count ≤ fix_limit }
-        ensures records { (self.new.count ≤ self.new.read) × (self.old.read ≤ self.new.read) × (self.new.read ≤ fix_limit + 1) }
+        ensures records { (self.new.count ≤ self.new.read) × (self.old.read ≤ self.new.read)
+            × (self.new.read ≤ fix_limit + 1) }
         // Where records were read, so many were taken of those that the source has.
         ensures taken { self.old.read < self.new.read → self.new.stopped ≡ false
             → Leaves self.old.left (self.new.read - self.old.read) result self.new.left }
@@ -210,7 +223,8 @@ impl<R: Read + Drop> FixReader<R> {
         ensures reads { (r : Reading) → Reads self.old r → Reads self.new r }
         ensures text { (r : Reading) → Reads self.old r → Answers r self.old.count result }
         ensures own { IfErr result (λ fault. fault ≢ ReadFault.Gone) }
-        ensures hurt { self.old.fault ≡ None → IfErr result (λ fault. IsHurt self.old fault self.new.stopped) }
+        ensures hurt { self.old.fault ≡ None
+            → IfErr result (λ fault. IsHurt self.old fault self.new.stopped) }
     {
         match self.stage {
             Stage::Going => {}

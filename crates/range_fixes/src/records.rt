@@ -33,7 +33,8 @@ impl<R: Read + Drop> Model for Records<R> {
 // Why a read of records failed. Records of any length are read, and as bytes, so only the source and
 // memory fail.
 fn fault_of(error: Error) -> ReadFault
-    ensures { result ≡ (if is_io (error_kind error) then ReadFault.Read else ReadFault.OutOfMemory) }
+    ensures { result ≡ (if is_io
+        (error_kind error) then ReadFault.Read else ReadFault.OutOfMemory) }
 {
     if error.is_io_error() {
         ReadFault::Read
@@ -45,7 +46,8 @@ fn fault_of(error: Error) -> ReadFault
 impl<R: Read + Drop> Records<R> {
     // All records of a source, which is not read yet.
     pub(crate) fn new(alloc: Global, source: R) -> Records<R>
-        ensures left { result.left ≡ option_map (λ x. records default_config (strip_bom x)) (R.remaining source) }
+        ensures left { result.left
+            ≡ option_map (λ x. records default_config (strip_bom x)) (R.remaining source) }
         ensures going { result.stopped ≡ false }
     {
         let reader = ReaderBuilder::new()
@@ -61,10 +63,12 @@ impl<R: Read + Drop> Records<R> {
     // Reads the next record, and says whether there was one. After an error there is none.
     pub(crate) fn advance(&mut self) -> Result<bool, ReadFault>
         requires { self.old.stopped ≡ false }
-        ensures takes { IfOk result (λ found. TakesRecord self.old.left found self.new.current self.new.left) }
+        ensures takes { IfOk result
+            (λ found. TakesRecord self.old.left found self.new.current self.new.left) }
         ensures going { OnOk result (self.new.stopped ≡ false) }
         ensures stopped { OnErr result (self.new.stopped ≡ true) }
-        ensures fault { IfErr result (λ fault. (fault ≡ ReadFault.Read) ⊎ (fault ≡ ReadFault.OutOfMemory)) }
+        ensures fault { IfErr result (λ fault. (fault ≡ ReadFault.Read)
+            ⊎ (fault ≡ ReadFault.OutOfMemory)) }
     {
         match self.reader.read_byte_record(&mut self.current) {
             Ok(found) => Ok(found),

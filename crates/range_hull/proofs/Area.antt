@@ -1,5 +1,6 @@
 -- What a chain adds to the doubled area, and what a point that is put into it adds.
-use Rattle.std.proofs.Common.{◌≡◌, refl, sym, ap, ◌∙◌, ℕ, suc, ◌+◌, ◌-◌, ◌<◌, ◌≤◌, ℤ, pos, ◌+ℤ◌, ◌-ℤ◌, ◌≤ℤ◌, ◌<ℤ◌, inl, inr, List, [], ◌∷◌, ◌++◌, length, take, drop, reverse, get_or, cond, true, false, arith, append_assoc}
+use Rattle.std.proofs.Common.{◌≡◌, refl, sym, ap, ◌∙◌, ℕ, suc, ◌+◌, ◌-◌, ◌<◌, ◌≤◌, ℤ, pos, ◌+ℤ◌, ◌-ℤ◌, ◌≤ℤ◌, ◌<ℤ◌, inl, inr, List, [], ◌∷◌, ◌++◌, length, take}
+use Rattle.std.proofs.Common.{drop, reverse, get_or, cond, true, false, arith, append_assoc}
 use Rattle.std.proofs.lemmas.Bool.{cases_lt}
 use Rattle.std.proofs.lemmas.Int.{by_lt_z, ints}
 use Rattle.std.proofs.lemmas.List.{append-nil, drop_all, take_all, take_more, drop_more, get_or_append_left, take-append-drop, reverse-append}
@@ -8,17 +9,17 @@ use Rattle.range_plane.specs.Edges.{at}
 use Rattle.range_plane.specs.Order.{rank}
 use Rattle.range_plane.specs.Plane.{Position, origin, turn}
 use Rattle.range_plane.specs.Polygon.{area2, shoelace}
-use Rattle.integers_and_lists.proofs.Integers.{linear}
-use Rattle.integers_and_lists.proofs.Ring.{Expr, var, num, ◌⊕◌, ◌⊖◌, ◌⊗◌, ring}
-use Rattle.range_chain.specs.Blocks.{replaced}
+use Rattle.range_lemmas.proofs.Integers.{linear}
+use Rattle.range_lemmas.proofs.Ring.{Expr, var, num, ◌⊕◌, ◌⊖◌, ◌⊗◌, ring}
+use Rattle.range_pieces.specs.Pieces.{replaced}
 use Rattle.range_hull.specs.declared.side.Side.{Side}
 use Rattle.range_hull.specs.declared.side.Side.TheVariants.{Lower, Upper}
 use Rattle.range_hull.specs.Area.{wedge, path, signed, swept, swept_before, swept_after, open_edge}
-use Rattle.range_hull.specs.Chain.{bend, IsChain, IsWithin}
+use Rattle.range_hull.specs.Chain.{bend, IsChain, LiesWithin}
 use Rattle.range_hull.specs.Hull.{inner, corners_of, AreChains}
 use Rattle.range_hull.proofs.Bends.{turn_of}
 use Rattle.range_hull.proofs.Chains.{IsPlaced, within_between}
-use Rattle.range_hull.proofs.Hulls.{length-corners}
+use Rattle.range_hull.proofs.Hulls.{length_corners}
 
 wedge_of : Expr → Expr → Expr → Expr → Expr
 wedge_of a a' b b' = a ⊗ b' ⊖ b ⊗ a'
@@ -49,71 +50,91 @@ path_push : (A : List Position) (a b : Position) → path (A ++ a ∷ b ∷ []) 
 path_push A a b = omega (arith, linear, path_join A a (b ∷ []))
 
 -- the first k corners
-path-take : (L : List Position) (k : ℕ) → 2 ≤ k → k ≤ length L → path (take k L) ≡ path (take (k - 1) L) +ℤ wedge (at L (k - 2)) (at L (k - 1))
-path-take L k h l =
-    let e : take (k - 1) L ≡ take (k - 2) L ++ at L (k - 2) ∷ [] = ap (λ (n : ℕ). take n L) (let f : k - 1 ≡ k - 2 + 1 = omega arith in f) ∙ take_more L (k - 2) origin (omega arith) in
-    let g : take k L ≡ take (k - 1) L ++ at L (k - 1) ∷ [] = ap (λ (n : ℕ). take n L) (let f : k ≡ k - 1 + 1 = omega arith in f) ∙ take_more L (k - 1) origin (omega arith) in
+path_take : (L : List Position) (k : ℕ) → 2 ≤ k → k ≤ length L → path (take k L) ≡ path (take (k - 1) L) +ℤ wedge (at L (k - 2)) (at L (k - 1))
+path_take L k h l =
+    let e : take (k - 1) L ≡ take (k - 2) L ++ at L (k - 2) ∷ [] = ap (λ (n : ℕ). take n L) (let f : k - 1 ≡ k - 2 + 1 = omega arith in f)
+    ∙ take_more L (k - 2) origin (omega arith) in
+    let g : take k L ≡ take (k - 1) L ++ at L (k - 1) ∷ [] = ap (λ (n : ℕ). take n L) (let f : k ≡ k - 1 + 1 = omega arith in f)
+    ∙ take_more L (k - 1) origin (omega arith) in
     ap path (g ∙ ap (λ (M : List Position). M ++ at L (k - 1) ∷ []) e ∙ append_assoc (take (k - 2) L) (at L (k - 2) ∷ []) (at L (k - 1) ∷ []))
     ∙ path_push (take (k - 2) L) (at L (k - 2)) (at L (k - 1)) ∙ ap (λ (M : List Position). path M +ℤ wedge (at L (k - 2)) (at L (k - 1))) (sym e)
 
-path-drop : (L : List Position) (k : ℕ) → k + 1 < length L → path (drop k L) ≡ wedge (at L k) (at L (k + 1)) +ℤ path (drop (k + 1) L)
-path-drop L k h =
+path_drop : (L : List Position) (k : ℕ) → k + 1 < length L → path (drop k L) ≡ wedge (at L k) (at L (k + 1)) +ℤ path (drop (k + 1) L)
+path_drop L k h =
     let e = drop_more L k origin (omega arith) in
     let f = drop_more L (k + 1) origin h in
     ap path (e ∙ ap (λ (M : List Position). at L k ∷ M) f) ∙ ap (λ (M : List Position). wedge (at L k) (at L (k + 1)) +ℤ path M) (sym f)
 
-pub before-step : (side : Side) (L : List Position) (p : Position) (k : ℕ) → 2 ≤ k → k ≤ length L → swept_before side L p (k - 1) ≡ swept_before side L p k -ℤ bend side (at L (k - 2)) (at L (k - 1)) p
-before-step Lower L p k h l =
-    omega (arith, linear, path-take L k h l, turn_wedges (at L (k - 2)) (at L (k - 1)) p, ap (λ (n : ℕ). wedge (at L n) p) (let e : k - 1 - 1 ≡ k - 2 = omega arith in e))
-before-step Upper L p k h l =
-    omega (arith, linear, path-take L k h l, turn_wedges (at L (k - 2)) (at L (k - 1)) p, ap (λ (n : ℕ). wedge (at L n) p) (let e : k - 1 - 1 ≡ k - 2 = omega arith in e))
+pub before_step : (side : Side) (L : List Position) (p : Position) (k : ℕ) → 2 ≤ k → k ≤ length L
+    → swept_before side L p (k - 1) ≡ swept_before side L p k -ℤ bend side (at L (k - 2)) (at L (k - 1)) p
+before_step Lower L p k h l =
+    omega (
+      arith,
+      linear,
+      path_take L k h l,
+      turn_wedges (at L (k - 2)) (at L (k - 1)) p,
+      ap (λ (n : ℕ). wedge (at L n) p) (let e : k - 1 - 1 ≡ k - 2 = omega arith in e),
+    )
+before_step Upper L p k h l =
+    omega (
+      arith,
+      linear,
+      path_take L k h l,
+      turn_wedges (at L (k - 2)) (at L (k - 1)) p,
+      ap (λ (n : ℕ). wedge (at L n) p) (let e : k - 1 - 1 ≡ k - 2 = omega arith in e),
+    )
 
-pub after-step : (side : Side) (L : List Position) (p : Position) (k : ℕ) → k + 1 < length L → swept_after side L p (k + 1) ≡ swept_after side L p k -ℤ bend side p (at L k) (at L (k + 1))
-after-step Lower L p k h = omega (arith, linear, path-drop L k h, turn_wedges p (at L k) (at L (k + 1)))
-after-step Upper L p k h = omega (arith, linear, path-drop L k h, turn_wedges p (at L k) (at L (k + 1)))
+pub after_step : (side : Side) (L : List Position) (p : Position) (k : ℕ) → k + 1 < length L
+    → swept_after side L p (k + 1) ≡ swept_after side L p k -ℤ bend side p (at L k) (at L (k + 1))
+after_step Lower L p k h = omega (arith, linear, path_drop L k h, turn_wedges p (at L k) (at L (k + 1)))
+after_step Upper L p k h = omega (arith, linear, path_drop L k h, turn_wedges p (at L k) (at L (k + 1)))
 
 -- ---- the chain with p in it
-take-last : (L : List Position) (k : ℕ) → 0 < k → k ≤ length L → take k L ≡ take (k - 1) L ++ at L (k - 1) ∷ []
-take-last L k h l = ap (λ (n : ℕ). take n L) (let f : k ≡ k - 1 + 1 = omega arith in f) ∙ take_more L (k - 1) origin (omega arith)
+take_last : (L : List Position) (k : ℕ) → 0 < k → k ≤ length L → take k L ≡ take (k - 1) L ++ at L (k - 1) ∷ []
+take_last L k h l = ap (λ (n : ℕ). take n L) (let f : k ≡ k - 1 + 1 = omega arith in f) ∙ take_more L (k - 1) origin (omega arith)
 
-path-before : (L M : List Position) (p : Position) (k : ℕ) → 0 < k → k ≤ length L → path (take k L ++ p ∷ M) ≡ path (take k L) +ℤ wedge (at L (k - 1)) p +ℤ path (p ∷ M)
-path-before L M p k h l =
-    let e = take-last L k h l in
-    let g = ap path (ap (λ (N : List Position). N ++ p ∷ []) e ∙ append_assoc (take (k - 1) L) (at L (k - 1) ∷ []) (p ∷ [])) ∙ path_push (take (k - 1) L) (at L (k - 1)) p in
+path_before : (L M : List Position) (p : Position) (k : ℕ) → 0 < k → k ≤ length L
+    → path (take k L ++ p ∷ M) ≡ path (take k L) +ℤ wedge (at L (k - 1)) p +ℤ path (p ∷ M)
+path_before L M p k h l =
+    let e = take_last L k h l in
+    let g = ap path (ap (λ (N : List Position). N ++ p ∷ []) e ∙ append_assoc (take (k - 1) L) (at L (k - 1) ∷ []) (p ∷ []))
+    ∙ path_push (take (k - 1) L) (at L (k - 1)) p in
     omega (arith, linear, path_join (take k L) p M, g, ap path e)
 
-path-after : (L : List Position) (p : Position) (k : ℕ) → k < length L → path (p ∷ drop k L) ≡ wedge p (at L k) +ℤ path (drop k L)
-path-after L p k h =
+path_after : (L : List Position) (p : Position) (k : ℕ) → k < length L → path (p ∷ drop k L) ≡ wedge p (at L k) +ℤ path (drop k L)
+path_after L p k h =
     let e = drop_more L k origin h in
     ap (λ (M : List Position). path (p ∷ M)) e ∙ ap (λ (M : List Position). wedge p (at L k) +ℤ path M) (sym e)
 
-path-end : (L : List Position) (p : Position) (k : ℕ) → length L ≤ k → path (p ∷ drop k L) ≡ pos 0
-path-end L p k h = ap (λ (M : List Position). path (p ∷ M)) (drop_all k L h)
+path_end : (L : List Position) (p : Position) (k : ℕ) → length L ≤ k → path (p ∷ drop k L) ≡ pos 0
+path_end L p k h = ap (λ (M : List Position). path (p ∷ M)) (drop_all k L h)
 
-path-split : (L : List Position) (k : ℕ) → 0 < k → k < length L → path L ≡ path (take k L) +ℤ wedge (at L (k - 1)) (at L k) +ℤ path (drop k L)
-path-split L k h l =
+path_split : (L : List Position) (k : ℕ) → 0 < k → k < length L → path L ≡ path (take k L) +ℤ wedge (at L (k - 1)) (at L k) +ℤ path (drop k L)
+path_split L k h l =
     let e = drop_more L k origin l in
-    ap path (sym (take-append-drop k L) ∙ ap (λ (M : List Position). take k L ++ M) e) ∙ path-before L (drop (k + 1) L) (at L k) k h (omega arith)
+    ap path (sym (take-append-drop k L) ∙ ap (λ (M : List Position). take k L ++ M) e) ∙ path_before L (drop (k + 1) L) (at L k) k h (omega arith)
     ∙ ap (λ (M : List Position). path (take k L) +ℤ wedge (at L (k - 1)) (at L k) +ℤ path M) (sym e)
 
 -- ---- the edge to a point beyond the ends
-edge-first : (f l p : Position) → rank p <ℤ rank f → open_edge f l p ≡ wedge p f
-edge-first f l p h = ap (λ b. cond b (wedge p f) (cond (int_lt (rank l) (rank p)) (wedge l p) (pos 0))) (let e : int_lt (rank p) (rank f) ≡ true = grind (arith, ints) in e)
+edge_first : (f l p : Position) → rank p <ℤ rank f → open_edge f l p ≡ wedge p f
+edge_first f l p h = ap (λ b. cond b (wedge p f) (cond (int_lt (rank l) (rank p)) (wedge l p) (pos 0)))
+    (let e : int_lt (rank p) (rank f) ≡ true = grind (arith, ints) in e)
 
-edge-last : (f l p : Position) → rank f ≤ℤ rank p → rank l <ℤ rank p → open_edge f l p ≡ wedge l p
-edge-last f l p h k =
+edge_last : (f l p : Position) → rank f ≤ℤ rank p → rank l <ℤ rank p → open_edge f l p ≡ wedge l p
+edge_last f l p h k =
     ap (λ b. cond b (wedge p f) (cond (int_lt (rank l) (rank p)) (wedge l p) (pos 0))) (let e : int_lt (rank p) (rank f) ≡ false = grind (arith, ints) in e)
     ∙ ap (λ b. cond b (wedge l p) (pos 0)) (let e : int_lt (rank l) (rank p) ≡ true = grind (arith, ints) in e)
 
-edge-none : (f l p : Position) → rank f ≤ℤ rank p → rank p ≤ℤ rank l → open_edge f l p ≡ pos 0
-edge-none f l p h k =
+edge_none : (f l p : Position) → rank f ≤ℤ rank p → rank p ≤ℤ rank l → open_edge f l p ≡ pos 0
+edge_none f l p h k =
     ap (λ b. cond b (wedge p f) (cond (int_lt (rank l) (rank p)) (wedge l p) (pos 0))) (let e : int_lt (rank p) (rank f) ≡ false = grind (arith, ints) in e)
     ∙ ap (λ b. cond b (wedge l p) (pos 0)) (let e : int_lt (rank l) (rank p) ≡ false = grind (arith, ints) in e)
 
-edge-origin : (p : Position) → open_edge origin origin p ≡ pos 0
-edge-origin p =
-    by_lt_z (rank p) (rank origin) (λ h. edge-first origin origin p h ∙ wedge_origin p)
-    (λ h. by_lt_z (rank origin) (rank p) (λ k. edge-last origin origin p h k ∙ omega (arith, linear, wedge_flip p origin, wedge_origin p)) (λ k. edge-none origin origin p h k))
+edge_origin : (p : Position) → open_edge origin origin p ≡ pos 0
+edge_origin p =
+    by_lt_z (rank p) (rank origin) (λ h. edge_first origin origin p h ∙ wedge_origin p)
+    (λ h. by_lt_z (rank origin) (rank p) (λ k. edge_last origin origin p h k ∙ omega (arith, linear, wedge_flip p origin, wedge_origin p))
+    (λ k. edge_none origin origin p h k))
 
 -- ---- how the doubled area grows
 -- the doubled area before and after each step of an insertion, at the place where p falls
@@ -126,147 +147,231 @@ pub record Grows (side : Side) (L : List Position) (p : Position) (from place to
   pub after : place < length L → d -ℤ swept_after side L p to ≡ c -ℤ swept_after side L p place
   pub none_after : place ≡ length L → d ≡ c
 
-grown-between : (side : Side) (L : List Position) (p : Position) (from place to : ℕ) (a b c d : ℤ) → IsPlaced side L p from place to → Grows side L p from place to a b c d → 0 < place → place < length L → d +ℤ swept side L ≡ a +ℤ swept side (replaced L p from to)
-grown-between Lower L p from place to a b c d t g h k =
-    omega (arith, linear, g.outside h k, g.before h, g.after k, path-before L (drop to L) p from (t.starts h) (omega (arith, t.low)), path-after L p to (t.stops k), path-split L place h k, turn_wedges (at L (place - 1)) p (at L place))
-grown-between Upper L p from place to a b c d t g h k =
-    omega (arith, linear, g.outside h k, g.before h, g.after k, path-before L (drop to L) p from (t.starts h) (omega (arith, t.low)), path-after L p to (t.stops k), path-split L place h k, turn_wedges (at L (place - 1)) p (at L place))
+grown_between : (side : Side) (L : List Position) (p : Position) (from place to : ℕ) (a b c d : ℤ) → IsPlaced side L p from place to
+    → Grows side L p from place to a b c d → 0 < place → place < length L → d +ℤ swept side L ≡ a +ℤ swept side (replaced L p from to)
+grown_between Lower L p from place to a b c d t g h k =
+    omega (
+      arith,
+      linear,
+      g.outside h k,
+      g.before h,
+      g.after k,
+      path_before L (drop to L) p from (t.starts h) (omega (arith, t.low)),
+      path_after L p to (t.stops k),
+      path_split L place h k,
+      turn_wedges (at L (place - 1)) p (at L place),
+    )
+grown_between Upper L p from place to a b c d t g h k =
+    omega (
+      arith,
+      linear,
+      g.outside h k,
+      g.before h,
+      g.after k,
+      path_before L (drop to L) p from (t.starts h) (omega (arith, t.low)),
+      path_after L p to (t.stops k),
+      path_split L place h k,
+      turn_wedges (at L (place - 1)) p (at L place),
+    )
 
-grown-first : (side : Side) (L : List Position) (p : Position) (from place to : ℕ) (a b c d : ℤ) → IsPlaced side L p from place to → Grows side L p from place to a b c d → place ≡ 0 → 0 < length L → d +ℤ swept side L +ℤ signed side (wedge p (at L 0)) ≡ a +ℤ swept side (replaced L p from to)
-grown-first Lower L p from place to a b c d t g z k =
+grown_first : (side : Side) (L : List Position) (p : Position) (from place to : ℕ) (a b c d : ℤ) → IsPlaced side L p from place to
+    → Grows side L p from place to a b c d → place ≡ 0 → 0 < length L
+    → d +ℤ swept side L +ℤ signed side (wedge p (at L 0)) ≡ a +ℤ swept side (replaced L p from to)
+grown_first Lower L p from place to a b c d t g z k =
     let f : from ≡ 0 = omega (arith, t.low, z) in
-    omega (arith, linear, g.at_first z, g.none_before z, g.after (omega (arith, z, k)), path-after L p to (t.stops (omega (arith, z, k))), ap (λ (n : ℕ). path (take n L ++ p ∷ drop to L)) f, ap (λ (n : ℕ). wedge p (at L n) +ℤ path (drop n L)) z)
-grown-first Upper L p from place to a b c d t g z k =
+    omega (
+      arith,
+      linear,
+      g.at_first z,
+      g.none_before z,
+      g.after (omega (arith, z, k)),
+      path_after L p to (t.stops (omega (arith, z, k))),
+      ap (λ (n : ℕ). path (take n L ++ p ∷ drop to L)) f,
+      ap (λ (n : ℕ). wedge p (at L n) +ℤ path (drop n L)) z,
+    )
+grown_first Upper L p from place to a b c d t g z k =
     let f : from ≡ 0 = omega (arith, t.low, z) in
-    omega (arith, linear, g.at_first z, g.none_before z, g.after (omega (arith, z, k)), path-after L p to (t.stops (omega (arith, z, k))), ap (λ (n : ℕ). path (take n L ++ p ∷ drop to L)) f, ap (λ (n : ℕ). wedge p (at L n) +ℤ path (drop n L)) z)
+    omega (
+      arith,
+      linear,
+      g.at_first z,
+      g.none_before z,
+      g.after (omega (arith, z, k)),
+      path_after L p to (t.stops (omega (arith, z, k))),
+      ap (λ (n : ℕ). path (take n L ++ p ∷ drop to L)) f,
+      ap (λ (n : ℕ). wedge p (at L n) +ℤ path (drop n L)) z,
+    )
 
-grown-empty : (side : Side) (p : Position) (from to : ℕ) → swept side [] ≡ swept side (replaced [] p from to)
-grown-empty Lower p from to = omega (arith, linear, ap (λ (M : List Position). path (M ++ p ∷ drop to [])) (take_all from [] (omega arith)), path-end [] p to (omega arith))
-grown-empty Upper p from to = omega (arith, linear, ap (λ (M : List Position). path (M ++ p ∷ drop to [])) (take_all from [] (omega arith)), path-end [] p to (omega arith))
+grown_empty : (side : Side) (p : Position) (from to : ℕ) → swept side [] ≡ swept side (replaced [] p from to)
+grown_empty Lower p from to = omega (
+  arith,
+  linear,
+  ap (λ (M : List Position). path (M ++ p ∷ drop to [])) (take_all from [] (omega arith)),
+  path_end [] p to (omega arith),
+)
+grown_empty Upper p from to = omega (
+  arith,
+  linear,
+  ap (λ (M : List Position). path (M ++ p ∷ drop to [])) (take_all from [] (omega arith)),
+  path_end [] p to (omega arith),
+)
 
-grown-last : (side : Side) (L : List Position) (p : Position) (from place to : ℕ) (a b c d : ℤ) → IsPlaced side L p from place to → Grows side L p from place to a b c d → 0 < place → place ≡ length L → d +ℤ swept side L +ℤ signed side (wedge (at L (length L - 1)) p) ≡ a +ℤ swept side (replaced L p from to)
-grown-last Lower L p from place to a b c d t g h e =
-    omega (arith, linear, g.at_last e, g.before h, g.none_after e, path-before L (drop to L) p from (t.starts h) (omega (arith, t.low, e)), path-end L p to (omega (arith, t.high, e)), ap path (take_all place L (omega (arith, e))), ap (λ (n : ℕ). wedge (at L (n - 1)) p) e)
-grown-last Upper L p from place to a b c d t g h e =
-    omega (arith, linear, g.at_last e, g.before h, g.none_after e, path-before L (drop to L) p from (t.starts h) (omega (arith, t.low, e)), path-end L p to (omega (arith, t.high, e)), ap path (take_all place L (omega (arith, e))), ap (λ (n : ℕ). wedge (at L (n - 1)) p) e)
+grown_last : (side : Side) (L : List Position) (p : Position) (from place to : ℕ) (a b c d : ℤ) → IsPlaced side L p from place to
+    → Grows side L p from place to a b c d → 0 < place → place ≡ length L
+    → d +ℤ swept side L +ℤ signed side (wedge (at L (length L - 1)) p) ≡ a +ℤ swept side (replaced L p from to)
+grown_last Lower L p from place to a b c d t g h e =
+    omega (
+      arith,
+      linear,
+      g.at_last e,
+      g.before h,
+      g.none_after e,
+      path_before L (drop to L) p from (t.starts h) (omega (arith, t.low, e)),
+      path_end L p to (omega (arith, t.high, e)),
+      ap path (take_all place L (omega (arith, e))),
+      ap (λ (n : ℕ). wedge (at L (n - 1)) p) e,
+    )
+grown_last Upper L p from place to a b c d t g h e =
+    omega (
+      arith,
+      linear,
+      g.at_last e,
+      g.before h,
+      g.none_after e,
+      path_before L (drop to L) p from (t.starts h) (omega (arith, t.low, e)),
+      path_end L p to (omega (arith, t.high, e)),
+      ap path (take_all place L (omega (arith, e))),
+      ap (λ (n : ℕ). wedge (at L (n - 1)) p) e,
+    )
 
-signed-naught : (side : Side) → signed side (pos 0) ≡ pos 0
-signed-naught Lower = refl
-signed-naught Upper = refl
+signed_naught : (side : Side) → signed side (pos 0) ≡ pos 0
+signed_naught Lower = refl
+signed_naught Upper = refl
 
-grown-so : (x y : ℤ) (side : Side) (e f : ℤ) → e ≡ f → x +ℤ signed side f ≡ y → x +ℤ signed side e ≡ y
-grown-so x y side e f h g = ap (λ (z : ℤ). x +ℤ signed side z) h ∙ g
+grown_so : (x y : ℤ) (side : Side) (e f : ℤ) → e ≡ f → x +ℤ signed side f ≡ y → x +ℤ signed side e ≡ y
+grown_so x y side e f h g = ap (λ (z : ℤ). x +ℤ signed side z) h ∙ g
 
-grown_from : (side : Side) (L : List Position) (p : Position) (from place to : ℕ) (a b c d : ℤ) → IsPlaced side L p from place to → Grows side L p from place to a b c d → 0 < length L → d +ℤ swept side L +ℤ signed side (open_edge (at L 0) (at L (length L - 1)) p) ≡ a +ℤ swept side (replaced L p from to)
+grown_from : (side : Side) (L : List Position) (p : Position) (from place to : ℕ) (a b c d : ℤ) → IsPlaced side L p from place to
+    → Grows side L p from place to a b c d → 0 < length L → d +ℤ swept side L +ℤ signed side (open_edge (at L 0) (at L (length L - 1)) p) ≡ a +ℤ swept side
+    (replaced L p from to)
 grown_from side L p from place to a b c d t g k =
     elim (cases_lt 0 place) [
-      | inr z ↦ grown-so (d +ℤ swept side L) (a +ℤ swept side (replaced L p from to)) side _ _ (edge-first (at L 0) (at L (length L - 1)) p (t.after 0 z k)) (grown-first side L p from place to a b c d t g (omega (arith, z)) k)
+      | inr z ↦ grown_so (d +ℤ swept side L) (a +ℤ swept side (replaced L p from to)) side _ _ (edge_first (at L 0) (at L (length L - 1)) p (t.after 0 z k))
+          (grown_first side L p from place to a b c d t g (omega (arith, z)) k)
       | inl s ↦ elim (cases_lt place (length L)) [
-        | inl l ↦ grown-so (d +ℤ swept side L) (a +ℤ swept side (replaced L p from to)) side _ _
-            (edge-none (at L 0) (at L (length L - 1)) p (let u : rank (at L 0) <ℤ rank p = t.before 0 s in omega (arith, linear)) (let u : rank p <ℤ rank (at L (length L - 1)) = t.after (length L - 1) (omega (arith, l)) (omega arith) in omega (arith, linear)))
-            (omega (arith, linear, signed-naught side, grown-between side L p from place to a b c d t g s l))
+        | inl l ↦ grown_so (d +ℤ swept side L) (a +ℤ swept side (replaced L p from to)) side _ _
+            (edge_none (at L 0) (at L (length L - 1)) p (let u : rank (at L 0) <ℤ rank p = t.before 0 s in omega (arith, linear))
+            (let u : rank p <ℤ rank (at L (length L - 1)) = t.after (length L - 1) (omega (arith, l)) (omega arith) in omega (arith, linear)))
+            (omega (arith, linear, signed_naught side, grown_between side L p from place to a b c d t g s l))
         | inr m ↦
             let e : place ≡ length L = omega (arith, m, t.high, t.within) in
-            grown-so (d +ℤ swept side L) (a +ℤ swept side (replaced L p from to)) side _ _
-            (edge-last (at L 0) (at L (length L - 1)) p (let u : rank (at L 0) <ℤ rank p = t.before 0 s in omega (arith, linear)) (t.before (length L - 1) (omega (arith, e, k))))
-            (grown-last side L p from place to a b c d t g s e)
+            grown_so (d +ℤ swept side L) (a +ℤ swept side (replaced L p from to)) side _ _
+            (edge_last (at L 0) (at L (length L - 1)) p (let u : rank (at L 0) <ℤ rank p = t.before 0 s in omega (arith, linear))
+            (t.before (length L - 1) (omega (arith, e, k))))
+            (grown_last side L p from place to a b c d t g s e)
       ]
     ]
 
-pub grown : (side : Side) (L : List Position) (p : Position) (from place to : ℕ) (a b c d : ℤ) → IsPlaced side L p from place to → Grows side L p from place to a b c d → d +ℤ swept side L +ℤ signed side (open_edge (at L 0) (at L (length L - 1)) p) ≡ a +ℤ swept side (replaced L p from to)
+pub grown : (side : Side) (L : List Position) (p : Position) (from place to : ℕ) (a b c d : ℤ) → IsPlaced side L p from place to
+    → Grows side L p from place to a b c d → d +ℤ swept side L +ℤ signed side (open_edge (at L 0) (at L (length L - 1)) p) ≡ a +ℤ swept side
+    (replaced L p from to)
 grown side [] p from place to a b c d t g =
     let z : place ≡ 0 = omega (arith, t.high, t.within) in
-    grown-so (d +ℤ swept side []) (a +ℤ swept side (replaced [] p from to)) side _ _ (edge-origin p) (omega (arith, linear, signed-naught side, grown-empty side p from to, g.at_first z, g.none_before z, g.none_after z))
+    grown_so (d +ℤ swept side []) (a +ℤ swept side (replaced [] p from to)) side _ _ (edge_origin p)
+    (omega (arith, linear, signed_naught side, grown_empty side p from to, g.at_first z, g.none_before z, g.none_after z))
 grown side (x ∷ L) p from place to a b c d t g = grown_from side (x ∷ L) p from place to a b c d t g (omega arith)
 
 -- a point within the chain adds nothing
-pub not_grown : {side : Side} {L : List Position} → IsChain side L → (p : Position) (a : ℤ) → IsWithin side L p → a +ℤ swept side L +ℤ signed side (open_edge (at L 0) (at L (length L - 1)) p) ≡ a +ℤ swept side L
+pub not_grown : {side : Side} {L : List Position} → IsChain side L → (p : Position) (a : ℤ) → LiesWithin side L p
+    → a +ℤ swept side L +ℤ signed side (open_edge (at L 0) (at L (length L - 1)) p) ≡ a +ℤ swept side L
 not_grown {side} {L} c p a h =
     let b = within_between c p h in
-    grown-so (a +ℤ swept side L) (a +ℤ swept side L) side _ _ (edge-none (at L 0) (at L (length L - 1)) p b.first b.last) (omega (arith, linear, signed-naught side))
+    grown_so (a +ℤ swept side L) (a +ℤ swept side L) side _ _ (edge_none (at L 0) (at L (length L - 1)) p b.first b.last)
+    (omega (arith, linear, signed_naught side))
 
 -- ---- the doubled area of the corners
 abbrev last_of : Position → List Position → Position
 last_of a [] = a
 last_of a (b ∷ L) = last_of b L
 
-shoelace-path : (f a : Position) (L : List Position) → shoelace f (a ∷ L) ≡ path (a ∷ L) +ℤ wedge (last_of a L) f
+shoelace_path : (f a : Position) (L : List Position) → shoelace f (a ∷ L) ≡ path (a ∷ L) +ℤ wedge (last_of a L) f
 unfolding wedge
-shoelace-path f a [] = omega (arith, linear)
-shoelace-path f a (b ∷ L) = omega (arith, linear, shoelace-path f b L)
+shoelace_path f a [] = omega (arith, linear)
+shoelace_path f a (b ∷ L) = omega (arith, linear, shoelace_path f b L)
 
-area2-path : (a : Position) (L : List Position) → area2 (a ∷ L) ≡ path (a ∷ L) +ℤ wedge (last_of a L) a
-area2-path a [] = omega (arith, linear, wedge_self a)
-area2-path a (b ∷ []) = omega (arith, linear, wedge_flip a b)
-area2-path a (b ∷ c ∷ L) = shoelace-path a a (b ∷ c ∷ L)
+area2_path : (a : Position) (L : List Position) → area2 (a ∷ L) ≡ path (a ∷ L) +ℤ wedge (last_of a L) a
+area2_path a [] = omega (arith, linear, wedge_self a)
+area2_path a (b ∷ []) = omega (arith, linear, wedge_flip a b)
+area2_path a (b ∷ c ∷ L) = shoelace_path a a (b ∷ c ∷ L)
 
-path-closed : (a : Position) (L : List Position) (z : Position) → path (a ∷ L ++ z ∷ []) ≡ path (a ∷ L) +ℤ wedge (last_of a L) z
-path-closed a [] z = omega (arith, linear)
-path-closed a (b ∷ L) z = omega (arith, linear, path-closed b L z)
+path_closed : (a : Position) (L : List Position) (z : Position) → path (a ∷ L ++ z ∷ []) ≡ path (a ∷ L) +ℤ wedge (last_of a L) z
+path_closed a [] z = omega (arith, linear)
+path_closed a (b ∷ L) z = omega (arith, linear, path_closed b L z)
 
 -- from a list that begins with z, back to z
-area2-closed : (R : List Position) (z : Position) → (0 < length R → at R 0 ≡ z) → area2 R ≡ path (R ++ z ∷ [])
-area2-closed [] z h = refl
-area2-closed (a ∷ L) z h =
-    area2-path a L ∙ ap (λ (x : Position). path (a ∷ L) +ℤ wedge (last_of a L) x) (h (omega arith)) ∙ sym (path-closed a L z)
+area2_closed : (R : List Position) (z : Position) → (0 < length R → at R 0 ≡ z) → area2 R ≡ path (R ++ z ∷ [])
+area2_closed [] z h = refl
+area2_closed (a ∷ L) z h =
+    area2_path a L ∙ ap (λ (x : Position). path (a ∷ L) +ℤ wedge (last_of a L) x) (h (omega arith)) ∙ sym (path_closed a L z)
 
-path-reverse : (L : List Position) → path (reverse L) +ℤ path L ≡ pos 0
-path-reverse [] = refl
-path-reverse (a ∷ []) = refl
-path-reverse (a ∷ b ∷ L) =
+path_reverse : (L : List Position) → path (reverse L) +ℤ path L ≡ pos 0
+path_reverse [] = refl
+path_reverse (a ∷ []) = refl
+path_reverse (a ∷ b ∷ L) =
     let e : reverse (a ∷ b ∷ L) ≡ reverse (b ∷ L) ++ a ∷ [] = reverse-append (a ∷ []) (b ∷ L) in
     let f : reverse (b ∷ L) ≡ reverse L ++ b ∷ [] = reverse-append (b ∷ []) L in
     let g : path (reverse (a ∷ b ∷ L)) ≡ path (reverse L ++ b ∷ []) +ℤ wedge b a =
     ap path (e ∙ ap (λ (M : List Position). M ++ a ∷ []) f ∙ append_assoc (reverse L) (b ∷ []) (a ∷ [])) ∙ path_push (reverse L) b a in
     let h : path (reverse (b ∷ L)) ≡ path (reverse L ++ b ∷ []) = ap path f in
-    omega (arith, linear, path-reverse (b ∷ L), wedge_flip a b)
+    omega (arith, linear, path_reverse (b ∷ L), wedge_flip a b)
 
-whole-last : (L : List Position) → 0 < length L → L ≡ take (length L - 1) L ++ at L (length L - 1) ∷ []
-whole-last L h = sym (take_all (length L) L (omega arith)) ∙ take-last L (length L) h (omega arith)
+whole_last : (L : List Position) → 0 < length L → L ≡ take (length L - 1) L ++ at L (length L - 1) ∷ []
+whole_last L h = sym (take_all (length L) L (omega arith)) ∙ take_last L (length L) h (omega arith)
 
 -- a chain by its ends and what is between them
-by-ends : (U : List Position) → 2 ≤ length U → U ≡ at U 0 ∷ (inner U ++ at U (length U - 1) ∷ [])
-by-ends [] h = absurd (omega arith)
-by-ends (u ∷ V) h =
+by_ends : (U : List Position) → 2 ≤ length U → U ≡ at U 0 ∷ (inner U ++ at U (length U - 1) ∷ [])
+by_ends [] h = absurd (omega arith)
+by_ends (u ∷ V) h =
     ap (λ (M : List Position). u ∷ M)
-    (whole-last V (omega arith)
+    (whole_last V (omega arith)
     ∙ ap (λ (n : ℕ). take n V ++ at V (length V - 1) ∷ []) (let e : length V - 1 ≡ length (u ∷ V) - 2 = omega arith in e)
     ∙ ap (λ (n : ℕ). take (length (u ∷ V) - 2) V ++ get_or (u ∷ V) n origin ∷ []) (let e : suc (length V - 1) ≡ length (u ∷ V) - 1 = omega arith in e))
 
 back : (U : List Position) → 2 ≤ length U → reverse U ≡ at U (length U - 1) ∷ (reverse (inner U) ++ at U 0 ∷ [])
 back U h =
     let I = inner U in let a = at U 0 in let z = at U (length U - 1) in
-    ap reverse (by-ends U h) ∙ reverse-append (a ∷ []) (I ++ z ∷ []) ∙ ap (λ (M : List Position). M ++ a ∷ []) (reverse-append I (z ∷ []))
+    ap reverse (by_ends U h) ∙ reverse-append (a ∷ []) (I ++ z ∷ []) ∙ ap (λ (M : List Position). M ++ a ∷ []) (reverse-append I (z ∷ []))
 
 -- along the lower chain and back along the upper one
 round : {L U : List Position} → AreChains L U → 2 ≤ length U → path (corners_of L U ++ at L 0 ∷ []) ≡ path L -ℤ path U
 round {L} {U} h k =
     let l = at L (length L - 1) in
     let some : 0 < length L = elim (cases_lt 0 (length L)) [ inl s ↦ s | inr z ↦ absurd (omega (arith, k, h.upper_empty (omega (arith, z)))) ] in
-    let whole = whole-last L some in
+    let whole = whole_last L some in
     let rest : l ∷ (reverse (inner U) ++ at L 0 ∷ []) ≡ reverse U =
-    ap (λ (x : Position). x ∷ (reverse (inner U) ++ at L 0 ∷ [])) h.last ∙ ap (λ (x : Position). at U (length U - 1) ∷ (reverse (inner U) ++ x ∷ [])) h.first ∙ sym (back U k) in
+    ap (λ (x : Position). x ∷ (reverse (inner U) ++ at L 0 ∷ [])) h.last ∙ ap (λ (x : Position). at U (length U - 1) ∷ (reverse (inner U) ++ x ∷ [])) h.first
+    ∙ sym (back U k) in
     let e : path (corners_of L U ++ at L 0 ∷ []) ≡ path (take (length L - 1) L ++ l ∷ []) +ℤ path (reverse U) =
     ap path (append_assoc L (reverse (inner U)) (at L 0 ∷ [])
     ∙ ap (λ (M : List Position). M ++ (reverse (inner U) ++ at L 0 ∷ [])) whole
     ∙ append_assoc (take (length L - 1) L) (l ∷ []) (reverse (inner U) ++ at L 0 ∷ []))
     ∙ path_join (take (length L - 1) L) l (reverse (inner U) ++ at L 0 ∷ [])
     ∙ ap (λ (M : List Position). path (take (length L - 1) L ++ l ∷ []) +ℤ path M) rest in
-    omega (arith, linear, ap path whole, path-reverse U)
+    omega (arith, linear, ap path whole, path_reverse U)
 
-short-path : (L : List Position) → length L ≤ 1 → path L ≡ pos 0
-short-path [] h = refl
-short-path (a ∷ []) h = refl
-short-path (a ∷ b ∷ L) h = absurd (omega arith)
+short_path : (L : List Position) → length L ≤ 1 → path L ≡ pos 0
+short_path [] h = refl
+short_path (a ∷ []) h = refl
+short_path (a ∷ b ∷ L) h = absurd (omega arith)
 
-short-closed : (L : List Position) → length L ≤ 1 → path (L ++ at L 0 ∷ []) ≡ pos 0
-short-closed [] h = refl
-short-closed (a ∷ []) h = omega (arith, linear, wedge_self a)
-short-closed (a ∷ b ∷ L) h = absurd (omega arith)
+short_closed : (L : List Position) → length L ≤ 1 → path (L ++ at L 0 ∷ []) ≡ pos 0
+short_closed [] h = refl
+short_closed (a ∷ []) h = omega (arith, linear, wedge_self a)
+short_closed (a ∷ b ∷ L) h = absurd (omega arith)
 
 -- with one corner in the upper chain there is one in the lower
-lower-short : {L U : List Position} → AreChains L U → length U ≤ 1 → length L ≤ 1
-lower-short {L} {U} h k =
+lower_short : {L U : List Position} → AreChains L U → length U ≤ 1 → length L ≤ 1
+lower_short {L} {U} h k =
     elim (cases_lt 1 (length L)) [
       | inr g ↦ g
       | inl l ↦ absurd (
@@ -277,23 +382,25 @@ lower-short {L} {U} h k =
 
 pub hull_area : {L U : List Position} → AreChains L U → area2 (corners_of L U) ≡ swept Lower L +ℤ swept Upper U
 hull_area {L} {U} h =
-    area2-closed (corners_of L U) (at L 0) begins
+    area2_closed (corners_of L U) (at L 0) begins
     ∙ elim (cases_lt (length U) 2) [
       | inr g ↦ (let e = round h g in omega (arith, linear))
       | inl l ↦
-          let k : length L ≤ 1 = lower-short h (omega (arith, l)) in
+          let k : length L ≤ 1 = lower_short h (omega (arith, l)) in
           let e : corners_of L U ≡ L = ap (λ (n : ℕ). L ++ reverse (take n (drop 1 U))) (let f : length U - 2 ≡ 0 = omega (arith, l) in f) ∙ append-nil L in
-          ap (λ (R : List Position). path (R ++ at L 0 ∷ [])) e ∙ omega (arith, linear, short-closed L k, short-path L k, short-path U (omega (arith, l)))
+          ap (λ (R : List Position). path (R ++ at L 0 ∷ [])) e ∙ omega (arith, linear, short_closed L k, short_path L k, short_path U (omega (arith, l)))
     ]
   where
     begins : 0 < length (corners_of L U) → at (corners_of L U) 0 ≡ at L 0
     begins s = elim (cases_lt 0 (length L)) [
       | inl l ↦ get_or_append_left L (reverse (inner U)) origin 0 l
-      | inr z ↦ absurd (omega (arith, s, z, length-corners L U, h.upper_empty (omega (arith, z))))
+      | inr z ↦ absurd (omega (arith, s, z, length_corners L U, h.upper_empty (omega (arith, z))))
     ]
 
 -- what both chains add, where each adds the edge to p as often as the other takes it off
-pub area_extended : (L U M V : List Position) (a b c : ℤ) → AreChains L U → (p : Position) → a ≡ swept Lower L +ℤ swept Upper U → b +ℤ swept Lower L +ℤ signed Lower (open_edge (at L 0) (at L (length L - 1)) p) ≡ a +ℤ swept Lower M → c +ℤ swept Upper U +ℤ signed Upper (open_edge (at U 0) (at U (length U - 1)) p) ≡ b +ℤ swept Upper V → c ≡ swept Lower M +ℤ swept Upper V
+pub area_extended : (L U M V : List Position) (a b c : ℤ) → AreChains L U → (p : Position) → a ≡ swept Lower L +ℤ swept Upper U
+    → b +ℤ swept Lower L +ℤ signed Lower (open_edge (at L 0) (at L (length L - 1)) p) ≡ a +ℤ swept Lower M
+    → c +ℤ swept Upper U +ℤ signed Upper (open_edge (at U 0) (at U (length U - 1)) p) ≡ b +ℤ swept Upper V → c ≡ swept Lower M +ℤ swept Upper V
 area_extended L U M V a b c h p e f g =
     let same : open_edge (at L 0) (at L (length L - 1)) p ≡ open_edge (at U 0) (at U (length U - 1)) p =
     ap (λ (x : Position). open_edge x (at L (length L - 1)) p) h.first ∙ ap (λ (x : Position). open_edge (at U 0) x p) h.last in

@@ -1,5 +1,6 @@
 -- What a hull covers lies within both of its chains: a direction separates each other point from all corners.
-use Rattle.std.proofs.Common.{◌≡◌, sym, subst, ℕ, ◌+◌, ◌-◌, ◌<◌, pos, neg_ℤ, ◌-ℤ◌, ◌≤ℤ◌, ◌<ℤ◌, inl, inr, List, [], ◌∷◌, length, arith, refl, Contains, Bool, true, false}
+use Rattle.std.proofs.Common.{◌≡◌, sym, subst, ℕ, ◌+◌, ◌-◌, ◌<◌, pos, neg_ℤ, ◌-ℤ◌, ◌≤ℤ◌, ◌<ℤ◌, inl, inr, List, [], ◌∷◌, length, arith, refl, Contains, Bool}
+use Rattle.std.proofs.Common.{true, false}
 use Rattle.std.proofs.lemmas.Bool.{OnFalse_at, OnTrue_at, cases_lt}
 use Rattle.std.specs.Bool.{OnFalse, OnTrue}
 use Rattle.range_plane.specs.Covering.{advance, is_covered}
@@ -7,15 +8,15 @@ use Rattle.range_plane.specs.Edges.{at}
 use Rattle.range_plane.specs.Order.{rank, rank_base}
 use Rattle.range_plane.specs.Plane.{Position, position, turn}
 use Rattle.range_plane.specs.Laws.{CoveredIsDecided, CoveringIsReaching, ReachesEveryWay}
-use Rattle.integers_and_lists.proofs.Integers.{linear}
-use Rattle.integers_and_lists.proofs.Ring.{var, num, ◌⊕◌, ◌⊖◌, ◌⊗◌, ring}
+use Rattle.range_lemmas.proofs.Integers.{linear}
+use Rattle.range_lemmas.proofs.Ring.{var, num, ◌⊕◌, ◌⊖◌, ◌⊗◌, ring}
 use Rattle.range_hull.specs.declared.side.Side.{Side}
 use Rattle.range_hull.specs.declared.side.Side.TheVariants.{Lower, Upper}
-use Rattle.range_hull.specs.Chain.{bend, IsBeyond, before_first, after_all, past_edge, IsChain, IsWithin, on_corner, on_chord}
+use Rattle.range_hull.specs.Chain.{bend, IsBeyond, before_first, after_all, past_edge, IsChain, LiesWithin, on_corner, on_chord}
 use Rattle.range_hull.specs.Hull.{corners_of, AreChains}
 use Rattle.range_hull.proofs.Bends.{bend_flip, lifted, turn_of, rank_of}
 use Rattle.range_hull.proofs.Chains.{within_between}
-use Rattle.range_hull.proofs.Hulls.{corner_in_lower, corner_in_upper, edge-sees, reaches}
+use Rattle.range_hull.proofs.Hulls.{corner_in_lower, corner_in_upper, edge_sees, reaches}
 
 -- some direction leaves all of S behind q
 record IsApart (S : List Position) (q : Position) : Type 0 where
@@ -64,16 +65,20 @@ advance_away Lower a b q s = advance_right a b q s
 advance_away Upper a b q s = omega (arith, linear, advance_left a b q s)
 
 -- an edge bends to all that lies within the chain, or that is on the edge
-edge_to_corner : {side : Side} {L : List Position} → IsChain side L → (i m : ℕ) → i + 1 < length L → m < length L → pos 0 ≤ℤ bend side (at L i) (at L (i + 1)) (at L m)
-edge_to_corner c i m k l = edge-sees c i (i + 1) m (omega arith) k l (elim (cases_lt i m) [ inl h ↦ inr (omega (arith, h)) | inr h ↦ inl h ])
+edge_to_corner : {side : Side} {L : List Position} → IsChain side L → (i m : ℕ) → i + 1 < length L → m < length L
+    → pos 0 ≤ℤ bend side (at L i) (at L (i + 1)) (at L m)
+edge_to_corner c i m k l = edge_sees c i (i + 1) m (omega arith) k l (elim (cases_lt i m) [ inl h ↦ inr (omega (arith, h)) | inr h ↦ inl h ])
 
-edge_bends : {side : Side} {L : List Position} → IsChain side L → (i : ℕ) → i + 1 < length L → (s : Position) → IsWithin side L s → pos 0 ≤ℤ bend side (at L i) (at L (i + 1)) s
+edge_bends : {side : Side} {L : List Position} → IsChain side L → (i : ℕ) → i + 1 < length L → (s : Position) → LiesWithin side L s
+    → pos 0 ≤ℤ bend side (at L i) (at L (i + 1)) s
 edge_bends {side} {L} c i k s (on_corner m l e) = subst (λ (x : Position). pos 0 ≤ℤ bend side (at L i) (at L (i + 1)) x) (sym e) (edge_to_corner c i m k l)
 edge_bends {side} {L} c i k s (on_chord m j mj l ms sj h) =
-    lifted side (at L i) (at L (i + 1)) (at L m) (at L j) s (c.rising i (i + 1) (omega arith) k) (c.rising m j mj l) ms sj (edge_to_corner c i m k (omega arith)) (edge_to_corner c i j k l) h
+    lifted side (at L i) (at L (i + 1)) (at L m) (at L j) s (c.rising i (i + 1) (omega arith) k) (c.rising m j mj l) ms sj
+    (edge_to_corner c i m k (omega arith)) (edge_to_corner c i j k l) h
 
 -- a set that lies within the chain is apart from what lies beyond it
-apart_beyond : {side : Side} {L : List Position} → IsChain side L → (S : List Position) → ((s : Position) → Contains S s → IsWithin side L s) → (q : Position) → IsBeyond side L q → IsApart S q
+apart_beyond : {side : Side} {L : List Position} → IsChain side L → (S : List Position) → ((s : Position) → Contains S s → LiesWithin side L s) → (q : Position)
+    → IsBeyond side L q → IsApart S q
 apart_beyond {side} {L} c S within q (before_first h) = record {
   way = position (neg_ℤ (pos rank_base)) (neg_ℤ (pos 1));
   behind = λ s m.
@@ -106,13 +111,15 @@ decided false true to back = back refl
 decided false false to back = refl
 
 -- beyond the lower chain, nothing is covered
-pub covered_none : CoveringIsReaching → CoveredIsDecided → {L U : List Position} → AreChains L U → (q : Position) → IsBeyond Lower L q → false ≡ is_covered (corners_of L U) q
+pub covered_none : CoveringIsReaching → CoveredIsDecided → {L U : List Position} → AreChains L U → (q : Position) → IsBeyond Lower L q
+    → false ≡ is_covered (corners_of L U) q
 covered_none reaching decides {L} {U} h q b =
     decided false (is_covered (corners_of L U) q) (λ e. cc e)
     (λ e. absurd (beyond_lower h q b ((reaching (corners_of L U) q).0 ((decides (corners_of L U) q).0 e))))
 
 -- within the lower chain, the upper one decides
-pub covered_by_upper : CoveringIsReaching → CoveredIsDecided → {L U : List Position} → AreChains L U → (q : Position) → IsWithin Lower L q → (b : Bool) → OnTrue b (IsWithin Upper U q) → OnFalse b (IsBeyond Upper U q) → b ≡ is_covered (corners_of L U) q
+pub covered_by_upper : CoveringIsReaching → CoveredIsDecided → {L U : List Position} → AreChains L U → (q : Position) → LiesWithin Lower L q → (b : Bool)
+    → OnTrue b (LiesWithin Upper U q) → OnFalse b (IsBeyond Upper U q) → b ≡ is_covered (corners_of L U) q
 covered_by_upper reaching decides {L} {U} h q w true within beyond =
     sym ((decides (corners_of L U) q).1 ((reaching (corners_of L U) q).1 (reaches h q w (OnTrue_at refl within))))
 covered_by_upper reaching decides {L} {U} h q w false within beyond =

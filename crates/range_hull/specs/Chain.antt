@@ -3,7 +3,7 @@ use Rattle.std.specs.Prelude.{ℕ, ◌+◌, ◌-◌, ◌<◌, ℤ, pos, neg_ℤ,
 use Rattle.range_plane.specs.Edges.{at}
 use Rattle.range_plane.specs.Order.{rank}
 use Rattle.range_plane.specs.Plane.{Position, turn}
-use Rattle.range_chain.specs.Chain.{IsRising}
+use Rattle.range_pieces.specs.PointList.{IsRising}
 use Rattle.range_hull.specs.declared.side.Side.{Side}
 use Rattle.range_hull.specs.declared.side.Side.TheVariants.{Lower, Upper}
 
@@ -18,9 +18,9 @@ pub record IsChain (side : Side) (L : List Position) : Type 0 where
   pub convex : (i j k : ℕ) → i < j → j < k → k < length L → pos 0 <ℤ bend side (at L i) (at L j) (at L k)
 
 -- q is a corner, or lies past a chord between two corners on the side to which the chain bends, or on the chord
-pub data IsWithin (side : Side) (L : List Position) (q : Position) : Type 0 where
-  on_corner : (i : ℕ) → i < length L → q ≡ at L i → IsWithin side L q
-  on_chord : (i j : ℕ) → i < j → j < length L → rank (at L i) ≤ℤ rank q → rank q ≤ℤ rank (at L j) → pos 0 ≤ℤ bend side (at L i) (at L j) q → IsWithin side L q
+pub data LiesWithin (side : Side) (L : List Position) (q : Position) : Type 0 where
+  on_corner : (i : ℕ) → i < length L → q ≡ at L i → LiesWithin side L q
+  on_chord : (i j : ℕ) → i < j → j < length L → rank (at L i) ≤ℤ rank q → rank q ≤ℤ rank (at L j) → pos 0 ≤ℤ bend side (at L i) (at L j) q → LiesWithin side L q
 
 -- q comes before the first corner or after all, or lies strictly past an edge on the side from which the chain bends away
 pub data IsBeyond (side : Side) (L : List Position) (q : Position) : Type 0 where
@@ -41,8 +41,8 @@ EndsAs L p M =
 -- the chain M is the chain L with p added
 pub record Extends (side : Side) (L : List Position) (p : Position) (M : List Position) : Type 0 where
   pub chain : IsChain side M
-  pub keeps : (q : Position) → IsWithin side L q → IsWithin side M q
-  pub takes : IsWithin side M p
+  pub keeps : (q : Position) → LiesWithin side L q → LiesWithin side M q
+  pub takes : LiesWithin side M p
   pub members : (q : Position) → Contains M q → (q ≡ p) ⊎ Contains L q
   pub first : BeginsAs L p M
   pub last : EndsAs L p M

@@ -8,7 +8,8 @@ use Rattle.range_hull.specs.Area.{swept}
 use Rattle.range_hull.specs.Chain.{IsChain}
 use Rattle.range_hull.specs.Tally.{Count}
 
--- what contracts see of a hull: its corners as a polygon lists them, how many points were inserted and skipped, how often inserts evaluated `turn`, and how many inserts there is room for
+-- what contracts see of a hull: its corners as a polygon lists them, how many points were inserted and skipped, how often inserts evaluated `turn`, and how
+-- many inserts there is room for
 pub record Hull : Type 0 where
   pub corners : List Position
   pub inserted : ℕ
@@ -36,7 +37,7 @@ pub record AreChains (L U : List Position) : Type 0 where
   pub upper_limits : (i : ℕ) → i < length U → IsWithinLimits (at U i)
 
 -- what is true of every hull: each insert pays for at most eight turns and corners of chains
-pub record IsKept (L U : List Position) (inserted skipped : ℕ) (count : Count) : Type 0 where
+pub record IsSoundHull (L U : List Position) (inserted skipped : ℕ) (count : Count) : Type 0 where
   pub chains : AreChains L U
   pub few : inserted + skipped ≤ fix_limit
   pub paid : count.turns + length L + length U ≤ 8 * inserted

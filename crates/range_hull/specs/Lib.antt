@@ -1,5 +1,6 @@
 pub mod Area
 pub mod Chain
 pub mod Hull
+pub mod Outside
 pub mod Spot
 pub mod Tally

@@ -1,9 +1,9 @@
--- Where a point falls in a chain that is kept in blocks, and the corners on either side of it.
+-- Where a point falls in a chain that is kept in pieces, and the corners on either side of it.
 use Rattle.std.specs.Prelude.{ℕ, ◌-◌, ◌<◌, ◌≡◌, List, length, Option, Some, None}
 use Rattle.range_plane.specs.Edges.{at}
 use Rattle.range_plane.specs.Plane.{Position}
-use Rattle.range_chain.specs.Blocks.{joined}
-use Rattle.range_chain.specs.Chain.{FallsAt, Stands, place}
+use Rattle.range_pieces.specs.Pieces.{all_points}
+use Rattle.range_pieces.specs.PointList.{FallsAt, Stands, place}
 use Rattle.range_hull.specs.declared.spot.Spot.{Spot}
 
 -- what stands before place k of L and what stands after it, where something does
@@ -16,5 +16,5 @@ pub record IsBeside (L : List Position) (k : ℕ) (before after : Option Positio
 -- p falls at this spot
 pub record IsSpot (bs : List (List Position)) (p : Position) (s : Spot) : Type 0 where
   pub stands : Stands bs s.at
-  pub falls : FallsAt (joined bs) p (place bs s.at)
-  pub beside : IsBeside (joined bs) (place bs s.at) s.before s.after
+  pub falls : FallsAt (all_points bs) p (place bs s.at)
+  pub beside : IsBeside (all_points bs) (place bs s.at) s.before s.after

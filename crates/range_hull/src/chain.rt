@@ -5,26 +5,31 @@ ghost use Rattle.std.specs.Prelude.{◌≡◌, ◌+◌, ◌-◌, ◌<◌, ◌≤
 ghost use Rattle.range_plane.specs.Edges.{at};
 ghost use Rattle.range_plane.specs.Order.{rank};
 ghost use Rattle.range_plane.specs.Plane.{IsWithinLimits};
-ghost use Rattle.range_chain.specs.Blocks.{joined};
-ghost use Rattle.range_chain.specs.Chain.{Stands, place};
+ghost use Rattle.range_pieces.specs.PointList.{Stands, place, points_in};
 ghost use Rattle.range_hull.specs.Area.{open_edge, signed, swept, swept_after, swept_before};
-ghost use Rattle.range_hull.specs.Chain.{Extends, IsBeyond, IsChain, IsWithin, bend};
+ghost use Rattle.range_hull.specs.Chain.{Extends, IsBeyond, IsChain, LiesWithin, bend};
 ghost use Rattle.range_hull.specs.Hull.{inner};
+ghost use Rattle.range_hull.specs.Outside.{IsTested};
 ghost use Rattle.range_hull.specs.Spot.{IsSpot};
 ghost use Rattle.range_hull.specs.Tally.{most_turns};
 
 use crate::side::Side;
 use crate::spot::Spot;
 use crate::tally::Tally;
-use range_chain::{Chain, Cursor};
+use range_pieces::{Cursor, PointList};
 use range_plane::{OutOfMemory, Point, rank};
 use std::alloc::Allocator;
 
 // Whether `p`, which falls at `spot`, lies within `chain`. The turn for it is not counted.
-pub(crate) fn lies_within<A: Allocator>(side: Side, chain: &Chain<A>, spot: Spot, p: Point) -> bool
-    requires { IsSpot chain.now.blocks p spot }
-    ensures within { OnTrue result (IsWithin side (joined chain.now.blocks) p) }
-    ensures beyond { OnFalse result (IsBeyond side (joined chain.now.blocks) p) }
+pub(crate) fn lies_within<A: Allocator>(
+    side: Side,
+    chain: &PointList<A>,
+    spot: Spot,
+    p: Point,
+) -> bool
+    requires { IsSpot chain.now.pieces p spot }
+    ensures within { OnTrue result (LiesWithin side (points_in chain.now) p) }
+    ensures beyond { OnFalse result (IsBeyond side (points_in chain.now) p) }
 {
     let _ = chain;
     let Some(next) = spot.after else {
@@ -43,22 +48,15 @@ pub(crate) fn lies_within<A: Allocator>(side: Side, chain: &Chain<A>, spot: Spot
 #[inline(always)]
 fn lies_outside<A: Allocator>(
     side: Side,
-    chain: &Chain<A>,
+    chain: &PointList<A>,
     spot: Spot,
     p: Point,
     tally: &mut Tally,
 ) -> bool
-    requires spot { IsSpot chain.now.blocks p spot }
+    requires spot { IsSpot chain.now.pieces p spot }
     requires few { tally.old.turns < most_turns }
-    ensures outside { let L = joined chain.now.blocks in let i = place chain.now.blocks spot.at in OnTrue result (0 < i → i < length L → pos 0 <ℤ bend side (at L (i - 1)) p (at L i)) }
-    ensures apart { let L = joined chain.now.blocks in let i = place chain.now.blocks spot.at in OnTrue result (i < length L → rank p <ℤ rank (at L i)) }
-    ensures inside { OnFalse result (IsWithin side (joined chain.now.blocks) p) }
-    ensures turns { tally.new.turns ≤ tally.old.turns + 1 }
-    ensures rises { tally.old.turns ≤ tally.new.turns }
-    ensures gained { let L = joined chain.now.blocks in let i = place chain.now.blocks spot.at in OnTrue result (0 < i → i < length L → pos tally.new.area ≡ pos tally.old.area +ℤ bend side (at L (i - 1)) p (at L i)) }
-    ensures at_first { place chain.now.blocks spot.at ≡ 0 → tally.new.area ≡ tally.old.area }
-    ensures at_last { place chain.now.blocks spot.at ≡ length (joined chain.now.blocks) → tally.new.area ≡ tally.old.area }
-    ensures none { OnFalse result (tally.new.area ≡ tally.old.area) }
+    ensures { IsTested side (points_in chain.now) (place chain.now.pieces spot.at) p result
+        tally.old tally.new }
 {
     let _ = chain;
     let Some(after) = spot.after else {
@@ -76,22 +74,27 @@ fn lies_outside<A: Allocator>(
 // The place after the corners before `c` that stay once `p` stands there.
 fn kept_before<A: Allocator>(
     side: Side,
-    chain: &Chain<A>,
+    chain: &PointList<A>,
     c: Cursor,
     p: Point,
     tally: &mut Tally,
 ) -> Cursor
-    requires stands { Stands chain.now.blocks c }
-    requires few { tally.old.turns + place chain.now.blocks c ≤ most_turns }
-    ensures stands { Stands chain.now.blocks result }
-    ensures bound { place chain.now.blocks result ≤ place chain.now.blocks c }
-    ensures starts { 0 < place chain.now.blocks c → 0 < place chain.now.blocks result }
-    ensures bends { let L = joined chain.now.blocks in let k = place chain.now.blocks result in 2 ≤ k → pos 0 <ℤ bend side (at L (k - 2)) (at L (k - 1)) p }
-    ensures dents { let L = joined chain.now.blocks in let k = place chain.now.blocks result in k < place chain.now.blocks c → bend side (at L (k - 1)) (at L k) p ≤ℤ pos 0 }
-    ensures turns { tally.new.turns + place chain.now.blocks result ≤ tally.old.turns + place chain.now.blocks c + 1 }
+    requires stands { Stands chain.now.pieces c }
+    requires few { tally.old.turns + place chain.now.pieces c ≤ most_turns }
+    ensures stands { Stands chain.now.pieces result }
+    ensures bound { place chain.now.pieces result ≤ place chain.now.pieces c }
+    ensures starts { 0 < place chain.now.pieces c → 0 < place chain.now.pieces result }
+    ensures bends { let L = points_in chain.now in let k = place chain.now.pieces result in
+        2 ≤ k → pos 0 <ℤ bend side (at L (k - 2)) (at L (k - 1)) p }
+    ensures dents { let L = points_in chain.now in let k = place chain.now.pieces result in
+        k < place chain.now.pieces c → bend side (at L (k - 1)) (at L k) p ≤ℤ pos 0 }
+    ensures turns { tally.new.turns + place chain.now.pieces result ≤ tally.old.turns
+        + place chain.now.pieces c + 1 }
     ensures rises { tally.old.turns ≤ tally.new.turns }
-    ensures swept { let L = joined chain.now.blocks in let i = place chain.now.blocks c in 0 < i → pos tally.new.area -ℤ swept_before side L p (place chain.now.blocks result) ≡ pos tally.old.area -ℤ swept_before side L p i }
-    ensures none { place chain.now.blocks c ≡ 0 → tally.new.area ≡ tally.old.area }
+    ensures swept { let L = points_in chain.now in let i = place chain.now.pieces c in 0 < i
+        → pos tally.new.area -ℤ swept_before side L p (place chain.now.pieces result)
+        ≡ pos tally.old.area -ℤ swept_before side L p i }
+    ensures none { place chain.now.pieces c ≡ 0 → tally.new.area ≡ tally.old.area }
 {
     let mut kept = c;
     while !chain.is_start(kept) {
@@ -111,23 +114,32 @@ fn kept_before<A: Allocator>(
 // The place before the first corner from `c` on that stays once `p` stands before it.
 fn kept_after<A: Allocator>(
     side: Side,
-    chain: &Chain<A>,
+    chain: &PointList<A>,
     c: Cursor,
     p: Point,
     tally: &mut Tally,
 ) -> Cursor
-    requires stands { Stands chain.now.blocks c }
-    requires few { tally.old.turns + length (joined chain.now.blocks) ≤ most_turns + place chain.now.blocks c }
-    ensures stands { Stands chain.now.blocks result }
-    ensures bound { place chain.now.blocks c ≤ place chain.now.blocks result }
-    ensures within { place chain.now.blocks result ≤ length (joined chain.now.blocks) }
-    ensures stops { let L = joined chain.now.blocks in place chain.now.blocks c < length L → place chain.now.blocks result < length L }
-    ensures bends { let L = joined chain.now.blocks in let k = place chain.now.blocks result in k + 1 < length L → pos 0 <ℤ bend side p (at L k) (at L (k + 1)) }
-    ensures dents { let L = joined chain.now.blocks in let k = place chain.now.blocks result in place chain.now.blocks c < k → bend side p (at L (k - 1)) (at L k) ≤ℤ pos 0 }
-    ensures turns { tally.new.turns + place chain.now.blocks c ≤ tally.old.turns + place chain.now.blocks result + 1 }
+    requires stands { Stands chain.now.pieces c }
+    requires few { tally.old.turns + length (points_in chain.now) ≤ most_turns
+        + place chain.now.pieces c }
+    ensures stands { Stands chain.now.pieces result }
+    ensures bound { place chain.now.pieces c ≤ place chain.now.pieces result }
+    ensures within { place chain.now.pieces result ≤ length (points_in chain.now) }
+    ensures stops { let L = points_in chain.now in place chain.now.pieces c < length L
+        → place chain.now.pieces result < length L }
+    ensures bends { let L = points_in chain.now in let k = place chain.now.pieces result in
+        k + 1 < length L → pos 0 <ℤ bend side p (at L k) (at L (k + 1)) }
+    ensures dents { let L = points_in chain.now in let k = place chain.now.pieces result in
+        place chain.now.pieces c < k → bend side p (at L (k - 1)) (at L k) ≤ℤ pos 0 }
+    ensures turns { tally.new.turns + place chain.now.pieces c ≤ tally.old.turns
+        + place chain.now.pieces result + 1 }
     ensures rises { tally.old.turns ≤ tally.new.turns }
-    ensures swept { let L = joined chain.now.blocks in let i = place chain.now.blocks c in i < length L → pos tally.new.area -ℤ swept_after side L p (place chain.now.blocks result) ≡ pos tally.old.area -ℤ swept_after side L p i }
-    ensures none { place chain.now.blocks c ≡ length (joined chain.now.blocks) → tally.new.area ≡ tally.old.area }
+    ensures swept { let L = points_in chain.now in let i = place chain.now.pieces c in
+        i < length L
+        → pos tally.new.area -ℤ swept_after side L p (place chain.now.pieces result)
+        ≡ pos tally.old.area -ℤ swept_after side L p i }
+    ensures none { place chain.now.pieces c ≡ length (points_in chain.now)
+        → tally.new.area ≡ tally.old.area }
 {
     let mut kept = c;
     while !chain.is_end(kept) {
@@ -147,21 +159,25 @@ fn kept_after<A: Allocator>(
 #[inline(always)]
 pub(crate) fn extend<A: Allocator>(
     side: Side,
-    chain: &mut Chain<A>,
+    chain: &mut PointList<A>,
     spot: Spot,
     p: Point,
     tally: &mut Tally,
 )
-    requires chain { IsChain side (joined chain.old.blocks) }
-    requires spot { IsSpot chain.old.blocks p spot }
+    requires chain { IsChain side (points_in chain.old) }
+    requires spot { IsSpot chain.old.pieces p spot }
     requires room { 0 < chain.old.spare }
-    requires few { tally.old.turns + length (joined chain.old.blocks) + 4 ≤ most_turns }
-    ensures chain { Extends side (joined chain.old.blocks) p (joined chain.new.blocks) }
+    requires few { tally.old.turns + length (points_in chain.old) + 4 ≤ most_turns }
+    ensures chain { Extends side (points_in chain.old) p (points_in chain.new) }
     ensures limits { IsWithinLimits p }
     ensures spare { chain.old.spare ≤ chain.new.spare + 1 }
-    ensures turns { tally.new.turns + length (joined chain.new.blocks) ≤ tally.old.turns + length (joined chain.old.blocks) + 4 }
+    ensures turns { tally.new.turns + length (points_in chain.new) ≤ tally.old.turns
+        + length (points_in chain.old) + 4 }
     ensures rises { tally.old.turns ≤ tally.new.turns }
-    ensures swept { let L = joined chain.old.blocks in pos tally.new.area +ℤ swept side L +ℤ signed side (open_edge (at L 0) (at L (length L - 1)) p) ≡ pos tally.old.area +ℤ swept side (joined chain.new.blocks) }
+    ensures swept { let L = points_in chain.old in
+        pos tally.new.area +ℤ swept side L
+        +ℤ signed side (open_edge (at L 0) (at L (length L - 1)) p) ≡ pos tally.old.area
+        +ℤ swept side (points_in chain.new) }
 {
     let c = spot.at;
     if !lies_outside(side, chain, spot, p, tally) {
@@ -175,9 +191,10 @@ pub(crate) fn extend<A: Allocator>(
 // Appends the corners between the ends of `chain`, the last of them first.
 pub(crate) fn push_back<A: Allocator, B: Allocator>(
     corners: &mut Vec<Point, B>,
-    chain: &Chain<A>,
+    chain: &PointList<A>,
 ) -> Result<(), OutOfMemory>
-    ensures { OnOk result (corners.new.items ≡ corners.old.items ++ reverse (inner (joined chain.now.blocks))) }
+    ensures { OnOk result (corners.new.items ≡ corners.old.items
+        ++ reverse (inner (points_in chain.now))) }
 {
     if chain.len() < 2 {
         return Ok(());

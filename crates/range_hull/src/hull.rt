@@ -10,7 +10,7 @@ use crate::chain::{extend, lies_within, push_back};
 use crate::search::spots_of;
 use crate::side::Side;
 use crate::tally::Tally;
-use range_chain::Chain;
+use range_pieces::PointList;
 use range_plane::{
     OutOfMemory, Point, Polygon, corners_cover_the_set, corners_stand_for_the_set,
     covered_is_decided, covered_points_change_nothing, covering_is_reaching,
@@ -26,9 +26,9 @@ use std::marker::Model;
 #[derive(Drop)]
 pub struct OnlineHull<A: Allocator = Global> {
     // The corners along the south, by easting and then by northing.
-    lower: Chain<A>,
+    lower: PointList<A>,
     // The corners along the north, in the same order; both chains have the same ends.
-    upper: Chain<A>,
+    upper: PointList<A>,
     inserted: u32,
     skipped: u32,
     tally: Tally,
@@ -36,20 +36,21 @@ pub struct OnlineHull<A: Allocator = Global> {
 
 impl<A: Allocator> Model for OnlineHull<A> {
     ghost use Rattle.std.specs.Prelude.{min};
-    ghost use Rattle.range_chain.specs.Blocks.{joined};
-    ghost use Rattle.range_hull.specs.Hull.{Hull, IsKept, corners_of};
+    ghost use Rattle.range_pieces.specs.PointList.{points_in};
+    ghost use Rattle.range_hull.specs.Hull.{Hull, IsSoundHull, corners_of};
 
     ghost Value = { Hull };
 
     ghost view = { λ h. record {
-      corners = corners_of (joined h.lower.blocks) (joined h.upper.blocks);
+      corners = corners_of (points_in h.lower) (points_in h.upper);
       inserted = h.inserted;
       skipped = h.skipped;
       turns = h.tally.turns;
       spare = min h.lower.spare h.upper.spare;
     } };
 
-    ghost invariant = { λ h. IsKept (joined h.lower.blocks) (joined h.upper.blocks) h.inserted h.skipped h.tally };
+    ghost invariant = { λ h. IsSoundHull (points_in h.lower)
+        (points_in h.upper) h.inserted h.skipped h.tally };
 }
 
 impl<A: Allocator> OnlineHull<A> {
@@ -57,11 +58,17 @@ impl<A: Allocator> OnlineHull<A> {
     pub fn new(alloc: A) -> OnlineHull<A>
     where
         A: Copy,
-        ensures { result ≡ record { corners = []; inserted = 0; skipped = 0; turns = 0; spare = 0 } }
+        ensures { result ≡ record {
+          corners = [];
+          inserted = 0;
+          skipped = 0;
+          turns = 0;
+          spare = 0;
+        } }
     {
         OnlineHull {
-            lower: Chain::new(alloc),
-            upper: Chain::new(alloc),
+            lower: PointList::new(alloc),
+            upper: PointList::new(alloc),
             inserted: 0,
             skipped: 0,
             tally: Tally::new(),
@@ -96,12 +103,14 @@ impl<A: Allocator> OnlineHull<A> {
         requires room { 0 < self.old.spare }
         requires few { self.old.inserted + self.old.skipped < fix_limit }
         ensures corners { IsPolygon (p ∷ self.old.corners) self.new.corners }
-        ensures set { (S : List Position) → IsPolygon S self.old.corners → IsPolygon (p ∷ S) self.new.corners }
+        ensures set { (S : List Position) → IsPolygon S self.old.corners
+            → IsPolygon (p ∷ S) self.new.corners }
         ensures inserted { self.new.inserted ≡ self.old.inserted + 1 }
         ensures skipped { self.new.skipped ≡ self.old.skipped }
         ensures spare { self.old.spare ≤ self.new.spare + 1 }
         ensures rises { self.old.turns ≤ self.new.turns }
-        ensures turns { self.new.turns + length self.new.corners ≤ self.old.turns + length self.old.corners + 8 }
+        ensures turns { self.new.turns + length self.new.corners ≤ self.old.turns
+            + length self.old.corners + 8 }
     {
         covering_is_reaching();
         covering_members_are_corners();
@@ -117,7 +126,8 @@ impl<A: Allocator> OnlineHull<A> {
         requires covered { IsTrue (is_covered self.old.corners p) }
         requires few { self.old.inserted + self.old.skipped < fix_limit }
         ensures counted { self.new ≡ record self.old { skipped = self.old.skipped + 1 } }
-        ensures set { (S : List Position) → IsPolygon S self.old.corners → IsPolygon (p ∷ S) self.new.corners }
+        ensures set { (S : List Position) → IsPolygon S self.old.corners
+            → IsPolygon (p ∷ S) self.new.corners }
     {
         covered_is_decided();
         corners_cover_the_set();

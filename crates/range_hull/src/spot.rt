@@ -1,11 +1,11 @@
 // Where a point falls in a chain, and the corners on either side of it.
 
 ghost use Rattle.std.specs.Prelude.{◌≡◌, ◌≤◌, length};
-ghost use Rattle.range_chain.specs.Blocks.{block, joined};
-ghost use Rattle.range_chain.specs.Chain.{Stands, place};
+ghost use Rattle.range_pieces.specs.Pieces.{piece};
+ghost use Rattle.range_pieces.specs.PointList.{Stands, place, points_in};
 ghost use Rattle.range_hull.specs.Spot.{IsBeside};
 
-use range_chain::{Chain, Cursor};
+use range_pieces::{Cursor, PointList};
 use range_plane::Point;
 use std::alloc::Allocator;
 
@@ -18,16 +18,16 @@ pub(crate) struct Spot {
     pub(crate) after: Option<Point>,
 }
 
-// The spot at place `k` of the only block.
+// The spot at place `k` of the only piece.
 #[inline(always)]
-pub(crate) fn spot_in<A: Allocator>(chain: &Chain<A>, k: usize) -> Spot
-    requires one { length chain.now.blocks ≡ 1 }
-    requires within { k ≤ length (block chain.now.blocks 0) }
-    ensures stands { Stands chain.now.blocks result.at }
-    ensures place { place chain.now.blocks result.at ≡ k }
-    ensures beside { IsBeside (joined chain.now.blocks) k result.before result.after }
+pub(crate) fn spot_in<A: Allocator>(chain: &PointList<A>, k: usize) -> Spot
+    requires one { length chain.now.pieces ≡ 1 }
+    requires within { k ≤ length (piece chain.now.pieces 0) }
+    ensures stands { Stands chain.now.pieces result.at }
+    ensures place { place chain.now.pieces result.at ≡ k }
+    ensures beside { IsBeside (points_in chain.now) k result.before result.after }
 {
-    let points = chain.block(0);
+    let points = chain.piece(0);
     Spot {
         at: chain.cursor_in(0, k),
         before: if k > 0 { Some(points[k - 1]) } else { None },
@@ -40,10 +40,11 @@ pub(crate) fn spot_in<A: Allocator>(chain: &Chain<A>, k: usize) -> Spot
 }
 
 // The spot at `c`.
-pub(crate) fn spot_at<A: Allocator>(chain: &Chain<A>, c: Cursor) -> Spot
-    requires { Stands chain.now.blocks c }
+pub(crate) fn spot_at<A: Allocator>(chain: &PointList<A>, c: Cursor) -> Spot
+    requires { Stands chain.now.pieces c }
     ensures at { result.at ≡ c }
-    ensures beside { IsBeside (joined chain.now.blocks) (place chain.now.blocks c) result.before result.after }
+    ensures beside { IsBeside (points_in chain.now)
+        (place chain.now.pieces c) result.before result.after }
 {
     Spot {
         at: c,

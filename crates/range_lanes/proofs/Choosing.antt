@@ -8,7 +8,7 @@ use Rattle.std.proofs.lemmas.Int.{ints, clamps, fold-int_min_bounds, fold-int_mi
 use Rattle.std.proofs.lemmas.List.Sums.{fold-append}
 use Rattle.std.proofs.lemmas.List.{take-append-drop}
 use Rattle.std.proofs.Math.Seq.{take-add}
-use Rattle.range_lanes.specs.Extent.{IsGreatest, IsLeast}
+use Rattle.range_lanes.specs.Extent.{IsGreatest, IsLeastCoordinate}
 
 -- an operation that picks one of two numbers
 pub record Choice (m : ℤ → ℤ → ℤ) : Type 0 where
@@ -53,8 +53,9 @@ module _ (m : ℤ → ℤ → ℤ) (o : Choice m) where
   fold_joined a xs ys =
       sym (fold_out (fold m a xs) a ys) ∙ ap (λ b. fold m b ys) (fold_holds a xs) ∙ sym (fold-append m a xs ys)
 
-  -- one more block of eight
-  pub choice_more : (a : ℤ) (xs lanes : List ℤ) (at : ℕ) → length lanes ≡ length (chunk at 8 xs) → fold m a lanes ≡ fold m a (take at xs) → fold m a (zip2 m lanes (chunk at 8 xs)) ≡ fold m a (take (at + 8) xs)
+  -- one more group of eight
+  pub choice_more : (a : ℤ) (xs lanes : List ℤ) (at : ℕ) → length lanes ≡ length (chunk at 8 xs) → fold m a lanes ≡ fold m a (take at xs)
+      → fold m a (zip2 m lanes (chunk at 8 xs)) ≡ fold m a (take (at + 8) xs)
   choice_more a xs lanes at same e =
       ap (λ b. fold m b (zip2 m lanes (chunk at 8 xs))) (sym (o.same a))
       ∙ fold_zip a a lanes (chunk at 8 xs) same
@@ -72,7 +73,7 @@ contained (x ∷ xs) a r some e (inl h) = (0, some, sym (h ∙ e))
 contained (x ∷ xs) a r some e (inr h) = h
 contained [] a r some e h = absurd (omega arith)
 
-pub least_from_fold : (xs : List ℤ) (a r : ℤ) → 0 < length xs → a ≡ get_or xs 0 (pos 0) → r ≡ fold int_min a xs → IsLeast xs r
+pub least_from_fold : (xs : List ℤ) (a r : ℤ) → 0 < length xs → a ≡ get_or xs 0 (pos 0) → r ≡ fold int_min a xs → IsLeastCoordinate xs r
 least_from_fold xs a r some e h = (contained xs a r some e (fold-int_min_reached a xs r h), (fold-int_min_bounds a xs r h).1)
 
 pub greatest_from_fold : (xs : List ℤ) (a r : ℤ) → 0 < length xs → a ≡ get_or xs 0 (pos 0) → r ≡ fold int_max a xs → IsGreatest xs r

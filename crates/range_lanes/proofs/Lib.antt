@@ -1,7 +1,7 @@
-pub mod Blocks
+pub mod Eights
 pub mod Choosing
 pub mod Counting
-pub mod Edges
+pub mod LaneEdges
 pub mod Signed
 pub mod Summing
 pub mod Turning

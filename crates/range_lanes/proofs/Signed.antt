@@ -1,11 +1,12 @@
 -- Lanes of signed numbers, as the vector operations keep them: each by its bits.
-use Rattle.std.proofs.Common.{◌≡◌, ℕ, ◌+◌, ◌<◌, ℤ, ◌+ℤ◌, ◌-ℤ◌, ◌*ℤ◌, List, [], ◌∷◌, map, refl, ap, ◌∙◌, sym, arith, w32, w64, lit<, FitsSigned, to_z, of_z, cond, Bool, true, false}
+use Rattle.std.proofs.Common.{◌≡◌, ℕ, ◌+◌, ◌<◌, ℤ, ◌+ℤ◌, ◌-ℤ◌, ◌*ℤ◌, List, [], ◌∷◌, map, refl, ap, ◌∙◌, sym, arith, w32, w64, lit<, FitsSigned, to_z, of_z}
+use Rattle.std.proofs.Common.{cond, Bool, true, false}
 use lib.Lanes.{zip2, Each1, Each2, sel_l, top}
 use lib.Signed.{lt_z}
 use Rattle.std.specs.Int.{int_min, int_max}
 use Rattle.range_plane.specs.Plane.{IsCoordinate, coordinate_limit, product_limit, turn_limit}
-use Rattle.integers_and_lists.proofs.Sizes.{abs_add, abs_mul, abs_sub, abs_up_to, fits_from_size}
-use Rattle.range_lanes.specs.Lanes.{IsWithin, AreLanes}
+use Rattle.range_lemmas.proofs.Sizes.{abs_add, abs_mul, abs_sub, abs_up_to, fits_from_size}
+use Rattle.range_lanes.specs.Lanes.{IsBounded, AreLanes}
 use Rattle.std.specs.List.{All}
 use Rattle.std.proofs.lemmas.List.Elements.{All-head, All-tail}
 use Rattle.std.proofs.lemmas.Simd.{Each1-weaker, length-zip2}
@@ -49,14 +50,15 @@ each_zip f P Q R s [] ys p q = tt
 each_zip f P Q R s (x ∷ xs) [] p q = tt
 each_zip f P Q R s (x ∷ xs) (y ∷ ys) p q = (s x y p.0 q.0, each_zip f P Q R s xs ys p.1 q.1)
 
-pub lanes_from_each : (f : ℤ → ℤ → ℤ) (P Q : ℤ → Type 0) → ((x y : ℤ) → P x → Q y → FitsSigned w64 (f x y)) → (xs ys : List ℤ) → AreLanes xs → AreLanes ys → Each1 P xs → Each1 Q ys → AreLanes (zip2 f xs ys)
+pub lanes_from_each : (f : ℤ → ℤ → ℤ) (P Q : ℤ → Type 0) → ((x y : ℤ) → P x → Q y → FitsSigned w64 (f x y)) → (xs ys : List ℤ) → AreLanes xs → AreLanes ys
+    → Each1 P xs → Each1 Q ys → AreLanes (zip2 f xs ys)
 lanes_from_each f P Q s xs ys a b p q =
     (length-zip2 f xs ys (a.0 ∙ sym b.0) ∙ a.0, each_zip f P Q (FitsSigned w64) s xs ys p q)
 
 -- ---- operations whose results fit 64 bits, at numbers of at most the size k
 pub record Exact (f : ℤ → ℤ → ℤ) (k : ℕ) : Type 0 where
-  small : (x : ℤ) → IsWithin k x → FitsSigned w64 x
-  fits : (x y : ℤ) → IsWithin k x → IsWithin k y → FitsSigned w64 (f x y)
+  small : (x : ℤ) → IsBounded k x → FitsSigned w64 x
+  fits : (x y : ℤ) → IsBounded k x → IsBounded k y → FitsSigned w64 (f x y)
 
 pub exact_sum : Exact ◌+ℤ◌ turn_limit
 exact_sum = record {
@@ -70,7 +72,7 @@ exact_difference = record {
   fits = λ x y p q. fits_from_size (turn_limit + turn_limit) (lit< tt) (x -ℤ y) (abs_sub x y turn_limit turn_limit p q);
 }
 
-coordinate_size_fits : (x : ℤ) → IsWithin coordinate_limit x → FitsSigned w64 x
+coordinate_size_fits : (x : ℤ) → IsBounded coordinate_limit x → FitsSigned w64 x
 coordinate_size_fits x h = fits_from_size coordinate_limit (lit< tt) x h
 
 pub exact_product : Exact ◌*ℤ◌ coordinate_limit
@@ -79,19 +81,21 @@ exact_product = record {
   fits = λ x y p q. fits_from_size product_limit (lit< tt) (x *ℤ y) (abs_mul x y coordinate_limit coordinate_limit p q);
 }
 
-module _ (f : ℤ → ℤ → ℤ) (k : ℕ) (exact : Exact f k) (xs ys : List ℤ) (p : Each1 (IsWithin k) xs) (q : Each1 (IsWithin k) ys) where
+module _ (f : ℤ → ℤ → ℤ) (k : ℕ) (exact : Exact f k) (xs ys : List ℤ) (p : Each1 (IsBounded k) xs) (q : Each1 (IsBounded k) ys) where
   pub exact_asks : Each2 (λ a b. FitsSigned w64 (f (to_z w64 a) (to_z w64 b))) (map (of_z w64) xs) (map (of_z w64) ys)
   exact_asks =
-      lanes_ask _ (IsWithin k) (IsWithin k) (λ x y p q. rw (to_z-of_z w64 x (exact.small x p), to_z-of_z w64 y (exact.small y q)) (exact.fits x y p q)) xs ys p q
+      lanes_ask _ (IsBounded k) (IsBounded k) (λ x y p q. rw (to_z-of_z w64 x (exact.small x p), to_z-of_z w64 y (exact.small y q))
+      (exact.fits x y p q)) xs ys p q
 
   pub exact_are : map (to_z w64) (zip2 (λ a b. of_z w64 (f (to_z w64 a) (to_z w64 b))) (map (of_z w64) xs) (map (of_z w64) ys)) ≡ zip2 f xs ys
   exact_are =
-      lanes_are f _ (IsWithin k) (IsWithin k) (λ x y p q. rw (to_z-of_z w64 x (exact.small x p), to_z-of_z w64 y (exact.small y q)) (to_z-of_z w64 (f x y) (exact.fits x y p q))) xs ys p q
+      lanes_are f _ (IsBounded k) (IsBounded k) (λ x y p q. rw (to_z-of_z w64 x (exact.small x p), to_z-of_z w64 y (exact.small y q))
+      (to_z-of_z w64 (f x y) (exact.fits x y p q))) xs ys p q
 
   pub exact_lanes : AreLanes xs → AreLanes ys → AreLanes (zip2 f xs ys)
-  exact_lanes a b = lanes_from_each f (IsWithin k) (IsWithin k) exact.fits xs ys a b p q
+  exact_lanes a b = lanes_from_each f (IsBounded k) (IsBounded k) exact.fits xs ys a b p q
 
-pub coordinate_within : (x : ℤ) → IsCoordinate x → IsWithin coordinate_limit x
+pub coordinate_within : (x : ℤ) → IsCoordinate x → IsBounded coordinate_limit x
 coordinate_within x f = abs_up_to coordinate_limit x f
 
 coordinate_fits : (x : ℤ) → IsCoordinate x → FitsSigned w64 x
@@ -123,7 +127,8 @@ chosen false x y f g = to_z-of_z w64 y g
 abbrev pub less_mask : ℕ → ℕ → ℕ
 less_mask a b = cond (lt_z (to_z w64 a) (to_z w64 b)) 18446744073709551615 0
 
-pub min_is : (x y : ℤ) → FitsSigned w64 x → FitsSigned w64 y → to_z w64 (cond (top 63 (less_mask (of_z w64 x) (of_z w64 y))) (of_z w64 x) (of_z w64 y)) ≡ int_min x y
+pub min_is : (x y : ℤ) → FitsSigned w64 x → FitsSigned w64 y → to_z w64
+    (cond (top 63 (less_mask (of_z w64 x) (of_z w64 y))) (of_z w64 x) (of_z w64 y)) ≡ int_min x y
 min_is x y fx fy =
     ap (λ t. to_z w64 (cond t (of_z w64 x) (of_z w64 y))) (top_of_mask (lt_z (to_z w64 (of_z w64 x)) (to_z w64 (of_z w64 y))))
     ∙ chosen (lt_z (to_z w64 (of_z w64 x)) (to_z w64 (of_z w64 y))) x y fx fy
@@ -131,7 +136,8 @@ min_is x y fx fy =
     ∙ ap (λ b. cond (lt_z x b) x y) (to_z-of_z w64 y fy)
     ∙ min_same x y
 
-pub max_is : (x y : ℤ) → FitsSigned w64 x → FitsSigned w64 y → to_z w64 (cond (top 63 (less_mask (of_z w64 x) (of_z w64 y))) (of_z w64 y) (of_z w64 x)) ≡ int_max x y
+pub max_is : (x y : ℤ) → FitsSigned w64 x → FitsSigned w64 y → to_z w64
+    (cond (top 63 (less_mask (of_z w64 x) (of_z w64 y))) (of_z w64 y) (of_z w64 x)) ≡ int_max x y
 max_is x y fx fy =
     ap (λ t. to_z w64 (cond t (of_z w64 y) (of_z w64 x))) (top_of_mask (lt_z (to_z w64 (of_z w64 x)) (to_z w64 (of_z w64 y))))
     ∙ chosen (lt_z (to_z w64 (of_z w64 x)) (to_z w64 (of_z w64 y))) y x fy fx
@@ -150,21 +156,23 @@ pub max_fits : (x y : ℤ) → FitsSigned w64 x → FitsSigned w64 y → FitsSig
 max_fits x y f g = either_fits (lt_z y x) x y f g
 
 -- ---- through 32 bits and back
-narrow_fits : (x : ℤ) → IsWithin coordinate_limit x → FitsSigned w32 x
+narrow_fits : (x : ℤ) → IsBounded coordinate_limit x → FitsSigned w32 x
 narrow_fits x h =
     let room : coordinate_limit < 2147483648 = lit< tt in fits_signed_from_abs w32 x (omega arith)
 
-pub narrow_asks : (xs : List ℤ) → Each1 (IsWithin coordinate_limit) xs → Each1 (λ b. FitsSigned w32 (to_z w64 b)) (map (of_z w64) xs)
+pub narrow_asks : (xs : List ℤ) → Each1 (IsBounded coordinate_limit) xs → Each1 (λ b. FitsSigned w32 (to_z w64 b)) (map (of_z w64) xs)
 narrow_asks [] h = tt
 narrow_asks (x ∷ xs) h =
     (rw (to_z-of_z w64 x (coordinate_size_fits x h.0)) (narrow_fits x h.0), narrow_asks xs h.1)
 
-pub widen_asks : (xs : List ℤ) → Each1 (IsWithin coordinate_limit) xs → Each1 (λ b. FitsSigned w64 (to_z w32 b)) (map (λ b. of_z w32 (to_z w64 b)) (map (of_z w64) xs))
+pub widen_asks : (xs : List ℤ) → Each1 (IsBounded coordinate_limit) xs
+    → Each1 (λ b. FitsSigned w64 (to_z w32 b)) (map (λ b. of_z w32 (to_z w64 b)) (map (of_z w64) xs))
 widen_asks [] h = tt
 widen_asks (x ∷ xs) h =
     (rw (to_z-of_z w64 x (coordinate_size_fits x h.0), to_z-of_z w32 x (narrow_fits x h.0)) (coordinate_size_fits x h.0), widen_asks xs h.1)
 
-pub narrow_is : (xs : List ℤ) → Each1 (IsWithin coordinate_limit) xs → map (to_z w64) (map (λ b. of_z w64 (to_z w32 b)) (map (λ b. of_z w32 (to_z w64 b)) (map (of_z w64) xs))) ≡ xs
+pub narrow_is : (xs : List ℤ) → Each1 (IsBounded coordinate_limit) xs
+    → map (to_z w64) (map (λ b. of_z w64 (to_z w32 b)) (map (λ b. of_z w32 (to_z w64 b)) (map (of_z w64) xs))) ≡ xs
 narrow_is [] h = refl
 narrow_is (x ∷ xs) h =
     ap (λ l. to_z w64 (of_z w64 (to_z w32 (of_z w32 (to_z w64 (of_z w64 x))))) ∷ l) (narrow_is xs h.1)

@@ -1,5 +1,6 @@
 -- Sums over lanes.
-use Rattle.std.proofs.Common.{◌≡◌, ℕ, ◌+◌, ◌*◌, ◌≤◌, ℤ, pos, negsuc, ◌+ℤ◌, ◌≤ℤ◌, List, [], ◌∷◌, ◌++◌, length, take, drop, fold, refl, ap, ◌∙◌, sym, arith, lit<, FitsSigned, Fits, to_z, of_z, w64, length-drop}
+use Rattle.std.proofs.Common.{◌≡◌, ℕ, ◌+◌, ◌*◌, ◌≤◌, ℤ, pos, negsuc, ◌+ℤ◌, ◌≤ℤ◌, List, [], ◌∷◌, ◌++◌, length, take, drop, fold, refl, ap, ◌∙◌, sym, arith, lit<}
+use Rattle.std.proofs.Common.{FitsSigned, Fits, to_z, of_z, w64, length-drop}
 use lib.Dec.{T}
 use lib.IntN.{nat_abs}
 use lib.Signed.{non_neg}
@@ -13,9 +14,9 @@ use Rattle.std.proofs.lemmas.List.Elements.{All-head, All-tail, All-take, All-dr
 use Rattle.std.proofs.lemmas.Simd.{Each1-chunk, Each1-weaker}
 use Rattle.std.proofs.Math.Seq.{take-add}
 use Rattle.range_plane.specs.Plane.{IsCoordinate, coordinate_limit, turn_limit}
-use Rattle.integers_and_lists.proofs.Sizes.{abs_le, fits_from_size}
+use Rattle.range_lemmas.proofs.Sizes.{abs_le, fits_from_size}
 use Rattle.range_plane.specs.Fix.{fix_limit}
-use Rattle.range_lanes.specs.Lanes.{IsWithin}
+use Rattle.range_lanes.specs.Lanes.{IsBounded}
 use Rattle.range_lanes.specs.Totals.{IsSumOf, total}
 use Rattle.range_lanes.proofs.Signed.{coordinate_within, each_from_all}
 
@@ -36,10 +37,12 @@ sum_zip (x ∷ xs) [] h = cc
 sum_zip (x ∷ xs) (y ∷ ys) h =
     omega (arith, ints, sum_cons (x +ℤ y) (zip2 ◌+ℤ◌ xs ys), sum_cons x xs, sum_cons y ys, sum_zip xs ys (suc_inj h))
 
--- one more block of eight
-pub sum_more : (xs lanes : List ℤ) (at : ℕ) → length lanes ≡ length (chunk at 8 xs) → total lanes ≡ total (take at xs) → total (zip2 ◌+ℤ◌ lanes (chunk at 8 xs)) ≡ total (take (at + 8) xs)
+-- one more group of eight
+pub sum_more : (xs lanes : List ℤ) (at : ℕ) → length lanes ≡ length (chunk at 8 xs) → total lanes ≡ total (take at xs)
+    → total (zip2 ◌+ℤ◌ lanes (chunk at 8 xs)) ≡ total (take (at + 8) xs)
 sum_more xs lanes at same e =
-    sum_zip lanes (chunk at 8 xs) same ∙ ap (λ s. s +ℤ total (chunk at 8 xs)) e ∙ sym (sum_append (take at xs) (chunk at 8 xs)) ∙ ap total (sym (take-add at 8 xs))
+    sum_zip lanes (chunk at 8 xs) same ∙ ap (λ s. s +ℤ total (chunk at 8 xs)) e ∙ sym (sum_append (take at xs) (chunk at 8 xs))
+    ∙ ap total (sym (take-add at 8 xs))
 
 -- the size of a sum of coordinates
 pub sum_bounds : (xs : List ℤ) → All IsCoordinate xs → IsSumOf (length xs) (total xs)
@@ -53,10 +56,11 @@ sum_bounds (x ∷ xs) h =
 pub sum_parts : (n : ℕ) (xs : List ℤ) → total (take n xs) +ℤ total (drop n xs) ≡ total xs
 sum_parts n xs = sym (sum_append (take n xs) (drop n xs)) ∙ ap total (take-append-drop n xs)
 
--- a block of coordinates, lane by lane
-pub block_within : (xs : List ℤ) (at : ℕ) → All IsCoordinate xs → Each1 (IsWithin turn_limit) (chunk at 8 xs)
-block_within xs at h =
-    Each1-chunk (IsWithin turn_limit) at 8 xs (Each1-weaker IsCoordinate (IsWithin turn_limit) (λ x f. let g = coordinate_within x f in omega arith) xs (each_from_all IsCoordinate xs h))
+-- a group of coordinates, lane by lane
+pub group_within : (xs : List ℤ) (at : ℕ) → All IsCoordinate xs → Each1 (IsBounded turn_limit) (chunk at 8 xs)
+group_within xs at h =
+    Each1-chunk (IsBounded turn_limit) at 8 xs (Each1-weaker IsCoordinate (IsBounded turn_limit) (λ x f. let g = coordinate_within x f in omega arith) xs
+    (each_from_all IsCoordinate xs h))
 
 pub few_fit : (n : ℕ) (x : ℤ) → n ≤ fix_limit → IsSumOf n x → FitsSigned w64 x
 few_fit n x few h =
@@ -82,14 +86,15 @@ cast_asks (negsuc n) h f = absurd (omega (arith, ints))
 pub total_fits : (xs : List ℤ) → length xs ≤ fix_limit → All IsCoordinate xs → FitsSigned w64 (total xs)
 total_fits xs few h = few_fit (length xs) (total xs) few (sum_bounds xs h)
 
-pub total_asks : (xs : List ℤ) → length xs ≤ fix_limit → All IsCoordinate xs → T (non_neg (to_z w64 (of_z w64 (total xs)))) × Fits w64 (nat_abs (to_z w64 (of_z w64 (total xs))))
+pub total_asks : (xs : List ℤ) → length xs ≤ fix_limit → All IsCoordinate xs → T (non_neg (to_z w64 (of_z w64 (total xs))))
+    × Fits w64 (nat_abs (to_z w64 (of_z w64 (total xs))))
 total_asks xs few h = rw (to_z-of_z w64 (total xs) (total_fits xs few h)) (cast_asks (total xs) (sum_bounds xs h).0 (total_fits xs few h))
 
 pub total_back : (xs : List ℤ) → length xs ≤ fix_limit → All IsCoordinate xs → pos (nat_abs (to_z w64 (of_z w64 (total xs)))) ≡ total xs
 total_back xs few h = rw (to_z-of_z w64 (total xs) (total_fits xs few h)) (cast_back (total xs) (sum_bounds xs h).0)
 
-pub block_sums : (xs : List ℤ) (at : ℕ) → All IsCoordinate xs → Each1 (IsSumOf 1) (chunk at 8 xs)
-block_sums xs at h =
+pub group_sums : (xs : List ℤ) (at : ℕ) → All IsCoordinate xs → Each1 (IsSumOf 1) (chunk at 8 xs)
+group_sums xs at h =
     Each1-chunk (IsSumOf 1) at 8 xs (Each1-weaker IsCoordinate (IsSumOf 1) (λ x f. (f.0, f.1)) xs (each_from_all IsCoordinate xs h))
 
 pub sum_step : (n : ℕ) (x y : ℤ) → IsSumOf n x → IsSumOf 1 y → IsSumOf (n + 1) (x +ℤ y)

@@ -5,16 +5,16 @@ use Rattle.std.specs.Simd.Lanes.{Each1}
 use Rattle.range_plane.specs.Plane.{IsCoordinate}
 
 -- |x| is at most m
-abbrev pub IsWithin : ℕ → ℤ → Type 0
-IsWithin m x = unsigned_abs x ≤ m
+abbrev pub IsBounded : ℕ → ℤ → Type 0
+IsBounded m x = unsigned_abs x ≤ m
 
 -- eight numbers of 64 bits
 abbrev pub AreLanes : List ℤ → Type 0
 AreLanes xs = (length xs ≡ 8) × Each1 (FitsSigned w64) xs
 
 -- eight points, by their eastings and their northings
-abbrev pub AreBlock : List ℤ → List ℤ → Type 0
-AreBlock es ns = (length es ≡ 8) × (length ns ≡ 8) × Each1 IsCoordinate es × Each1 IsCoordinate ns
+abbrev pub AreEight : List ℤ → List ℤ → Type 0
+AreEight es ns = (length es ≡ 8) × (length ns ≡ 8) × Each1 IsCoordinate es × Each1 IsCoordinate ns
 
 abbrev pub is_not_negative : ℤ → Bool
 is_not_negative x = int_le (pos 0) x

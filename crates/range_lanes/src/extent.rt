@@ -3,9 +3,9 @@
 ghost use Rattle.std.specs.Prelude.{◌≡◌, ◌<◌, ◌↔◌, All, IsNone, IfSome, [], length, fold};
 ghost use Rattle.std.specs.Int.{int_min, int_max};
 ghost use Rattle.range_plane.specs.Plane.{IsCoordinate};
-ghost use Rattle.range_lanes.specs.Extent.{IsExtent, IsGreatest, IsLeast};
+ghost use Rattle.range_lanes.specs.Extent.{IsExtent, IsGreatest, IsLeastCoordinate};
 
-use crate::lanes::Lanes;
+use crate::lanes::{LANE_COUNT, Lanes};
 use range_plane::Columns;
 use std::alloc::Allocator;
 
@@ -39,16 +39,16 @@ pub fn extremes<A: Allocator>(cols: &Columns<A>) -> Option<Extent>
 fn least_of(coordinates: &[i64]) -> i64
     requires some { 0 < length coordinates.now }
     requires limits { All IsCoordinate coordinates.now }
-    ensures { IsLeast coordinates.now result }
+    ensures { IsLeastCoordinate coordinates.now result }
 {
     let first = coordinates[0];
     let mut least = Lanes::splat(first);
-    let whole = coordinates.len() / 8;
-    for block in 0..whole {
-        least = least.least(Lanes::load(coordinates, 8 * block));
+    let whole = coordinates.len() / LANE_COUNT;
+    for group in 0..whole {
+        least = least.least(Lanes::load(coordinates, LANE_COUNT * group));
     }
     let least = plain_least(first, &least.to_array());
-    plain_least(least, &coordinates[8 * whole..])
+    plain_least(least, &coordinates[LANE_COUNT * whole..])
 }
 
 // The greatest of the coordinates.
@@ -59,12 +59,12 @@ fn greatest_of(coordinates: &[i64]) -> i64
 {
     let first = coordinates[0];
     let mut greatest = Lanes::splat(first);
-    let whole = coordinates.len() / 8;
-    for block in 0..whole {
-        greatest = greatest.greatest(Lanes::load(coordinates, 8 * block));
+    let whole = coordinates.len() / LANE_COUNT;
+    for group in 0..whole {
+        greatest = greatest.greatest(Lanes::load(coordinates, LANE_COUNT * group));
     }
     let greatest = plain_greatest(first, &greatest.to_array());
-    plain_greatest(greatest, &coordinates[8 * whole..])
+    plain_greatest(greatest, &coordinates[LANE_COUNT * whole..])
 }
 
 // The least of `start` and the numbers, one at a time.

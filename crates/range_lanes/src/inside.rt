@@ -4,7 +4,8 @@ ghost use Rattle.std.specs.Prelude.{◌≡◌, ◌*◌, ◌<◌, ◌≤◌, coun
 ghost use Rattle.range_plane.specs.Covering.{is_covered};
 ghost use Rattle.range_plane.specs.Polygon.{IsPolygon};
 
-use crate::block::Block;
+use crate::eight::Eight;
+use crate::lanes::LANE_COUNT;
 use crate::marking::margins;
 use range_plane::{Columns, Point, Polygon};
 use std::alloc::Allocator;
@@ -23,7 +24,7 @@ pub fn mark_inside<A: Allocator, B: Allocator>(
     requires { length out.old ≡ length cols.now.points }
     ensures { out.new ≡ map (is_covered corners.now) cols.now.points }
 {
-    let marked = mark_blocks(corners.corners(), cols, out);
+    let marked = mark_groups(corners.corners(), cols, out);
     for i in marked..cols.len() {
         out[i] = corners.covers(cols.at(i));
     }
@@ -33,51 +34,52 @@ pub fn mark_inside<A: Allocator, B: Allocator>(
 pub fn count_inside<A: Allocator, B: Allocator>(corners: &Polygon<A>, cols: &Columns<B>) -> u64
     ensures { result ≡ count_by (is_covered corners.now) cols.now.points }
 {
-    let (mut count, counted) = count_blocks(corners.corners(), cols);
+    let (mut count, counted) = count_groups(corners.corners(), cols);
     for i in counted..cols.len() {
         count += u64::from(corners.covers(cols.at(i)));
     }
     count
 }
 
-// How many blocks of eight points go through the lanes: all whole ones, where the corners are few.
-fn blocks_for_lanes(corners: &[Point], points: usize) -> usize
-    ensures within { 8 * result ≤ points }
+// How many groups of eight points go through the lanes: all whole ones, where the corners are few.
+fn groups_for_lanes(corners: &[Point], points: usize) -> usize
+    ensures within { LANE_COUNT * result ≤ points }
     ensures some { 0 < result → 0 < length corners.now }
 {
     if (1..=LANE_CORNERS).contains(&corners.len()) {
-        points / 8
+        points / LANE_COUNT
     } else {
         0
     }
 }
 
-// Marks the points of the blocks that go through the lanes, and says how many points these are.
-fn mark_blocks<A: Allocator>(corners: &[Point], cols: &Columns<A>, out: &mut [bool]) -> usize
+// Marks the points of the groups that go through the lanes, and says how many points these are.
+fn mark_groups<A: Allocator>(corners: &[Point], cols: &Columns<A>, out: &mut [bool]) -> usize
     requires polygon { IsPolygon corners.now corners.now }
     requires places { length out.old ≡ length cols.now.points }
     ensures within { result ≤ length cols.now.points }
-    ensures marks { take result out.new ≡ map (is_covered corners.now) (take result cols.now.points) }
+    ensures marks { take result out.new
+        ≡ map (is_covered corners.now) (take result cols.now.points) }
 {
-    let blocks = blocks_for_lanes(corners, cols.len());
-    for block in 0..blocks {
-        let at = 8 * block;
-        margins(corners, &Block::load(cols, at)).mark(out, at);
+    let groups = groups_for_lanes(corners, cols.len());
+    for group in 0..groups {
+        let at = LANE_COUNT * group;
+        margins(corners, &Eight::load(cols, at)).mark(out, at);
     }
-    8 * blocks
+    LANE_COUNT * groups
 }
 
-// How many points the corners cover of the blocks that go through the lanes, and how many these have.
-fn count_blocks<A: Allocator>(corners: &[Point], cols: &Columns<A>) -> (u64, usize)
+// How many points the corners cover of the groups that go through the lanes, and how many these have.
+fn count_groups<A: Allocator>(corners: &[Point], cols: &Columns<A>) -> (u64, usize)
     requires { IsPolygon corners.now corners.now }
     ensures within { result.1 ≤ length cols.now.points }
     ensures count { result.0 ≡ count_by (is_covered corners.now) (take result.1 cols.now.points) }
 {
-    let blocks = blocks_for_lanes(corners, cols.len());
+    let groups = groups_for_lanes(corners, cols.len());
     let mut count = 0;
-    for block in 0..blocks {
-        let covered = margins(corners, &Block::load(cols, 8 * block)).count_not_negative();
+    for group in 0..groups {
+        let covered = margins(corners, &Eight::load(cols, LANE_COUNT * group)).count_not_negative();
         count += u64::from(covered);
     }
-    (count, 8 * blocks)
+    (count, LANE_COUNT * groups)
 }

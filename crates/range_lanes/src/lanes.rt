@@ -4,10 +4,13 @@ ghost use Rattle.std.specs.Prelude.{◌≡◌, ◌+◌, ◌++◌, ◌≤◌, ◌
 ghost use Rattle.std.specs.Int.{int_min, int_max};
 ghost use Rattle.std.specs.Simd.Lanes.{zip2, chunk, Each1};
 ghost use Rattle.range_plane.specs.Plane.{IsCoordinate, coordinate_limit, turn_limit};
-ghost use Rattle.range_lanes.specs.Lanes.{IsWithin, is_not_negative};
+ghost use Rattle.range_lanes.specs.Lanes.{IsBounded, is_not_negative};
 
 use std::marker::Model;
 use std::simd::prelude::*;
+
+// How many numbers a vector has.
+pub(crate) const LANE_COUNT: usize = 8;
 
 // Eight numbers of 64 bits. Contracts see a list of integers.
 #[derive(Clone, Copy)]
@@ -32,7 +35,7 @@ impl Lanes {
     // The same number eight times.
     #[inline(always)]
     pub(crate) fn splat(value: i64) -> Lanes
-        ensures { result ≡ replicate 8 value }
+        ensures { result ≡ replicate LANE_COUNT value }
     {
         Lanes {
             lanes: i64x8::splat(value),
@@ -42,9 +45,9 @@ impl Lanes {
     // The eight numbers from `at` on.
     #[inline(always)]
     pub(crate) fn load(numbers: &[i64], at: usize) -> Lanes
-        requires room { at + 8 ≤ length numbers.now }
+        requires room { at + LANE_COUNT ≤ length numbers.now }
         requires limits { All IsCoordinate numbers.now }
-        ensures { result ≡ chunk at 8 numbers.now }
+        ensures { result ≡ chunk at LANE_COUNT numbers.now }
     {
         Lanes {
             lanes: i64x8::from_slice(&numbers[at..]),
@@ -53,8 +56,8 @@ impl Lanes {
 
     #[inline(always)]
     pub(crate) fn plus(self, other: Lanes) -> Lanes
-        requires left { Each1 (IsWithin turn_limit) self }
-        requires right { Each1 (IsWithin turn_limit) other }
+        requires left { Each1 (IsBounded turn_limit) self }
+        requires right { Each1 (IsBounded turn_limit) other }
         ensures { result ≡ zip2 ◌+ℤ◌ self other }
     {
         Lanes {
@@ -64,8 +67,8 @@ impl Lanes {
 
     #[inline(always)]
     pub(crate) fn minus(self, other: Lanes) -> Lanes
-        requires left { Each1 (IsWithin turn_limit) self }
-        requires right { Each1 (IsWithin turn_limit) other }
+        requires left { Each1 (IsBounded turn_limit) self }
+        requires right { Each1 (IsBounded turn_limit) other }
         ensures { result ≡ zip2 ◌-ℤ◌ self other }
     {
         Lanes {
@@ -75,8 +78,8 @@ impl Lanes {
 
     #[inline(always)]
     pub(crate) fn times(self, other: Lanes) -> Lanes
-        requires left { Each1 (IsWithin coordinate_limit) self }
-        requires right { Each1 (IsWithin coordinate_limit) other }
+        requires left { Each1 (IsBounded coordinate_limit) self }
+        requires right { Each1 (IsBounded coordinate_limit) other }
         ensures { result ≡ zip2 ◌*ℤ◌ self other }
     {
         let (a, b) = (self.narrow(), other.narrow());
@@ -88,7 +91,7 @@ impl Lanes {
     // The same numbers, taken through 32 bits, so that the processor multiplies halves of its lanes, which is faster.
     #[inline(always)]
     fn narrow(self) -> Lanes
-        requires { Each1 (IsWithin coordinate_limit) self }
+        requires { Each1 (IsBounded coordinate_limit) self }
         ensures { result ≡ self }
     {
         Lanes {
@@ -117,7 +120,7 @@ impl Lanes {
     }
 
     #[inline(always)]
-    pub(crate) fn to_array(self) -> [i64; 8]
+    pub(crate) fn to_array(self) -> [i64; LANE_COUNT]
         ensures { result ≡ self }
     {
         self.lanes.to_array()
@@ -126,8 +129,8 @@ impl Lanes {
     // Each number times `factor`.
     #[inline(always)]
     pub(crate) fn scaled(self, factor: i64) -> Lanes
-        requires small { Each1 (IsWithin coordinate_limit) self }
-        requires factor { IsWithin coordinate_limit factor }
+        requires small { Each1 (IsBounded coordinate_limit) self }
+        requires factor { IsBounded coordinate_limit factor }
         ensures { result ≡ map (λ x. factor *ℤ x) self }
     {
         Lanes::splat(factor).times(self)
@@ -136,7 +139,7 @@ impl Lanes {
     // 0 less each number.
     #[inline(always)]
     pub(crate) fn negated(self) -> Lanes
-        requires { Each1 (IsWithin turn_limit) self }
+        requires { Each1 (IsBounded turn_limit) self }
         ensures { result ≡ map (λ x. pos 0 -ℤ x) self }
     {
         Lanes::splat(0).minus(self)
@@ -156,8 +159,8 @@ impl Lanes {
     // Says at the eight places from `at` on which of the numbers are at least 0.
     #[inline(always)]
     pub(crate) fn mark(self, out: &mut [bool], at: usize)
-        requires { at + 8 ≤ length out.old }
-        ensures { take (at + 8) out.new ≡ take at out.old ++ map is_not_negative self }
+        requires { at + LANE_COUNT ≤ length out.old }
+        ensures { take (at + LANE_COUNT) out.new ≡ take at out.old ++ map is_not_negative self }
     {
         let numbers = self.to_array();
         for i in 0..8 {

@@ -1,7 +1,7 @@
 //! What a polygon covers of many points, and their box and sums, eight points at once.
 #![tactic(auto)]
 
-mod block;
+mod eight;
 mod extent;
 mod inside;
 mod lanes;

@@ -5,7 +5,7 @@ ghost use Rattle.range_plane.specs.Fix.{fix_limit};
 ghost use Rattle.range_plane.specs.Plane.{IsCoordinate, coordinate_limit};
 ghost use Rattle.range_lanes.specs.Totals.{IsSumOf, total};
 
-use crate::lanes::Lanes;
+use crate::lanes::{LANE_COUNT, Lanes};
 use range_plane::Columns;
 use std::alloc::Allocator;
 
@@ -14,7 +14,8 @@ pub fn sums<A: Allocator>(cols: &Columns<A>) -> (u64, u64)
     requires { length cols.now.points ≤ fix_limit }
     ensures eastings { pos result.0 ≡ total (map (λ p. p.e) cols.now.points) }
     ensures northings { pos result.1 ≡ total (map (λ p. p.n) cols.now.points) }
-    ensures bounds { (result.0 ≤ length cols.now.points * coordinate_limit) × (result.1 ≤ length cols.now.points * coordinate_limit) }
+    ensures bounds { (result.0 ≤ length cols.now.points * coordinate_limit)
+        × (result.1 ≤ length cols.now.points * coordinate_limit) }
 {
     (sum_of(cols.eastings()), sum_of(cols.northings()))
 }
@@ -27,17 +28,17 @@ fn sum_of(coordinates: &[i64]) -> u64
     ensures bound { result ≤ length coordinates.now * coordinate_limit }
 {
     let mut partial = Lanes::splat(0);
-    let whole = coordinates.len() / 8;
-    for block in 0..whole {
-        partial = partial.plus(Lanes::load(coordinates, 8 * block));
+    let whole = coordinates.len() / LANE_COUNT;
+    for group in 0..whole {
+        partial = partial.plus(Lanes::load(coordinates, LANE_COUNT * group));
     }
-    let rest = &coordinates[8 * whole..];
+    let rest = &coordinates[LANE_COUNT * whole..];
     (plain_sum(&partial.to_array()) + plain_sum(rest)) as u64
 }
 
 // The sum of at most eight numbers, each itself a sum of coordinates, one at a time.
 fn plain_sum(numbers: &[i64]) -> i64
-    requires few { length numbers.now ≤ 8 }
+    requires few { length numbers.now ≤ LANE_COUNT }
     requires limits { All (IsSumOf fix_limit) numbers.now }
     ensures { result ≡ total numbers.now }
 {

@@ -1,5 +1,5 @@
 pub mod Orderly
-pub mod Steps
+pub mod RuleSteps
 pub mod Passes
 pub mod Files
 pub mod EndFacts

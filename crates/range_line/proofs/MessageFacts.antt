@@ -5,8 +5,8 @@ use Rattle.std.proofs.lemmas.List.{append-nil}
 use Rattle.range_line.specs.declared.message.Message.{Message}
 use Rattle.range_line.specs.Messages.{of_file, joined, fixes, fixes_in, has_mark, IsOrderly}
 use Rattle.range_line.specs.Laws.{IsInOrder, LinesAreInOrder, TheMarkIsLast, MessagesAddTheirFixes, LastMessagesComeNext}
-use Rattle.range_line.proofs.Orderly.{joined-append, of_file-append, of_file-push, mark_is_last, no_cons}
-use Rattle.range_line.proofs.Steps.{At}
+use Rattle.range_line.proofs.Orderly.{joined_append, of_file_append, of_file_push, mark_is_last, no_cons}
+use Rattle.range_line.proofs.RuleSteps.{At}
 use Rattle.range_line.proofs.EndFacts.{at_or}
 
 contains_at : {A : Type 0} (xs : List A) (x : A) → Contains xs x → (k : ℕ) × At xs k x
@@ -37,7 +37,8 @@ joined_if false m = refl
 
 pub messages_add_their_fixes : MessagesAddTheirFixes
 messages_add_their_fixes messages m file =
-    ap joined (of_file-append messages (m ∷ []) file) ∙ joined-append (of_file messages file) (of_file (m ∷ []) file) ∙ ap (λ l. fixes messages file ++ l) (joined_if (m.file == file) m)
+    ap joined (of_file_append messages (m ∷ []) file) ∙ joined_append (of_file messages file) (of_file (m ∷ []) file)
+    ∙ ap (λ l. fixes messages file ++ l) (joined_if (m.file == file) m)
 
 not_true : (b : Bool) → (b ≡ true → ⊥) → b ≡ false
 not_true true not_so = absurd (not_so refl)
@@ -46,12 +47,17 @@ not_true false not_so = refl
 pub last_messages_come_next : LastMessagesComeNext
 last_messages_come_next messages m lawful =
     let before = of_file messages m.file in
-    let orderly = subst IsOrderly (of_file-push messages m) lawful in
+    let orderly = subst IsOrderly (of_file_push messages m) lawful in
     let placed = orderly.each before m [] refl in
     let room = orderly.room in
     record {
       place = placed.place;
       body = placed.body;
-      room = omega (arith, ap length (joined-append before (m ∷ [])), length-append (joined before) (joined (m ∷ [])), ap length (append-nil (fixes_in m.body)));
+      room = omega (
+        arith,
+        ap length (joined_append before (m ∷ [])),
+        length-append (joined before) (joined (m ∷ [])),
+        ap length (append-nil (fixes_in m.body)),
+      );
       unmarked = not_true (has_mark before) (λ marked. no_cons m [] (sym (mark_is_last before (m ∷ []) orderly marked)));
     }

@@ -1,5 +1,6 @@
 -- What is known of a pass after each step.
-use Rattle.std.proofs.Common.{Result, Ok, Err, ◌≡◌, ℕ, Bool, true, false, not, List, [], ◌∷◌, ◌++◌, length, get_or, sym, refl, ap, ◌∙◌, subst, ◌+◌, ◌≤◌, ⊎_elim, ◌||◌, true≢false, length-append, arith}
+use Rattle.std.proofs.Common.{Result, Ok, Err, ◌≡◌, ℕ, Bool, true, false, not, List, [], ◌∷◌, ◌++◌, length, get_or, sym, refl, ap, ◌∙◌, subst, ◌+◌, ◌≤◌, ⊎_elim}
+use Rattle.std.proofs.Common.{◌||◌, true≢false, length-append, arith}
 use Rattle.std.specs.Prelude.{Contains, IfSome, MatchResult}
 use Rattle.std.specs.Result.{result_ok}
 use Rattle.atomic_table.specs.declared.badge.Badge.{Badge}
@@ -9,7 +10,7 @@ use Rattle.crossbeam_channel.specs.declared.flavors.array.Rows.{Rows}
 use Rattle.crossbeam_channel.specs.Claims.{view, IsSeatAt}
 use Rattle.range_plane.specs.Fix.{fix_limit}
 use Rattle.range_plane.specs.declared.Fix.{Fix}
-use Rattle.range_plan.specs.Limits.{block_limit}
+use Rattle.range_options.specs.Limits.{block_limit}
 use Rattle.range_line.specs.declared.message.Body.{Body}
 use Rattle.range_line.specs.declared.message.Message.{Message}
 use Rattle.range_line.specs.declared.rule.PassView.{PassView}
@@ -17,23 +18,29 @@ use Rattle.range_line.specs.Messages.{block_of, the_mark, of_file, joined, fixes
 use Rattle.range_line.specs.Rule.{feeder_pass, taker_pass, IsRuled, after_sending, Takes, IsRest, after_ending, after_joining, spent_pass}
 use Rattle.crossbeam_channel.specs.Fifo.{Pushes, Pops, Forks, Merges, Learns}
 use Rattle.std.proofs.lemmas.List.{append-nil}
-use Rattle.range_line.proofs.Orderly.{joined-append, of_file-push, orderly_push, has_mark-push}
-use Rattle.range_line.proofs.Steps.{sends, takes, completes, ends, joins, At, at_end}
+use Rattle.range_line.proofs.Orderly.{joined_append, of_file_push, orderly_push, has_mark_push}
+use Rattle.range_line.proofs.RuleSteps.{sends, takes, completes, ends, joins, At, at_end}
 use Rattle.range_line.specs.Lines.{FeederView, TakerView, new_taker, next_message}
 use Rattle.range_line.specs.Passes.{LinePass, first_known, line_of, first_sent, sent_by, may_send, taken_by, files_known, depth_known, IsFeeding, IsTaking}
 
-pub same_line : {Q M L A : Type 0} (c : Rows (Badge (Key Message)) (Doing Message PassView) Q M (Key Message) L A) (a b : LinePass) → IsSeatAt c a → IsSeatAt c b → first_known a ≡ first_known b → line_of a ≡ line_of b
+pub same_line : {Q M L A : Type 0} (c : Rows (Badge (Key Message)) (Doing Message PassView) Q M (Key Message) L A) (a b : LinePass) → IsSeatAt c a
+    → IsSeatAt c b → first_known a ≡ first_known b → line_of a ≡ line_of b
 same_line c a b x y same i = ((x.0 ∙ sym y.0) i, (x.1 ∙ sym y.1) i, same i)
 
 -- a pass of the same line, which holds no slot, is of the channel too
-pub seat_of_line : {Q M L A : Type 0} (c : Rows (Badge (Key Message)) (Doing Message PassView) Q M (Key Message) L A) (a b : LinePass) → IsSeatAt c a → line_of b ≡ line_of a → b.me.1 ≡ [] → IsSeatAt c b
+pub seat_of_line : {Q M L A : Type 0} (c : Rows (Badge (Key Message)) (Doing Message PassView) Q M (Key Message) L A) (a b : LinePass) → IsSeatAt c a
+    → line_of b ≡ line_of a → b.me.1 ≡ [] → IsSeatAt c b
 seat_of_line c a b x same free = (ap (λ l. l.0) same ∙ x.0, ap (λ l. l.1) same ∙ x.1, free, x.3)
 
-pub feeding_of : (p : LinePass) (depth first file : ℕ) (sent : List Message) (closed may : Bool) (fixes : ℕ) → view p ≡ feeder_pass depth first file sent closed may → of_file sent file ≡ sent → IsOrderly sent → has_mark sent ≡ closed → fixes ≡ length (joined sent)
+pub feeding_of : (p : LinePass) (depth first file : ℕ) (sent : List Message) (closed may : Bool) (fixes : ℕ)
+    → view p ≡ feeder_pass depth first file sent closed may → of_file sent file ≡ sent → IsOrderly sent → has_mark sent ≡ closed → fixes ≡ length (joined sent)
     → IsFeeding p depth file closed fixes
 feeding_of p depth first file sent closed may fixes e own run marked count =
-    let all : (view p ≡ feeder_pass depth (first_known p) file (sent_by p) closed (may_send p)) × (of_file (sent_by p) file ≡ sent_by p) × IsOrderly (sent_by p) × (has_mark (sent_by p) ≡ closed) × (fixes ≡ length (joined (sent_by p))) =
-    subst (λ (v : PassView). (v ≡ feeder_pass depth (get_or v.files 0 0) file (first_sent v.transcripts) closed v.sends) × (of_file (first_sent v.transcripts) file ≡ first_sent v.transcripts) × IsOrderly (first_sent v.transcripts) × (has_mark (first_sent v.transcripts) ≡ closed) × (fixes ≡ length (joined (first_sent v.transcripts)))) (sym e)
+    let all : (view p ≡ feeder_pass depth (first_known p) file (sent_by p) closed (may_send p)) × (of_file (sent_by p) file ≡ sent_by p) × IsOrderly (sent_by p)
+    × (has_mark (sent_by p) ≡ closed) × (fixes ≡ length (joined (sent_by p))) =
+    subst (λ (v : PassView). (v ≡ feeder_pass depth (get_or v.files 0 0) file (first_sent v.transcripts) closed v.sends)
+    × (of_file (first_sent v.transcripts) file ≡ first_sent v.transcripts) × IsOrderly (first_sent v.transcripts)
+    × (has_mark (first_sent v.transcripts) ≡ closed) × (fixes ≡ length (joined (first_sent v.transcripts)))) (sym e)
     (refl, own, run, marked, count) in
     record { shows = all.0; own = all.1; orderly = all.2; marked = all.3; count = all.4 }
 
@@ -45,7 +52,8 @@ seen_as p file closed = record { line = line_of p; file = file; sent = sent_by p
 abbrev pub new_view : LinePass → TakerView
 new_view p = record { line = line_of p; files = files_known p; depth = depth_known p; taken = taken_by p; ended = false }
 
-pub new_taker_view : (p : LinePass) (files : List ℕ) (depth : ℕ) → view p ≡ taker_pass (view p).depth files [] [] → (view p).depth ≡ depth → new_view p ≡ new_taker (line_of p) files depth
+pub new_taker_view : (p : LinePass) (files : List ℕ) (depth : ℕ) → view p ≡ taker_pass (view p).depth files [] [] → (view p).depth ≡ depth
+    → new_view p ≡ new_taker (line_of p) files depth
 new_taker_view p files depth e deep i = record { line = line_of p; files = (e i).files; depth = deep i; taken = (e i).taken; ended = false }
 
 may : (b : Bool) → not b ≡ false → b ≡ true
@@ -70,7 +78,8 @@ record Follows (p : LinePass) (depth file : ℕ) (m : Message) : Type 0 where
   fit : IsFit m.body []
   room : length (joined (sent_by p)) + length (fixes_in m.body) ≤ fix_limit
 
-module _ (p : LinePass) (depth file : ℕ) (closed : Bool) (fixes : ℕ) (f : FeederView) (body : Body) (m : Message) (n : IsNext p depth file closed fixes f body m) where
+module _ (p : LinePass) (depth file : ℕ) (closed : Bool) (fixes : ℕ) (f : FeederView) (body : Body) (m : Message)
+    (n : IsNext p depth file closed fixes f body m) where
   follows : Follows p depth file m
   follows =
       let open_ = ap (λ (x : FeederView). x.closed) n.seen ∙ n.live.0 in
@@ -100,13 +109,15 @@ module _ (p : LinePass) (depth file : ℕ) (closed : Bool) (fixes : ℕ) (f : Fe
       let count = n.feeding.count in
       subst (λ b. IsFeeding q depth file (is_mark b) (fixes + length (fixes_in b))) (ap (λ (x : Message). x.body) n.next)
       (feeding_of q depth (first_known p) file (sent ++ m ∷ []) (is_mark m.body) true (fixes + length (fixes_in m.body)) known
-      (ap (of_file (sent ++ m ∷ [])) (sym t.is) ∙ of_file-push sent m ∙ ap (λ l. l ++ m ∷ []) (ap (of_file sent) t.is ∙ n.feeding.own))
+      (ap (of_file (sent ++ m ∷ [])) (sym t.is) ∙ of_file_push sent m ∙ ap (λ l. l ++ m ∷ []) (ap (of_file sent) t.is ∙ n.feeding.own))
       (orderly_push sent m n.feeding.orderly t.unmarked t.place t.fit t.room)
-      (has_mark-push sent m ∙ ap (λ b. b || is_mark m.body) t.unmarked)
-      (omega (arith, ap length (joined-append sent (m ∷ [])), length-append (joined sent) (joined (m ∷ [])), ap length (append-nil (fixes_in m.body)))))
+      (has_mark_push sent m ∙ ap (λ b. b || is_mark m.body) t.unmarked)
+      (omega (arith, ap length (joined_append sent (m ∷ [])), length-append (joined sent) (joined (m ∷ [])), ap length (append-nil (fixes_in m.body)))))
 
-pub block_is_next : (p : LinePass) (depth file : ℕ) (closed : Bool) (fixes : ℕ) (f : FeederView) (given block : List Fix) (m : Message) → IsFeeding p depth file closed fixes → seen_as p file closed ≡ f
-    → (f.closed ≡ false) × (f.ended ≡ false) → (1 ≤ length given) × (length given ≤ block_limit) → length (joined f.sent) + length given ≤ fix_limit → block ≡ given → m ≡ next_message f (block_of block)
+pub block_is_next : (p : LinePass) (depth file : ℕ) (closed : Bool) (fixes : ℕ) (f : FeederView) (given block : List Fix) (m : Message)
+    → IsFeeding p depth file closed fixes → seen_as p file closed ≡ f
+    → (f.closed ≡ false) × (f.ended ≡ false) → (1 ≤ length given) × (length given ≤ block_limit) → length (joined f.sent) + length given ≤ fix_limit
+    → block ≡ given → m ≡ next_message f (block_of block)
     → IsNext p depth file closed fixes f (block_of block) m
 block_is_next p depth file closed fixes f given block m feeding seen live size room is next = record {
   feeding = feeding;
@@ -117,7 +128,8 @@ block_is_next p depth file closed fixes f given block m feeding seen live size r
   room = omega (arith, room, ap length is);
 }
 
-pub mark_is_next : (p : LinePass) (depth file : ℕ) (closed : Bool) (fixes : ℕ) (f : FeederView) (m : Message) → IsFeeding p depth file closed fixes → seen_as p file closed ≡ f
+pub mark_is_next : (p : LinePass) (depth file : ℕ) (closed : Bool) (fixes : ℕ) (f : FeederView) (m : Message) → IsFeeding p depth file closed fixes
+    → seen_as p file closed ≡ f
     → (f.closed ≡ false) × (f.ended ≡ false) → m ≡ next_message f the_mark → IsNext p depth file closed fixes f the_mark m
 mark_is_next p depth file closed fixes f m feeding seen live next = record {
   feeding = feeding;
@@ -130,7 +142,8 @@ mark_is_next p depth file closed fixes f m feeding seen live next = record {
 
 -- what IsTaking says, of what a pass shows
 abbrev TakesAs : PassView → Type 0
-TakesAs v = (v ≡ taker_pass v.depth v.files v.taken v.transcripts) × ((file : ℕ) → IsLawful v.taken file) × ((k : ℕ) (m : Message) → At v.taken k m → Contains v.files m.file)
+TakesAs v = (v ≡ taker_pass v.depth v.files v.taken v.transcripts) × ((file : ℕ) → IsLawful v.taken file)
+    × ((k : ℕ) (m : Message) → At v.taken k m → Contains v.files m.file)
 
 pub taking_of : (p : LinePass) (v : PassView) → view p ≡ v → TakesAs v → IsTaking p
 taking_of p v e t = let u = subst TakesAs (sym e) t in record { shows = u.0; lawful = u.1; of_line = u.2 }
@@ -139,38 +152,48 @@ pub pops : (p : LinePass) → IsTaking p → Pops IsRuled p.id (view p) (Takes (
 pops p t = let v = view p in subst (λ (u : PassView). Pops IsRuled p.id u (Takes u)) (sym t.shows) (takes p.id v.depth v.files v.taken v.transcripts)
 
 pub learns : (p : LinePass) → IsTaking p → Learns IsRuled p.id (view p) (λ items. IsRest (view p) items)
-learns p t = let v = view p in subst (λ (u : PassView). Learns IsRuled p.id u (λ items. IsRest u items)) (sym t.shows) (completes p.id v.depth v.files v.taken v.transcripts)
+learns p t = let v = view p in subst (λ (u : PassView). Learns IsRuled p.id u (λ items. IsRest u items)) (sym t.shows)
+    (completes p.id v.depth v.files v.taken v.transcripts)
 
 pub popped : (p q : LinePass) (m : Message) → IsTaking p → Takes (view p) m (view q) → IsTaking q
 popped p q m t e = taking_of q (let v = view p in record v { taken = v.taken ++ m ∷ [] }) e.0 (
   ap (λ (v : PassView). let w : PassView = record v { taken = v.taken ++ m ∷ [] } in w) t.shows,
   e.2,
-  λ k u h. ⊎_elim (λ (x : At (taken_by p) k u). t.of_line k u x) (λ (x : (k ≡ length (taken_by p)) × (m ≡ u)). subst (λ (y : Message). Contains (files_known p) y.file) x.1 e.1) (at_end (taken_by p) m u k h),
+  λ k u h. ⊎_elim (λ (x : At (taken_by p) k u). t.of_line k u x) (λ (x : (k ≡ length (taken_by p)) × (m ≡ u)). subst
+      (λ (y : Message). Contains (files_known p) y.file) x.1 e.1) (at_end (taken_by p) m u k h),
 )
 
 -- what a receive leaves, whether a message came or not: where none came, what is known then has it that nothing changed
-pub received : {E N : Type 0} (p q : LinePass) (none : N → view q ≡ view p) (r : Result Message E) → IsTaking p → MatchResult r (λ m. Takes (view p) m (view q)) (λ _. N) → IsTaking q
+pub received : {E N : Type 0} (p q : LinePass) (none : N → view q ≡ view p) (r : Result Message E) → IsTaking p
+    → MatchResult r (λ m. Takes (view p) m (view q)) (λ _. N) → IsTaking q
 received p q none (Ok m) t e = popped p q m t e
 received p q none (Err _) t e = taking_of q (view p) (none e) (t.shows, t.lawful, t.of_line)
 
-pub received_files : {E : Type 0} (Z : Type 0) (p q : LinePass) (r : Result Message E) → MatchResult r (λ m. Takes (view p) m (view q)) (λ _. (view q ≡ view p) × Z) → files_known q ≡ files_known p
+pub received_files : {E : Type 0} (Z : Type 0) (p q : LinePass) (r : Result Message E)
+    → MatchResult r (λ m. Takes (view p) m (view q)) (λ _. (view q ≡ view p) × Z) → files_known q ≡ files_known p
 received_files Z p q (Ok m) e = ap (λ (v : PassView). v.files) e.0
 received_files Z p q (Err _) e = ap (λ (v : PassView). v.files) e.0
 
-pub received_of_line : {E : Type 0} (N : Type 0) (p q : LinePass) (r : Result Message E) → MatchResult r (λ m. Takes (view p) m (view q)) (λ _. N) → IfSome (result_ok r) (λ m. Contains (files_known p) m.file)
+pub received_of_line : {E : Type 0} (N : Type 0) (p q : LinePass) (r : Result Message E) → MatchResult r (λ m. Takes (view p) m (view q)) (λ _. N)
+    → IfSome (result_ok r) (λ m. Contains (files_known p) m.file)
 received_of_line N p q (Ok m) e = e.1
 received_of_line N p q (Err _) e = tt
 
 -- a feeder's pass once it has ended
-pub ended_of : (p q : LinePass) (depth file : ℕ) (closed : Bool) (fixes : ℕ) → IsFeeding p depth file closed fixes → view q ≡ after_ending (view p) → view q ≡ feeder_pass depth (first_known p) file (sent_by p) closed false
+pub ended_of : (p q : LinePass) (depth file : ℕ) (closed : Bool) (fixes : ℕ) → IsFeeding p depth file closed fixes → view q ≡ after_ending (view p)
+    → view q ≡ feeder_pass depth (first_known p) file (sent_by p) closed false
 ended_of p q depth file closed fixes f e = e ∙ ap after_ending f.shows
 
-pub forks : (p : LinePass) (depth file : ℕ) (closed : Bool) (fixes : ℕ) → IsFeeding p depth file closed fixes → Forks IsRuled p.id (view p) (after_ending (view p)) (after_ending (view p))
-forks p depth file closed fixes f = subst (λ (v : PassView). Forks IsRuled p.id v (after_ending v) (after_ending v)) (sym f.shows) (ends p.id depth (first_known p) file (sent_by p) closed (may_send p))
+pub forks : (p : LinePass) (depth file : ℕ) (closed : Bool) (fixes : ℕ) → IsFeeding p depth file closed fixes
+    → Forks IsRuled p.id (view p) (after_ending (view p)) (after_ending (view p))
+forks p depth file closed fixes f = subst (λ (v : PassView). Forks IsRuled p.id v (after_ending v) (after_ending v)) (sym f.shows)
+    (ends p.id depth (first_known p) file (sent_by p) closed (may_send p))
 
-pub merges : (p q : LinePass) (depth first file : ℕ) (sent : List Message) (closed : Bool) → IsTaking p → view q ≡ feeder_pass depth first file sent closed false → Merges IsRuled p.id (view p) q.id (view q) (after_joining (view p) (view q)) spent_pass
+pub merges : (p q : LinePass) (depth first file : ℕ) (sent : List Message) (closed : Bool) → IsTaking p
+    → view q ≡ feeder_pass depth first file sent closed false → Merges IsRuled p.id (view p) q.id (view q) (after_joining (view p) (view q)) spent_pass
 merges p q depth first file sent closed t e = let v = view p in
-    subst (λ (x : PassView × PassView). Merges IsRuled p.id x.0 q.id x.1 (after_joining x.0 x.1) spent_pass) (λ i. (sym t.shows i, sym e i)) (joins p.id v.depth v.files v.taken v.transcripts q.id depth first file sent closed)
+    subst (λ (x : PassView × PassView). Merges IsRuled p.id x.0 q.id x.1 (after_joining x.0 x.1) spent_pass) (λ i. (sym t.shows i, sym e i))
+    (joins p.id v.depth v.files v.taken v.transcripts q.id depth first file sent closed)
 
 pub merged : (p q r : LinePass) → IsTaking p → view r ≡ after_joining (view p) (view q) → IsTaking r
 merged p q r t e = taking_of r (after_joining (view p) (view q)) e (ap (λ v. after_joining v (view q)) t.shows, t.lawful, t.of_line)

@@ -1,15 +1,16 @@
 -- The stream of a file's messages is lawful, and its blocks joined are the fixes.
-use Rattle.std.proofs.Common.{◌≡◌, ℕ, zero, suc, ◌+◌, ◌-◌, ◌*◌, ◌<◌, ◌≤◌, ◌||◌, false, List, [], ◌∷◌, ◌++◌, length, take, drop, sym, refl, ap, ◌∙◌, subst, arith, suc-mul}
+use Rattle.std.proofs.Common.{◌≡◌, ℕ, zero, suc, ◌+◌, ◌-◌, ◌*◌, ◌<◌, ◌≤◌, ◌||◌, false, List, [], ◌∷◌, ◌++◌, length, take, drop, sym, refl, ap, ◌∙◌, subst}
+use Rattle.std.proofs.Common.{arith, suc-mul}
 use Rattle.std.proofs.lemmas.List.{append-nil, take_all, length-take, length-drop}
 use Rattle.std.proofs.lemmas.List.FromFn.{map-range_with_len_more}
 use Rattle.std.proofs.Math.Nat.{lt-div-mul-add, div-mul-le_self}
 use Rattle.std.proofs.Math.Seq.{take-add}
 use Rattle.range_plane.specs.Fix.{fix_limit}
 use Rattle.range_plane.specs.declared.Fix.{Fix}
-use Rattle.range_plan.specs.Limits.{block_limit}
+use Rattle.range_options.specs.Limits.{block_limit}
 use Rattle.range_line.specs.Messages.{message, the_mark, of_file, joined, has_mark, IsOrderly, block, blocks, block_count, stream}
 use Rattle.range_line.specs.Laws.{StreamsAreLawful}
-use Rattle.range_line.proofs.Orderly.{joined-append, of_file-push, has_mark-push, orderly_empty, orderly_push}
+use Rattle.range_line.proofs.Orderly.{joined_append, of_file_push, has_mark_push, orderly_empty, orderly_push}
 
 record AreSent (file : ℕ) (all : List Fix) (size count : ℕ) : Type 0 where
   own : of_file (blocks file all size count) file ≡ blocks file all size count
@@ -20,8 +21,15 @@ record AreSent (file : ℕ) (all : List Fix) (size count : ℕ) : Type 0 where
 length_part : (n : ℕ) (xs : List Fix) → n ≤ length xs → length (take n xs) ≡ n
 length_part n xs within = omega (arith, length-take n xs)
 
-sent : (file : ℕ) (all : List Fix) (size count : ℕ) → 1 ≤ size → size ≤ block_limit → length all ≤ fix_limit → count * size < length all + size → AreSent file all size count
-sent file all size zero some small few within = record { own = refl; orderly = orderly_empty; unmarked = refl; part = let none : 0 * size ≡ 0 = omega arith in rw none refl }
+sent : (file : ℕ) (all : List Fix) (size count : ℕ) → 1 ≤ size → size ≤ block_limit → length all ≤ fix_limit → count * size < length all + size
+    → AreSent file all size count
+sent file all size zero some small few within = record {
+  own = refl;
+  orderly = orderly_empty;
+  unmarked = refl;
+  part = let none : 0 * size ≡ 0 = omega arith in
+      rw none refl;
+}
 sent file all size (suc k) some small few within =
     let width : suc k * size ≡ k * size + size = omega (arith, suc-mul k size) in
     let before = sent file all size k some small few (omega arith) in
@@ -31,16 +39,18 @@ sent file all size (suc k) some small few within =
     let long = length-take size (drop (k * size) all) in
     let left = length-drop (k * size) all in
     let next : suc k ≡ k + 1 = omega arith in
-    let more : blocks file all size (suc k) ≡ bs ++ m ∷ [] = ap (λ n. blocks file all size n) next ∙ map-range_with_len_more (block file all size) 0 k k (omega arith) in
+    let more : blocks file all size (suc k) ≡ bs ++ m ∷ [] = ap (λ n. blocks file all size n) next
+    ∙ map-range_with_len_more (block file all size) 0 k k (omega arith) in
     let place : k * size ≡ length (joined bs) = sym (length_part (k * size) all (omega arith)) ∙ sym (ap length before.part) in
     let at_least : 1 ≤ length one = omega arith in
     let at_most : length one ≤ block_limit = omega arith in
     let room : length (joined bs) + length one ≤ fix_limit = omega arith in
     record {
-      own = ap (λ l. of_file l file) more ∙ of_file-push bs m ∙ ap (λ l. l ++ m ∷ []) before.own ∙ sym more;
+      own = ap (λ l. of_file l file) more ∙ of_file_push bs m ∙ ap (λ l. l ++ m ∷ []) before.own ∙ sym more;
       orderly = subst IsOrderly (sym more) (orderly_push bs m before.orderly before.unmarked place (at_least, at_most) room);
-      unmarked = ap has_mark more ∙ has_mark-push bs m ∙ ap (λ b. b || false) before.unmarked;
-      part = ap joined more ∙ joined-append bs (m ∷ []) ∙ ap (λ l. joined bs ++ l) (append-nil one) ∙ ap (λ l. l ++ one) before.part ∙ sym (take-add (k * size) size all) ∙ ap (λ n. take n all) (sym width);
+      unmarked = ap has_mark more ∙ has_mark_push bs m ∙ ap (λ b. b || false) before.unmarked;
+      part = ap joined more ∙ joined_append bs (m ∷ []) ∙ ap (λ l. joined bs ++ l) (append-nil one) ∙ ap (λ l. l ++ one) before.part
+          ∙ sym (take-add (k * size) size all) ∙ ap (λ n. take n all) (sym width);
     }
 
 pub streams_are_lawful : StreamsAreLawful
@@ -52,7 +62,7 @@ streams_are_lawful file all size some small few =
     let bs = blocks file all size k in
     let mark = message file (length all) the_mark in
     let whole : joined bs ≡ all = before.part ∙ take_all (k * size) all enough in
-    let own : of_file (stream file all size) file ≡ stream file all size = of_file-push bs mark ∙ ap (λ l. l ++ mark ∷ []) before.own in (
+    let own : of_file (stream file all size) file ≡ stream file all size = of_file_push bs mark ∙ ap (λ l. l ++ mark ∷ []) before.own in (
       subst IsOrderly (sym own) (orderly_push bs mark before.orderly before.unmarked (sym (ap length whole)) refl (omega (arith, ap length whole, few))),
-      ap joined own ∙ joined-append bs (mark ∷ []) ∙ append-nil (joined bs) ∙ whole,
+      ap joined own ∙ joined_append bs (mark ∷ []) ∙ append-nil (joined bs) ∙ whole,
     )

@@ -3,7 +3,7 @@ use Rattle.std.specs.Prelude.{◌≡◌, ◌↔◌, ℕ, ◌+◌, ◌*◌, ◌<�
 use mathlib.Core.List.{IsPrefix}
 use Rattle.range_plane.specs.Fix.{fix_limit}
 use Rattle.range_plane.specs.declared.Fix.{Fix}
-use Rattle.range_plan.specs.Limits.{block_limit}
+use Rattle.range_options.specs.Limits.{block_limit}
 use Rattle.range_line.specs.declared.message.Message.{Message}
 use Rattle.range_line.specs.declared.rule.Transcript.{Transcript}
 use Rattle.range_line.specs.declared.rule.PassView.{PassView}
@@ -24,16 +24,20 @@ pub record IsInOrder (taken items : List Message) (files : List ℕ) (depth : �
   pub room : length items ≤ depth
 
 abbrev pub LinesAreInOrder : Type 0
-LinesAreInOrder = (items : List Message) (views : List PassView) (taker : PassView) → IsRuled items views → Contains views taker → taker.takes ≡ true → IsInOrder taker.taken items taker.files taker.depth views
+LinesAreInOrder = (items : List Message) (views : List PassView) (taker : PassView) → IsRuled items views → Contains views taker → taker.takes ≡ true
+    → IsInOrder taker.taken items taker.files taker.depth views
 
 abbrev pub TheMarkIsLast : Type 0
-TheMarkIsLast = (messages beginning : List Message) (file : ℕ) → IsLawful messages file → IsPrefix beginning (of_file messages file) → has_mark beginning ≡ true → beginning ≡ of_file messages file
+TheMarkIsLast = (messages beginning : List Message) (file : ℕ) → IsLawful messages file → IsPrefix beginning (of_file messages file) → has_mark beginning ≡ true
+    → beginning ≡ of_file messages file
 
 abbrev pub StreamsAreLawful : Type 0
-StreamsAreLawful = (file : ℕ) (all : List Fix) (size : ℕ) → 1 ≤ size → size ≤ block_limit → length all ≤ fix_limit → IsLawful (stream file all size) file × (fixes (stream file all size) file ≡ all)
+StreamsAreLawful = (file : ℕ) (all : List Fix) (size : ℕ) → 1 ≤ size → size ≤ block_limit → length all ≤ fix_limit → IsLawful (stream file all size) file
+    × (fixes (stream file all size) file ≡ all)
 
 abbrev pub MessagesAddTheirFixes : Type 0
-MessagesAddTheirFixes = (messages : List Message) (m : Message) (file : ℕ) → fixes (messages ++ m ∷ []) file ≡ fixes messages file ++ cond (m.file == file) (fixes_in m.body) []
+MessagesAddTheirFixes = (messages : List Message) (m : Message) (file : ℕ)
+    → fixes (messages ++ m ∷ []) file ≡ fixes messages file ++ cond (m.file == file) (fixes_in m.body) []
 
 -- the message may come next behind these
 pub record ComesNext (messages : List Message) (m : Message) : Type 0 where

@@ -3,7 +3,7 @@ use Rattle.std.specs.Prelude.{◌≡◌, ℕ, ◌+◌, ◌-◌, ◌*◌, ◌/◌
 use Rattle.std.specs.List.{range_with_len}
 use Rattle.range_plane.specs.Fix.{fix_limit}
 use Rattle.range_plane.specs.declared.Fix.{Fix}
-use Rattle.range_plan.specs.Limits.{block_limit}
+use Rattle.range_options.specs.Limits.{block_limit}
 use Rattle.range_line.specs.declared.message.Message.{Message}
 use Rattle.range_line.specs.declared.message.Body.{Body}
 use Rattle.range_line.specs.declared.message.Body.TheVariants.{Block, Mark}

@@ -14,7 +14,15 @@ transcript file sent closed = record { file = file; sent = sent; closed = closed
 
 -- a feeder's pass: the first file of its line, what was sent for its own file, and whether it may send more
 abbrev pub feeder_pass : ℕ → ℕ → ℕ → List Message → Bool → Bool → PassView
-feeder_pass depth first file sent closed sends = record { takes = false; sends = sends; depth = depth; files = first ∷ []; taken = []; transcripts = transcript file sent closed ∷ [] }
+feeder_pass depth first file sent closed sends = record {
+  takes = false;
+  sends = sends;
+  depth = depth;
+  files = first ∷ [];
+  taken = [];
+  transcripts =
+      transcript file sent closed ∷ [];
+}
 
 -- the taker's pass: the files of the line, what was taken, and what ended feeders had sent
 abbrev pub taker_pass : ℕ → List ℕ → List Message → List Transcript → PassView

@@ -4,7 +4,7 @@ ghost use Rattle.std.specs.Prelude.{◌≡◌, ◌+◌, ◌≤◌, ◌⊎◌, Li
 ghost use Rattle.crossbeam_channel.specs.Claims.{view, IsSeatAt};
 ghost use Rattle.crossbeam_channel.specs.Ends.{sends_on, ruled_capacity};
 ghost use Rattle.range_plane.specs.Fix.{fix_limit};
-ghost use Rattle.range_plan.specs.Limits.{block_limit};
+ghost use Rattle.range_options.specs.Limits.{block_limit};
 ghost use Rattle.range_line.specs.Lines.{after_send, ended_feeder, new_feeder, next_message};
 ghost use Rattle.range_line.specs.Messages.{block_of, has_mark, joined, of_file, the_mark, IsLawful};
 ghost use Rattle.range_line.specs.Passes.{after_joining_all, line_from, line_of, IsTaking};
@@ -46,9 +46,16 @@ impl<A: Allocator + Clone> Model for Feeder<A> {
     ghost use Rattle.crossbeam_channel.specs.Ends.{sends_on, ruled_capacity};
     ghost use Rattle.range_line.specs.Passes.{line_of, may_send, sent_by, IsFeeding};
 
-    ghost view = { λ f. record { line = line_of f.pass; file = f.file; sent = sent_by f.pass; closed = f.closed; ended = not (may_send f.pass) } };
+    ghost view = { λ f. record {
+      line = line_of f.pass;
+      file = f.file;
+      sent = sent_by f.pass;
+      closed = f.closed;
+      ended = not (may_send f.pass);
+    } };
 
-    ghost invariant = { λ f. IsSeatAt (sends_on f.sender) f.pass × IsFeeding f.pass (ruled_capacity (sends_on f.sender)) f.file f.closed f.sent_fixes };
+    ghost invariant = { λ f. IsSeatAt (sends_on f.sender) f.pass
+        × IsFeeding f.pass (ruled_capacity (sends_on f.sender)) f.file f.closed f.sent_fixes };
 }
 
 // The pass of a feeder for the file is split off the taker's.
@@ -60,10 +67,16 @@ fn split_pass<B: Opening, A: Allocator + Clone>(
     requires file { file ≡ B.file }
     requires depth { ruled_capacity (sends_on sender.now) ≡ B.depth }
     requires channel { IsSeatAt (sends_on sender.now) pass.old }
-    requires taker { (view pass.old ≡ taker_pass (view pass.old).depth (view pass.old).files [] []) × (Contains (view pass.old).files file → ⊥) × (((view pass.old).files ≡ []) ⊎ ((view pass.old).depth ≡ B.depth)) }
-    ensures channel { IsSeatAt (sends_on sender.now) pass.new × (pass.new.id ≡ pass.old.id) × IsSeatAt (sends_on sender.now) result }
-    ensures taker { view pass.new ≡ after_opening (ruled_capacity (sends_on sender.now)) file (view pass.old) }
-    ensures feeder { view result ≡ feeder_pass (ruled_capacity (sends_on sender.now)) (get_or (view pass.old).files 0 file) file [] false true }
+    requires taker { (view pass.old ≡ taker_pass (view pass.old).depth (view pass.old).files [] [])
+        × (Contains (view pass.old).files file → ⊥)
+        × (((view pass.old).files ≡ []) ⊎ ((view pass.old).depth ≡ B.depth)) }
+    ensures channel { IsSeatAt (sends_on sender.now) pass.new × (pass.new.id ≡ pass.old.id)
+        × IsSeatAt (sends_on sender.now) result }
+    ensures taker { view pass.new
+        ≡ after_opening (ruled_capacity (sends_on sender.now)) file (view pass.old) }
+    ensures feeder { view result
+        ≡ feeder_pass (ruled_capacity (sends_on sender.now))
+        (get_or (view pass.old).files 0 file) file [] false true }
 {
     sender.another::<Opens<B>>(pass)
 }
@@ -76,10 +89,16 @@ impl<A: Allocator + Clone> Feeder<A> {
         file: u32,
     ) -> Result<Feeder<A>, OutOfMemory>
         requires channel { IsSeatAt (sends_on sender.now) pass.old }
-        requires taker { (view pass.old ≡ taker_pass (view pass.old).depth (view pass.old).files [] []) × (Contains (view pass.old).files file → ⊥) × (((view pass.old).files ≡ []) ⊎ ((view pass.old).depth ≡ ruled_capacity (sends_on sender.now))) }
+        requires taker { (view pass.old
+            ≡ taker_pass (view pass.old).depth (view pass.old).files [] [])
+            × (Contains (view pass.old).files file → ⊥)
+            × (((view pass.old).files ≡ [])
+            ⊎ ((view pass.old).depth ≡ ruled_capacity (sends_on sender.now))) }
         ensures channel { IsSeatAt (sends_on sender.now) pass.new }
-        ensures taker { IfOk result (λ _. view pass.new ≡ after_opening (ruled_capacity (sends_on sender.now)) file (view pass.old)) }
-        ensures feeder { IfOk result (λ f. f ≡ new_feeder (line_from pass.old (get_or (view pass.old).files 0 file)) file) }
+        ensures taker { IfOk result (λ _. view pass.new
+            ≡ after_opening (ruled_capacity (sends_on sender.now)) file (view pass.old)) }
+        ensures feeder { IfOk result (λ f. f
+            ≡ new_feeder (line_from pass.old (get_or (view pass.old).files 0 file)) file) }
         ensures line { line_from pass.new 0 ≡ line_from pass.old 0 }
     {
         let sender = sender.try_clone()?;
@@ -104,7 +123,7 @@ impl<A: Allocator + Clone> Feeder<A> {
         }
     }
 
-    /// Sends a block of 1 to [`BLOCK_LIMIT`](range_plan::BLOCK_LIMIT) fixes, and waits while the line is full.
+    /// Sends a block of 1 to [`BLOCK_LIMIT`](range_options::BLOCK_LIMIT) fixes, and waits while the line is full.
     /// Takes no memory.
     ///
     /// # Errors
@@ -115,8 +134,11 @@ impl<A: Allocator + Clone> Feeder<A> {
         requires live { (self.old.closed ≡ false) × (self.old.ended ≡ false) }
         requires size { (1 ≤ length block.items) × (length block.items ≤ block_limit) }
         requires room { length (joined self.old.sent) + length block.items ≤ fix_limit }
-        ensures line { (self.new.line ≡ self.old.line) × (self.new.file ≡ self.old.file) × (self.new.ended ≡ false) }
-        ensures sent { MatchResult result (λ _. self.new ≡ after_send self.old (block_of block.items)) (λ b. (b.items ≡ block.items) × (self.new ≡ self.old)) }
+        ensures line { (self.new.line ≡ self.old.line) × (self.new.file ≡ self.old.file)
+            × (self.new.ended ≡ false) }
+        ensures sent { MatchResult result (λ _. self.new
+            ≡ after_send self.old (block_of block.items)) (λ b. (b.items ≡ block.items)
+            × (self.new ≡ self.old)) }
     {
         let count = block.len() as u64;
         let message = self.next_message(Body::Block(Block::new(block)));
@@ -133,8 +155,10 @@ impl<A: Allocator + Clone> Feeder<A> {
     /// where the mark was not sent, as where the taker is gone; the feeder has then not changed.
     pub fn close<R: Wait>(&mut self, rt: &R) -> bool
         requires live { (self.old.closed ≡ false) × (self.old.ended ≡ false) }
-        ensures line { (self.new.line ≡ self.old.line) × (self.new.file ≡ self.old.file) × (self.new.ended ≡ false) }
-        ensures sent { MatchBool result (self.new ≡ after_send self.old the_mark) (self.new ≡ self.old) }
+        ensures line { (self.new.line ≡ self.old.line) × (self.new.file ≡ self.old.file)
+            × (self.new.ended ≡ false) }
+        ensures sent { MatchBool result (self.new ≡ after_send self.old the_mark) (self.new
+            ≡ self.old) }
     {
         let mark = self.next_message(Body::Mark);
         match send(rt, &self.sender, &mut self.pass, mark) {
@@ -153,14 +177,21 @@ impl<A: Allocator + Clone> Feeder<A> {
         self.file
     }
 
-    /// Whether the mark was sent. What was sent so far is lawful in any case.
+    /// Whether the mark was sent.
     pub fn closed(&self) -> bool
-        ensures closed { result ≡ self.now.closed }
-        ensures mark { result ≡ has_mark self.now.sent }
+        ensures { result ≡ self.now.closed }
+    {
+        self.closed
+    }
+
+    /// The law of feeders, for the proofs of the crates above: what was sent is lawful and of the feeder's file
+    /// alone, and has the mark exactly where the feeder is closed.
+    pub fn sends_lawfully(&self)
+        ensures mark { has_mark self.now.sent ≡ self.now.closed }
         ensures own { of_file self.now.sent self.now.file ≡ self.now.sent }
         ensures lawful { IsLawful self.now.sent self.now.file }
     {
-        self.closed
+        let _ = &self.closed;
     }
 
     /// How many fixes were sent.
@@ -175,7 +206,8 @@ impl<A: Allocator + Clone> Feeder<A> {
         requires taker { IsTaking pass.old × (pass.old.me.1 ≡ []) }
         requires line { line_of pass.old ≡ self.old.line }
         ensures feeder { self.new ≡ ended_feeder self.old }
-        ensures taker { IsTaking pass.new × (pass.new.me.1 ≡ []) × (line_of pass.new ≡ line_of pass.old) }
+        ensures taker { IsTaking pass.new × (pass.new.me.1 ≡ [])
+            × (line_of pass.new ≡ line_of pass.old) }
         ensures transcripts { view pass.new ≡ after_joining_all (view pass.old) (self.old ∷ []) }
     {
         let transcript = self.sender.another::<Ends>(&mut self.pass);
@@ -186,7 +218,8 @@ impl<A: Allocator + Clone> Feeder<A> {
     pub(crate) fn learn(&self, pass: &mut LinePass)
         requires taker { IsTaking pass.old × (pass.old.me.1 ≡ []) }
         requires line { line_of pass.old ≡ self.now.line }
-        ensures pass { (view pass.new ≡ view pass.old) × (pass.new.me.1 ≡ []) × (line_of pass.new ≡ line_of pass.old) }
+        ensures pass { (view pass.new ≡ view pass.old) × (pass.new.me.1 ≡ [])
+            × (line_of pass.new ≡ line_of pass.old) }
         ensures rest { (items : List Message) × IsRest (view pass.old) items }
     {
         self.sender.learn_as::<Takes>(pass);

@@ -17,7 +17,7 @@ pub fn the_mark_is_last()
 {}
 
 /// At most as many fixes as a file may have, cut into blocks of any size from 1 to
-/// [`BLOCK_LIMIT`](range_plan::BLOCK_LIMIT) and sent with the mark last, are lawful, and their blocks joined are
+/// [`BLOCK_LIMIT`](range_options::BLOCK_LIMIT) and sent with the mark last, are lawful, and their blocks joined are
 /// those fixes.
 pub fn streams_are_lawful()
     ensures { StreamsAreLawful }

@@ -3,52 +3,16 @@
 ghost use Rattle.std.specs.Prelude.{◌≡◌, false};
 ghost use Rattle.range_line.specs.Messages.{fixes_in, is_mark};
 
+use range_lists::List;
 use range_plane::Fix;
-use std::marker::Model;
 
 /// Fixes in the order of their file. Contracts see the list.
-#[derive(Drop)]
-pub struct Block {
-    fixes: Vec<Fix>,
-}
-
-impl Model for Block {
-    ghost use Rattle.std.specs.Prelude.{List};
-    ghost use Rattle.range_plane.specs.declared.Fix.{Fix};
-
-    ghost Value = { List Fix };
-
-    ghost view = { λ b. b.fixes.items };
-}
-
-impl Block {
-    /// A block of these fixes.
-    pub fn new(fixes: Vec<Fix>) -> Block
-        ensures { result ≡ fixes.items }
-    {
-        Block { fixes }
-    }
-
-    /// Its fixes.
-    pub fn as_slice(&self) -> &[Fix]
-        ensures { result.now ≡ self.now }
-    {
-        self.fixes.as_slice()
-    }
-
-    /// Its fixes, which the block gives up.
-    pub fn into_vec(self) -> Vec<Fix>
-        ensures { result.items ≡ self }
-    {
-        let Block { fixes } = self;
-        fixes
-    }
-}
+pub type Block = List<Fix>;
 
 /// What a message says of its file.
 #[derive(Drop)]
 pub enum Body {
-    /// The next fixes: on a line, from 1 to [`BLOCK_LIMIT`](range_plan::BLOCK_LIMIT) of them.
+    /// The next fixes: on a line, from 1 to [`BLOCK_LIMIT`](range_options::BLOCK_LIMIT) of them.
     Block(Block),
     /// No more fixes come.
     Mark,

@@ -38,7 +38,8 @@ pub fn settle<R: Wait, A: Allocator + Clone>(
     ensures of_line { IfSome result.extra (λ m. Contains taker.files m.file) }
     ensures lawful { (file : ℕ) → IsLawful result.taker.taken file }
     ensures taken { All (λ f. IsTakenOf result.taker.taken f) result.feeders.items }
-    ensures whole { IfNone result.extra (All (λ f. IsAllTaken result.taker.taken f) result.feeders.items) }
+    ensures whole { IfNone result.extra
+        (All (λ f. IsAllTaken result.taker.taken f) result.feeders.items) }
     ensures line { AreOfLine result.feeders.items result.taker.line }
     ensures files { AreForFiles result.feeders.items result.taker.files }
 {
@@ -67,7 +68,8 @@ fn end_all<A: Allocator + Clone>(pass: &mut LinePass, feeders: &mut Vec<Feeder<A
     requires taker { IsTaking pass.old × (pass.old.me.1 ≡ []) }
     requires line { AreOf (line_of pass.old) feeders.old.items }
     ensures feeders { feeders.new.items ≡ map ended_feeder feeders.old.items }
-    ensures taker { IsTaking pass.new × (pass.new.me.1 ≡ []) × (line_of pass.new ≡ line_of pass.old) }
+    ensures taker { IsTaking pass.new × (pass.new.me.1 ≡ [])
+        × (line_of pass.new ≡ line_of pass.old) }
     ensures transcripts { view pass.new ≡ after_joining_all (view pass.old) feeders.old.items }
 {
     for feeder in feeders.iter_mut() {
@@ -80,7 +82,8 @@ fn compare<A: Allocator + Clone>(pass: &mut LinePass, feeders: &Vec<Feeder<A>, A
     requires taker { IsTaking pass.old × (pass.old.me.1 ≡ []) }
     requires line { AreOf (line_of pass.old) feeders.now.items }
     requires transcripts { HasTranscripts pass.old feeders.now.items }
-    ensures pass { (view pass.new ≡ view pass.old) × (pass.new.me.1 ≡ []) × (line_of pass.new ≡ line_of pass.old) }
+    ensures pass { (view pass.new ≡ view pass.old) × (pass.new.me.1 ≡ [])
+        × (line_of pass.new ≡ line_of pass.old) }
     ensures taken { All (λ f. IsTakenOf (taken_by pass.old) f) feeders.now.items }
 {
     if let Some(feeder) = feeders.first() {

@@ -2,7 +2,7 @@
 
 ghost use Rattle.std.specs.Prelude.{◌≡◌, ℕ, ◌<◌, ◌≤◌, false, map, Contains, IfOk, IfSome};
 ghost use Rattle.std.specs.Option.{MatchOption};
-ghost use Rattle.range_plan.specs.Limits.{depth_limit, file_limit};
+ghost use Rattle.range_options.specs.Limits.{depth_limit, file_limit};
 ghost use Rattle.range_line.specs.Lines.{after_take, files_from, first_file, new_feeder, new_taker};
 ghost use Rattle.range_line.specs.Messages.{IsLawful};
 
@@ -38,7 +38,13 @@ impl<A: Allocator + Clone> Model for Taker<A> {
     ghost use Rattle.crossbeam_channel.specs.Ends.{receives_on};
     ghost use Rattle.range_line.specs.Passes.{depth_known, files_known, line_of, taken_by, IsTaking};
 
-    ghost view = { λ t. record { line = line_of t.pass; files = files_known t.pass; depth = depth_known t.pass; taken = taken_by t.pass; ended = t.ended } };
+    ghost view = { λ t. record {
+      line = line_of t.pass;
+      files = files_known t.pass;
+      depth = depth_known t.pass;
+      taken = taken_by t.pass;
+      ended = t.ended;
+    } };
 
     ghost invariant = { λ t. IsSeatAt (receives_on t.receiver) t.pass × IsTaking t.pass };
 }
@@ -49,7 +55,7 @@ impl<A: Allocator + Clone> Model for Taker<A> {
 ///
 /// # Errors
 ///
-/// Where a growth was refused.
+/// Where an allocation failed.
 pub fn open_line<A: Allocator + Clone + Copy>(
     alloc: A,
     first: u32,
@@ -57,10 +63,13 @@ pub fn open_line<A: Allocator + Clone + Copy>(
     count: u32,
     depth: usize,
 ) -> Result<(Vec<Feeder<A>, A>, Taker<A>), OutOfMemory>
-    requires files { (first < file_limit) × (1 ≤ step) × (step ≤ file_limit) × (1 ≤ count) × (count ≤ file_limit) }
+    requires files { (first < file_limit) × (1 ≤ step) × (step ≤ file_limit) × (1 ≤ count)
+        × (count ≤ file_limit) }
     requires depth { (1 ≤ depth) × (depth ≤ depth_limit) }
-    ensures feeders { IfOk result (λ r. r.0.items ≡ map (new_feeder r.1.line) (files_from first step count)) }
-    ensures taker { IfOk result (λ r. r.1 ≡ new_taker r.1.line (files_from first step count) depth) }
+    ensures feeders { IfOk result (λ r. r.0.items
+        ≡ map (new_feeder r.1.line) (files_from first step count)) }
+    ensures taker { IfOk result (λ r. r.1
+        ≡ new_taker r.1.line (files_from first step count) depth) }
     ensures line { IfOk result (λ r. first_file r.1.line ≡ first) }
 {
     let (sender, receiver, mut pass) = bounded_with::<Message, PassView, LineRule, A>(
@@ -84,8 +93,10 @@ impl<A: Allocator + Clone> Taker<A> {
     /// all feeders are gone; the taker has then not changed.
     pub fn take<R: Wait>(&mut self, rt: &R) -> Option<Message>
         requires live { self.old.ended ≡ false }
-        ensures line { (self.new.line ≡ self.old.line) × (self.new.files ≡ self.old.files) × (self.new.ended ≡ false) }
-        ensures taken { MatchOption result (self.new ≡ self.old) (λ m. self.new ≡ after_take self.old m) }
+        ensures line { (self.new.line ≡ self.old.line) × (self.new.files ≡ self.old.files)
+            × (self.new.ended ≡ false) }
+        ensures taken { MatchOption result (self.new ≡ self.old) (λ m. self.new
+            ≡ after_take self.old m) }
         ensures of_line { IfSome result (λ m. Contains self.old.files m.file) }
         ensures lawful { (file : ℕ) → IsLawful self.new.taken file }
     {

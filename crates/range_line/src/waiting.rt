@@ -26,9 +26,12 @@ pub(crate) fn send<R: Wait, A: Allocator + Clone>(
     message: Message,
 ) -> Result<(), Message>
     requires channel { IsSeatAt (sends_on sender.now) pass.old }
-    requires rule { Pushes IsRuled (ruled_capacity (sends_on sender.now)) pass.old.id (view pass.old) message (λ w. w ≡ after_sending (view pass.old) message) }
+    requires rule { Pushes IsRuled (ruled_capacity (sends_on sender.now)) pass.old.id
+        (view pass.old) message (λ w. w ≡ after_sending (view pass.old) message) }
     ensures channel { IsSeatAt (sends_on sender.now) pass.new × (pass.new.id ≡ pass.old.id) }
-    ensures rule { MatchResult result (λ _. view pass.new ≡ after_sending (view pass.old) message) (λ back. (back ≡ message) × (view pass.new ≡ view pass.old)) }
+    ensures rule { MatchResult result (λ _. view pass.new
+        ≡ after_sending (view pass.old) message) (λ back. (back ≡ message)
+        × (view pass.new ≡ view pass.old)) }
 {
     let Err(refused) = sender.try_send_as::<rule::Sends, R>(rt, pass, message) else {
         return Ok(());
@@ -47,9 +50,11 @@ pub(crate) fn take<R: Wait, A: Allocator + Clone>(
     pass: &mut LinePass,
 ) -> Result<Message, RecvError>
     requires channel { IsSeatAt (receives_on receiver.now) pass.old }
-    requires rule { Pops IsRuled pass.old.id (view pass.old) (Takes (view pass.old)) × Learns IsRuled pass.old.id (view pass.old) (λ items. IsRest (view pass.old) items) }
+    requires rule { Pops IsRuled pass.old.id (view pass.old) (Takes (view pass.old))
+        × Learns IsRuled pass.old.id (view pass.old) (λ items. IsRest (view pass.old) items) }
     ensures channel { IsSeatAt (receives_on receiver.now) pass.new × (pass.new.id ≡ pass.old.id) }
-    ensures rule { MatchResult result (λ m. Takes (view pass.old) m (view pass.new)) (λ _. view pass.new ≡ view pass.old) }
+    ensures rule { MatchResult result (λ m. Takes (view pass.old) m (view pass.new))
+        (λ _. view pass.new ≡ view pass.old) }
 {
     if let Ok(message) = receiver.try_recv_as::<rule::Takes, R>(rt, pass) {
         return Ok(message);

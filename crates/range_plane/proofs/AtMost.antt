@@ -1,7 +1,7 @@
 -- The order of points by easting and then by northing is one of all points, and passes through points between.
 use Rattle.std.proofs.Common.{◌≡◌, refl, sym, ◌∙◌, ◌⊎◌, inl, inr, arith}
 use Rattle.std.proofs.lemmas.Int.{by_lt_z}
-use Rattle.integers_and_lists.proofs.Integers.{linear}
+use Rattle.range_lemmas.proofs.Integers.{linear}
 use Rattle.range_plane.specs.Plane.{Position, IsAtMost}
 
 pub at_most_one_way : (a b : Position) → IsAtMost a b ⊎ IsAtMost b a

@@ -2,7 +2,7 @@
 use Rattle.std.proofs.Common.{◌≡◌, ℤ, ◌-ℤ◌, ◌*ℤ◌, ◌≤◌, w64, lit<, unsigned_abs, FitsSigned}
 use mir.Val.{to_z, of_z}
 use Rattle.std.proofs.lemmas.Int.{to_z-of_z}
-use Rattle.integers_and_lists.proofs.Sizes.{abs_add, abs_difference, abs_mul, abs_sub, difference_kept, fits_from_size, kept}
+use Rattle.range_lemmas.proofs.Sizes.{abs_add, abs_difference, abs_mul, abs_sub, difference_kept, fits_from_size, kept}
 use Rattle.range_plane.specs.Plane.{Position, IsCoordinate, IsWithinLimits, coordinate_limit, product_limit, turn_limit, turn}
 use Rattle.range_plane.specs.Covering.{scalar_product}
 

@@ -17,8 +17,9 @@ read : (S : List Position) (n : ℕ) (p : Position) → n < length S → p ≡ g
 read S n p within is = get_or_read S n p within is origin
 
 -- the next one comes before it
-pub least-next : (S : List Position) (n : ℕ) (c p : Position) → IsLeastOfFirst S n c → n < length S → p ≡ get_or S n p → IsBefore p c → IsLeastOfFirst S (n + 1) p
-least-next S n c p l within is before = record {
+pub least_next : (S : List Position) (n : ℕ) (c p : Position) → IsLeastOfFirst S n c → n < length S → p ≡ get_or S n p → IsBefore p c
+    → IsLeastOfFirst S (n + 1) p
+least_next S n c p l within is before = record {
   member = (n, within, sym is);
   least = λ k h. elim (below n k h) [
     | inl lt ↦ through_most p c (get_or S k origin) before.0 (l.least k lt)
@@ -27,8 +28,9 @@ least-next S n c p l within is before = record {
 }
 
 -- and where it does not
-pub least-stays : (S : List Position) (n : ℕ) (c p : Position) → IsLeastOfFirst S n c → n < length S → p ≡ get_or S n p → IsAtMost c p → IsLeastOfFirst S (n + 1) c
-least-stays S n c p l within is after = record {
+pub least_stays : (S : List Position) (n : ℕ) (c p : Position) → IsLeastOfFirst S n c → n < length S → p ≡ get_or S n p → IsAtMost c p
+    → IsLeastOfFirst S (n + 1) c
+least_stays S n c p l within is after = record {
   member = l.member;
   least = λ k h. elim (below n k h) [
     | inl lt ↦ l.least k lt
@@ -36,5 +38,9 @@ least-stays S n c p l within is after = record {
   ];
 }
 
-pub least-all : (S : List Position) (n : ℕ) (c : Position) → IsLeastOfFirst S n c → length S ≤ n → IsLeast S c
-least-all S n c l all = record { member = l.member; least = λ x m. subst (IsAtMost c) (get_or_default S m.0 origin x m.1 ∙ m.2) (l.least m.0 (omega (arith, m.1))) }
+pub least_all : (S : List Position) (n : ℕ) (c : Position) → IsLeastOfFirst S n c → length S ≤ n → IsLeast S c
+least_all S n c l all = record {
+  member = l.member;
+  least = λ x m. subst (IsAtMost c) (get_or_default S m.0 origin x m.1 ∙ m.2)
+      (l.least m.0 (omega (arith, m.1)));
+}

@@ -23,4 +23,4 @@ pub mod Tops
 pub mod Unique
 pub mod Vectors
 pub mod Without
-pub mod Zipped
+pub mod ZippedPoints

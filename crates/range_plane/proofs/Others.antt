@@ -5,18 +5,18 @@ use Rattle.range_plane.specs.Covering.{is_covered, is_in_triangle, is_on_segment
 use Rattle.range_plane.specs.Plane.{Position}
 use Rattle.range_plane.specs.Polygon.{any_other, same_position, without}
 
-pub any-without : (f : Position → Bool) (q : Position) (S : List Position) → any_other q f S ≡ list_any f (without q S)
-any-without f q [] = refl
-any-without f q (s ∷ S) = by (same_position s q) (any-without f q S)
+pub any_without : (f : Position → Bool) (q : Position) (S : List Position) → any_other q f S ≡ list_any f (without q S)
+any_without f q [] = refl
+any_without f q (s ∷ S) = by (same_position s q) (any_without f q S)
   where
     by : (t : Bool) → any_other q f S ≡ list_any f (without q S) → ((not t && f s) || any_other q f S) ≡ list_any f (cond t (without q S) (s ∷ without q S))
     by true e = e
     by false e = ap (λ (b : Bool). f s || b) e
 
 -- the test whether the others cover q
-pub covered-without : (q : Position) (S : List Position)
+pub covered_without : (q : Position) (S : List Position)
     → is_covered (without q S) q
     ≡ (any_other q (λ a. any_other q (λ b. is_on_segment q a b) S) S
     || any_other q (λ a. any_other q (λ b. any_other q (λ c. is_in_triangle q a b c) S) S) S)
 unfolding is_covered
-covered-without q S = sym (simp any-without)
+covered_without q S = sym (simp any_without)

@@ -3,7 +3,7 @@ use Rattle.std.proofs.Common.{◌↔◌, List, ◌∷◌}
 use Rattle.range_plane.specs.Covering.{Covers}
 use Rattle.range_plane.specs.Plane.{Position}
 use Rattle.range_plane.specs.Polygon.{IsPolygon}
-use Rattle.integers_and_lists.proofs.Members.{here, there, each}
+use Rattle.range_lemmas.proofs.Members.{contains_first, contains_later, each}
 use Rattle.range_plane.proofs.Separation.{wider}
 use Rattle.range_plane.proofs.Extremes.{CoversEach, covers_member, covers_through, extreme_in, kernel}
 
@@ -20,10 +20,15 @@ same_covering S L p q = (covers_through S L q (set_covers_polygon S L p), covers
 -- ---- sets that cover one another have the same polygon
 pub same_polygon : (S T L : List Position) → CoversEach S T → CoversEach T S → IsPolygon S L → IsPolygon T L
 same_polygon S T L st ts p =
-    record { corners = λ x. (λ m. extreme_in S T x st ts ((p.corners x).0 m), λ e. (p.corners x).1 (extreme_in T S x ts st e)); distinct = p.distinct; least_first = p.least_first; convex = p.convex }
+    record {
+      corners = λ x. (λ m. extreme_in S T x st ts ((p.corners x).0 m), λ e. (p.corners x).1 (extreme_in T S x ts st e));
+      distinct = p.distinct;
+      least_first = p.least_first;
+      convex = p.convex;
+    }
 
 both_with : (S T : List Position) (p : Position) → CoversEach S T → CoversEach (p ∷ S) (p ∷ T)
-both_with S T p c = each (Covers (p ∷ S)) p T (covers_member (p ∷ S) p (here p S)) (λ x m. wider S (p ∷ S) x (λ t l. there p S t l) (c x m))
+both_with S T p c = each (Covers (p ∷ S)) p T (covers_member (p ∷ S) p (contains_first p S)) (λ x m. wider S (p ∷ S) x (λ t l. contains_later p S t l) (c x m))
 
 -- a covered point changes nothing
 pub covered_point_added : (S L : List Position) (p : Position) → Covers S p → IsPolygon S L ↔ IsPolygon (p ∷ S) L
@@ -33,7 +38,7 @@ covered_point_added S L p c = (same_polygon S (p ∷ S) L all back, same_polygon
     all = each (Covers S) p S c (λ x m. covers_member S x m)
 
     back : CoversEach (p ∷ S) S
-    back x m = covers_member (p ∷ S) x (there p S x m)
+    back x m = covers_member (p ∷ S) x (contains_later p S x m)
 
 -- the corners stand for the set when a point is added
 pub point_added : (S L M : List Position) (p : Position) → IsPolygon S L → IsPolygon (p ∷ L) M ↔ IsPolygon (p ∷ S) M

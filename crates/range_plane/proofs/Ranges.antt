@@ -4,7 +4,8 @@ use Rattle.std.proofs.lemmas.List.FromFn.{get_or-range_with_len, length-range_wi
 use Rattle.std.specs.Bool.{MatchBool}
 use Rattle.std.specs.List.{AllWithin, HoldsAt, range_with_len}
 
-pub all_in_range : (a n : ℕ) (P : ℕ → Type 0) (r : Bool) → MatchBool r (AllWithin P (range_with_len a (n - a)) 0 (length (range_with_len a (n - a)))) ((k : ℕ) × (k < length (range_with_len a (n - a))) × HoldsAt (λ i. P i → ⊥) (range_with_len a (n - a)) k) → IsTrue r ↔ ((i : ℕ) → a ≤ i → i < n → P i)
+pub all_in_range : (a n : ℕ) (P : ℕ → Type 0) (r : Bool) → MatchBool r (AllWithin P (range_with_len a (n - a)) 0 (length (range_with_len a (n - a))))
+    ((k : ℕ) × (k < length (range_with_len a (n - a))) × HoldsAt (λ i. P i → ⊥) (range_with_len a (n - a)) k) → IsTrue r ↔ ((i : ℕ) → a ≤ i → i < n → P i)
 all_in_range a n P true m = (
   λ e i h k.
       let place : a + (i - a) ≡ i = omega arith in

@@ -3,8 +3,8 @@ use Rattle.std.proofs.Common.{◌≡◌, ap, ◌≤ℤ◌, ◌<ℤ◌, arith}
 use Rattle.std.proofs.lemmas.Int.{ints}
 use Rattle.range_plane.specs.Order.{rank, rank_base}
 use Rattle.range_plane.specs.Plane.{Position, IsAtMost, IsBefore, IsWithinLimits}
-use Rattle.integers_and_lists.proofs.Integers.{linear}
-use Rattle.integers_and_lists.proofs.Numbered.{by_one_number}
+use Rattle.range_lemmas.proofs.Integers.{linear}
+use Rattle.range_lemmas.proofs.Numbered.{by_one_number}
 
 pub at_most_by_rank : (a b : Position) → IsWithinLimits a → IsWithinLimits b → rank a ≤ℤ rank b → IsAtMost a b
 unfolding rank

@@ -1,15 +1,16 @@
 -- A finite set covers a point or a direction strictly separates the two, and never both.
 use Rattle.std.proofs.Common.{◌≡◌, sym, ap, ◌∙◌, subst, ℤ, pos, ◌+ℤ◌, ◌*ℤ◌, ◌↔◌, ◌≤ℤ◌, ◌<ℤ◌, List, [], ◌∷◌, Contains, ◌⊎◌, inl, inr, arith}
 use Rattle.std.proofs.lemmas.Int.{by_lt_z}
-use Rattle.range_plane.proofs.Vectors.{cross, dot, from, inward, cross_flip, cross_self, cramer, along, dot_from, dot_inward, dot_origin, dot_reverse, reverse_of, turn-from, turn_at, scalar_product_is, positive_norm, ahead_within, ahead_along, right_of, left_of}
+use Rattle.range_plane.proofs.Vectors.{cross, dot, from, inward, cross_flip, cross_self, cramer, along, dot_from, dot_inward, dot_origin, dot_reverse}
+use Rattle.range_plane.proofs.Vectors.{reverse_of, turn_from, turn_at, scalar_product_is, positive_norm, ahead_within, ahead_along, right_of, left_of}
 use Rattle.range_plane.specs.Covering.{IsOnSegment, IsInTriangle, Covers, advance}
 use Rattle.range_plane.specs.Laws.{ReachesEveryWay}
 use Rattle.range_plane.specs.Plane.{Position, turn}
 use Rattle.range_plane.specs.Covering.Covers.{by_segment, by_triangle}
-use Rattle.integers_and_lists.proofs.Integers.{linear, Sign, sign, at_least_product, positive_product, nonpos_product, product_comm}
-use Rattle.integers_and_lists.proofs.Integers.Sign.{negative, naught, positive}
+use Rattle.range_lemmas.proofs.Integers.{linear, Sign, sign, at_least_product, positive_product, nonpos_product, product_comm}
+use Rattle.range_lemmas.proofs.Integers.Sign.{negative, naught, positive}
 use lib.IntN.{zero-*ℤ}
-use Rattle.integers_and_lists.proofs.Members.{here, there, nowhere, each}
+use Rattle.range_lemmas.proofs.Members.{contains_first, contains_later, empty_contains_nothing, each}
 
 -- each member of S lies ahead of q in the direction d
 abbrev pub IsAhead : List Position → Position → Position → Type 0
@@ -22,7 +23,16 @@ segment_behind q a b d s ha hb =
     let v = from q b in
     let flat : cross u v ≡ pos 0 = sym (turn_at q a b) ∙ s.straight in
     let opposite : dot u v ≤ℤ pos 0 = subst (λ (z : ℤ). z ≤ℤ pos 0) (scalar_product_is q a b) s.between in
-    omega (arith, linear, along u v d, ap (λ (z : ℤ). z *ℤ cross u d) flat, zero-*ℤ (cross u d), positive_product (dot u u) (dot d v) (positive_norm d u ha) hb, nonpos_product (dot d u) (dot u v) (omega (arith, linear)) opposite, product_comm (dot u v) (dot d u))
+    omega (
+      arith,
+      linear,
+      along u v d,
+      ap (λ (z : ℤ). z *ℤ cross u d) flat,
+      zero-*ℤ (cross u d),
+      positive_product (dot u u) (dot d v) (positive_norm d u ha) hb,
+      nonpos_product (dot d u) (dot u v) (omega (arith, linear)) opposite,
+      product_comm (dot u v) (dot d u),
+    )
 
 triangle_behind : (q a b c d : Position) → IsInTriangle q a b c → pos 0 <ℤ dot d (from q a) → pos 0 <ℤ dot d (from q b) → pos 0 <ℤ dot d (from q c) → ⊥
 triangle_behind q a b c d t ha hb hc =
@@ -33,7 +43,15 @@ triangle_behind q a b c d t ha hb hc =
     let hvw : pos 0 ≤ℤ cross v w = subst (λ (z : ℤ). pos 0 ≤ℤ z) (turn_at q b c) t.second in
     let hwu : pos 0 ≤ℤ cross w u = subst (λ (z : ℤ). pos 0 ≤ℤ z) (turn_at q c a) t.third in
     let proper : pos 0 <ℤ turn a b c = t.proper in
-    omega (arith, linear, turn-from q a b c, cramer u v w d, at_least_product (cross u v) (dot d w) huv hc, at_least_product (cross v w) (dot d u) hvw ha, at_least_product (cross w u) (dot d v) hwu hb)
+    omega (
+      arith,
+      linear,
+      turn_from q a b c,
+      cramer u v w d,
+      at_least_product (cross u v) (dot d w) huv hc,
+      at_least_product (cross v w) (dot d u) hvw ha,
+      at_least_product (cross w u) (dot d v) hwu hb,
+    )
 
 pub not_both : (S : List Position) (q d : Position) → Covers S q → IsAhead S q d → ⊥
 not_both S q d (by_segment a b ma mb s) h = segment_behind q a b d s (h a ma) (h b mb)
@@ -66,17 +84,32 @@ wider S T q f (by_triangle a b c ma mb mc t) = by_triangle a b c (f a ma) (f b m
 pub segment_from : (q a b : Position) → cross (from q a) (from q b) ≡ pos 0 → dot (from q a) (from q b) ≤ℤ pos 0 → IsOnSegment q a b
 segment_from q a b e h = record { straight = turn_at q a b ∙ e; between = subst (λ (z : ℤ). z ≤ℤ pos 0) (sym (scalar_product_is q a b)) h }
 
-pub triangle_from : (q a b c : Position) → pos 0 ≤ℤ cross (from q a) (from q b) → pos 0 ≤ℤ cross (from q b) (from q c) → pos 0 ≤ℤ cross (from q c) (from q a) → pos 0 <ℤ (cross (from q a) (from q b) +ℤ cross (from q b) (from q c) +ℤ cross (from q c) (from q a)) → IsInTriangle q a b c
+pub triangle_from : (q a b c : Position) → pos 0 ≤ℤ cross (from q a) (from q b) → pos 0 ≤ℤ cross (from q b) (from q c) → pos 0 ≤ℤ cross (from q c) (from q a)
+    → pos 0 <ℤ (cross (from q a) (from q b) +ℤ cross (from q b) (from q c) +ℤ cross (from q c) (from q a)) → IsInTriangle q a b c
 triangle_from q a b c h k l p =
-    record { proper = subst (λ (z : ℤ). pos 0 <ℤ z) (sym (turn-from q a b c)) p; first = subst (λ (z : ℤ). pos 0 ≤ℤ z) (sym (turn_at q a b)) h; second = subst (λ (z : ℤ). pos 0 ≤ℤ z) (sym (turn_at q b c)) k; third = subst (λ (z : ℤ). pos 0 ≤ℤ z) (sym (turn_at q c a)) l }
+    record {
+      proper = subst (λ (z : ℤ). pos 0 <ℤ z) (sym (turn_from q a b c)) p;
+      first = subst (λ (z : ℤ). pos 0 ≤ℤ z) (sym (turn_at q a b)) h;
+      second =
+          subst (λ (z : ℤ). pos 0 ≤ℤ z) (sym (turn_at q b c)) k;
+      third = subst (λ (z : ℤ). pos 0 ≤ℤ z) (sym (turn_at q c a)) l;
+    }
 
 -- the first member
 alone : (S : List Position) (q y : Position) → ((x : Position) → ¬ (Contains S x)) → View (y ∷ S) q
 alone S q y none =
     let u = from q y in
     by_lt_z (pos 0) (dot u u)
-    (λ h. pointed (record { first = y; last = y; direction = u; has_first = here y S; has_last = here y S; within = each (λ x. IsWithin u u u (from q x)) y S (record { ahead = h; left = level u; right = level u }) (λ x m. absurd (none x m)) }))
-    (λ h. covering (by_segment y y (here y S) (here y S) (segment_from q y y (cross_self u) h)))
+    (λ h. pointed (record {
+      first = y;
+      last = y;
+      direction = u;
+      has_first = contains_first y S;
+      has_last = contains_first y S;
+      within =
+          each (λ x. IsWithin u u u (from q x)) y S (record { ahead = h; left = level u; right = level u }) (λ x m. absurd (none x m));
+    }))
+    (λ h. covering (by_segment y y (contains_first y S) (contains_first y S) (segment_from q y y (cross_self u) h)))
   where
     level : (u : Position) → pos 0 ≤ℤ cross u u
     level u = omega (arith, linear, cross_self u)
@@ -84,18 +117,28 @@ alone S q y none =
 -- y lies to the right of the cone, and its opposite to the left of it or within
 stay : (S : List Position) (q y : Position) (k : Cone S q) → IsWithin (from q k.first) (from q k.last) k.direction (from q y) → View (y ∷ S) q
 stay S q y k w =
-    pointed (record { first = k.first; last = k.last; direction = k.direction; has_first = there y S k.first k.has_first; has_last = there y S k.last k.has_last; within = each (λ x. IsWithin (from q k.first) (from q k.last) k.direction (from q x)) y S w k.within })
+    pointed (record {
+      first = k.first;
+      last = k.last;
+      direction = k.direction;
+      has_first = contains_later y S k.first k.has_first;
+      has_last =
+          contains_later y S k.last k.has_last;
+      within = each (λ x. IsWithin (from q k.first) (from q k.last) k.direction (from q x)) y S w k.within;
+    })
 
-closed : (S : List Position) (q y : Position) (k : Cone S q) → cross (from q k.first) (from q y) ≤ℤ pos 0 → pos 0 ≤ℤ cross (from q k.last) (from q y) → pos 0 <ℤ (cross (from q k.last) (from q y) +ℤ cross (from q y) (from q k.first)) → View (y ∷ S) q
+closed : (S : List Position) (q y : Position) (k : Cone S q) → cross (from q k.first) (from q y) ≤ℤ pos 0 → pos 0 ≤ℤ cross (from q k.last) (from q y)
+    → pos 0 <ℤ (cross (from q k.last) (from q y) +ℤ cross (from q y) (from q k.first)) → View (y ∷ S) q
 closed S q y k hu hv hs =
     let u = from q k.first in
     let v = from q k.last in
     let uv : pos 0 ≤ℤ cross u v = (k.within k.last k.has_last).left in
-    covering (by_triangle k.first k.last y (there y S k.first k.has_first) (there y S k.last k.has_last) (here y S)
+    covering (by_triangle k.first k.last y (contains_later y S k.first k.has_first) (contains_later y S k.last k.has_last) (contains_first y S)
     (triangle_from q k.first k.last y uv hv (omega (arith, linear, cross_flip u (from q y))) (omega (arith, linear))))
 
 -- the cone from y to the last member
-from_right : (S : List Position) (q y : Position) (k : Cone S q) → cross (from q k.first) (from q y) <ℤ pos 0 → cross (from q k.last) (from q y) <ℤ pos 0 → View (y ∷ S) q
+from_right : (S : List Position) (q y : Position) (k : Cone S q) → cross (from q k.first) (from q y) <ℤ pos 0 → cross (from q k.last) (from q y) <ℤ pos 0
+    → View (y ∷ S) q
 from_right S q y k hu hv =
     let u = from q k.first in
     let v = from q k.last in
@@ -108,21 +151,23 @@ from_right S q y k hu hv =
       first = y;
       last = k.last;
       direction = inward w v;
-      has_first = here y S;
-      has_last = there y S k.last k.has_last;
+      has_first = contains_first y S;
+      has_last = contains_later y S k.last k.has_last;
       within = each (λ x. IsWithin w v (inward w v) (from q x)) y S
           (record { ahead = omega (arith, linear, dot_inward w v w, cross_self w); left = omega (arith, linear, cross_self w); right = omega (arith, linear) })
           (λ x m. turned u v k.direction w (from q x) wu wv du dv (k.within x m));
     })
   where
-    turned : (u v d w z : Position) → pos 0 <ℤ cross w u → pos 0 <ℤ cross w v → pos 0 <ℤ dot d u → pos 0 <ℤ dot d v → IsWithin u v d z → IsWithin w v (inward w v) z
+    turned : (u v d w z : Position) → pos 0 <ℤ cross w u → pos 0 <ℤ cross w v → pos 0 <ℤ dot d u → pos 0 <ℤ dot d v → IsWithin u v d z
+        → IsWithin w v (inward w v) z
     turned u v d w z wu wv du dv i =
         let wz : pos 0 <ℤ cross w z = right_of u v d w z wu wv du dv i.ahead i.left i.right in
         let zv : pos 0 ≤ℤ cross z v = i.right in
         record { ahead = omega (arith, linear, dot_inward w v z); left = omega (arith, linear); right = i.right }
 
 -- the cone from the first member to y
-from_left : (S : List Position) (q y : Position) (k : Cone S q) → pos 0 <ℤ cross (from q k.first) (from q y) → pos 0 <ℤ cross (from q k.last) (from q y) → View (y ∷ S) q
+from_left : (S : List Position) (q y : Position) (k : Cone S q) → pos 0 <ℤ cross (from q k.first) (from q y) → pos 0 <ℤ cross (from q k.last) (from q y)
+    → View (y ∷ S) q
 from_left S q y k uw vw =
     let u = from q k.first in
     let v = from q k.last in
@@ -133,59 +178,76 @@ from_left S q y k uw vw =
       first = k.first;
       last = y;
       direction = inward u w;
-      has_first = there y S k.first k.has_first;
-      has_last = here y S;
+      has_first = contains_later y S k.first k.has_first;
+      has_last = contains_first y S;
       within = each (λ x. IsWithin u w (inward u w) (from q x)) y S
           (record { ahead = omega (arith, linear, dot_inward u w w, cross_self w); left = omega (arith, linear); right = omega (arith, linear, cross_self w) })
           (λ x m. turned u v k.direction w (from q x) uw vw du dv (k.within x m));
     })
   where
-    turned : (u v d w z : Position) → pos 0 <ℤ cross u w → pos 0 <ℤ cross v w → pos 0 <ℤ dot d u → pos 0 <ℤ dot d v → IsWithin u v d z → IsWithin u w (inward u w) z
+    turned : (u v d w z : Position) → pos 0 <ℤ cross u w → pos 0 <ℤ cross v w → pos 0 <ℤ dot d u → pos 0 <ℤ dot d v → IsWithin u v d z
+        → IsWithin u w (inward u w) z
     turned u v d w z uw vw du dv i =
         let zw : pos 0 <ℤ cross z w = left_of u v d w z uw vw du dv i.ahead i.left i.right in
         let uz : pos 0 ≤ℤ cross u z = i.left in
         record { ahead = omega (arith, linear, dot_inward u w z); left = i.left; right = omega (arith, linear) }
 
 -- y within the cone, and not at q
-inside : (S : List Position) (q y : Position) (k : Cone S q) → pos 0 ≤ℤ cross (from q k.first) (from q y) → cross (from q k.last) (from q y) ≤ℤ pos 0 → cross (from q k.last) (from q y) <ℤ cross (from q k.first) (from q y) → View (y ∷ S) q
-inside S q y k hu hv hs =
+view_within_cone : (S : List Position) (q y : Position) (k : Cone S q) → pos 0 ≤ℤ cross (from q k.first) (from q y) → cross (from q k.last) (from q y) ≤ℤ pos 0
+    → cross (from q k.last) (from q y) <ℤ cross (from q k.first) (from q y) → View (y ∷ S) q
+view_within_cone S q y k hu hv hs =
     let u = from q k.first in
     let v = from q k.last in
     let w = from q y in
     let flip = cross_flip v w in
     let wv : pos 0 ≤ℤ cross w v = omega (arith, linear) in
     let d = k.direction in
-    stay S q y k (record { ahead = ahead_within u v d w (k.within k.first k.has_first).ahead (k.within k.last k.has_last).ahead (k.within k.last k.has_last).left hu wv (omega (arith, linear)); left = hu; right = wv })
+    stay S q y k (record {
+      ahead = ahead_within u v d w (k.within k.first k.has_first).ahead (k.within k.last k.has_last).ahead
+          (k.within k.last k.has_last).left hu wv (omega (arith, linear));
+      left = hu;
+      right = wv;
+    })
 
 -- y in line with both sides of the cone
-in_line : (S : List Position) (q y : Position) (k : Cone S q) → cross (from q k.first) (from q y) ≡ pos 0 → cross (from q k.last) (from q y) ≡ pos 0 → View (y ∷ S) q
+in_line : (S : List Position) (q y : Position) (k : Cone S q) → cross (from q k.first) (from q y) ≡ pos 0 → cross (from q k.last) (from q y) ≡ pos 0
+    → View (y ∷ S) q
 in_line S q y k hu hv =
     let u = from q k.first in
     let v = from q k.last in
     let w = from q y in
     let flip = cross_flip v w in
     by_lt_z (pos 0) (dot u w)
-    (λ h. stay S q y k (record { ahead = ahead_along u k.direction w hu h (k.within k.first k.has_first).ahead; left = omega (arith, linear); right = omega (arith, linear) }))
-    (λ h. covering (by_segment k.first y (there y S k.first k.has_first) (here y S) (segment_from q k.first y hu h)))
+    (λ h. stay S q y k (record {
+      ahead = ahead_along u k.direction w hu h (k.within k.first k.has_first).ahead;
+      left = omega (arith, linear);
+      right =
+          omega (arith, linear);
+    }))
+    (λ h. covering (by_segment k.first y (contains_later y S k.first k.has_first) (contains_first y S) (segment_from q k.first y hu h)))
 
-with_cone : (S : List Position) (q y : Position) (k : Cone S q) → Sign (cross (from q k.first) (from q y)) → Sign (cross (from q k.last) (from q y)) → View (y ∷ S) q
+with_cone : (S : List Position) (q y : Position) (k : Cone S q) → Sign (cross (from q k.first) (from q y)) → Sign (cross (from q k.last) (from q y))
+    → View (y ∷ S) q
 with_cone S q y k (negative hu) (negative hv) = from_right S q y k hu hv
-with_cone S q y k (negative hu) (naught hv) = closed S q y k (omega (arith, linear)) (omega (arith, linear)) (omega (arith, linear, cross_flip (from q k.first) (from q y)))
-with_cone S q y k (negative hu) (positive hv) = closed S q y k (omega (arith, linear)) (omega (arith, linear)) (omega (arith, linear, cross_flip (from q k.first) (from q y)))
-with_cone S q y k (naught hu) (negative hv) = inside S q y k (omega (arith, linear)) (omega (arith, linear)) (omega (arith, linear))
+with_cone S q y k (negative hu) (naught hv) = closed S q y k (omega (arith, linear)) (omega (arith, linear))
+    (omega (arith, linear, cross_flip (from q k.first) (from q y)))
+with_cone S q y k (negative hu) (positive hv) = closed S q y k (omega (arith, linear)) (omega (arith, linear))
+    (omega (arith, linear, cross_flip (from q k.first) (from q y)))
+with_cone S q y k (naught hu) (negative hv) = view_within_cone S q y k (omega (arith, linear)) (omega (arith, linear)) (omega (arith, linear))
 with_cone S q y k (naught hu) (naught hv) = in_line S q y k hu hv
-with_cone S q y k (naught hu) (positive hv) = closed S q y k (omega (arith, linear)) (omega (arith, linear)) (omega (arith, linear, cross_flip (from q k.first) (from q y)))
-with_cone S q y k (positive hu) (negative hv) = inside S q y k (omega (arith, linear)) (omega (arith, linear)) (omega (arith, linear))
-with_cone S q y k (positive hu) (naught hv) = inside S q y k (omega (arith, linear)) (omega (arith, linear)) (omega (arith, linear))
+with_cone S q y k (naught hu) (positive hv) = closed S q y k (omega (arith, linear)) (omega (arith, linear))
+    (omega (arith, linear, cross_flip (from q k.first) (from q y)))
+with_cone S q y k (positive hu) (negative hv) = view_within_cone S q y k (omega (arith, linear)) (omega (arith, linear)) (omega (arith, linear))
+with_cone S q y k (positive hu) (naught hv) = view_within_cone S q y k (omega (arith, linear)) (omega (arith, linear)) (omega (arith, linear))
 with_cone S q y k (positive hu) (positive hv) = from_left S q y k hu hv
 
 with_member : (S : List Position) (q y : Position) → View S q → View (y ∷ S) q
 with_member S q y (empty none) = alone S q y none
-with_member S q y (covering c) = covering (wider S (y ∷ S) q (λ x m. there y S x m) c)
+with_member S q y (covering c) = covering (wider S (y ∷ S) q (λ x m. contains_later y S x m) c)
 with_member S q y (pointed k) = with_cone S q y k (sign (cross (from q k.first) (from q y))) (sign (cross (from q k.last) (from q y)))
 
 view : (S : List Position) (q : Position) → View S q
-view [] q = empty (λ x m. nowhere x m)
+view [] q = empty (λ x m. empty_contains_nothing x m)
 view (y ∷ S) q = with_member S q y (view S q)
 
 -- ---- one of the two
@@ -208,11 +270,11 @@ Reaches S q = (d : Position) → (s : Position) × Contains S s × (pos 0 ≤ℤ
 
 -- a member that is not ahead, or all are
 not_ahead : (S : List Position) (q d : Position) → ((s : Position) × Contains S s × (dot d (from q s) ≤ℤ pos 0)) ⊎ IsAhead S q d
-not_ahead [] q d = inr (λ x m. absurd (nowhere x m))
+not_ahead [] q d = inr (λ x m. absurd (empty_contains_nothing x m))
 not_ahead (s ∷ S) q d =
     by_lt_z (pos 0) (dot d (from q s))
-    (λ h. elim (not_ahead S q d) [ inl w ↦ inl (w.0, there s S w.0 w.1, w.2) | inr f ↦ inr (each (λ x. pos 0 <ℤ dot d (from q x)) s S h f) ])
-    (λ h. inl (s, here s S, h))
+    (λ h. elim (not_ahead S q d) [ inl w ↦ inl (w.0, contains_later s S w.0 w.1, w.2) | inr f ↦ inr (each (λ x. pos 0 <ℤ dot d (from q x)) s S h f) ])
+    (λ h. inl (s, contains_first s S, h))
 
 behind_reversed : (d q s : Position) → dot (reverse_of d) (from q s) +ℤ dot d (from q s) ≡ pos 0
 behind_reversed d q s = omega (arith, linear, dot_reverse d q s, dot_from d q s q, dot_origin q d)
@@ -221,7 +283,10 @@ pub covers_every_way : (S : List Position) (q : Position) → Covers S q ↔ Rea
 covers_every_way S q = (reaches, covers)
   where
     reaches : Covers S q → Reaches S q
-    reaches c d = elim (not_ahead S q (reverse_of d)) [ inl w ↦ (w.0, w.1, omega (arith, linear, behind_reversed d q w.0, w.2)) | inr f ↦ absurd (not_both S q (reverse_of d) c f) ]
+    reaches c d = elim (not_ahead S q (reverse_of d)) [
+      | inl w ↦ (w.0, w.1, omega (arith, linear, behind_reversed d q w.0, w.2))
+      | inr f ↦ absurd (not_both S q (reverse_of d) c f)
+    ]
 
     behind : (s : IsSeparated S q) → Reaches S q → ⊥
     behind s r = let w = r (reverse_of s.direction) in omega (arith, linear, w.2, s.ahead w.0 w.1, behind_reversed s.direction q w.0)

@@ -3,30 +3,31 @@ use Rattle.std.proofs.Common.{◌≡◌, sym, ◌∙◌, subst, pos, ◌-ℤ◌,
 use Rattle.range_plane.specs.Covering.{scalar_product, Covers, IsOnSegment, IsInTriangle}
 use Rattle.range_plane.specs.Plane.{Position, turn}
 use Rattle.range_plane.specs.Covering.Covers.{by_segment, by_triangle}
-use Rattle.integers_and_lists.proofs.Integers.{linear, product_comm}
-use Rattle.integers_and_lists.proofs.Members.{here, there, nowhere, contained}
+use Rattle.range_lemmas.proofs.Integers.{linear, product_comm}
+use Rattle.range_lemmas.proofs.Members.{contains_first, contains_later, empty_contains_nothing, contained}
 use Rattle.range_plane.proofs.Extremes.{covers_member}
 use Rattle.range_plane.proofs.HalfPlanes.{turn_back}
 use Rattle.range_plane.proofs.Vectors.{from, scalar_product_is, dot_origin, turn_self, turn_end, turn_swap, positive_apart}
 use Rattle.range_plane.proofs.Without.{equal_or_apart}
 
 pub covers_none : (q : Position) → ¬ (Covers [] q)
-covers_none q (by_segment a b ma mb s) = nowhere a ma
-covers_none q (by_triangle a b c ma mb mc t) = nowhere a ma
+covers_none q (by_segment a b ma mb s) = empty_contains_nothing a ma
+covers_none q (by_triangle a b c ma mb mc t) = empty_contains_nothing a ma
 
 only_itself : (q a : Position) → IsOnSegment q a a → q ≡ a
 only_itself q a s = elim (equal_or_apart q a) [ inl e ↦ e | inr n ↦ absurd (omega (arith, linear, positive_apart q a n, scalar_product_is q a a, s.between)) ]
 
 no_flat_triangle : (q a b c : Position) → (a ≡ b) ⊎ ((b ≡ c) ⊎ (a ≡ c)) → IsInTriangle q a b c → ⊥
-no_flat_triangle q a b c (inl e) t = let h : pos 0 <ℤ turn b b c = subst (λ z. pos 0 <ℤ turn z b c) e t.proper in omega (arith, linear, turn_swap b b c, turn_self b c)
+no_flat_triangle q a b c (inl e) t = let h : pos 0 <ℤ turn b b c = subst (λ z. pos 0 <ℤ turn z b c) e t.proper in
+    omega (arith, linear, turn_swap b b c, turn_self b c)
 no_flat_triangle q a b c (inr (inl e)) t = let h : pos 0 <ℤ turn a c c = subst (λ z. pos 0 <ℤ turn a z c) e t.proper in omega (arith, linear, turn_end a c)
 no_flat_triangle q a b c (inr (inr e)) t = let h : pos 0 <ℤ turn c b c = subst (λ z. pos 0 <ℤ turn z b c) e t.proper in omega (arith, linear, turn_self c b)
 
 pub one_of_one : (a x : Position) → Contains (a ∷ []) x → x ≡ a
-one_of_one a x m = elim (contained a [] x m) [ inl e ↦ e | inr k ↦ absurd (nowhere x k) ]
+one_of_one a x m = elim (contained a [] x m) [ inl e ↦ e | inr k ↦ absurd (empty_contains_nothing x k) ]
 
 pub covers_one : (a q : Position) → Covers (a ∷ []) q ↔ (q ≡ a)
-covers_one a q = (to, λ e. subst (Covers (a ∷ [])) (sym e) (covers_member (a ∷ []) a (here a [])))
+covers_one a q = (to, λ e. subst (Covers (a ∷ [])) (sym e) (covers_member (a ∷ []) a (contains_first a [])))
   where
     to : Covers (a ∷ []) q → q ≡ a
     to (by_segment x y mx my s) = only_itself q a (subst (λ z. IsOnSegment q z a) (one_of_one a x mx) (subst (IsOnSegment q x) (one_of_one a y my) s))
@@ -49,7 +50,7 @@ at_first : (a b : Position) → IsOnSegment a a b
 at_first a b = record { straight = turn_self a b; between = omega (arith, linear, same_scalar_product a a b, scalar_product_is a b a, dot_origin a (from a b)) }
 
 pub covers_two : (a b q : Position) → Covers (a ∷ b ∷ []) q ↔ IsOnSegment q a b
-covers_two a b q = (to, λ s. by_segment a b (here a (b ∷ [])) (there a (b ∷ []) b (here b [])) s)
+covers_two a b q = (to, λ s. by_segment a b (contains_first a (b ∷ [])) (contains_later a (b ∷ []) b (contains_first b [])) s)
   where
     at_a : q ≡ a → IsOnSegment q a b
     at_a e = subst (λ z. IsOnSegment z a b) (sym e) (at_first a b)

@@ -1,13 +1,14 @@
--- The corners of a polygon rise in order up to the last of them in order, and then fall.
-use Rattle.std.proofs.Common.{◌≡◌, sym, ◌∙◌, subst, ℕ, zero, suc, ◌+◌, ◌-◌, ◌<◌, ◌≤◌, ℤ, pos, ◌*ℤ◌, ◌≤ℤ◌, ◌<ℤ◌, ◌⊎◌, inl, inr, List, [], ◌∷◌, length, Contains, arith, eq-or-lt_of_le}
+-- The corners of a polygon at_most_the_top in order up to the last of them in order, and then fall.
+use Rattle.std.proofs.Common.{◌≡◌, sym, ◌∙◌, subst, ℕ, zero, suc, ◌+◌, ◌-◌, ◌<◌, ◌≤◌, ℤ, pos, ◌*ℤ◌, ◌≤ℤ◌, ◌<ℤ◌, ◌⊎◌, inl, inr, List, [], ◌∷◌, length, Contains}
+use Rattle.std.proofs.Common.{arith, eq-or-lt_of_le}
 use Rattle.std.proofs.lemmas.List.{get_or_default}
 use Rattle.std.proofs.lemmas.Int.{by_lt_z}
 use Rattle.range_plane.specs.Edges.{at, IsTop}
 use Rattle.range_plane.specs.Plane.{Position, turn, origin, IsAtMost}
 use Rattle.range_plane.specs.Polygon.{TurnsLeft, BeginsWithLeast}
 use Rattle.range_plane.proofs.Ends.{at_most_or_before, first_least}
-use Rattle.integers_and_lists.proofs.Integers.{linear, nonneg_product, nonpos_product, positive_product}
-use Rattle.integers_and_lists.proofs.Members.{nowhere}
+use Rattle.range_lemmas.proofs.Integers.{linear, nonneg_product, nonpos_product, positive_product}
+use Rattle.range_lemmas.proofs.Members.{empty_contains_nothing}
 use Rattle.range_plane.proofs.Rising.{rising, IsRising}
 use Rattle.range_plane.proofs.AtMost.{at_most_itself, through_most}
 use Rattle.range_plane.proofs.SmallSets.{one_of_one}
@@ -25,7 +26,8 @@ module _ (L : List Position) (t : TurnsLeft L) (r : IsRising L) (least : (x : Po
   behind : (i j : ℕ) → i < length L → j < length L → IsAtMost (at L i) (at L j) → dot r.direction (from (at L j) (at L i)) ≤ℤ pos 0
   behind i j hi hj le =
       by_lt_z (pos 0) (dot r.direction (from (at L j) (at L i)))
-      (λ lt. let k = not_behind L r (at L i) (at L j) (at_member L i hi) (at_member L j hj) le in omega (arith, linear, dot_from r.direction (at L i) (at L j) (at L i), dot_origin (at L i) r.direction))
+      (λ lt. let k = not_behind L r (at L i) (at L j) (at_member L i hi) (at_member L j hj) le in
+      omega (arith, linear, dot_from r.direction (at L i) (at L j) (at L i), dot_origin (at L i) r.direction))
       (λ h. h)
 
   inner_before : (m i : ℕ) → 0 < i → i < m → m + 1 < length L → IsAtMost (at L m) (at L (m + 1)) → IsAtMost (at L i) (at L m)
@@ -38,7 +40,13 @@ module _ (L : List Position) (t : TurnsLeft L) (r : IsRising L) (least : (x : Po
       let abc : pos 0 <ℤ turn a b c = t 0 i m origin hi im (omega arith) in
       not_ahead L r c b (at_member L m (omega arith)) (at_member L i (omega arith))
       (nonpos_factor (turn a c d) (dot r.direction (from c b)) acd
-      (omega (arith, linear, turn_four r.direction a b c d, nonpos_product (turn b c d) (dot r.direction (from c a)) (omega (arith, linear)) ca, nonneg_product (turn a b c) (dot r.direction (from c d)) (omega (arith, linear)) cd)))
+      (omega (
+        arith,
+        linear,
+        turn_four r.direction a b c d,
+        nonpos_product (turn b c d) (dot r.direction (from c a)) (omega (arith, linear)) ca,
+        nonneg_product (turn a b c) (dot r.direction (from c d)) (omega (arith, linear)) cd,
+      )))
 
   inner_after : (m i : ℕ) → 0 < m → m + 1 < i → i < length L → IsAtMost (at L (m + 1)) (at L m) → IsAtMost (at L i) (at L (m + 1))
   inner_after m i hm mi hi le =
@@ -50,7 +58,13 @@ module _ (L : List Position) (t : TurnsLeft L) (r : IsRising L) (least : (x : Po
       let abc : pos 0 <ℤ turn a b c = t 0 m (m + 1) origin hm (omega arith) (omega arith) in
       not_ahead L r c d (at_member L (m + 1) (omega arith)) (at_member L i hi)
       (nonpos_factor (turn a b c) (dot r.direction (from c d)) abc
-      (omega (arith, linear, turn_four r.direction a b c d, nonpos_product (turn b c d) (dot r.direction (from c a)) (omega (arith, linear)) ca, nonneg_product (turn a c d) (dot r.direction (from c b)) (omega (arith, linear)) cb)))
+      (omega (
+        arith,
+        linear,
+        turn_four r.direction a b c d,
+        nonpos_product (turn b c d) (dot r.direction (from c a)) (omega (arith, linear)) ca,
+        nonneg_product (turn a c d) (dot r.direction (from c b)) (omega (arith, linear)) cb,
+      )))
 
   pub up_to : (m : ℕ) → m + 1 < length L → IsAtMost (at L m) (at L (m + 1)) → (i : ℕ) → i ≤ m + 1 → IsAtMost (at L i) (at L (m + 1))
   up_to m hm le zero h = least (at L (m + 1)) (at_member L (m + 1) hm)
@@ -74,32 +88,44 @@ module _ (L : List Position) (t : TurnsLeft L) (r : IsRising L) (least : (x : Po
       ]
 
   -- below the top each corner is at most the next, from the top down
-  rise_to : (top : ℕ) → top < length L → ((x : Position) → Contains L x → IsAtMost x (at L top)) → (d m : ℕ) → m + d + 1 ≡ top → IsAtMost (at L m) (at L (m + 1))
+  rise_to : (top : ℕ) → top < length L → ((x : Position) → Contains L x → IsAtMost x (at L top)) → (d m : ℕ) → m + d + 1 ≡ top
+      → IsAtMost (at L m) (at L (m + 1))
   rise_to top h g zero m e = subst (λ k. IsAtMost (at L m) (at L k)) (let f : top ≡ m + 1 = omega arith in f) (g (at L m) (at_member L m (omega arith)))
   rise_to top h g (suc d) zero e = least (at L 1) (at_member L 1 (omega arith))
   rise_to top h g (suc d) (suc m) e = inner_before (suc m + 1) (suc m) (omega arith) (omega arith) (omega arith) (rise_to top h g d (suc m + 1) (omega arith))
 
   -- above it each is at least the next, from the top up
-  fall_from : (top : ℕ) → 0 < top → ((x : Position) → Contains L x → IsAtMost x (at L top)) → (d m : ℕ) → m ≡ top + d → m + 1 < length L → IsAtMost (at L (m + 1)) (at L m)
+  fall_from : (top : ℕ) → 0 < top → ((x : Position) → Contains L x → IsAtMost x (at L top)) → (d m : ℕ) → m ≡ top + d → m + 1 < length L
+      → IsAtMost (at L (m + 1)) (at L m)
   fall_from top h g zero m e k = subst (λ i. IsAtMost (at L (m + 1)) (at L i)) (let f : top ≡ m = omega arith in f) (g (at L (m + 1)) (at_member L (m + 1) k))
   fall_from top h g (suc d) zero e k = absurd (omega arith)
-  fall_from top h g (suc d) (suc m) e k = subst (λ i. IsAtMost (at L (suc m + 1)) (at L i)) (let f : m + 1 ≡ suc m = omega arith in f) (inner_after m (suc m + 1) (omega arith) (omega arith) k (fall_from top h g d m (omega arith) (omega arith)))
+  fall_from top h g (suc d) (suc m) e k = subst (λ i. IsAtMost (at L (suc m + 1)) (at L i)) (let f : m + 1 ≡ suc m = omega arith in f)
+      (inner_after m (suc m + 1) (omega arith) (omega arith) k (fall_from top h g d m (omega arith) (omega arith)))
 
-pub rise : (L : List Position) → TurnsLeft L → BeginsWithLeast L → (m : ℕ) → m + 1 < length L → IsAtMost (at L m) (at L (m + 1)) → (i : ℕ) → i ≤ m + 1 → IsAtMost (at L i) (at L (m + 1))
-rise L t b = up_to L t (rising L) (first_least L b)
+pub at_most_the_top : (L : List Position) → TurnsLeft L → BeginsWithLeast L → (m : ℕ) → m + 1 < length L → IsAtMost (at L m) (at L (m + 1)) → (i : ℕ)
+    → i ≤ m + 1 → IsAtMost (at L i) (at L (m + 1))
+at_most_the_top L t b = up_to L t (rising L) (first_least L b)
 
-pub fall : (L : List Position) → TurnsLeft L → BeginsWithLeast L → (m : ℕ) → 0 < m → m + 1 < length L → IsAtMost (at L (m + 1)) (at L m) → (i : ℕ) → m ≤ i → i < length L → IsAtMost (at L i) (at L m)
+pub fall : (L : List Position) → TurnsLeft L → BeginsWithLeast L → (m : ℕ) → 0 < m → m + 1 < length L → IsAtMost (at L (m + 1)) (at L m) → (i : ℕ) → m ≤ i
+    → i < length L → IsAtMost (at L i) (at L m)
 fall L t b = down_from L t (rising L) (first_least L b)
 
-pub rises_to_top : (L : List Position) (top : ℕ) → TurnsLeft L → BeginsWithLeast L → IsTop L top → top < length L → (m : ℕ) → m < top → IsAtMost (at L m) (at L (m + 1))
+pub rises_to_top : (L : List Position) (top : ℕ) → TurnsLeft L → BeginsWithLeast L → IsTop L top → top < length L → (m : ℕ) → m < top
+    → IsAtMost (at L m) (at L (m + 1))
 rises_to_top L top t b i within m h = rise_to L t (rising L) (first_least L b) top within i.greatest (top - (m + 1)) m (omega arith)
 
-pub falls_from_top : (L : List Position) (top : ℕ) → TurnsLeft L → BeginsWithLeast L → IsTop L top → 0 < top → (m : ℕ) → top ≤ m → m + 1 < length L → IsAtMost (at L (m + 1)) (at L m)
+pub falls_from_top : (L : List Position) (top : ℕ) → TurnsLeft L → BeginsWithLeast L → IsTop L top → 0 < top → (m : ℕ) → top ≤ m → m + 1 < length L
+    → IsAtMost (at L (m + 1)) (at L m)
 falls_from_top L top t b i some m h = fall_from L t (rising L) (first_least L b) top some i.greatest (m - top) m (omega arith)
 
 -- what a search for the top knows
-pub top_between : (L : List Position) (top : ℕ) → top < length L → ((i : ℕ) → i ≤ top → IsAtMost (at L i) (at L top)) → ((i : ℕ) → top ≤ i → i < length L → IsAtMost (at L i) (at L top)) → IsTop L top
-top_between L top h below above = record { within = λ _. h; greatest = λ x m. subst (λ z. IsAtMost z (at L top)) (get_or_default L m.0 origin x m.1 ∙ m.2) (go m.0 m.1 (split m.0 top)) }
+pub top_between : (L : List Position) (top : ℕ) → top < length L → ((i : ℕ) → i ≤ top → IsAtMost (at L i) (at L top))
+    → ((i : ℕ) → top ≤ i → i < length L → IsAtMost (at L i) (at L top)) → IsTop L top
+top_between L top h below above = record {
+  within = λ _. h;
+  greatest =
+      λ x m. subst (λ z. IsAtMost z (at L top)) (get_or_default L m.0 origin x m.1 ∙ m.2) (go m.0 m.1 (split m.0 top));
+}
   where
     go : (i : ℕ) → i < length L → (i ≤ top) ⊎ (top ≤ i) → IsAtMost (at L i) (at L top)
     go i k (inl le) = below i le
@@ -109,7 +135,7 @@ top_between L top h below above = record { within = λ _. h; greatest = λ x m. 
     split m n = grind arith
 
 pub top_of_few : (L : List Position) → length L < 2 → IsTop L 0
-top_of_few [] h = record { within = λ k. k; greatest = λ x m. absurd (nowhere x m) }
+top_of_few [] h = record { within = λ k. k; greatest = λ x m. absurd (empty_contains_nothing x m) }
 top_of_few (c ∷ []) h = record { within = λ k. k; greatest = λ x m. subst (λ z. IsAtMost z c) (sym (one_of_one c x m)) (at_most_itself c) }
 top_of_few (c ∷ d ∷ L) h = absurd (omega arith)
 

@@ -2,8 +2,8 @@
 use Rattle.std.proofs.Common.{◌≡◌, ◌≢◌, refl, sym, ap₂, ◌∙◌, subst, suc, pos, ◌<ℤ◌, List, [], ◌∷◌, Contains, AllPairs, ◌⊎◌, inl, inr, arith, suc-le-suc}
 use Rattle.range_plane.specs.Plane.{Position, turn, IsAtMost}
 use Rattle.range_plane.specs.Polygon.{TurnsLeft, IsPolygon}
-use Rattle.integers_and_lists.proofs.Integers.{linear}
-use Rattle.integers_and_lists.proofs.Members.{here, there, nowhere, contained}
+use Rattle.range_lemmas.proofs.Integers.{linear}
+use Rattle.range_lemmas.proofs.Members.{contains_first, contains_later, empty_contains_nothing, contained}
 use Rattle.range_plane.proofs.Vectors.{turn_swap}
 use Rattle.range_plane.proofs.Without.{both_coordinates}
 
@@ -25,18 +25,20 @@ module _ {X : Type 0} (R : X → X → Type 0) (asymmetric : (x y : X) → R x y
   same_head x y xs ys h k (inr m) (inl e) = sym e
   same_head x y xs ys h k (inr m) (inr l) = absurd (asymmetric x y (from_head R x xs h y l) (from_head R y ys k x m))
 
-  members_after : (x y : X) (xs ys : List X) → AllPairs R (x ∷ xs) → x ≡ y → ((z : X) → Contains (x ∷ xs) z → Contains (y ∷ ys) z) → (z : X) → Contains xs z → Contains ys z
-  members_after x y xs ys h e f z m = elim (contained y ys z (f z (there x xs z m))) [ inl g ↦ absurd (itself (e ∙ sym g)) | inr l ↦ l ]
+  members_after : (x y : X) (xs ys : List X) → AllPairs R (x ∷ xs) → x ≡ y → ((z : X) → Contains (x ∷ xs) z → Contains (y ∷ ys) z) → (z : X) → Contains xs z
+      → Contains ys z
+  members_after x y xs ys h e f z m = elim (contained y ys z (f z (contains_later x xs z m))) [ inl g ↦ absurd (itself (e ∙ sym g)) | inr l ↦ l ]
     where
       itself : x ≡ z → ⊥
       itself g = let r : R x z = from_head R x xs h z m in let s : R x x = subst (R x) (sym g) r in asymmetric x x s s
 
-  pub same_order : (xs ys : List X) → AllPairs R xs → AllPairs R ys → ((z : X) → Contains xs z → Contains ys z) → ((z : X) → Contains ys z → Contains xs z) → xs ≡ ys
+  pub same_order : (xs ys : List X) → AllPairs R xs → AllPairs R ys → ((z : X) → Contains xs z → Contains ys z) → ((z : X) → Contains ys z → Contains xs z)
+      → xs ≡ ys
   same_order [] [] h k f g = refl
-  same_order [] (y ∷ ys) h k f g = absurd (nowhere y (g y (here y ys)))
-  same_order (x ∷ xs) [] h k f g = absurd (nowhere x (f x (here x xs)))
+  same_order [] (y ∷ ys) h k f g = absurd (empty_contains_nothing y (g y (contains_first y ys)))
+  same_order (x ∷ xs) [] h k f g = absurd (empty_contains_nothing x (f x (contains_first x xs)))
   same_order (x ∷ xs) (y ∷ ys) h k f g =
-      let e : x ≡ y = same_head x y xs ys h k (contained y ys x (f x (here x xs))) (contained x xs y (g y (here y ys))) in
+      let e : x ≡ y = same_head x y xs ys h k (contained y ys x (f x (contains_first x xs))) (contained x xs y (g y (contains_first y ys))) in
       ap₂ (λ a l. a ∷ l) e (same_order xs ys (in_rest R x xs h) (in_rest R y ys k) (members_after x y xs ys h e f) (members_after y x ys xs k (sym e) g))
 
 -- ---- one polygon
@@ -49,8 +51,9 @@ least_alone a b (inr h) (inr k) = let f = h.1 in let g = k.1 in both_coordinates
 not_both_ways : (c x y : Position) → pos 0 <ℤ turn c x y → pos 0 <ℤ turn c y x → ⊥
 not_both_ways c x y h k = omega (arith, linear, turn_swap c x y)
 
-rest_members : (c : Position) (L M : List Position) → AllPairs (λ a b. a ≢ b) (c ∷ L) → ((x : Position) → Contains (c ∷ L) x → Contains (c ∷ M) x) → (x : Position) → Contains L x → Contains M x
-rest_members c L M d f x m = elim (contained c M x (f x (there c L x m))) [ inl e ↦ absurd (from_head (λ a b. a ≢ b) c L d x m (sym e)) | inr k ↦ k ]
+rest_members : (c : Position) (L M : List Position) → AllPairs (λ a b. a ≢ b) (c ∷ L) → ((x : Position) → Contains (c ∷ L) x → Contains (c ∷ M) x)
+    → (x : Position) → Contains L x → Contains M x
+rest_members c L M d f x m = elim (contained c M x (f x (contains_later c L x m))) [ inl e ↦ absurd (from_head (λ a b. a ≢ b) c L d x m (sym e)) | inr k ↦ k ]
 
 same_rest : (S : List Position) (c : Position) (L M : List Position) → IsPolygon S (c ∷ L) → IsPolygon S (c ∷ M) → L ≡ M
 same_rest S c L M p q =
@@ -60,10 +63,10 @@ same_rest S c L M p q =
 
 pub one_polygon : (S L M : List Position) → IsPolygon S L → IsPolygon S M → L ≡ M
 one_polygon S [] [] p q = refl
-one_polygon S [] (b ∷ M) p q = absurd (nowhere b ((p.corners b).1 ((q.corners b).0 (here b M))))
-one_polygon S (a ∷ L) [] p q = absurd (nowhere a ((q.corners a).1 ((p.corners a).0 (here a L))))
+one_polygon S [] (b ∷ M) p q = absurd (empty_contains_nothing b ((p.corners b).1 ((q.corners b).0 (contains_first b M))))
+one_polygon S (a ∷ L) [] p q = absurd (empty_contains_nothing a ((q.corners a).1 ((p.corners a).0 (contains_first a L))))
 one_polygon S (a ∷ L) (b ∷ M) p q =
-    let ab : IsAtMost a b = p.least_first b ((p.corners b).1 ((q.corners b).0 (here b M))) in
-    let ba : IsAtMost b a = q.least_first a ((q.corners a).1 ((p.corners a).0 (here a L))) in
+    let ab : IsAtMost a b = p.least_first b ((p.corners b).1 ((q.corners b).0 (contains_first b M))) in
+    let ba : IsAtMost b a = q.least_first a ((q.corners a).1 ((p.corners a).0 (contains_first a L))) in
     let e : a ≡ b = least_alone a b ab ba in
     ap₂ (λ c l. c ∷ l) e (same_rest S a L M p (subst (λ c. IsPolygon S (c ∷ M)) (sym e) q))

@@ -1,5 +1,6 @@
 -- The minimum convex polygon of a set of positions (Mohr 1947), and its doubled area.
-use Rattle.std.specs.Prelude.{ℕ, ◌<◌, ℤ, pos, ◌+ℤ◌, ◌-ℤ◌, ◌*ℤ◌, ◌<ℤ◌, ◌≢◌, ◌↔◌, ⊤, List, [], ◌∷◌, length, slice_index_or, Contains, AllPairs, Bool, if◌then◌else◌, ◌&&◌, not}
+use Rattle.std.specs.Prelude.{ℕ, ◌<◌, ℤ, pos, ◌+ℤ◌, ◌-ℤ◌, ◌*ℤ◌, ◌<ℤ◌, ◌≢◌, ◌↔◌, ⊤, List, [], ◌∷◌, length, slice_index_or, Contains, AllPairs, Bool}
+use Rattle.std.specs.Prelude.{if◌then◌else◌, ◌&&◌, not}
 use Rattle.std.specs.List.{list_any}
 use Rattle.std.specs.Ordering.{int_eq}
 use Rattle.range_plane.specs.Covering.{Covers}

@@ -28,7 +28,8 @@ impl<A: Allocator> Model for Columns<A> {
 
     ghost view = { λ c. record {
       points = zip2 position c.eastings.items c.northings.items;
-      spare = min (vec_capacity c.eastings - vec_len c.eastings) (vec_capacity c.northings - vec_len c.northings);
+      spare = min (vec_capacity c.eastings - vec_len c.eastings)
+          (vec_capacity c.northings - vec_len c.northings);
     } };
 
     ghost invariant = { λ c.
@@ -51,7 +52,7 @@ impl<A: Allocator> Columns<A> {
         }
     }
 
-    #[tactic(auto, using(crate::proofs::Zipped::length_of_zipped))]
+    #[tactic(auto, using(crate::proofs::ZippedPoints::length_of_zipped))]
     pub fn len(&self) -> usize
         ensures { result ≡ length self.now.points }
     {
@@ -74,7 +75,7 @@ impl<A: Allocator> Columns<A> {
     }
 
     /// The point at index `i`.
-    #[tactic(auto, using(crate::proofs::Zipped::length_of_zipped, crate::proofs::Zipped::zipped_at, crate::proofs::Zipped::coordinate_at, crate::proofs::Bounds::coordinate_is))]
+    #[tactic(auto, using(crate::proofs::ZippedPoints::length_of_zipped, crate::proofs::ZippedPoints::zipped_at, crate::proofs::ZippedPoints::coordinate_at, crate::proofs::Bounds::coordinate_is))]
     pub fn at(&self, i: usize) -> Point
         requires { i < length self.now.points }
         ensures { slice_get self.now.points i ≡ Some result }
@@ -86,7 +87,7 @@ impl<A: Allocator> Columns<A> {
     }
 
     /// The easting of each point.
-    #[tactic(auto, using(crate::proofs::Zipped::eastings_of_zipped))]
+    #[tactic(auto, using(crate::proofs::ZippedPoints::eastings_of_zipped))]
     pub fn eastings(&self) -> &[i64]
         ensures value { result.now ≡ map (λ p. p.e) self.now.points }
         ensures limits { All IsCoordinate result.now }
@@ -95,7 +96,7 @@ impl<A: Allocator> Columns<A> {
     }
 
     /// The northing of each point.
-    #[tactic(auto, using(crate::proofs::Zipped::northings_of_zipped))]
+    #[tactic(auto, using(crate::proofs::ZippedPoints::northings_of_zipped))]
     pub fn northings(&self) -> &[i64]
         ensures value { result.now ≡ map (λ p. p.n) self.now.points }
         ensures limits { All IsCoordinate result.now }
@@ -116,7 +117,7 @@ impl<A: Allocator> Columns<A> {
     }
 
     /// Pushes a point where there is room for it, and takes no memory.
-    #[tactic(auto, using(crate::proofs::Zipped::zipped_push, crate::proofs::Bounds::coordinate_is))]
+    #[tactic(auto, using(crate::proofs::ZippedPoints::zipped_push, crate::proofs::Bounds::coordinate_is))]
     pub fn push_reserved(&mut self, p: Point)
         requires { 1 ≤ self.old.spare }
         ensures points { self.new.points ≡ self.old.points ++ p ∷ [] }
@@ -129,7 +130,8 @@ impl<A: Allocator> Columns<A> {
     /// Pushes a point, and takes memory where there is no room for it.
     pub fn push(&mut self, p: Point) -> Result<(), OutOfMemory>
         ensures ok { OnOk result (self.new.points ≡ self.old.points ++ p ∷ []) }
-        ensures err { OnErr result ((self.new.points ≡ self.old.points) × (self.old.spare ≤ self.new.spare)) }
+        ensures err { OnErr result ((self.new.points ≡ self.old.points)
+            × (self.old.spare ≤ self.new.spare)) }
         ensures spare { self.old.spare ≤ self.new.spare + 1 }
         ensures succeeds { 1 ≤ self.old.spare → IsOk result }
     {

@@ -29,7 +29,8 @@ fn turns_left(points: &[Point], place: usize) -> bool
 
 // Whether the first point comes before every other.
 fn begin_with_least(points: &[Point]) -> bool
-    ensures { IsTrue result ↔ ((i : ℕ) → 1 ≤ i → i < length points.now → IsBefore (at points.now 0) (at points.now i)) }
+    ensures { IsTrue result
+        ↔ ((i : ℕ) → 1 ≤ i → i < length points.now → IsBefore (at points.now 0) (at points.now i)) }
 {
     (1..points.len()).all(|i| follows_first(points, i))
 }

@@ -1,4 +1,4 @@
-//! The plane: points and lists of them, minimum convex polygons, fixes and want of memory, the words
+//! The plane: points and lists of them, minimum convex polygons, fixes and the answer that memory ran out, the words
 //! that every other crate speaks. Coordinates are whole numbers of one unit, the metre or the decimetre.
 #![tactic(auto)]
 

@@ -1,10 +1,10 @@
-// Want of memory.
+// Memory that ran out.
 
 use std::alloc::{AllocError, AllocFailed};
 use std::error::Error;
 use std::fmt;
 
-/// A growth was refused for want of memory.
+/// An allocation failed.
 #[derive(Clone, Copy, PartialEq, Eq, Debug)]
 pub struct OutOfMemory;
 

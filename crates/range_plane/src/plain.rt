@@ -48,7 +48,8 @@ fn is_on_segment_from(points: &[Point], q: Point, a: Point) -> bool
 
 // Whether `q` lies on a segment between two other points.
 fn is_on_some_segment(points: &[Point], q: Point) -> bool
-    ensures { result ≡ any_other q (λ a. any_other q (λ b. is_on_segment q a b) points.now) points.now }
+    ensures { result ≡ any_other q
+        (λ a. any_other q (λ b. is_on_segment q a b) points.now) points.now }
 {
     points
         .iter()
@@ -66,7 +67,8 @@ fn is_in_triangle_on(points: &[Point], q: Point, a: Point, b: Point) -> bool
 
 // Whether `q` lies in a triangle of `a` and two other points than `q`.
 fn is_in_triangle_from(points: &[Point], q: Point, a: Point) -> bool
-    ensures { result ≡ any_other q (λ b. any_other q (λ c. is_in_triangle q a b c) points.now) points.now }
+    ensures { result ≡ any_other q
+        (λ b. any_other q (λ c. is_in_triangle q a b c) points.now) points.now }
 {
     points
         .iter()
@@ -108,8 +110,10 @@ fn least_of(points: &[Point]) -> Option<Point>
 fn place_round(corners: &[Point], p: Point) -> usize
     requires { 0 < length corners.now }
     ensures within { (0 < result) × (result ≤ length corners.now) }
-    ensures before { (k : ℕ) → 0 < k → k < result → pos 0 <ℤ turn (at corners.now 0) (at corners.now k) p }
-    ensures here { result < length corners.now → turn (at corners.now 0) (at corners.now result) p ≤ℤ pos 0 }
+    ensures before { (k : ℕ) → 0 < k → k < result
+        → pos 0 <ℤ turn (at corners.now 0) (at corners.now k) p }
+    ensures here { result < length corners.now
+        → turn (at corners.now 0) (at corners.now result) p ≤ℤ pos 0 }
 {
     let mut place = 1;
     while place < corners.len() && turn(corners[0], corners[place], p) > 0 {

@@ -32,7 +32,8 @@ impl<A: Allocator> Model for Polygon<A> {
 
     ghost view = { λ p. p.corners.items };
 
-    ghost invariant = { λ p. IsPolygon p.corners.items p.corners.items × IsTop p.corners.items p.top };
+    ghost invariant = { λ p. IsPolygon p.corners.items p.corners.items
+        × IsTop p.corners.items p.top };
 }
 
 impl<A: Allocator> Polygon<A> {

@@ -1,5 +1,6 @@
 -- A feeder and its reader, between two blocks and at the end of the blocks.
-use Rattle.std.proofs.Common.{◌≡◌, ◌≢◌, ℕ, ◌+◌, ◌*◌, ◌||◌, ◌<◌, ◌≤◌, List, [], ◌∷◌, ◌++◌, length, take, Option, Some, None, true, false, Ok, Err, Bool, IfErr, IfOk, IfSome, IsOk, refl, sym, ap, ◌∙◌, subst, arith, eqb, rules, tests, length-append, suc-mul, drop}
+use Rattle.std.proofs.Common.{◌≡◌, ◌≢◌, ℕ, ◌+◌, ◌*◌, ◌||◌, ◌<◌, ◌≤◌, List, [], ◌∷◌, ◌++◌, length, take, Option, Some, None, true, false, Ok, Err, Bool, IfErr}
+use Rattle.std.proofs.Common.{IfOk, IfSome, IsOk, refl, sym, ap, ◌∙◌, subst, arith, eqb, rules, tests, length-append, suc-mul, drop}
 use Rattle.std.specs.Prelude.{MatchBool}
 use Rattle.std.proofs.lemmas.Grind.{flat_map-append}
 use Rattle.std.proofs.lemmas.List.{append-nil, take_all, take-append-drop}
@@ -14,7 +15,7 @@ use Rattle.range_line.specs.Lines.{FeederView, after_send}
 use Rattle.range_line.specs.Messages.{block_count, block_of, blocks, fixes_in, joined, message, the_mark}
 use Rattle.range_pump.specs.Feeding.{EndsAfter, GivesNext, IsFed, after_block}
 use Rattle.range_pump.specs.Pump.{IsPumped, IsReadAs, Read}
-use Rattle.range_pump.proofs.Cuts.{blocks_of_longer, count_of_full, count_of_more, last_block}
+use Rattle.range_pump.proofs.BlockCuts.{blocks_of_longer, count_of_full, count_of_more, last_block}
 
 -- the fixes are the first that the reader gave
 pub record GaveFirst (p : Progress) (fixes : List Fix) (r : Reading) : Type 0 where
@@ -33,7 +34,8 @@ pub record IsUnderWay (source : Option Reading) (size : ℕ) (before : FeederVie
   pub told : IfSome source (GaveFirst p (joined f.sent))
 
 -- and then the reader gave the fixes of a block more
-pub record HasRead (source : Option Reading) (size : ℕ) (before : FeederView) (p : Progress) (f : FeederView) (count : ℕ) (fixes : List Fix) (q : Progress) : Type 0 where
+pub record HasRead (source : Option Reading) (size : ℕ) (before : FeederView) (p : Progress) (f : FeederView) (count : ℕ) (fixes : List Fix)
+    (q : Progress) : Type 0 where
   pub width : 1 ≤ size
   pub way : IsUnderWay source size before p f count
   pub gives : GivesNext p fixes q
@@ -48,7 +50,8 @@ record IsCut (f : FeederView) (size : ℕ) (g : FeederView) (fixes : List Fix) :
   closed : g.closed ≡ f.closed
   ended : g.ended ≡ f.ended
 
-cut : (f : FeederView) (size count : ℕ) (fixes : List Fix) → 1 ≤ size → length (joined f.sent) ≡ count * size → f.sent ≡ blocks f.file (joined f.sent) size count → length fixes ≤ size → IsCut f size (after_block f fixes) fixes
+cut : (f : FeederView) (size count : ℕ) (fixes : List Fix) → 1 ≤ size → length (joined f.sent) ≡ count * size
+    → f.sent ≡ blocks f.file (joined f.sent) size count → length fixes ≤ size → IsCut f size (after_block f fixes) fixes
 cut f size count [] some full sent small = record {
   whole = sym (append-nil (joined f.sent));
   sent = let same = append-nil (joined f.sent) in let all = count_of_full (joined f.sent) size count some full in
@@ -104,7 +107,8 @@ told_more {source} {size} {before} {p} {f} {count} {fixes} {q} read = told sourc
     }
 
 -- a full block more
-pub way_more : {source : Option Reading} {size : ℕ} {before : FeederView} {p : Progress} {f : FeederView} {count : ℕ} {fixes : List Fix} {q : Progress} (g : FeederView)
+pub way_more : {source : Option Reading} {size : ℕ} {before : FeederView} {p : Progress} {f : FeederView} {count : ℕ} {fixes : List Fix} {q : Progress}
+    (g : FeederView)
     → HasRead source size before p f count fixes q → length fixes ≡ size → g ≡ after_block f fixes → IsUnderWay source size before q g (count + 1)
 way_more {source} {size} {before} {p} {f} {count} {fixes} {q} g read full after =
     let way = read.way in
@@ -133,7 +137,8 @@ all_first : (p : Progress) (fixes : List Fix) (r : Reading) → GaveFirst p fixe
 all_first p fixes r gave ends = sym (take_all p.count r.fixes (omega (arith, ends))) ∙ sym gave.first
 
 -- the last block is handed back
-pub fed_gone : {source : Option Reading} {size : ℕ} {before : FeederView} {p : Progress} {f : FeederView} {count : ℕ} {fixes : List Fix} {q : Progress} (g : FeederView)
+pub fed_gone : {source : Option Reading} {size : ℕ} {before : FeederView} {p : Progress} {f : FeederView} {count : ℕ} {fixes : List Fix} {q : Progress}
+    (g : FeederView)
     → HasRead source size before p f count fixes q → 1 ≤ length fixes → g ≡ f → IsFed source size before g (Err Gone)
 fed_gone {source} {size} {before} {p} {f} {count} {fixes} {q} g read some same =
     let way = read.way in
@@ -165,7 +170,8 @@ fed_gone {source} {size} {before} {p} {f} {count} {fixes} {q} g read some same =
     told (Some r) gave = record { prefix = is_prefix q (joined f.sent ++ fixes) r gave; name = λ name e. cc; fault = λ fault e text. cc }
 
 -- all blocks are sent, whatever ended them
-fed : {source : Option Reading} {size : ℕ} {before : FeederView} {p : Progress} {f : FeederView} {count : ℕ} {fixes : List Fix} {q : Progress} (g : FeederView) (said : Read)
+fed : {source : Option Reading} {size : ℕ} {before : FeederView} {p : Progress} {f : FeederView} {count : ℕ} {fixes : List Fix} {q : Progress} (g : FeederView)
+    (said : Read)
     → HasRead source size before p f count fixes q → g ≡ after_block f fixes → said ≢ Err Gone → (IsOk said → 0 < q.count)
     → ((r : Reading) → Reads p r → GaveFirst q (joined f.sent ++ fixes) r → IsReadAs r (joined f.sent ++ fixes) said) → IsFed source size before g said
 fed {source} {size} {before} {p} {f} {count} {fixes} {q} g said read after own given as_read =
@@ -198,10 +204,13 @@ fed {source} {size} {before} {p} {f} {count} {fixes} {q} g said read after own g
     told None before_it gave = tt
     told (Some r) before_it gave = as_read r before_it.reads gave
 
--- the reader failed, or memory was wanting
-pub fed_fault : {source : Option Reading} {size : ℕ} {before : FeederView} {p : Progress} {f : FeederView} {count : ℕ} {fixes : List Fix} {q : Progress} (g : FeederView) (fault : ReadFault)
-    → HasRead source size before p f count fixes q → g ≡ after_block f fixes → fault ≢ Gone → (is_of_text fault ≡ true → EndsAfter p q.count (Some fault)) → IsFed source size before g (Err fault)
-fed_fault {source} {size} {before} {p} {f} {count} {fixes} {q} g fault read after own ends = fed g (Err fault) read after (λ e. own (cc)) (λ ok. cc) (λ r reads gave.
+-- the reader failed, or memory ran out
+pub fed_fault : {source : Option Reading} {size : ℕ} {before : FeederView} {p : Progress} {f : FeederView} {count : ℕ} {fixes : List Fix} {q : Progress}
+    (g : FeederView) (fault : ReadFault)
+    → HasRead source size before p f count fixes q → g ≡ after_block f fixes → fault ≢ Gone → (is_of_text fault ≡ true → EndsAfter p q.count (Some fault))
+    → IsFed source size before g (Err fault)
+fed_fault {source} {size} {before} {p} {f} {count} {fixes} {q} g fault read after own ends =
+    fed g (Err fault) read after (λ e. own (cc)) (λ ok. cc) (λ r reads gave.
     record {
       prefix = is_prefix q (joined f.sent ++ fixes) r gave;
       name = λ name e. cc;
@@ -211,11 +220,13 @@ fed_fault {source} {size} {before} {p} {f} {count} {fixes} {q} g fault read afte
           (all_first q (joined f.sent ++ fixes) r gave end.0, end.1 ∙ ap (λ x. Some x) same);
     })
 
--- the reader's end, with the name or want of memory for it
-pub fed_end : {source : Option Reading} {size : ℕ} {before : FeederView} {p : Progress} {f : FeederView} {count : ℕ} {fixes : List Fix} {q : Progress} (g : FeederView) (said : Read)
+-- the reader's end, with the name, or that memory ran out for it
+pub fed_end : {source : Option Reading} {size : ℕ} {before : FeederView} {p : Progress} {f : FeederView} {count : ℕ} {fixes : List Fix} {q : Progress}
+    (g : FeederView) (said : Read)
     → HasRead source size before p f count fixes q → g ≡ after_block f fixes → 0 < q.count → EndsAfter p q.count None
     → IfOk said (λ name. q.animal ≡ Some name) → IfErr said (λ fault. fault ≡ OutOfMemory) → IsFed source size before g said
-fed_end {source} {size} {before} {p} {f} {count} {fixes} {q} g (Ok name) read after given ends named refused = fed g (Ok name) read after (λ e. cc) (λ ok. given) (λ r reads gave.
+fed_end {source} {size} {before} {p} {f} {count} {fixes} {q} g (Ok name) read after given ends named refused =
+    fed g (Ok name) read after (λ e. cc) (λ ok. given) (λ r reads gave.
     let later : eqb q.count 0 ≡ false = search (rules, tests) in
     let animal = rw later at gave.reads.animal in
     let end = ends r reads in
@@ -227,7 +238,8 @@ fed_end {source} {size} {before} {p} {f} {count} {fixes} {q} g (Ok name) read af
 fed_end g (Err fault) read after given ends named refused = fed_fault g fault read after (λ e. cc) (λ text. absurd (cc (ap is_of_text refused)))
 
 -- the mark, where all blocks were sent
-closed : (source : Option Reading) (size : ℕ) (before f : FeederView) (read : Read) → IsFed source size before f read → read ≢ Err Gone → IsPumped source size before (after_send f the_mark) read
+closed : (source : Option Reading) (size : ℕ) (before f : FeederView) (read : Read) → IsFed source size before f read → read ≢ Err Gone
+    → IsPumped source size before (after_send f the_mark) read
 closed source size before f read fed own =
     let p = fed.pumped in
     let all = p.pumped.fixes in
@@ -249,5 +261,6 @@ closed source size before f read fed own =
 
 pub pumped : (source : Option Reading) (size : ℕ) (before f g : FeederView) (read : Read) (sent : Bool) → IsFed source size before f read → read ≢ Err Gone
     → MatchBool sent (g ≡ after_send f the_mark) (g ≡ f) → IsPumped source size before g read
-pumped source size before f g read true fed own is = subst (λ (v : FeederView). IsPumped source size before v read) (sym is) (closed source size before f read fed own)
+pumped source size before f g read true fed own is = subst (λ (v : FeederView). IsPumped source size before v read) (sym is)
+    (closed source size before f read fed own)
 pumped source size before f g read false fed own is = subst (λ (v : FeederView). IsPumped source size before v read) (sym is) fed.pumped

@@ -1,3 +1,3 @@
-pub mod Cuts
+pub mod BlockCuts
 pub mod Feedings
 pub mod Readings

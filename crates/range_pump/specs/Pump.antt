@@ -13,7 +13,8 @@ use Rattle.range_line.specs.Messages.{blocks, block_count, stream}
 abbrev pub Read : Type 0
 Read = Result (List ℕ) ReadFault
 
--- what was sent of these fixes in blocks of this size: all of their stream where the feeder is closed, all but the mark where only the mark was handed back, and the blocks before the one that was handed back
+-- what was sent of these fixes in blocks of this size: all of their stream where the feeder is closed, all but the mark where only the mark was handed back,
+-- and the blocks before the one that was handed back
 pub record IsSent (feeder : FeederView) (fixes : List Fix) (size : ℕ) (read : Read) : Type 0 where
   pub closed : feeder.closed ≡ true → (feeder.sent ≡ stream feeder.file fixes size) × (read ≢ Err Gone)
   pub unmarked : feeder.closed ≡ false → read ≢ Err Gone → feeder.sent ≡ blocks feeder.file fixes size (block_count fixes size)

@@ -11,7 +11,7 @@ use std::alloc::Global;
 use std::io::Read;
 
 // Reads up to `size` fixes. Besides them: `true` where the block is full, `false` where the reader ended,
-// and otherwise the reader's fault or the want of memory for the block.
+// and otherwise the reader's fault or that memory ran out for the block.
 pub(crate) fn read_block<S: Read + Drop>(
     alloc: Global,
     reader: &mut FixReader<S>,
@@ -22,9 +22,12 @@ pub(crate) fn read_block<S: Read + Drop>(
     ensures fixes { GivesNext reader.old result.0.items reader.new }
     ensures size { length result.0.items ≤ size }
     ensures full { result.1 ≡ Ok true → length result.0.items ≡ size }
-    ensures end { result.1 ≡ Ok false → (0 < reader.new.count) × EndsAfter reader.old reader.new.count None }
-    ensures fault { IfErr result.1 (λ fault. is_of_text fault ≡ true → EndsAfter reader.old reader.new.count (Some fault)) }
-    ensures told { IfErr result.1 (λ fault. (reader.new.fault ≡ Some fault) ⊎ ((fault ≡ ReadFault.OutOfMemory) × (reader.new ≡ reader.old))) }
+    ensures end { result.1 ≡ Ok false → (0 < reader.new.count)
+        × EndsAfter reader.old reader.new.count None }
+    ensures fault { IfErr result.1 (λ fault. is_of_text fault ≡ true
+        → EndsAfter reader.old reader.new.count (Some fault)) }
+    ensures told { IfErr result.1 (λ fault. (reader.new.fault ≡ Some fault)
+        ⊎ ((fault ≡ ReadFault.OutOfMemory) × (reader.new ≡ reader.old))) }
     ensures own { IfErr result.1 (λ fault. fault ≢ ReadFault.Gone) }
 {
     let Ok(mut fixes) = Vec::with_capacity(alloc, size as usize) else {

@@ -2,7 +2,7 @@
 
 ghost use Rattle.std.specs.Prelude.{◌≡◌, ◌≢◌, ◌⊎◌, ◌+◌, ◌<◌, ◌≤◌, [], false, length, Err, Some, None, Option, IfErr, IfSome, IfOk, MatchBool, OnOk};
 ghost use Rattle.range_plane.specs.Fix.{fix_limit};
-ghost use Rattle.range_plan.specs.Limits.{block_limit};
+ghost use Rattle.range_options.specs.Limits.{block_limit};
 ghost use Rattle.range_fixes.specs.Progress.{Reads};
 ghost use Rattle.range_fixes.specs.Reading.{Reading, reading_from};
 ghost use Rattle.range_line.specs.Messages.{joined};
@@ -48,9 +48,11 @@ fn send_block<R: Wait, A: Allocator + Clone, G: Gate>(
     requires live { (feeder.old.closed ≡ false) × (feeder.old.ended ≡ false) }
     requires size { length fixes.items ≤ block_limit }
     requires room { length (joined feeder.old.sent) + length fixes.items ≤ fix_limit }
-    ensures line { (feeder.new.line ≡ feeder.old.line) × (feeder.new.file ≡ feeder.old.file) × (feeder.new.ended ≡ false) }
+    ensures line { (feeder.new.line ≡ feeder.old.line) × (feeder.new.file ≡ feeder.old.file)
+        × (feeder.new.ended ≡ false) }
     ensures sent { OnOk result (feeder.new ≡ after_block feeder.old fixes.items) }
-    ensures gone { IfErr result (λ fault. (fault ≡ ReadFault.Gone) × (feeder.new ≡ feeder.old) × (0 < length fixes.items)) }
+    ensures gone { IfErr result (λ fault. (fault ≡ ReadFault.Gone) × (feeder.new ≡ feeder.old)
+        × (0 < length fixes.items)) }
 {
     if fixes.is_empty() {
         return Ok(());
@@ -72,10 +74,13 @@ fn send_fixes<R: Wait, S: Read + Drop, A: Allocator + Clone, G: Gate>(
     block: u32,
 ) -> Result<Name, ReadFault>
     requires block { (1 ≤ block) × (block ≤ block_limit) }
-    requires feeder { (feeder.old.closed ≡ false) × (feeder.old.ended ≡ false) × (feeder.old.sent ≡ []) }
+    requires feeder { (feeder.old.closed ≡ false) × (feeder.old.ended ≡ false)
+        × (feeder.old.sent ≡ []) }
     requires reader { (reader.old.count ≡ 0) × (reader.old.fault ≡ None) }
-    ensures fed { (source : Option Reading) → IfSome source (Reads reader.old) → IsFed source block feeder.old feeder.new result }
-    ensures told { IfErr result (λ fault. (reader.new.fault ≡ Some fault) ⊎ (fault ≡ ReadFault.OutOfMemory) ⊎ (fault ≡ ReadFault.Gone)) }
+    ensures fed { (source : Option Reading) → IfSome source (Reads reader.old)
+        → IsFed source block feeder.old feeder.new result }
+    ensures told { IfErr result (λ fault. (reader.new.fault ≡ Some fault)
+        ⊎ (fault ≡ ReadFault.OutOfMemory) ⊎ (fault ≡ ReadFault.Gone)) }
 {
     loop {
         let (fixes, more) = read_block(alloc, reader, block);
@@ -94,10 +99,10 @@ fn is_gone(read: &Result<Name, ReadFault>) -> bool
 }
 
 /// Reads a source with coordinates in this unit and sends its fixes in blocks of `block` fixes, from 1 to
-/// [`BLOCK_LIMIT`](range_plan::BLOCK_LIMIT), of which the last may have fewer, and then the mark. Takes
+/// [`BLOCK_LIMIT`](range_options::BLOCK_LIMIT), of which the last may have fewer, and then the mark. Takes
 /// memory for the reading, for each block and for the name, and waits while the line is full.
 ///
-/// Where the reader has a fault, or memory is wanting for a block or the name, that is what `read` says; the
+/// Where the reader has a fault, or memory runs out for a block or the name, that is what `read` says; the
 /// fixes before it are sent all the same, and then the mark. After a block that is handed back, `read` is
 /// [`Gone`](ReadFault::Gone) and nothing more is sent. A mark that is handed back leaves `read` as it is.
 pub fn pump<R: Wait, S: Read + Drop, A: Allocator + Clone, G: Gate>(
@@ -111,7 +116,8 @@ pub fn pump<R: Wait, S: Read + Drop, A: Allocator + Clone, G: Gate>(
 ) -> Pumped<A>
     requires block { (1 ≤ block) × (block ≤ block_limit) }
     requires feeder { (feeder.closed ≡ false) × (feeder.ended ≡ false) × (feeder.sent ≡ []) }
-    ensures { IsPumped (reading_from S.remaining unit source) block feeder result.feeder result.read }
+    ensures { IsPumped (reading_from S.remaining unit source) block
+        feeder result.feeder result.read }
 {
     let mut reader = FixReader::new(alloc, source, unit);
     let read = send_fixes(rt, alloc, &mut reader, &mut feeder, gate, block);

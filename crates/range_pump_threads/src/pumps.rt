@@ -2,7 +2,7 @@
 
 ghost use Rattle.std.specs.Prelude.{◌≡◌, ℕ, ◌≤◌, [], All, IfOk, OnOk, Some, map, slice_get, vec_len, vec_capacity};
 ghost use Rattle.range_fixes.specs.Reading.{reading_from};
-ghost use Rattle.range_plan.specs.Limits.{block_limit};
+ghost use Rattle.range_options.specs.Limits.{block_limit};
 ghost use Rattle.range_line.specs.Lines.{FeederView};
 ghost use Rattle.range_pump_threads.specs.Fresh.{IsNew};
 ghost use Rattle.range_pump.specs.Pump.{IsPumped, Read as ReadView};
@@ -10,7 +10,7 @@ ghost use Rattle.range_pump.specs.Pump.{IsPumped, Read as ReadView};
 use crate::stack::small_stack;
 use range_fixes::{Name, ReadFault};
 use range_line::Feeder;
-use range_plan::Plan;
+use range_options::Plan;
 use range_plane::OutOfMemory;
 use range_pump::{Gate, Pumped, pump};
 use std::alloc::{Allocator, Global};
@@ -31,7 +31,9 @@ impl<S: Read + Drop, A: Allocator + Clone> Promise<Pumped<A>> for PumpOf<S, A> {
     ghost use Rattle.range_fixes.specs.Reading.{reading_from};
     ghost use Rattle.range_pump.specs.Pump.{IsPumped};
 
-    ghost kept_by = { λ p r. IsPumped (reading_from S.remaining p.plan.unit p.source.value) p.plan.block p.feeder.value r.feeder r.read };
+    ghost kept_by = { λ p r. IsPumped
+        (reading_from S.remaining p.plan.unit p.source.value) p.plan.block
+        p.feeder.value r.feeder r.read };
 }
 
 /// A pump that was started.
@@ -55,7 +57,8 @@ fn start_pump<
     plan: Plan,
 ) -> Result<PumpHandle<S, A>, OutOfMemory>
     requires fresh { IsNew feeder }
-    ensures { IfOk result (λ h. (h.promise.source.value ≡ source) × (h.promise.feeder.value ≡ feeder) × (h.promise.plan ≡ plan)) }
+    ensures { IfOk result (λ h. (h.promise.source.value ≡ source)
+        × (h.promise.feeder.value ≡ feeder) × (h.promise.plan ≡ plan)) }
 {
     let (block, unit) = (plan.block, plan.unit);
     let promise = PumpOf {
@@ -68,7 +71,8 @@ fn start_pump<
         promise,
         move || -> Pumped<A>
             requires { (1 ≤ block) × (block ≤ block_limit) × IsNew feeder }
-            ensures { IsPumped (reading_from S.remaining unit source) block feeder result.feeder result.read }
+            ensures { IsPumped (reading_from S.remaining unit source) block
+                feeder result.feeder result.read }
         { pump(rt, global, source, feeder, gate, block, unit) },
     ) {
         Ok(handle) => Ok(handle),
@@ -102,8 +106,10 @@ pub fn start_pumps<
     requires feeders { All IsNew feeders.items }
     requires count { vec_len sources ≡ vec_len feeders }
     requires room { (handles.old.items ≡ []) × (vec_len sources ≤ vec_capacity handles.old) }
-    ensures sources { OnOk result (map (λ h. h.promise.source.value) handles.new.items ≡ sources.items) }
-    ensures feeders { OnOk result (map (λ h. h.promise.feeder.value) handles.new.items ≡ feeders.items) }
+    ensures sources { OnOk result (map (λ h. h.promise.source.value) handles.new.items
+        ≡ sources.items) }
+    ensures feeders { OnOk result (map (λ h. h.promise.feeder.value) handles.new.items
+        ≡ feeders.items) }
     ensures plans { All (λ h. h.promise.plan ≡ plan) handles.new.items }
     ensures few { vec_len handles.new ≤ vec_len sources }
 {
@@ -127,10 +133,13 @@ pub fn join_pumps<R: Threads, S: Read + Drop, A: Allocator + Clone>(
 )
     requires feeders { (feeders.old.items ≡ []) × (vec_len handles ≤ vec_capacity feeders.old) }
     requires reads { (reads.old.items ≡ []) × (vec_len handles ≤ vec_capacity reads.old) }
-    ensures counts { (vec_len feeders.new ≡ vec_len handles) × (vec_len reads.new ≡ vec_len handles) }
-    ensures pumped { (place : ℕ) (h : _) (f : FeederView) (r : ReadView) → slice_get handles.items place ≡ Some h
+    ensures counts { (vec_len feeders.new ≡ vec_len handles)
+        × (vec_len reads.new ≡ vec_len handles) }
+    ensures pumped { (place : ℕ) (h : _) (f : FeederView) (r : ReadView)
+        → slice_get handles.items place ≡ Some h
         → slice_get feeders.new.items place ≡ Some f → slice_get reads.new.items place ≡ Some r
-        → IsPumped (reading_from S.remaining h.promise.plan.unit h.promise.source.value) h.promise.plan.block h.promise.feeder.value f r }
+        → IsPumped (reading_from S.remaining h.promise.plan.unit h.promise.source.value)
+        h.promise.plan.block h.promise.feeder.value f r }
 {
     for handle in handles {
         let Pumped { feeder, read } = handle.join(rt);

@@ -22,14 +22,17 @@ pub one_part_more : {P A : Type 0} (text : P → List A) (numbered_text : ℕ �
 one_part_more text numbered_text start old new part i pushed same so_far =
     let count : suc i ≡ i + 1 = omega arith in
     let whole = sym (texts_more numbered_text 0 i i (omega arith)) ∙ ap (λ n. flat_map numbered_text (range_with_len 0 n)) count in
-    ap (flat_map text) pushed ∙ flat_map-append text old (part ∷ []) ∙ ap (λ l. flat_map text old ++ l) (append-nil (text part) ∙ same) ∙ ap (λ l. l ++ numbered_text i) so_far
+    ap (flat_map text) pushed ∙ flat_map-append text old (part ∷ []) ∙ ap (λ l. flat_map text old ++ l) (append-nil (text part) ∙ same)
+    ∙ ap (λ l. l ++ numbered_text i) so_far
     ∙ append_assoc (flat_map text start) (flat_map numbered_text (range_with_len 0 i)) (numbered_text i) ∙ ap (λ l. flat_map text start ++ l) whole
 
 last_text : {P A : Type 0} (text : P → List A) (old new : List P) (part : P) → new ≡ old ++ part ∷ [] → flat_map text new ≡ flat_map text old ++ text part
-last_text text old new part pushed = ap (flat_map text) pushed ∙ flat_map-append text old (part ∷ []) ∙ ap (λ l. flat_map text old ++ l) (append-nil (text part))
+last_text text old new part pushed = ap (flat_map text) pushed ∙ flat_map-append text old (part ∷ [])
+    ∙ ap (λ l. flat_map text old ++ l) (append-nil (text part))
 
 -- a part, parts of two kinds, and a part
-pub four_texts : {P A : Type 0} (text : P → List A) (p0 p1 p2 p3 p4 : List P) (first last : P) (b b′ c c′ : List A) → p0 ≡ [] → p1 ≡ p0 ++ first ∷ [] → flat_map text p2 ≡ flat_map text p1 ++ b′ → b′ ≡ b
+pub four_texts : {P A : Type 0} (text : P → List A) (p0 p1 p2 p3 p4 : List P) (first last : P) (b b′ c c′ : List A) → p0 ≡ [] → p1 ≡ p0 ++ first ∷ []
+    → flat_map text p2 ≡ flat_map text p1 ++ b′ → b′ ≡ b
     → flat_map text p3 ≡ flat_map text p2 ++ c′ → c′ ≡ c → p4 ≡ p3 ++ last ∷ [] → flat_map text p4 ≡ text first ++ b ++ c ++ text last
 four_texts text p0 p1 p2 p3 p4 first last b b′ c c′ none one two of_two three of_three four =
     rw (last_text text p3 p4 last four, three, of_three, two, of_two, last_text text p0 p1 first one, none) (simp append_assoc)
@@ -43,13 +46,15 @@ members_from xs from a b e f =
 
 module _ {A : Type 0} (line : ℕ → A → List ℕ) where
   -- the lines of the first m members, and of s after them
-  lines_cut : (number m s : ℕ) (xs : List A) → lines_from line number (take m xs) ++ lines_from line (m + number) (take s (drop m xs)) ≡ lines_from line number (take (m + s) xs)
+  lines_cut : (number m s : ℕ) (xs : List A) → lines_from line number (take m xs) ++ lines_from line (m + number) (take s (drop m xs)) ≡ lines_from line number
+      (take (m + s) xs)
   lines_cut number zero s xs =
       let none : 0 + number ≡ number = omega arith in
       let all : s ≡ 0 + s = omega arith in
       ap (λ n. lines_from line n (take s xs)) none ∙ ap (λ k. lines_from line number (take k xs)) all
   lines_cut number (suc m) s [] =
-      ap (λ l. lines_from line (suc m + number) l) (take_all s [] (omega arith)) ∙ sym (ap (λ l. lines_from line number l) (take_all (suc m + s) [] (omega arith)))
+      ap (λ l. lines_from line (suc m + number) l) (take_all s [] (omega arith))
+      ∙ sym (ap (λ l. lines_from line number l) (take_all (suc m + s) [] (omega arith)))
   lines_cut number (suc m) s (x ∷ xs) =
       let later : suc m + number ≡ m + (number + 1) = omega arith in
       let sum : suc (m + s) ≡ suc m + s = omega arith in
@@ -63,7 +68,8 @@ module _ {A : Type 0} (line : ℕ → A → List ℕ) where
   parts_so_far (suc n) xs =
       let sum : n * part_lines + part_lines ≡ suc n * part_lines = omega arith in
       texts_more (λ i. numbered_from line (i * part_lines) xs) 0 n n (omega arith)
-      ∙ ap (λ l. l ++ numbered_from line (n * part_lines) xs) (parts_so_far n xs) ∙ lines_cut 1 (n * part_lines) part_lines xs ∙ ap (λ k. numbered line (take k xs)) sum
+      ∙ ap (λ l. l ++ numbered_from line (n * part_lines) xs) (parts_so_far n xs) ∙ lines_cut 1 (n * part_lines) part_lines xs
+      ∙ ap (λ k. numbered line (take k xs)) sum
 
   -- all parts
   pub numbered_cut : (xs : List A) → flat_map (λ i. numbered_from line (i * part_lines) xs) (range_with_len 0 (part_count (length xs))) ≡ numbered line xs

@@ -1,4 +1,4 @@
 pub mod Cutting
 pub mod ListFacts
-pub mod Numbered
+pub mod NumberedLines
 pub mod Texts

@@ -7,10 +7,11 @@ use Rattle.range_report.specs.declared.parts.Lines.{Lines}
 use Rattle.range_report.specs.declared.parts.Lines.TheVariants.{Head, Rows, Corners, Percents}
 use Rattle.range_report.specs.declared.parts.Part.{Part}
 use Rattle.range_report.specs.Report.{animal_line, box_line, corner_line, end_line, lines_from, overlap_line, percent_line, row_line}
+use Rattle.range_report.specs.declared.parts.TheConstants.{PART_LINES}
 
 -- how many rows or corners a part has at most
 abbrev pub part_lines : ℕ
-part_lines = 8192
+part_lines = PART_LINES
 
 -- how many parts so many rows or corners have
 abbrev pub part_count : ℕ → ℕ

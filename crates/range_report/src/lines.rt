@@ -100,7 +100,8 @@ pub(crate) fn push_rows<A: Allocator>(
     rows: &[Row],
 ) -> Result<(), AllocError>
     requires { from + length rows.now < 2 ^ 64 }
-    ensures { OnOk result (text.new.items ≡ text.old.items ++ lines_from (row_line name.now) (from + 1) rows.now) }
+    ensures { OnOk result (text.new.items ≡ text.old.items
+        ++ lines_from (row_line name.now) (from + 1) rows.now) }
 {
     for (i, row) in rows.iter().enumerate() {
         push_row(text, name, from + i + 1, *row)?;
@@ -133,7 +134,8 @@ pub(crate) fn push_corners<A: Allocator>(
     corners: &[Point],
 ) -> Result<(), AllocError>
     requires { from + length corners.now < 2 ^ 64 }
-    ensures { OnOk result (text.new.items ≡ text.old.items ++ lines_from (corner_line name.now) (from + 1) corners.now) }
+    ensures { OnOk result (text.new.items ≡ text.old.items
+        ++ lines_from (corner_line name.now) (from + 1) corners.now) }
 {
     for (i, corner) in corners.iter().enumerate() {
         push_corner(text, name, from + i + 1, *corner)?;
@@ -165,7 +167,8 @@ pub(crate) fn push_percents<A: Allocator>(
     name: &[u8],
     rows: &[PercentRow],
 ) -> Result<(), AllocError>
-    ensures { OnOk result (text.new.items ≡ text.old.items ++ flat_map (percent_line name.now) rows.now) }
+    ensures { OnOk result (text.new.items ≡ text.old.items
+        ++ flat_map (percent_line name.now) rows.now) }
 {
     for row in rows {
         push_percent(text, name, *row)?;
@@ -180,7 +183,8 @@ fn push_name<A: Allocator>(
     place: u32,
 ) -> Result<(), AllocError>
     requires { place < length animals.now }
-    ensures { OnOk result (text.new.items ≡ text.old.items ++ name_at (map (λ a. a.name) animals.now) place) }
+    ensures { OnOk result (text.new.items ≡ text.old.items
+        ++ name_at (map (λ a. a.name) animals.now) place) }
 {
     text.extend_from_slice(animals[place as usize].name.as_slice())
 }
@@ -192,7 +196,8 @@ fn push_overlap<A: Allocator>(
     row: OverlapRow,
 ) -> Result<(), AllocError>
     requires { (row.animal < length animals.now) × (row.range < length animals.now) }
-    ensures { OnOk result (text.new.items ≡ text.old.items ++ overlap_line (map (λ a. a.name) animals.now) row) }
+    ensures { OnOk result (text.new.items ≡ text.old.items
+        ++ overlap_line (map (λ a. a.name) animals.now) row) }
 {
     text.extend_from_slice(b"overlap,")?;
     push_name(text, animals, row.animal)?;
@@ -210,8 +215,10 @@ pub(crate) fn push_overlaps<A: Allocator>(
     animals: &[Animal],
     rows: &[OverlapRow],
 ) -> Result<(), AllocError>
-    requires { All (λ row. (row.animal < length animals.now) × (row.range < length animals.now)) rows.now }
-    ensures { OnOk result (text.new.items ≡ text.old.items ++ flat_map (overlap_line (map (λ a. a.name) animals.now)) rows.now) }
+    requires { All (λ row. (row.animal < length animals.now)
+        × (row.range < length animals.now)) rows.now }
+    ensures { OnOk result (text.new.items ≡ text.old.items
+        ++ flat_map (overlap_line (map (λ a. a.name) animals.now)) rows.now) }
 {
     for row in rows {
         push_overlap(text, animals, *row)?;

@@ -40,7 +40,9 @@ fn push_numbered<'a, A: Allocator>(
     lines: Lines,
     count: usize,
 ) -> Result<(), AllocError>
-    ensures { OnOk result (flat_map text_of parts.new.items ≡ flat_map text_of parts.old.items ++ flat_map (λ i. part_text lines (i * PART_LINES) animal.now) (range_with_len 0 (part_count count))) }
+    ensures { OnOk result (flat_map text_of parts.new.items ≡ flat_map text_of parts.old.items
+        ++ flat_map
+        (λ i. part_text lines (i * PART_LINES) animal.now) (range_with_len 0 (part_count count))) }
 {
     for i in 0..count.div_ceil(PART_LINES) {
         let from = i * PART_LINES;

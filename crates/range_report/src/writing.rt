@@ -85,7 +85,8 @@ fn part_texts<R: Threads + Sync, A: Allocator + Clone + Copy + Send + Sync>(
     alloc: A,
     parts: &[Part<'_>],
 ) -> Result<Vec<Vec<u8, A>, A>, AllocError>
-    ensures { IfOk result (λ texts. AllZip (λ part text. text.items ≡ text_of part) parts.now texts.items) }
+    ensures { IfOk result (λ texts. AllZip (λ part text. text.items
+        ≡ text_of part) parts.now texts.items) }
 {
     parts
         .par_iter()
@@ -104,7 +105,8 @@ fn animal_texts<R: Threads + Sync, A: Allocator + Clone + Copy + Send + Sync>(
     alloc: A,
     animal: &Animal,
 ) -> Result<Vec<Vec<u8, A>, A>, AllocError>
-    ensures { IfOk result (λ texts. flat_map (λ text. text.items) texts.items ≡ animal_text animal.now) }
+    ensures { IfOk result (λ texts. flat_map (λ text. text.items) texts.items
+        ≡ animal_text animal.now) }
 {
     let parts = parts_of(alloc, animal)?;
     part_texts(rt, alloc, &parts)
@@ -117,7 +119,8 @@ fn push_animals<R: Threads + Sync, A: Allocator + Clone + Copy + Send + Sync>(
     texts: &mut Vec<Vec<u8, A>, A>,
     animals: Vec<Animal>,
 ) -> Result<(), AllocError>
-    ensures { OnOk result (flat_map (λ text. text.items) texts.new.items ≡ flat_map (λ text. text.items) texts.old.items ++ flat_map animal_text animals.items) }
+    ensures { OnOk result (flat_map (λ text. text.items) texts.new.items
+        ≡ flat_map (λ text. text.items) texts.old.items ++ flat_map animal_text animals.items) }
 {
     for animal in animals {
         texts.append(&mut animal_texts(rt, alloc, &animal)?)?;
@@ -146,7 +149,8 @@ fn push_texts<A: Allocator>(
     text: &mut Vec<u8, A>,
     texts: Vec<Vec<u8, A>, A>,
 ) -> Result<(), AllocError>
-    ensures { OnOk result (text.new.items ≡ text.old.items ++ flat_map (λ part. part.items) texts.items) }
+    ensures { OnOk result (text.new.items ≡ text.old.items
+        ++ flat_map (λ part. part.items) texts.items) }
 {
     for part in texts {
         text.extend_from_slice(&part)?;
@@ -160,14 +164,15 @@ fn push_texts<A: Allocator>(
 ///
 /// # Errors
 ///
-/// `OutOfMemory`, where a growth was refused.
+/// `OutOfMemory`, where an allocation failed.
 #[tactic(auto, unfolding(crate::specs::Report::report_text))]
 pub fn report_parts<R: Threads + Sync, A: Allocator + Clone + Copy + Send + Sync>(
     rt: &R,
     alloc: A,
     analysis: Analysis,
 ) -> Result<Vec<Vec<u8, A>, A>, OutOfMemory>
-    ensures { IfOk result (λ parts. flat_map (λ part. part.items) parts.items ≡ report_text analysis) }
+    ensures { IfOk result (λ parts. flat_map (λ part. part.items) parts.items
+        ≡ report_text analysis) }
 {
     let head = Vec::from_slice(alloc, head_of(analysis.unit))?;
     let tail = tail_of(alloc, &analysis)?;

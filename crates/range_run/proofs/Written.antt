@@ -13,14 +13,18 @@ use Rattle.range_run.specs.Run.{Explains, WritesPrefix, WritesReport}
 use Rattle.range_run.specs.declared.fault.RunFault.{RunFault}
 use Rattle.range_run.specs.declared.fault.RunFault.TheVariants as runs
 
-pub writes_report : {T E : Type 0} (sources : List (Option Reading)) (levels given text : List ℕ) (unit : Scale) (old new : Option (List ℕ)) (analysis : Analysis) (r : Result T E)
-    → given ≡ levels → text ≡ report_text analysis → IsAnalysisOf sources given unit analysis → OnOk r (Appends old new text) → OnOk r (WritesReport sources levels unit old new)
+pub writes_report : {T E : Type 0} (sources : List (Option Reading)) (levels given text : List ℕ) (unit : Scale) (old new : Option (List ℕ))
+    (analysis : Analysis) (r : Result T E)
+    → given ≡ levels → text ≡ report_text analysis → IsAnalysisOf sources given unit analysis → OnOk r (Appends old new text)
+    → OnOk r (WritesReport sources levels unit old new)
 writes_report sources levels given text unit old new analysis r same is analysed written =
     let of_levels = subst (λ l. IsAnalysisOf sources l unit analysis) same analysed in
     on_ok_weaker r (λ bytes. (analysis, of_levels, subst (λ t. Appends old new t) is bytes)) written
 
-pub writes_prefix : {T E : Type 0} (sources : List (Option Reading)) (levels given text : List ℕ) (unit : Scale) (old new : Option (List ℕ)) (analysis : Analysis) (r : Result T E) (fault : E)
-    → given ≡ levels → text ≡ report_text analysis → IsAnalysisOf sources given unit analysis → OnErr r (AppendsPrefix old new text) → r ≡ Err fault → WritesPrefix sources levels unit old new
+pub writes_prefix : {T E : Type 0} (sources : List (Option Reading)) (levels given text : List ℕ) (unit : Scale) (old new : Option (List ℕ))
+    (analysis : Analysis) (r : Result T E) (fault : E)
+    → given ≡ levels → text ≡ report_text analysis → IsAnalysisOf sources given unit analysis → OnErr r (AppendsPrefix old new text) → r ≡ Err fault
+    → WritesPrefix sources levels unit old new
 writes_prefix sources levels given text unit old new analysis r fault same is analysed written failed =
     let of_levels = subst (λ l. IsAnalysisOf sources l unit analysis) same analysed in
     let prefix = subst (λ s. OnErr s (AppendsPrefix old new text)) failed written in
@@ -30,4 +34,5 @@ pub explained : {T : Type 0} (sources : List (Option Reading)) (levels given : L
     → given ≡ levels → IsAnalysisOf sources given unit analysis → IfErr r (λ fault. fault ≡ runs.Write) → IfErr r (Explains sources levels unit)
 explained sources levels given unit analysis r same analysed =
     let of_levels = subst (λ l. IsAnalysisOf sources l unit analysis) same analysed in
-    IfErr-weaker r (λ fault. fault ≡ runs.Write) (Explains sources levels unit) (λ fault is. subst (Explains sources levels unit) (sym is) (analysis, of_levels))
+    IfErr-weaker r (λ fault. fault ≡ runs.Write) (Explains sources levels unit)
+    (λ fault is. subst (Explains sources levels unit) (sym is) (analysis, of_levels))

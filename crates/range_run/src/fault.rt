@@ -12,7 +12,7 @@ pub enum RunFault {
     /// The files have no analysis.
     #[error(transparent)]
     Analyse(AnalyseFault),
-    /// A growth was refused to the report for want of memory.
+    /// An allocation for the report failed.
     #[error("out of memory")]
     OutOfMemory,
     /// A write failed or took no byte, or the flush failed.
@@ -22,7 +22,7 @@ pub enum RunFault {
 
 impl RunFault {
     /// The status with which the program ends after this fault: 1 for a file that cannot be read and for two
-    /// files with the same animal, 3 for want of memory, 4 for an output that cannot be written, 5 for fixes
+    /// files with the same animal, 3 where memory ran out, 4 for an output that cannot be written, 5 for fixes
     /// that were not all handed on.
     pub fn status(&self) -> u8
         ensures { result ≡ fault_status self.now }

@@ -11,7 +11,8 @@ use std::io::Write;
 // Writes a text whole, and flushes nothing.
 fn write_whole<W: Write>(out: &mut W, text: &[u8]) -> Result<(), RunFault>
     ensures whole { OnOk result (Appends (W.contents out.old) (W.contents out.new) text.now) }
-    ensures prefix { OnErr result (AppendsPrefix (W.contents out.old) (W.contents out.new) text.now) }
+    ensures prefix { OnErr result
+        (AppendsPrefix (W.contents out.old) (W.contents out.new) text.now) }
     ensures fault { IfErr result (λ fault. fault ≡ RunFault.Write) }
 {
     let mut at = 0;
@@ -40,7 +41,8 @@ fn flush<W: Write>(out: &mut W) -> Result<(), RunFault>
 /// `Write`, where a write failed or took no byte, or the flush failed: a prefix of the text is written then.
 pub fn write_text<W: Write>(out: &mut W, text: &[u8]) -> Result<(), RunFault>
     ensures whole { OnOk result (Appends (W.contents out.old) (W.contents out.new) text.now) }
-    ensures prefix { OnErr result (AppendsPrefix (W.contents out.old) (W.contents out.new) text.now) }
+    ensures prefix { OnErr result
+        (AppendsPrefix (W.contents out.old) (W.contents out.new) text.now) }
     ensures fault { IfErr result (λ fault. fault ≡ RunFault.Write) }
 {
     write_whole(out, text)?;
@@ -49,8 +51,12 @@ pub fn write_text<W: Write>(out: &mut W, text: &[u8]) -> Result<(), RunFault>
 
 // Writes parts of a text, one after the other, and flushes once. Each part is let go as soon as it is written.
 pub(crate) fn write_parts<W: Write>(out: &mut W, parts: Vec<Vec<u8>>) -> Result<(), RunFault>
-    ensures whole { OnOk result (Appends (W.contents out.old) (W.contents out.new) (flat_map (λ part. part.items) parts.items)) }
-    ensures prefix { OnErr result (AppendsPrefix (W.contents out.old) (W.contents out.new) (flat_map (λ part. part.items) parts.items)) }
+    ensures whole { OnOk result
+        (Appends (W.contents out.old) (W.contents out.new)
+        (flat_map (λ part. part.items) parts.items)) }
+    ensures prefix { OnErr result
+        (AppendsPrefix (W.contents out.old) (W.contents out.new)
+        (flat_map (λ part. part.items) parts.items)) }
     ensures fault { IfErr result (λ fault. fault ≡ RunFault.Write) }
 {
     for part in parts {

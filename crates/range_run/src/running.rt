@@ -1,15 +1,14 @@
 // One run: from the sources to the report.
 
-ghost use Rattle.std.specs.Prelude.{◌≡◌, ◌≢◌, ◌≤◌, All, Err, IfErr, OnOk, map, vec_len};
-ghost use Rattle.range_fixes.specs.Reading.{reading_from};
-ghost use Rattle.range_plan.specs.Limits.{file_limit};
-ghost use Rattle.range_stats.specs.Levels.{IsLevel};
+ghost use Rattle.std.specs.Prelude.{◌≡◌, ◌≢◌, ◌≤◌, Err, IfErr, OnOk, vec_len};
+ghost use Rattle.range_fixes.specs.Reading.{readings};
+ghost use Rattle.range_options.specs.Limits.{file_limit};
 ghost use Rattle.range_run.specs.Run.{Explains, WritesPrefix, WritesReport};
 
 use crate::fault::RunFault;
 use crate::output::write_parts;
 use range_analysis::analyse;
-use range_plan::Options;
+use range_options::Options;
 use range_pump::{FreeGate, Gate};
 use range_report::report_parts;
 use std::alloc::Global;
@@ -27,13 +26,21 @@ pub fn run<R: Wait + Threads + Sync, S: Read + Send + Drop, W: Write>(
     out: &mut W,
 ) -> Result<(), RunFault>
     requires sources { (1 ≤ vec_len sources) × (vec_len sources ≤ file_limit) }
-    requires levels { All IsLevel options.now.levels.items }
-    ensures report { OnOk result (WritesReport (map (reading_from S.remaining options.now.plan.unit) sources.items) options.now.levels.items options.now.plan.unit
+    ensures report { OnOk result
+        (WritesReport
+        (readings S.remaining options.now.plan.unit sources.items)
+        options.now.levels options.now.plan.unit
         (W.contents out.old) (W.contents out.new)) }
-    ensures prefix { result ≡ Err RunFault.Write → WritesPrefix (map (reading_from S.remaining options.now.plan.unit) sources.items) options.now.levels.items options.now.plan.unit
+    ensures prefix { result ≡ Err RunFault.Write
+        → WritesPrefix
+        (readings S.remaining options.now.plan.unit sources.items)
+        options.now.levels options.now.plan.unit
         (W.contents out.old) (W.contents out.new) }
     ensures unwritten { IfErr result (λ fault. fault ≢ RunFault.Write → out.new ≡ out.old) }
-    ensures fault { IfErr result (Explains (map (reading_from S.remaining options.now.plan.unit) sources.items) options.now.levels.items options.now.plan.unit) }
+    ensures fault { IfErr result
+        (Explains
+        (readings S.remaining options.now.plan.unit sources.items)
+        options.now.levels options.now.plan.unit) }
 {
     run_with_gate(rt, alloc, sources, &FreeGate, options, out)
 }
@@ -48,16 +55,23 @@ pub fn run_with_gate<R: Wait + Threads + Sync, S: Read + Send + Drop, W: Write, 
     out: &mut W,
 ) -> Result<(), RunFault>
     requires sources { (1 ≤ vec_len sources) × (vec_len sources ≤ file_limit) }
-    requires levels { All IsLevel options.now.levels.items }
-    ensures report { OnOk result (WritesReport (map (reading_from S.remaining options.now.plan.unit) sources.items) options.now.levels.items options.now.plan.unit
+    ensures report { OnOk result
+        (WritesReport
+        (readings S.remaining options.now.plan.unit sources.items)
+        options.now.levels options.now.plan.unit
         (W.contents out.old) (W.contents out.new)) }
-    ensures prefix { result ≡ Err RunFault.Write → WritesPrefix (map (reading_from S.remaining options.now.plan.unit) sources.items) options.now.levels.items options.now.plan.unit
+    ensures prefix { result ≡ Err RunFault.Write
+        → WritesPrefix
+        (readings S.remaining options.now.plan.unit sources.items)
+        options.now.levels options.now.plan.unit
         (W.contents out.old) (W.contents out.new) }
     ensures unwritten { IfErr result (λ fault. fault ≢ RunFault.Write → out.new ≡ out.old) }
-    ensures fault { IfErr result (Explains (map (reading_from S.remaining options.now.plan.unit) sources.items) options.now.levels.items options.now.plan.unit) }
+    ensures fault { IfErr result
+        (Explains
+        (readings S.remaining options.now.plan.unit sources.items)
+        options.now.levels options.now.plan.unit) }
 {
-    let levels = options.levels.as_slice();
-    let analysis = match analyse(rt, alloc, sources, gate, options.plan, levels) {
+    let analysis = match analyse(rt, alloc, sources, gate, options.plan, &options.levels) {
         Ok(analysis) => analysis,
         Err(fault) => return Err(RunFault::Analyse(fault)),
     };

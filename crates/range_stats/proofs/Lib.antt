@@ -1,6 +1,5 @@
 pub mod Firsts
-pub mod Members
-pub mod Parts
-pub mod Places
-pub mod Ranks
+pub mod RankedMembers
+pub mod RankPlaces
+pub mod Rankings
 pub mod Selected

@@ -12,7 +12,7 @@ use Rattle.std.proofs.lemmas.List.Sorted.{All-permutation, IsPermutation-append_
 use Rattle.range_plane.specs.Edges.{at}
 use Rattle.range_plane.specs.Fix.{fix_limit}
 use Rattle.range_plane.specs.Plane.{Position}
-use Rattle.range_stats.specs.Keys.{IsCutAdded, IsCutAt, points_in}
+use Rattle.range_stats.specs.Keys.{IsCutAdded, IsCutAt, kept_points}
 use Rattle.range_stats.specs.Percent.{kept_count}
 
 -- no key comes after the last
@@ -26,7 +26,8 @@ at_least x y late = grind (arith, nat_tests)
 module _ (before nearest after : List ℕ) (key : ℕ) (moved : IsPermutation before nearest) (split : IsSplitAround nat_cmp before key after) where
   others_greater : All (λ x. All (λ y. x ≤ y) (key ∷ after)) nearest
   others_greater =
-      let low : All (λ x. x ≤ key) nearest = All-permutation (λ x. x ≤ key) before nearest moved (λ i d within. at_least (get_or before i d) key (split.0 i d within)) in
+      let low : All (λ x. x ≤ key) nearest = All-permutation (λ x. x ≤ key) before nearest moved
+      (λ i d within. at_least (get_or before i d) key (split.0 i d within)) in
       λ i d within.
       let x = get_or nearest i d in
       All-cons (λ y. x ≤ y) key after (low i d within) (λ j e inside. omega (arith, low i d within, at_least key (get_or after j e) (split.1 j e inside)))
@@ -48,36 +49,45 @@ module _ (before nearest after : List ℕ) (key : ℕ) (moved : IsPermutation be
       go (inr more) = cut_at_end (nearest ++ key ∷ after) k (omega (arith, long, more))
 
 -- what holds of keys holds of the one that is selected, and of those before and after it
-pub in_parts : (P : ℕ → Type 0) (keys before after : List ℕ) (key : ℕ) → IsPermutation keys (before ++ key ∷ after) → All P keys → All P before × P key × All P after
+pub in_parts : (P : ℕ → Type 0) (keys before after : List ℕ) (key : ℕ) → IsPermutation keys (before ++ key ∷ after) → All P keys → All P before × P key
+    × All P after
 in_parts P keys before after key moved all =
     let whole = All-permutation P keys (before ++ key ∷ after) moved all in
-    let rest = subst (All P) (drop-append_seam before (key ∷ after)) (All-drop P (length before) (before ++ key ∷ after) whole) in
-    (subst (All P) (take-append_seam before (key ∷ after)) (All-take P (length before) (before ++ key ∷ after) whole), All-head P key after rest, All-tail P key after rest)
+    let rest = subst (All P) (drop-append_seam before (key ∷ after)) (All-drop P (length before) (before ++ key ∷ after) whole) in (
+      subst (All P) (take-append_seam before (key ∷ after)) (All-take P (length before) (before ++ key ∷ after) whole),
+      All-head P key after rest,
+      All-tail P key after rest,
+    )
 
 -- the points of the keys, where those before the selected one were put in another order
 points_joined : (points : List Position) (nearest after : List ℕ) (key : ℕ) (old : List Position) (p : Position) → at points (key % fix_limit) ≡ p
-    → ((old ++ points_in points nearest) ++ p ∷ []) ++ points_in points after ≡ old ++ points_in points (nearest ++ key ∷ after)
+    → ((old ++ kept_points points nearest) ++ p ∷ []) ++ kept_points points after ≡ old ++ kept_points points (nearest ++ key ∷ after)
 points_joined points nearest after key old p here =
     let point = λ (k : ℕ). at points (k % fix_limit) in
     append_assoc (old ++ map point nearest) (p ∷ []) (map point after) ∙ append_assoc old (map point nearest) (p ∷ map point after)
     ∙ ap (λ q. old ++ (map point nearest ++ q ∷ map point after)) (sym here) ∙ ap (λ l. old ++ l) (sym (map-append point nearest (key ∷ after)))
 
-pub cut_uncut : (points : List Position) (levels keys : List ℕ) (old new : List Position) → All (λ level. length keys ≤ kept_count level (length points)) levels → new ≡ old ++ points_in points keys → IsCutAdded points levels keys old new
+pub cut_uncut : (points : List Position) (levels keys : List ℕ) (old new : List Position) → All (λ level. length keys ≤ kept_count level (length points)) levels
+    → new ≡ old ++ kept_points points keys → IsCutAdded points levels keys old new
 cut_uncut points levels keys old new all joined = (
   keys,
   IsPermutation-refl keys,
-  All-weaker (λ level. length keys ≤ kept_count level (length points)) (λ level. IsCutAt (kept_count level (length points)) keys) (λ level more. cut_at_end keys (kept_count level (length points)) more) levels all,
+  All-weaker (λ level. length keys ≤ kept_count level (length points)) (λ level. IsCutAt (kept_count level (length points)) keys)
+      (λ level more. cut_at_end keys (kept_count level (length points)) more) levels all,
   joined,
 )
 
-pub cut_more : (points : List Position) (levels keys before after : List ℕ) (key kept : ℕ) (old then : List Position) (p : Position) (new : List Position) → IsPermutation keys (before ++ key ∷ after) → IsSplitAround nat_cmp before key after
-    → length before ≡ kept → All (λ level. kept_count level (length points) < length keys → kept_count level (length points) ≤ kept) levels → IsCutAdded points levels before old then → at points (key % fix_limit) ≡ p
-    → new ≡ (then ++ p ∷ []) ++ points_in points after → IsCutAdded points levels keys old new
+pub cut_more : (points : List Position) (levels keys before after : List ℕ) (key kept : ℕ) (old then : List Position) (p : Position) (new : List Position)
+    → IsPermutation keys (before ++ key ∷ after) → IsSplitAround nat_cmp before key after
+    → length before ≡ kept → All (λ level. kept_count level (length points) < length keys → kept_count level (length points) ≤ kept) levels
+    → IsCutAdded points levels before old then → at points (key % fix_limit) ≡ p
+    → new ≡ (then ++ p ∷ []) ++ kept_points points after → IsCutAdded points levels keys old new
 cut_more points levels keys before after key kept old then p new moved split long greatest (nearest, turned, cut, joined) here is =
     let whole = nearest ++ key ∷ after in
     let again : IsPermutation keys whole = IsPermutation-trans _ _ _ moved (IsPermutation-append_left (key ∷ after) before nearest turned) in
     let each : All (λ level. IsCutAt (kept_count level (length points)) whole) levels =
     λ i d within.
     let k = kept_count (get_or levels i d) (length points) in
-    cut_anywhere before nearest after key turned split k (length keys) (length_permutation keys whole again) (λ less. omega (arith, long, greatest i d within less)) (cut i d within) in
-    (whole, again, each, is ∙ ap (λ l. (l ++ p ∷ []) ++ points_in points after) joined ∙ points_joined points nearest after key old p here)
+    cut_anywhere before nearest after key turned split k (length keys) (length_permutation keys whole again)
+    (λ less. omega (arith, long, greatest i d within less)) (cut i d within) in
+    (whole, again, each, is ∙ ap (λ l. (l ++ p ∷ []) ++ kept_points points after) joined ∙ points_joined points nearest after key old p here)

@@ -19,8 +19,8 @@ abbrev pub entry_in : ℕ → ℕ × ℕ
 entry_in key = (key / fix_limit, key % fix_limit)
 
 -- the points at the places in keys
-abbrev pub points_in : List Position → List ℕ → List Position
-points_in points keys = map (λ key. at points (key % fix_limit)) keys
+abbrev pub kept_points : List Position → List ℕ → List Position
+kept_points points keys = map (λ key. at points (key % fix_limit)) keys
 
 -- none of the first k keys is greater than one after them
 abbrev pub IsCutAt : ℕ → List ℕ → Type 0
@@ -33,4 +33,5 @@ IsGreatestCut levels n limit (Some kept) = (kept < limit) × All (λ level. kept
 
 -- to the old points those in the keys are added, in an order that is cut at what each of the levels keeps of all points
 abbrev pub IsCutAdded : List Position → List ℕ → List ℕ → List Position → List Position → Type 0
-IsCutAdded points levels keys old new = (cut : List ℕ) × IsPermutation keys cut × All (λ level. IsCutAt (kept_count level (length points)) cut) levels × (new ≡ old ++ points_in points cut)
+IsCutAdded points levels keys old new = (cut : List ℕ) × IsPermutation keys cut × All (λ level. IsCutAt (kept_count level (length points)) cut) levels
+    × (new ≡ old ++ kept_points points cut)

@@ -1,4 +1,3 @@
 pub mod Keys
-pub mod Levels
 pub mod Overlap
 pub mod Percent

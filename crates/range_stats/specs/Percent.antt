@@ -52,7 +52,8 @@ kept_count level n = (level * n + 99) / 100
 pub record IsPercentRow (points : List Position) (level : ℕ) (row : PercentRow) : Type 0 where
   pub same_level : row.level ≡ level
   pub kept : row.kept ≡ length (nearest points (kept_count level (length points)))
-  pub polygon : (L : List Position) × IsPolygon (nearest_points points (kept_count level (length points))) L × (row.corners ≡ length L) × (pos row.area2 ≡ area2 L)
+  pub polygon : (L : List Position) × IsPolygon (nearest_points points (kept_count level (length points))) L × (row.corners ≡ length L)
+      × (pos row.area2 ≡ area2 L)
 
 -- the first k of ranked are the k nearest of the points
 abbrev pub AreNearestFirst : List Position → List Position → ℕ → Type 0

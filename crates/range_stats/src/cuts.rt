@@ -2,7 +2,7 @@
 
 ghost use Rattle.std.specs.Prelude.{◌≡◌, ◌++◌, ◌%◌, ◌<◌, ◌≤◌, All, IfOk, length};
 ghost use Rattle.range_plane.specs.Fix.{fix_limit};
-ghost use Rattle.range_stats.specs.Keys.{IsCutAdded, IsGreatestCut, points_in};
+ghost use Rattle.range_stats.specs.Keys.{IsCutAdded, IsGreatestCut, kept_points};
 ghost use Rattle.range_stats.specs.Percent.{kept_count};
 
 use crate::distances::place_in;
@@ -39,7 +39,8 @@ fn push_points<A: Allocator, B: Allocator>(
     keys: &[u128],
 ) -> Result<(), OutOfMemory>
     requires { All (λ key. key % fix_limit < length fixes.now.points) keys.now }
-    ensures { IfOk result (λ done. points.new.items ≡ points.old.items ++ points_in fixes.now.points keys.now) }
+    ensures { IfOk result (λ done. points.new.items ≡ points.old.items
+        ++ kept_points fixes.now.points keys.now) }
 {
     for key in keys {
         points.push(fixes.at(place_in(*key)))?;
@@ -57,7 +58,9 @@ pub(crate) fn push_cut<A: Allocator, B: Allocator>(
 ) -> Result<(), OutOfMemory>
     requires few { length fixes.now.points ≤ fix_limit }
     requires places { All (λ key. key % fix_limit < length fixes.now.points) keys.old }
-    ensures { IfOk result (λ done. IsCutAdded fixes.now.points levels.now keys.old points.old.items points.new.items) }
+    ensures { IfOk result
+        (λ done. IsCutAdded fixes.now.points levels.now keys.old
+        points.old.items points.new.items) }
 {
     let Some(kept) = greatest_cut(levels, fixes.len(), keys.len()) else {
         return push_points(points, fixes, keys);

@@ -49,7 +49,8 @@ pub(crate) fn keys<A: Allocator, B: Allocator>(
     fixes: &Columns<B>,
 ) -> Result<Vec<u128, A>, OutOfMemory>
     requires { length fixes.now.points ≤ fix_limit }
-    ensures { IfOk result (λ keys. keys.items ≡ map (λ i. key (entry fixes.now.points i)) (places fixes.now.points)) }
+    ensures { IfOk result (λ keys. keys.items
+        ≡ map (λ i. key (entry fixes.now.points i)) (places fixes.now.points)) }
 {
     let (eastings, northings) = sums(fixes);
     let count = fixes.len() as u64;

@@ -12,7 +12,8 @@ use std::alloc::Allocator;
 /// How many of the fixes the range covers, repeats counted. A fix on an edge or at a corner is covered.
 pub fn overlap<A: Allocator, B: Allocator>(fixes: &Columns<A>, range: &Polygon<B>) -> u64
     ensures corners { result ≡ overlap fixes.now.points range.now }
-    ensures set { (S : List Position) → IsPolygon S range.now → result ≡ overlap fixes.now.points S }
+    ensures set { (S : List Position) → IsPolygon S range.now
+        → result ≡ overlap fixes.now.points S }
 {
     covered_is_decided();
     corners_cover_the_set();

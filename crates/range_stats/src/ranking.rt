@@ -62,7 +62,8 @@ impl<A: Allocator> Ranking<A> {
         B: Copy,
         requires { level ≤ 100 }
         ensures kept { IfOk result (λ row. row.kept ≡ kept_count level (length self.now)) }
-        ensures row { (points : List Position) (levels : List ℕ) → IsRanking points levels self.now → Contains levels level → IfOk result (IsPercentRow points level) }
+        ensures row { (points : List Position) (levels : List ℕ) → IsRanking points levels self.now
+            → Contains levels level → IfOk result (IsPercentRow points level) }
     {
         larger_sets_cover_more();
         few_cover_little();
@@ -83,7 +84,8 @@ impl<A: Allocator> Ranking<A> {
     where
         B: Copy,
         requires { All (λ level. level ≤ 100) levels.now }
-        ensures { (points : List Position) → IsRanking points levels.now self.now → IfOk result (λ rows. AllZip (IsPercentRow points) levels.now rows.items) }
+        ensures { (points : List Position) → IsRanking points levels.now self.now
+            → IfOk result (λ rows. AllZip (IsPercentRow points) levels.now rows.items) }
     {
         larger_sets_cover_more();
         few_cover_little();
@@ -119,7 +121,8 @@ impl<A: Allocator> Ranking<A> {
         requires done { done ≤ kept_count level (length self.now) }
         requires hull { IsHullOf (take done self.now) hull.old }
         ensures row { IfOk result (IsFirstRow self.now level) }
-        ensures hull { IfOk result (λ row. IsHullOf (take (kept_count level (length self.now)) self.now) hull.new) }
+        ensures hull { IfOk result
+            (λ row. IsHullOf (take (kept_count level (length self.now)) self.now) hull.new) }
     {
         larger_sets_cover_more();
         few_cover_little();
@@ -142,7 +145,8 @@ fn add_points<A: Allocator>(hull: &mut OnlineHull<A>, points: &[Point]) -> Resul
 where
     A: Copy,
     requires few { hull.old.inserted + hull.old.skipped + length points.now ≤ fix_limit }
-    ensures { (S : List Position) → IsHullOf S hull.old → IfOk result (λ done. IsHullOf (points.now ++ S) hull.new) }
+    ensures { (S : List Position) → IsHullOf S hull.old
+        → IfOk result (λ done. IsHullOf (points.now ++ S) hull.new) }
 {
     for point in points.iter().rev() {
         hull.reserve(1)?;

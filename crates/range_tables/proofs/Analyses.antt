@@ -5,8 +5,8 @@ use Rattle.std.specs.List.{AllZip}
 use Rattle.range_plane.specs.Plane.{Position}
 use Rattle.range_plane.specs.Polygon.{IsPolygon}
 use Rattle.range_lanes.specs.Extent.{IsExtent}
-use Rattle.range_tables.proofs.Pairs.{pairs_below}
-use Rattle.range_tables.specs.Overlaps.{IsKnown, fixes_in, row_of}
+use Rattle.range_tables.proofs.AnimalPairs.{pairs_below}
+use Rattle.range_tables.specs.Overlaps.{IsKnown, points_of_each, row_of}
 use Rattle.range_tables.specs.Tables.{IsOverlap, pairs}
 use Rattle.range_tables.specs.Tracks.{IsAnimalOn, IsMeasuredOf, points_on}
 use Rattle.range_tables.specs.declared.animal.OverlapRow.{OverlapRow}
@@ -26,13 +26,15 @@ all_known levels [] (m ∷ ms) each = absurd each
 all_known levels (t ∷ ts) [] each = absurd each
 all_known levels (t ∷ ts) (m ∷ ms) each = All-cons IsKnown m ms (known levels t m each.0) (all_known levels ts ms each.1)
 
-pub animals_of : (levels : List ℕ) (tracks : List Track) (measured : List Measured) → AllZip (IsMeasuredOf levels) tracks measured → AllZip (IsAnimalOn levels) tracks (map (λ m. m.animal) measured)
+pub animals_of : (levels : List ℕ) (tracks : List Track) (measured : List Measured) → AllZip (IsMeasuredOf levels) tracks measured
+    → AllZip (IsAnimalOn levels) tracks (map (λ m. m.animal) measured)
 animals_of levels [] [] each = tt
 animals_of levels [] (m ∷ ms) each = absurd each
 animals_of levels (t ∷ ts) [] each = absurd each
 animals_of levels (t ∷ ts) (m ∷ ms) each = (each.0.animal, animals_of levels ts ms each.1)
 
-fixes_of : (levels : List ℕ) (tracks : List Track) (measured : List Measured) → AllZip (IsMeasuredOf levels) tracks measured → fixes_in measured ≡ points_on tracks
+fixes_of : (levels : List ℕ) (tracks : List Track) (measured : List Measured) → AllZip (IsMeasuredOf levels) tracks measured
+    → points_of_each measured ≡ points_on tracks
 fixes_of levels [] [] each = refl
 fixes_of levels [] (m ∷ ms) each = absurd each
 fixes_of levels (t ∷ ts) [] each = absurd each
@@ -50,7 +52,7 @@ overlap_of : (points : List (List Position)) (pair : ℕ × ℕ) → IsOverlap p
 overlap_of points pair = record { animal = refl; range = refl; count = refl; fixes = refl }
 
 pub overlaps_of : (levels : List ℕ) (tracks : List Track) (measured : List Measured) (n : ℕ) → AllZip (IsMeasuredOf levels) tracks measured
-    → AllZip (IsOverlap (points_on tracks)) (pairs n) (map (row_of (fixes_in measured)) (pairs n))
+    → AllZip (IsOverlap (points_on tracks)) (pairs n) (map (row_of (points_of_each measured)) (pairs n))
 overlaps_of levels tracks measured n each =
     rw (fixes_of levels tracks measured each) (zip_of_map (IsOverlap (points_on tracks)) (row_of (points_on tracks)) (pairs n) (overlap_of (points_on tracks)))
 

@@ -7,7 +7,7 @@ use Rattle.std.specs.Prelude.{◌||◌}
 use Rattle.range_plane.specs.Covering.{Covers, advance, is_covered}
 use Rattle.range_plane.specs.Laws.{CoveredIsDecided, CoveringIsReaching}
 use Rattle.range_plane.specs.Plane.{Position, position}
-use Rattle.integers_and_lists.proofs.Members.{here, there}
+use Rattle.range_lemmas.proofs.Members.{contains_first, contains_later}
 use Rattle.range_lanes.specs.Extent.{IsExtent}
 use Rattle.range_lanes.specs.declared.extent.Extent.{Extent}
 use Rattle.range_stats.specs.Overlap.{overlap}
@@ -72,10 +72,12 @@ covered_in_box reaching set box q extent covered =
 counts_none : {X : Type 0} (test : X → Bool) (xs : List X) → ((x : X) → Contains xs x → test x ≡ false) → count_by test xs ≡ 0
 counts_none test [] none = refl
 counts_none test (x ∷ xs) none =
-    let first = none x (here x xs) in
-    let rest = counts_none test xs (λ y m. none y (there x xs y m)) in
+    let first = none x (contains_first x xs) in
+    let rest = counts_none test xs (λ y m. none y (contains_later x xs y m)) in
     rw first rest
 
-pub apart_overlap_is_none : CoveringIsReaching → CoveredIsDecided → (points set : List Position) (a b : Extent) → IsExtent points a → IsExtent set b → (are_apart_by_easting a b || are_apart_by_northing a b) ≡ true → overlap points set ≡ 0
+pub apart_overlap_is_none : CoveringIsReaching → CoveredIsDecided → (points set : List Position) (a b : Extent) → IsExtent points a → IsExtent set b
+    → (are_apart_by_easting a b || are_apart_by_northing a b) ≡ true → overlap points set ≡ 0
 apart_overlap_is_none reaching decided points set a b in_a in_b apart =
-    counts_none (is_covered set) points (λ p m. false_from_ne_true (is_covered set p) (λ t. not_in_both a b p apart (member_in_box points a p in_a m) (covered_in_box reaching set b p in_b ((decided set p).0 t))))
+    counts_none (is_covered set) points (λ p m. false_from_ne_true (is_covered set p)
+    (λ t. not_in_both a b p apart (member_in_box points a p in_a m) (covered_in_box reaching set b p in_b ((decided set p).0 t))))

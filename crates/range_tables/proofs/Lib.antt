@@ -1,4 +1,4 @@
 pub mod Analyses
 pub mod Boxes
-pub mod Pairs
+pub mod AnimalPairs
 pub mod Rows

@@ -23,8 +23,8 @@ pub record IsKnown (measured : Measured) : Type 0 where
   pub polygon : IsPolygon measured.fixes.points measured.animal.polygon
 
 -- the points of each animal's fixes
-abbrev pub fixes_in : List Measured → List (List Position)
-fixes_in measured = map (λ m. m.fixes.points) measured
+abbrev pub points_of_each : List Measured → List (List Position)
+points_of_each measured = map (λ m. m.fixes.points) measured
 
 -- the row of two animals by their places
 abbrev pub row_of : List (List Position) → ℕ × ℕ → OverlapRow

@@ -2,7 +2,7 @@
 
 ghost use Rattle.std.specs.Prelude.{◌<◌, All, length};
 
-use crate::lists::{Animals, Overlaps};
+use crate::animal::{Animals, Overlaps};
 use range_plane::Scale;
 
 /// The analysis of animals: the animals, in the order of their tracks, and for each two of them how far the
@@ -15,5 +15,6 @@ pub struct Analysis {
     pub overlaps: Overlaps,
     /// The unit of all coordinates; areas are in its squares.
     pub unit: Scale,
-    pub ghost numbered: { All (λ row. (row.animal < length animals) × (row.range < length animals)) overlaps },
+    pub ghost numbered: { All (λ row. (row.animal < length animals)
+        × (row.range < length animals)) overlaps },
 }

@@ -1,10 +1,14 @@
 // What is known of an animal, and of two.
 
-use crate::lists::Percents;
 use range_estimator::Rows;
 use range_fixes::Name;
 use range_lanes::Extent;
+use range_lists::List;
 use range_plane::Polygon;
+use range_stats::PercentRow;
+
+/// Percent polygons, in the order of their levels.
+pub type Percents = List<PercentRow>;
 
 /// An animal and what its fixes come to.
 #[derive(Drop)]
@@ -20,6 +24,9 @@ pub struct Animal {
     pub percents: Percents,
 }
 
+/// Animals, in the order of their tracks.
+pub type Animals = List<Animal>;
+
 /// How many fixes of one animal lie in the range of another. The animals are numbered from 0, in the order
 /// of their tracks.
 #[derive(Clone, Copy, PartialEq, Eq, Debug)]
@@ -33,3 +40,6 @@ pub struct OverlapRow {
     /// How many fixes there are.
     pub fixes: u32,
 }
+
+/// Rows of overlap, by the animal and then by the range.
+pub type Overlaps = List<OverlapRow>;

@@ -3,7 +3,6 @@
 
 mod analysis;
 mod animal;
-mod lists;
 mod measured;
 mod measuring;
 mod overlaps;
@@ -11,7 +10,6 @@ mod tables;
 mod track;
 
 pub use analysis::Analysis;
-pub use animal::{Animal, OverlapRow};
-pub use lists::{Animals, Overlaps, Percents};
+pub use animal::{Animal, Animals, OverlapRow, Overlaps, Percents};
 pub use tables::tabulate;
 pub use track::Track;

@@ -1,13 +1,12 @@
 // How many fixes of each animal lie in the range of each other one.
 
 ghost use Rattle.std.specs.Prelude.{◌≡◌, ◌++◌, ◌<◌, ◌≤◌, All, IfOk, OnOk, length, map};
-ghost use Rattle.range_plan.specs.Limits.{file_limit};
+ghost use Rattle.range_options.specs.Limits.{file_limit};
 ghost use Rattle.range_stats.specs.Overlap.{overlap};
-ghost use Rattle.range_tables.specs.Overlaps.{IsKnown, are_apart_by_easting, are_apart_by_northing, fixes_in, row_of};
+ghost use Rattle.range_tables.specs.Overlaps.{IsKnown, are_apart_by_easting, are_apart_by_northing, points_of_each, row_of};
 ghost use Rattle.range_tables.specs.Tables.{others, pairs};
 
-use crate::animal::OverlapRow;
-use crate::lists::Overlaps;
+use crate::animal::{OverlapRow, Overlaps};
 use crate::measured::Measured;
 use range_lanes::Extent;
 use range_plane::{OutOfMemory, covered_is_decided, covering_is_reaching};
@@ -52,7 +51,8 @@ fn push_pairs(
     count: usize,
     animal: usize,
 ) -> Result<(), OutOfMemory>
-    ensures { OnOk result (pairs.new.items ≡ pairs.old.items ++ map (λ range. (animal, range)) (others count animal)) }
+    ensures { OnOk result (pairs.new.items ≡ pairs.old.items
+        ++ map (λ range. (animal, range)) (others count animal)) }
 {
     for range in 0..count {
         if range != animal {
@@ -78,7 +78,7 @@ fn row(measured: &[Measured], pair: (usize, usize)) -> OverlapRow
     requires files { length measured.now ≤ file_limit }
     requires known { All IsKnown measured.now }
     requires pair { (pair.0 < length measured.now) × (pair.1 < length measured.now) }
-    ensures { result ≡ row_of (fixes_in measured.now) pair }
+    ensures { result ≡ row_of (points_of_each measured.now) pair }
 {
     let (animal, range) = pair;
     let counted = &measured[animal];
@@ -98,7 +98,8 @@ pub(crate) fn overlaps<R: Threads + Sync>(
 ) -> Result<Overlaps, OutOfMemory>
     requires files { length measured.now ≤ file_limit }
     requires known { All IsKnown measured.now }
-    ensures { IfOk result (λ rows. rows ≡ map (row_of (fixes_in measured.now)) (pairs (length measured.now))) }
+    ensures { IfOk result (λ rows. rows
+        ≡ map (row_of (points_of_each measured.now)) (pairs (length measured.now))) }
 {
     let pairs = pairs(alloc, measured.len())?;
     let rows = pairs
@@ -108,8 +109,9 @@ pub(crate) fn overlaps<R: Threads + Sync>(
             |pair: &(usize, usize)| -> OverlapRow
                 requires files { length measured.now ≤ file_limit }
                 requires known { All IsKnown measured.now }
-                requires pair { (pair.now.0 < length measured.now) × (pair.now.1 < length measured.now) }
-                ensures { result ≡ row_of (fixes_in measured.entry.now) pair.now }
+                requires pair { (pair.now.0 < length measured.now)
+                    × (pair.now.1 < length measured.now) }
+                ensures { result ≡ row_of (points_of_each measured.entry.now) pair.now }
             { row(measured, *pair) },
         )
         .collect::<Vec<_>>(rt, alloc)?;

@@ -1,18 +1,18 @@
 // The tables of animals, and the overlap of each two.
 
-ghost use Rattle.std.specs.Prelude.{◌≡◌, ◌≤◌, All, IfOk, length, map, vec_len};
+ghost use Rattle.std.specs.Prelude.{◌≡◌, ◌≤◌, IfOk, length, map, vec_len};
 ghost use Rattle.std.specs.List.{AllZip};
-ghost use Rattle.range_plan.specs.Limits.{file_limit};
-ghost use Rattle.range_stats.specs.Levels.{IsLevel};
+ghost use Rattle.range_options.specs.Limits.{file_limit};
 ghost use Rattle.range_tables.specs.Tables.{IsOverlap, pairs};
 ghost use Rattle.range_tables.specs.Tracks.{IsAnimalOn, IsMeasuredOf, points_on};
 
 use crate::analysis::Analysis;
-use crate::lists::Animals;
+use crate::animal::Animals;
 use crate::measured::Measured;
 use crate::measuring::measure;
 use crate::overlaps::overlaps;
 use crate::track::Track;
+use range_options::Levels;
 use range_plane::{OutOfMemory, Scale};
 use rayon::prelude::*;
 use std::alloc::Global;
@@ -23,17 +23,16 @@ fn measure_all<R: Threads + Sync>(
     rt: &R,
     alloc: Global,
     tracks: Vec<Track>,
-    levels: &[u8],
+    levels: &Levels,
 ) -> Result<Vec<Measured>, OutOfMemory>
-    requires { All IsLevel levels.now }
-    ensures { IfOk result (λ measured. AllZip (IsMeasuredOf levels.now) tracks.items measured.items) }
+    ensures { IfOk result
+        (λ measured. AllZip (IsMeasuredOf levels.now) tracks.items measured.items) }
 {
     tracks
         .into_par_iter()
         .with_min_len(1)
         .map(
             |track: Track| -> Result<Measured, OutOfMemory>
-                requires { All IsLevel levels.now }
                 ensures { IfOk result (IsMeasuredOf levels.entry.now track) }
             { measure(alloc, track, levels) },
         )
@@ -51,23 +50,24 @@ fn animals(alloc: Global, measured: Vec<Measured>) -> Result<Animals, OutOfMemor
     Ok(Animals::new(animals))
 }
 
-/// The analysis of 0 to [`FILE_LIMIT`](range_plan::FILE_LIMIT) animals, with coordinates in this unit: the
+/// The analysis of 0 to [`FILE_LIMIT`](range_options::FILE_LIMIT) animals, with coordinates in this unit: the
 /// tables of each, with a percent polygon at each of the levels, and their overlaps.
 ///
 /// # Errors
 ///
-/// `OutOfMemory` where a growth was refused.
+/// `OutOfMemory` where an allocation failed.
 pub fn tabulate<R: Threads + Sync>(
     rt: &R,
     alloc: Global,
     tracks: Vec<Track>,
-    levels: &[u8],
+    levels: &Levels,
     unit: Scale,
 ) -> Result<Analysis, OutOfMemory>
     requires files { vec_len tracks ≤ file_limit }
-    requires levels { All IsLevel levels.now }
     ensures animals { IfOk result (λ a. AllZip (IsAnimalOn levels.now) tracks.items a.animals) }
-    ensures overlaps { IfOk result (λ a. AllZip (IsOverlap (points_on tracks.items)) (pairs (length tracks.items)) a.overlaps) }
+    ensures overlaps { IfOk result
+        (λ a. AllZip (IsOverlap (points_on tracks.items))
+        (pairs (length tracks.items)) a.overlaps) }
     ensures unit { IfOk result (λ a. a.unit ≡ unit) }
 {
     let measured = measure_all(rt, alloc, tracks, levels)?;

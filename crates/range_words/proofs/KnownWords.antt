@@ -15,9 +15,9 @@ use Rattle.clap.specs.declared.error.Error.{Error}
 use Rattle.clap.proofs.CallerLemmas.{same_rules_by_id}
 use Rattle.clap.proofs.OnLiterals.{clap_on_literals}
 use Rattle.clap.proofs.SimpleLemmas.{HasPlainFields, plain_fields, simple_groups}
-use Rattle.range_plan.specs.Limits.{block_limit, depth_limit, worker_limit}
+use Rattle.range_options.specs.Limits.{block_limit, depth_limit, worker_limit}
 use Rattle.range_words.specs.CommandLine.{HasNumber, found_in, homerange}
-use Rattle.range_words.proofs.Entries.{AreNumbers, number_found, number_parser}
+use Rattle.range_words.proofs.WordEntries.{AreNumbers, number_found, number_parser}
 
 rules_are : (c : Command) → app_of c ≡ homerange → map rule_of (args_of c) ≡ homerange.top.rules
 rules_are c is = ap (λ (a : App). a.top.rules) is
@@ -25,7 +25,8 @@ rules_are c is = ap (λ (a : App). a.top.rules) is
 arg_count : (c : Command) → app_of c ≡ homerange → length (args_of c) ≡ 6
 arg_count c is = sym (length-map (args_of c) rule_of) ∙ ap length (rules_are c is)
 
-rule_at : (c : Command) → app_of c ≡ homerange → (k : ℕ) (d : Arg) → k < length (args_of c) → rule_of (get_or (args_of c) k d) ≡ get_or homerange.top.rules k (rule_of d)
+rule_at : (c : Command) → app_of c ≡ homerange → (k : ℕ) (d : Arg) → k < length (args_of c)
+    → rule_of (get_or (args_of c) k d) ≡ get_or homerange.top.rules k (rule_of d)
 rule_at c is k d within = sym (get_or-map rule_of (args_of c) k d (rule_of d) within) ∙ ap (λ (rs : List Rule). get_or rs k (rule_of d)) (rules_are c is)
 
 plain : (c : Command) → app_of c ≡ homerange → HasPlainFields c
@@ -35,7 +36,8 @@ names_no_group : (c : Command) → app_of c ≡ homerange → All (λ a. a.group
 names_no_group c is = simple_groups c (ap (λ (a : App). list_all (λ (r : Rule). r.is_simple) a.top.rules) is)
 
 -- the place of an option of the program tells its name
-id_at : (c : Command) → app_of c ≡ homerange → (k : ℕ) (d : Arg) → k < length (args_of c) → (get_or (args_of c) k d).id.now ≡ (get_or homerange.top.rules k (rule_of d)).id
+id_at : (c : Command) → app_of c ≡ homerange → (k : ℕ) (d : Arg) → k < length (args_of c)
+    → (get_or (args_of c) k d).id.now ≡ (get_or homerange.top.rules k (rule_of d)).id
 id_at c is k d within = ap (λ (r : Rule). r.id) (rule_at c is k d within)
 
 abbrev IsAt : List ℕ → ℕ → Type 0
@@ -91,7 +93,8 @@ other_text a b differ same =
     let equal : bytes_eq a b ≡ true = (bytes_eq-Decides a b).1 same in
     cc
 
-are_numbers : (c : Command) (m : ArgMatches) (is : app_of c ≡ homerange) (p : IsParsedFrom c m) (name : List ℕ) (k limit : ℕ) → IsNumber name k limit → AreNumbers p.built name limit
+are_numbers : (c : Command) (m : ArgMatches) (is : app_of c ≡ homerange) (p : IsParsedFrom c m) (name : List ℕ) (k limit : ℕ) → IsNumber name k limit
+    → AreNumbers p.built name limit
 are_numbers c m is p name k limit number x j high at same =
     let within : k < length (args_of c) = omega (arith, arg_count c is, number.few) in
     let own : (get_or (args_of c) k x).id.now ≡ name = id_at c is k x within ∙ (number.rule (rule_of x)).0 in
@@ -104,7 +107,8 @@ are_numbers c m is p name k limit number x j high at same =
     let kept : SameRules (get_or (args_of c) k x) x = same_rules_by_id c m p k x within unique not_auto j x high at (rw own same) in
     kept.parser (number_parser limit) (ap (λ (r : Rule). r.parser) (rule_at c is k x within) ∙ (number.rule (rule_of x)).1)
 
-number_of : (name : List ℕ) (k limit : ℕ) → IsNumber name k limit → (c : Command) (m : ArgMatches) → app_of c ≡ homerange → IsParsedFrom c m → HasNumber name limit m
+number_of : (name : List ℕ) (k limit : ℕ) → IsNumber name k limit → (c : Command) (m : ArgMatches) → app_of c ≡ homerange → IsParsedFrom c m
+    → HasNumber name limit m
 number_of name k limit number c m is p =
     let values = (p.parsed (p.from.globals ∙ (plain c is).globals)).values in
     let none : groups_of p.built ≡ [] = (p.from.same_groups (names_no_group c is)).1 ∙ (plain c is).groups in
@@ -130,5 +134,6 @@ free = refl
 pub rows_found : (a : App) (words : List Text) (m : ArgMatches) → a ≡ homerange → HasMatchesOf a words m → rows_of (found_of m) ≡ found_in words
 rows_found a words m is h = (h (ap is_simple is ∙ simple)).0 ∙ ap (λ (b : App). matches_of b words) is
 
-pub fails_by : {T : Type 0} (a : App) (words : List Text) (r : Result T Error) → a ≡ homerange → (is_simple_and_free a ≡ true → FailsBy (fault_of a words) r) → FailsBy (fault_of homerange words) r
+pub fails_by : {T : Type 0} (a : App) (words : List Text) (r : Result T Error) → a ≡ homerange → (is_simple_and_free a ≡ true → FailsBy (fault_of a words) r)
+    → FailsBy (fault_of homerange words) r
 fails_by a words r is h = subst (λ (b : App). FailsBy (fault_of b words) r) is (h (ap is_simple_and_free is ∙ free))

@@ -1,3 +1,4 @@
-pub mod Entries
+pub mod LevelParts
+pub mod WordEntries
 pub mod KnownWords
 pub mod Values

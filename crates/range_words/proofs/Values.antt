@@ -13,12 +13,13 @@ use Rattle.clap.specs.declared.error.ErrorKind.TheVariants as kind
 use Rattle.range_words.specs.WordList.{IsRefusal, SpeaksFor}
 use Rattle.range_words.specs.declared.words.WordFault.{WordFault}
 use Rattle.range_words.specs.declared.words.WordFault.TheVariants.{OutOfMemory, Help, Version, BadWords, TooManyFiles, BadLevels}
-use Rattle.range_words.proofs.Entries.{no_minus}
+use Rattle.range_words.proofs.WordEntries.{no_minus}
 
 abbrev value_of : List ℕ → ℕ
 value_of text = digits_value 10 (without_leading_plus text)
 
-number_read : {E : Type 0} (G : List ℕ → Result ℕ E → Type 0) (limit : ℕ) (text : List ℕ) (r : Option ℕ) (n default : ℕ) → ((u : List ℕ) (x : Result ℕ E) → G u x → ParsesUnsigned 32 10 u x)
+number_read : {E : Type 0} (G : List ℕ → Result ℕ E → Type 0) (limit : ℕ) (text : List ℕ) (r : Option ℕ) (n default : ℕ)
+    → ((u : List ℕ) (x : Result ℕ E) → G u x → ParsesUnsigned 32 10 u x)
     → ReadsOne G text r → r ≡ Some n → unwrap_or r default ≡ value_of text
 number_read G limit text None n default only read is = cc
 number_read G limit text (Some v) n default only read is = (only text (Ok v) read).1
@@ -34,7 +35,8 @@ number_is {E} G limit (Some text) r default small only none some passed =
     let got = signed_reads E G 32 1 limit text r (subst (λ (t : List ℕ). ReadsOne G t r) (sym plain) read) only small (passed text refl) in
     number_read G limit text r got.0 default only read got.1
 
-pub text_or : (o : Option (Bor (List ℕ))) (default : Bor (List ℕ)) (x : Option (List ℕ)) → option_map (λ (s : Bor (List ℕ)). s.now) o ≡ x → (unwrap_or o default).now ≡ unwrap_or x default.now
+pub text_or : (o : Option (Bor (List ℕ))) (default : Bor (List ℕ)) (x : Option (List ℕ)) → option_map (λ (s : Bor (List ℕ)). s.now) o ≡ x
+    → (unwrap_or o default).now ≡ unwrap_or x default.now
 text_or None default x e = ap (λ (y : Option (List ℕ)). unwrap_or y default.now) e
 text_or (Some s) default x e = ap (λ (y : Option (List ℕ)). unwrap_or y default.now) e
 
@@ -45,11 +47,13 @@ pub no_texts : (o : Option (Bor (List (Bor (List ℕ))))) (x : Option (List (Lis
 no_texts None x e is = ap (λ (y : Option (List (List ℕ))). unwrap_or y []) e
 no_texts (Some s) x e is = cc
 
-pub some_texts : (o : Option (Bor (List (Bor (List ℕ))))) (s : Bor (List (Bor (List ℕ)))) (x : Option (List (List ℕ))) → option_map texts_of o ≡ x → o ≡ Some s → texts_of s ≡ unwrap_or x []
+pub some_texts : (o : Option (Bor (List (Bor (List ℕ))))) (s : Bor (List (Bor (List ℕ)))) (x : Option (List (List ℕ))) → option_map texts_of o ≡ x → o ≡ Some s
+    → texts_of s ≡ unwrap_or x []
 some_texts o s x e is = ap (λ (y : Option (List (List ℕ))). unwrap_or y []) (ap (option_map texts_of) (sym is) ∙ e)
 
 -- what is made of a refusal by `clap` says why the words are refused
-pub refusal_is : (k : ErrorKind) (kinds : Kinds) (rows : List Row) (fault : WordFault) → (k ≡ kind.OutOfMemory) ⊎ IsAmong k kinds → SpeaksFor k fault → IsRefusal kinds rows fault
+pub refusal_is : (k : ErrorKind) (kinds : Kinds) (rows : List Row) (fault : WordFault) → (k ≡ kind.OutOfMemory) ⊎ IsAmong k kinds → SpeaksFor k fault
+    → IsRefusal kinds rows fault
 refusal_is k kinds rows OutOfMemory among speaks = tt
 refusal_is k kinds rows (Help text) (inl e) speaks = cc
 refusal_is k kinds rows (Help text) (inr among) speaks = subst (λ (x : ErrorKind). IsAmong x kinds) speaks among

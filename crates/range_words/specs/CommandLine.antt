@@ -10,7 +10,7 @@ use Rattle.clap.specs.declared.builder.ValueParser.TheVariants as value_parser
 use Rattle.clap.specs.declared.ArgMatches.{ArgMatches}
 use Rattle.range_plane.specs.declared.scale.Scale.{Scale}
 use Rattle.range_plane.specs.declared.scale.Scale.TheVariants.{Metre, Decimetre}
-use Rattle.range_plan.specs.Limits.{block_limit, depth_limit, worker_limit}
+use Rattle.range_options.specs.Limits.{block_limit, depth_limit, worker_limit}
 
 -- an option with one value
 abbrev pub option_rule : Text → Rule
@@ -57,8 +57,8 @@ abbrev pub unit_in : List Row → Option Scale
 unit_in rows = unit_of (unwrap_or (first_of (codes "unit") rows) (codes "m"))
 
 -- the number of an option, or what stands for it
-abbrev pub number_in : Text → ℕ → List Row → ℕ
-number_in name default rows = option_map_or (λ text. digits_value 10 (without_leading_plus text)) (one_of name rows) default
+abbrev pub option_number : Text → ℕ → List Row → ℕ
+option_number name default rows = option_map_or (λ text. digits_value 10 (without_leading_plus text)) (one_of name rows) default
 
 -- the text that is read of an option's number is one from 1 to the limit
 abbrev pub HasNumber : Text → ℕ → ArgMatches → Type 0

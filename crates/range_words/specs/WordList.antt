@@ -1,26 +1,26 @@
 -- What the program makes of its words, and why it refuses them.
-use Rattle.std.specs.Prelude.{◌≡◌, ◌≢◌, ◌≤◌, ◌<◌, ◌⊎◌, ⊤, All, IsSome, List, [], length, map, codes, Some, None, string_bytes}
+use Rattle.std.specs.Prelude.{◌≡◌, ◌≢◌, ◌≤◌, ◌<◌, ◌⊎◌, ⊤, IsSome, List, [], length, map, codes, Some, None, string_bytes}
 use Rattle.clap.specs.Words.{IsAmong, Kinds, Row, Text, fault_of}
 use Rattle.clap.specs.declared.error.ErrorKind.{ErrorKind}
 use Rattle.clap.specs.declared.error.ErrorKind.TheVariants as kind
-use Rattle.range_plan.specs.Limits.{file_limit}
-use Rattle.range_stats.specs.Levels.{IsLevel, IsRefusedFor, level_count_limit, level_in, parts}
-use Rattle.range_stats.specs.declared.level.LevelFault.TheVariants as level_fault
-use Rattle.range_words.specs.CommandLine.{files_in, found_in, homerange, levels_in, number_in, unit_in}
+use Rattle.range_options.specs.Limits.{file_limit, level_count_limit}
+use Rattle.range_words.specs.declared.level.LevelFault.TheVariants as level_fault
+use Rattle.range_words.specs.CommandLine.{files_in, found_in, homerange, levels_in, option_number, unit_in}
+use Rattle.range_words.specs.LevelList.{IsRefusedFor, level_in, parts}
 use Rattle.range_words.specs.declared.words.Words.{Words}
 use Rattle.range_words.specs.declared.words.WordFault.{WordFault}
 use Rattle.range_words.specs.declared.words.WordFault.TheVariants.{OutOfMemory, Help, Version, BadWords, TooManyFiles, BadLevels}
+use Rattle.range_words.specs.declared.defaults.TheConstants.{DEFAULT_BLOCK, DEFAULT_DEPTH, DEFAULT_WORKERS}
 
 -- the words say this, where `clap` finds these rows
 pub record AreFrom (rows : List Row) (words : Words) : Type 0 where
   pub files : map string_bytes words.files.items ≡ files_in rows
   pub few_files : length words.files.items ≤ file_limit
-  pub levels : map level_in (parts (levels_in rows)) ≡ map Some words.options.levels.items
-  pub level_count : (1 ≤ length words.options.levels.items) × (length words.options.levels.items ≤ level_count_limit)
-  pub level_range : All IsLevel words.options.levels.items
-  pub block : words.options.plan.block ≡ number_in (codes "block") 256 rows
-  pub depth : words.options.plan.depth ≡ number_in (codes "depth") 4 rows
-  pub workers : words.options.plan.workers ≡ number_in (codes "workers") 2 rows
+  pub levels : map level_in (parts (levels_in rows)) ≡ map Some words.options.levels
+  pub level_count : (1 ≤ length words.options.levels) × (length words.options.levels ≤ level_count_limit)
+  pub block : words.options.plan.block ≡ option_number (codes "block") DEFAULT_BLOCK rows
+  pub depth : words.options.plan.depth ≡ option_number (codes "depth") DEFAULT_DEPTH rows
+  pub workers : words.options.plan.workers ≡ option_number (codes "workers") DEFAULT_WORKERS rows
   pub unit : unit_in rows ≡ Some words.options.plan.unit
 
 -- `clap` refuses none of the words, and they say this
@@ -46,7 +46,8 @@ IsRefusal kinds rows (Version text) = IsAmong kind.DisplayVersion kinds
 IsRefusal kinds rows (BadWords text) = ((k : ErrorKind) × IsAmong k kinds × IsNoWish k) ⊎ ((kinds ≡ []) × (unit_in rows ≡ None))
 IsRefusal kinds rows TooManyFiles = (kinds ≡ []) × IsSome (unit_in rows) × (file_limit < length (files_in rows))
 IsRefusal kinds rows (BadLevels fault) =
-    (kinds ≡ []) × IsSome (unit_in rows) × (length (files_in rows) ≤ file_limit) × IsRefusedFor fault (parts (levels_in rows)) × (fault ≢ level_fault.OutOfMemory)
+    (kinds ≡ []) × IsSome (unit_in rows) × (length (files_in rows) ≤ file_limit) × IsRefusedFor fault (parts (levels_in rows))
+    × (fault ≢ level_fault.OutOfMemory)
 
 abbrev pub IsRefusalOf : List Text → WordFault → Type 0
 IsRefusalOf words fault = IsRefusal (fault_of homerange words) (found_in words) fault

@@ -2,13 +2,13 @@
 
 ghost use Rattle.std.specs.Prelude.{◌≡◌, ◌≤◌, IfOk, codes, false, map, string_bytes};
 ghost use Rattle.clap.specs.Words.{FailsBy, app_of, fault_of, found_of, rows_of, rule_of};
-ghost use Rattle.range_plan.specs.Limits.{block_limit, depth_limit, worker_limit};
+ghost use Rattle.range_options.specs.Limits.{block_limit, depth_limit, worker_limit};
 ghost use Rattle.range_words.specs.CommandLine.{HasNumber, files_rule, found_in, homerange, program, number_rule, option_rule};
 
 use crate::help::{ABOUT, HelpTexts, SPEED, USAGE};
 use crate::version::VERSION;
 use clap::{Arg, ArgAction, ArgMatches, Command, Error, value_parser};
-use range_plan::{BLOCK_LIMIT, DEPTH_LIMIT, WORKER_LIMIT};
+use range_options::{BLOCK_LIMIT, DEPTH_LIMIT, WORKER_LIMIT};
 use std::alloc::{AllocError, Global};
 
 // An option whose value is any text.
@@ -76,7 +76,8 @@ pub(crate) fn found<'a>(
     texts: &'a HelpTexts,
     words: &'a [String],
 ) -> Result<ArgMatches<'a>, Error>
-    ensures rows { IfOk result (λ m. rows_of (found_of m) ≡ found_in (map string_bytes words.entry.now)) }
+    ensures rows { IfOk result (λ m. rows_of (found_of m)
+        ≡ found_in (map string_bytes words.entry.now)) }
     ensures fault { FailsBy (fault_of homerange (map string_bytes words.entry.now)) result }
     ensures block { IfOk result (HasNumber (codes "block") block_limit) }
     ensures depth { IfOk result (HasNumber (codes "depth") depth_limit) }

@@ -3,9 +3,10 @@
 use crate::defaults::{
     DEFAULT_BLOCK, DEFAULT_DEPTH, DEFAULT_LEVELS, DEFAULT_UNIT, DEFAULT_WORKERS,
 };
-use range_plan::{BLOCK_LIMIT, DEPTH_LIMIT, FILE_LIMIT, WORKER_LIMIT};
+use range_options::{
+    BLOCK_LIMIT, DEPTH_LIMIT, FILE_LIMIT, LEVEL_COUNT_LIMIT, LEVEL_LIMIT, WORKER_LIMIT,
+};
 use range_plane::{FIX_LIMIT, SECOND_LIMIT, Scale};
-use range_stats::{LEVEL_COUNT_LIMIT, LEVEL_LIMIT};
 use std::alloc::{AllocError, Global};
 
 pub(crate) const ABOUT: &str =

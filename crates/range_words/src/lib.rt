@@ -4,7 +4,9 @@
 mod command;
 mod defaults;
 mod help;
+mod level;
 mod version;
 mod words;
 
+pub use level::{LevelFault, levels};
 pub use words::{WordFault, Words, read_words};

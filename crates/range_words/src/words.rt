@@ -2,8 +2,8 @@
 
 ghost use Rattle.std.specs.Prelude.{◌≡◌, ◌≤◌, [], IfErr, IfOk, Some, codes, length, map, string_bytes, unwrap_or};
 ghost use Rattle.clap.specs.Words.{first_of, found_of, kind_of, rows_of};
-ghost use Rattle.range_plan.specs.Limits.{block_limit, depth_limit, file_limit, worker_limit};
-ghost use Rattle.range_words.specs.CommandLine.{HasNumber, files_in, number_in, unit_in};
+ghost use Rattle.range_options.specs.Limits.{block_limit, depth_limit, file_limit, worker_limit};
+ghost use Rattle.range_words.specs.CommandLine.{HasNumber, files_in, option_number, unit_in};
 ghost use Rattle.range_words.specs.WordList.{AreFrom, AreWordsOf, IsFilesRefusal, IsRefusal, IsRefusalOf, SpeaksFor};
 
 use crate::command::found;
@@ -11,11 +11,11 @@ use crate::defaults::{
     DEFAULT_BLOCK, DEFAULT_DEPTH, DEFAULT_LEVELS, DEFAULT_UNIT, DEFAULT_WORKERS,
 };
 use crate::help::{HelpTexts, help_texts};
+use crate::level::{LevelFault, levels};
 use clap::error::ErrorKind;
 use clap::{ArgMatches, Error};
-use range_plan::{BLOCK_LIMIT, DEPTH_LIMIT, FILE_LIMIT, Options, Plan, WORKER_LIMIT};
+use range_options::{BLOCK_LIMIT, DEPTH_LIMIT, FILE_LIMIT, Levels, Options, Plan, WORKER_LIMIT};
 use range_plane::Scale;
-use range_stats::{LevelFault, levels};
 use std::alloc::{AllocError, Global};
 use thiserror::Error as ErrorText;
 
@@ -30,7 +30,7 @@ pub struct Words {
 /// Why the words of the command line are refused.
 #[derive(Debug, Drop, ErrorText)]
 pub enum WordFault {
-    /// A growth was refused for want of memory.
+    /// An allocation failed.
     #[error("out of memory")]
     OutOfMemory,
     /// Help was asked for. This is its text.
@@ -92,6 +92,7 @@ fn words_in(alloc: Global, matches: &ArgMatches) -> Result<Words, WordFault>
         Err(LevelFault::OutOfMemory) => return Err(WordFault::OutOfMemory),
         Err(fault) => return Err(WordFault::BadLevels(fault)),
     };
+    let levels = Levels::new(levels).unwrap();
     let plan = Plan {
         block: number_of(matches, "block", BLOCK_LIMIT, DEFAULT_BLOCK),
         depth: number_of(matches, "depth", DEPTH_LIMIT, DEFAULT_DEPTH),
@@ -119,7 +120,8 @@ fn refusal(alloc: Global, error: &Error) -> WordFault
 
 // The paths of the files.
 fn files_of(alloc: Global, matches: &ArgMatches) -> Result<Vec<String>, WordFault>
-    ensures files { IfOk result (λ files. map string_bytes files.items ≡ files_in (rows_of (found_of matches.now))) }
+    ensures files { IfOk result (λ files. map string_bytes files.items
+        ≡ files_in (rows_of (found_of matches.now))) }
     ensures few { IfOk result (λ files. length files.items ≤ file_limit) }
     ensures err { IfErr result (IsFilesRefusal (rows_of (found_of matches.now))) }
 {
@@ -137,7 +139,8 @@ fn files_of(alloc: Global, matches: &ArgMatches) -> Result<Vec<String>, WordFaul
 
 // Copies of the texts.
 fn copied(alloc: Global, texts: &[&str]) -> Result<Vec<String>, AllocError>
-    ensures { IfOk result (λ copies. map string_bytes copies.items ≡ map (λ text. text.now) texts.now) }
+    ensures { IfOk result (λ copies. map string_bytes copies.items
+        ≡ map (λ text. text.now) texts.now) }
 {
     let mut copies = Vec::new(alloc);
     for text in texts {
@@ -148,7 +151,8 @@ fn copied(alloc: Global, texts: &[&str]) -> Result<Vec<String>, AllocError>
 
 // The text of an option, or what stands for it.
 fn text_of<'a>(matches: &ArgMatches<'a>, name: &str, default: &'a str) -> &'a str
-    ensures { result.now ≡ unwrap_or (first_of name.now (rows_of (found_of matches.now))) default.now }
+    ensures { result.now ≡ unwrap_or
+        (first_of name.now (rows_of (found_of matches.now))) default.now }
 {
     matches.get_str(name).unwrap_or(default)
 }
@@ -177,7 +181,7 @@ fn unit_of(alloc: Global, matches: &ArgMatches) -> Result<Scale, WordFault>
 fn number_of(matches: &ArgMatches, name: &str, limit: u32, default: u32) -> u32
     requires passed { HasNumber name.now limit matches.now }
     requires default { (1 ≤ default) × (default ≤ limit) }
-    ensures value { result ≡ number_in name.now default (rows_of (found_of matches.now)) }
+    ensures value { result ≡ option_number name.now default (rows_of (found_of matches.now)) }
     ensures limits { (1 ≤ result) × (result ≤ limit) }
 {
     matches.get_one::<u32>(name).unwrap_or(default)

@@ -38,7 +38,8 @@ loop-followed-preserved c =
       room = omega (arith, count, inv.room, push.len, push.capacity);
       count = omega (arith, count, inv.count, push.len);
       whole = (first_kept _ f _ step inv.whole).1;
-      entries = rw push.items (entries_moved tracks.items c.in-Ok.track entry rest _ c.in-Ok.ensures (ap (λ l. entries_in tracks.items ++ l) (sym entries) ∙ inv.entries));
+      entries = rw push.items (entries_moved tracks.items c.in-Ok.track entry rest _ c.in-Ok.ensures
+          (ap (λ l. entries_in tracks.items ++ l) (sym entries) ∙ inv.entries));
       bad = bad_behind (vec_len tracks) _ entry rest _ _ c.in-Ok.ensures push.len ∙ (ap (first_bad_from (vec_len tracks)) (sym entries) ∙ inv.bad);
     }
 

@@ -1,54 +1,59 @@
 use Rattle.std.proofs.Common.{◌≡◌, ℕ, ◌+◌, ◌<◌, ◌≤◌, List, Vec, length, map, ap, sym, ◌∙◌, subst, arith, vec_len}
 use Rattle.std.proofs.lemmas.Option.{slice_get_within}
-use Rattle.range_fixes.specs.Reading.{reading_from}
-use Rattle.range_plan.specs.Limits.{file_limit}
-use Rattle.range_collect.specs.Follow.{IsFollowed}
-use Rattle.range_collect.specs.Lanes.{Dealt}
+use Rattle.range_fixes.specs.Reading.{reading_from, readings}
+use Rattle.range_options.specs.Limits.{file_limit}
+use Rattle.range_collect.specs.Results.{IsFollowed}
+use Rattle.range_collect.specs.LineFiles.{Dealt}
 use Rattle.range_collect.specs.declared.followed.Followed.{Followed}
 use Rattle.range_collect.proofs.Deals.{dealt_alike, dealt_map}
-use Rattle.integers_and_lists.proofs.Places.{all_of, map_length, map_map, mapped, paired_at}
-use Rattle.range_collect.proofs.Results.{file_followed, lane_sizes, lanes_alike, same_line, same_over, same_place, same_under}
+use Rattle.range_lemmas.proofs.Places.{all_of, map_length, map_map, mapped, paired_at}
+use Rattle.range_collect.proofs.Results.{file_followed, share_sizes, shares_alike, same_line, same_over, same_place, same_under}
 use Rattle.range_collect.proofs.following.follow.Given as given
 use Rattle.range_collect.proofs.following.follow.Goals as goal
 use Rattle.range_collect.proofs.following.follow.Goals.{In_ok-results}
 
-pub follow_lanes-requires-clause-sources : goal.follow_lanes-requires-clause-sources
-follow_lanes-requires-clause-sources g c = λ κs live.
+pub follow_lines-requires-clause-sources : goal.follow_lines-requires-clause-sources
+follow_lines-requires-clause-sources g c = λ κs live.
     let sources = c.args.sources in
-    let lanes = c.in_ok-lanes.lanes in
-    let count = map_length (λ (v : Vec _ _). v.items) lanes.items in
-    all_of (λ (lane : Vec _ _). (1 ≤ vec_len lane) × (vec_len lane ≤ file_limit)) lanes.items (λ place lane is.
-    let sizes = lane_sizes sources.items (map (λ (v : Vec _ _). v.items) lanes.items) place lane.items c.in_ok-lanes.ensures.dealt
-    (omega (arith, count, lanes.ok.0, c.in_ok-lanes.ensures.count, c.min.ensures, c.len-count.ensures, sources.ok.0)) (mapped (λ (v : Vec _ _). v.items) lanes.items place lane is) in
-    (omega (arith, lane.ok.0, sizes.0), omega (arith, lane.ok.0, sizes.1, sources.ok.0, c.requires.sources)))
+    let shares = c.in_ok-shares.shares in
+    let count = map_length (λ (v : Vec _ _). v.items) shares.items in
+    all_of (λ (share : Vec _ _). (1 ≤ vec_len share) × (vec_len share ≤ file_limit)) shares.items (λ place share is.
+    let sizes = share_sizes sources.items (map (λ (v : Vec _ _). v.items) shares.items) place share.items c.in_ok-shares.ensures.dealt
+    (omega (arith, count, shares.ok.0, c.in_ok-shares.ensures.count, c.min.ensures, c.len-count.ensures, sources.ok.0))
+    (mapped (λ (v : Vec _ _). v.items) shares.items place share is) in
+    (omega (arith, share.ok.0, sizes.0), omega (arith, share.ok.0, sizes.1, sources.ok.0, c.requires.sources)))
 
--- what the sources tell was dealt to the lanes
-told : (g : given.Over) (c : In_ok-results g) → Dealt (map (reading_from g.S.Read.remaining c.args.plan.unit) c.args.sources.items) (map (λ (lane : Vec _ _). map (reading_from g.S.Read.remaining c.args.plan.unit) lane.items) c.in_ok-lanes.lanes.items)
+-- what the sources tell was dealt to the shares
+told : (g : given.Over) (c : In_ok-results g) → Dealt (readings g.S.Read.remaining c.args.plan.unit c.args.sources.items)
+    (map (λ (share : Vec _ _). readings g.S.Read.remaining c.args.plan.unit share.items) c.in_ok-shares.shares.items)
 told g c =
     let tell = reading_from g.S.Read.remaining c.args.plan.unit in
-    let lanes = c.in_ok-lanes.lanes.items in
-    subst (λ l. Dealt (map tell c.args.sources.items) l) (map_map (map tell) (λ (v : Vec _ _). v.items) lanes)
-    (dealt_map tell c.args.sources.items (map (λ (v : Vec _ _). v.items) lanes) c.in_ok-lanes.ensures.dealt)
+    let shares = c.in_ok-shares.shares.items in
+    subst (λ l. Dealt (map tell c.args.sources.items) l) (map_map (map tell) (λ (v : Vec _ _). v.items) shares)
+    (dealt_map tell c.args.sources.items (map (λ (v : Vec _ _). v.items) shares) c.in_ok-shares.ensures.dealt)
 
--- how many lanes there are
-lane_count : (g : given.Over) (c : In_ok-results g) → length (map (λ (lane : Vec _ _). map (reading_from g.S.Read.remaining c.args.plan.unit) lane.items) c.in_ok-lanes.lanes.items) ≡ c.min.result
-lane_count g c =
-    let lanes = c.in_ok-lanes.lanes in
-    map_length (λ (lane : Vec _ _). map (reading_from g.S.Read.remaining c.args.plan.unit) lane.items) lanes.items ∙ (sym lanes.ok.0 ∙ c.in_ok-lanes.ensures.count)
+-- how many shares there are
+share_count : (g : given.Over) (c : In_ok-results g) → length (map
+    (λ (share : Vec _ _). readings g.S.Read.remaining c.args.plan.unit share.items) c.in_ok-shares.shares.items) ≡ c.min.result
+share_count g c =
+    let shares = c.in_ok-shares.shares in
+    map_length (λ (share : Vec _ _). readings g.S.Read.remaining c.args.plan.unit share.items) shares.items ∙ (sym shares.ok.0 ∙ c.in_ok-shares.ensures.count)
 
-some_lanes : (g : given.Over) (c : In_ok-results g) → 0 < length (map (λ (lane : Vec _ _). map (reading_from g.S.Read.remaining c.args.plan.unit) lane.items) c.in_ok-lanes.lanes.items)
-some_lanes g c =
-    let count = lane_count g c in
+some_shares : (g : given.Over) (c : In_ok-results g) → 0 < length
+    (map (λ (share : Vec _ _). readings g.S.Read.remaining c.args.plan.unit share.items) c.in_ok-shares.shares.items)
+some_shares g c =
+    let count = share_count g c in
     omega (arith, count, c.min.ensures, c.len-count.ensures, c.requires.sources.0, c.args.plan.within.2.0)
 
 -- the list that was dealt to the results of the lines
-merged : (g : given.Over) (c : In_ok-results g) → (all : List (Followed _ g.A.Clone)) × (length all ≡ c.len-count.result) × Dealt all (map (λ (v : Vec _ _). v.items) c.in_ok-results.results.items)
+merged : (g : given.Over) (c : In_ok-results g) → (all : List (Followed _ g.A.Clone)) × (length all ≡ c.len-count.result)
+    × Dealt all (map (λ (v : Vec _ _). v.items) c.in_ok-results.results.items)
 merged g c =
     let tell = reading_from g.S.Read.remaining c.args.plan.unit in
     let sources = map tell c.args.sources.items in
-    let lanes = map (λ (lane : Vec _ _). map tell lane.items) c.in_ok-lanes.lanes.items in
+    let shares = map (λ (share : Vec _ _). map tell share.items) c.in_ok-shares.shares.items in
     let results = map (λ (v : Vec _ _). v.items) c.in_ok-results.results.items in
-    let all = dealt_alike sources lanes results (told g c) (lanes_alike c.args.plan.block sources lanes results c.in_ok-results.ensures) in
+    let all = dealt_alike sources shares results (told g c) (shares_alike c.args.plan.block sources shares results c.in_ok-results.ensures) in
     (all.0, all.1 ∙ (map_length tell c.args.sources.items ∙ (sym c.args.sources.ok.0 ∙ sym c.len-count.ensures)), all.2)
 
 pub merge-requires : goal.merge-requires
@@ -59,22 +64,25 @@ returns-clause-followed g c =
     let at = (goal.at.returns-clause-followed g c).In_ok-results in
     let tell = reading_from g.S.Read.remaining c.args.plan.unit in
     let sources = map tell c.args.sources.items in
-    let lanes = map (λ (lane : Vec _ _). map tell lane.items) c.in_ok-lanes.lanes.items in
+    let shares = map (λ (share : Vec _ _). map tell share.items) c.in_ok-shares.shares.items in
     let results = map (λ (v : Vec _ _). v.items) c.in_ok-results.results.items in
     let m = merged g at in
     let is = c.in_ok-all.ensures m.0 m.1 m.2 in
     let dealt = subst (λ l. Dealt l results) (sym is) m.2 in
-    let count : length sources ≡ length c.in_ok-all.all.items = map_length tell c.args.sources.items ∙ (sym c.args.sources.ok.0 ∙ (sym c.len-count.ensures ∙ (sym m.1 ∙ ap length (sym is)))) in
-    paired_at (λ file source (f : Followed _ g.A.Clone). IsFollowed source file c.args.plan.block f.feeder f.read f.estimator f.marked) 0 sources c.in_ok-all.all.items count (λ place source f in_sources in_all.
+    let count : length sources ≡ length c.in_ok-all.all.items = map_length tell c.args.sources.items
+    ∙ (sym c.args.sources.ok.0 ∙ (sym c.len-count.ensures ∙ (sym m.1 ∙ ap length (sym is)))) in
+    paired_at (λ file source (f : Followed _ g.A.Clone). IsFollowed source file c.args.plan.block f) 0 sources c.in_ok-all.all.items count
+    (λ place source f in_sources in_all.
     let index : place ≡ 0 + place = omega arith in
-    subst (λ (n : ℕ). IsFollowed source n c.args.plan.block f.feeder f.read f.estimator f.marked) index
-    (file_followed c.args.plan.block sources lanes results c.in_ok-all.all.items (told g at) dealt c.in_ok-results.ensures (some_lanes g at) place source f in_sources in_all))
+    subst (λ (n : ℕ). IsFollowed source n c.args.plan.block f) index
+    (file_followed c.args.plan.block sources shares results c.in_ok-all.all.items (told g at) dealt c.in_ok-results.ensures
+    (some_shares g at) place source f in_sources in_all))
 
 pub returns-clause-lines : goal.returns-clause-lines
 returns-clause-lines g c = λ i j f f' in_i in_j.
     let at = (goal.at.returns-clause-lines g c).In_ok-results in
-    let sources = map (reading_from g.S.Read.remaining c.args.plan.unit) c.args.sources.items in
-    let lanes = map (λ (lane : Vec _ _). map (reading_from g.S.Read.remaining c.args.plan.unit) lane.items) c.in_ok-lanes.lanes.items in
+    let sources = readings g.S.Read.remaining c.args.plan.unit c.args.sources.items in
+    let shares = map (λ (share : Vec _ _). readings g.S.Read.remaining c.args.plan.unit share.items) c.in_ok-shares.shares.items in
     let results = map (λ (v : Vec _ _). v.items) c.in_ok-results.results.items in
     let all = c.in_ok-all.all.items in
     let m = merged g at in
@@ -83,12 +91,12 @@ returns-clause-lines g c = λ i j f f' in_i in_j.
     let count : length all ≡ c.len-count.result = ap length is ∙ m.1 in
     let below_i : i < c.len-count.result = (let b = slice_get_within all i f in_i in omega (arith, b, count)) in
     let below_j : j < c.len-count.result = (let b = slice_get_within all j f' in_j in omega (arith, b, count)) in
-    let is_min = lane_count g at ∙ c.min.ensures in
+    let is_min = share_count g at ∙ c.min.ensures in
     let workers = c.args.plan.workers in (
       λ same.
-          same_line c.args.plan.block sources lanes results all dealt c.in_ok-results.ensures (some_lanes g at) i j f f' in_i in_j
-          (same_over i j c.len-count.result workers (length lanes) is_min below_i below_j same),
+          same_line c.args.plan.block sources shares results all dealt c.in_ok-results.ensures (some_shares g at) i j f f' in_i in_j
+          (same_over i j c.len-count.result workers (length shares) is_min below_i below_j same),
       λ line.
-          same_under i j c.len-count.result workers (length lanes) is_min below_i below_j
-          (same_place c.args.plan.block sources lanes results all dealt c.in_ok-results.ensures (some_lanes g at) i j f f' in_i in_j line),
+          same_under i j c.len-count.result workers (length shares) is_min below_i below_j
+          (same_place c.args.plan.block sources shares results all dealt c.in_ok-results.ensures (some_shares g at) i j f f' in_i in_j line),
     )

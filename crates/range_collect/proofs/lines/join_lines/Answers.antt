@@ -1,9 +1,9 @@
 use Rattle.std.proofs.Common.{◌≡◌, ◌++◌, ◌∷◌, [], false, Some, map, length, slice_get, arith, rules, sym, ap, ◌∙◌, subst, append_assoc}
 use Rattle.std.proofs.lemmas.List.{append-nil, length_push, nil_from_length}
 use Rattle.std.specs.Vec.Iter.{into_iter_items}
-use Rattle.range_fixes.specs.Reading.{reading_from}
-use Rattle.range_collect.specs.Lanes.{IsLaneFollowed}
-use Rattle.integers_and_lists.proofs.Places.{twos_pushed}
+use Rattle.range_fixes.specs.Reading.{readings}
+use Rattle.range_collect.specs.LineFiles.{IsLineFollowed}
+use Rattle.range_lemmas.proofs.Places.{twos_pushed}
 use Rattle.range_collect.proofs.lines.join_lines.Goals as goal
 
 pub loop-handle-preserved-in-Ok : goal.loop-handle-preserved-in-Ok
@@ -19,8 +19,10 @@ loop-handle-preserved-in-Ok g c =
           let j = inv.joined fine in (
             j.0 ++ h ∷ [],
             j.1 ∙ (ap (λ l. j.0 ++ l) step ∙ sym (append_assoc j.0 (h ∷ []) _)),
-            (let d = length_push j.0 h in let n = ap length a.items in let l = length_push c.loop-handle.all.items c.in-Ok.results in omega (arith, d, n, l, j.2)),
-            rw a.items (twos_pushed (λ h r. IsLaneFollowed h.promise.numbers.first h.promise.numbers.step h.promise.plan.block (map (reading_from g.S.Read.remaining h.promise.plan.unit) h.promise.sources.value.items) r.items)
+            (let d = length_push j.0 h in let n = ap length a.items in let l = length_push c.loop-handle.all.items c.in-Ok.results in
+                omega (arith, d, n, l, j.2)),
+            rw a.items (twos_pushed (λ h r. IsLineFollowed h.promise.numbers.first h.promise.numbers.step h.promise.plan.block
+                (readings g.S.Read.remaining h.promise.plan.unit h.promise.sources.value.items) r.items)
                 j.0 c.loop-handle.all.items h c.in-Ok.results j.2 j.3 c.in-Ok.ensures),
           );
     }

@@ -1,9 +1,9 @@
 use Rattle.std.proofs.Common.{◌≡◌, ◌≤◌, All, length, arith, refl, ap, ◌∙◌, subst, vec_len, inl, inr, Vec}
 use Rattle.std.proofs.lemmas.List.Elements.{All-head, All-rest}
 use Rattle.std.proofs.lemmas.Option.{slice_get_within}
-use Rattle.range_plan.specs.Limits.{file_limit}
+use Rattle.range_options.specs.Limits.{file_limit}
 use Rattle.range_collect.specs.declared.numbers.Numbers.{Numbers}
-use Rattle.integers_and_lists.proofs.Places.{before_or_last, moved}
+use Rattle.range_lemmas.proofs.Places.{before_or_last, moved}
 use Rattle.range_collect.proofs.lines.start_lines.Goals as goal
 
 pub loop-sources-init : goal.loop-sources-init
@@ -17,15 +17,16 @@ loop-sources-init g c =
       numbers = λ place h is. let within = slice_get_within _ place h is in absurd (omega (arith, within, zero));
       sizes = rw all c.requires.sources;
       first = omega (arith, zero, c.args.handles.now.ok.0);
-      step = omega (arith, c.args.lanes.ok.0);
+      step = omega (arith, c.args.shares.ok.0);
       room = c.requires.room.1;
-      count = omega (arith, count, zero, c.args.handles.now.ok.0, c.args.lanes.ok.0);
+      count = omega (arith, count, zero, c.args.handles.now.ok.0, c.args.shares.ok.0);
     }
 
 pub start_line-requires-clause-some : goal.start_line-requires-clause-some
 start_line-requires-clause-some g c = λ κs live.
     let source = c.in-Some.ensures.steps.0 in
-    All-head (λ (lane : Vec _ _). (1 ≤ vec_len lane) × (vec_len lane ≤ file_limit)) _ _ (subst (λ l. All (λ (lane : Vec _ _). (1 ≤ vec_len lane) × (vec_len lane ≤ file_limit)) l) source c.loop-sources.invariant.sizes)
+    All-head (λ (share : Vec _ _). (1 ≤ vec_len share) × (vec_len share ≤ file_limit)) _ _
+    (subst (λ l. All (λ (share : Vec _ _). (1 ≤ vec_len share) × (vec_len share ≤ file_limit)) l) source c.loop-sources.invariant.sizes)
 
 pub loop-sources-preserved : goal.loop-sources-preserved
 loop-sources-preserved g c =
@@ -41,10 +42,10 @@ loop-sources-preserved g c =
       numbers = rw items (λ place v is. elim (before_or_last hs v h place is) [
         | inl before ↦ inv.numbers place v before
         | inr last ↦ (let place_is : c.loop-sources.first ≡ place = (let at = last.0 in omega (arith, at, inv.first, c.loop-sources.handles.ok.0)) in
-            subst (λ x. (x.promise.numbers.first ≡ place) × (x.promise.numbers.step ≡ vec_len c.args.lanes) × (x.promise.plan ≡ c.args.plan)) last.1
+            subst (λ x. (x.promise.numbers.first ≡ place) × (x.promise.numbers.step ≡ vec_len c.args.shares) × (x.promise.plan ≡ c.args.job.now.plan)) last.1
             (ap (λ (n : Numbers). n.first) made.1 ∙ place_is, ap (λ (n : Numbers). n.step) made.1 ∙ inv.step, made.2))
       ]);
-      sizes = All-rest (λ (lane : Vec _ _). (1 ≤ vec_len lane) × (vec_len lane ≤ file_limit)) _ _ _ source inv.sizes;
+      sizes = All-rest (λ (share : Vec _ _). (1 ≤ vec_len share) × (vec_len share ≤ file_limit)) _ _ _ source inv.sizes;
       first = omega (arith, inv.first, c.push_reserved.ensures.len);
       step = inv.step;
       room = omega (arith, inv.room, c.push_reserved.ensures.capacity);

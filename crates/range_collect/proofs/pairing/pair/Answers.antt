@@ -2,8 +2,8 @@ use Rattle.std.proofs.Common.{◌≡◌, ◌++◌, [], length, map, sym, ap, ◌
 use Rattle.std.proofs.lemmas.List.{append-nil, nil_from_length}
 use Rattle.std.proofs.lemmas.List.Elements.{All-push}
 use Rattle.std.specs.Vec.Iter.{into_iter_items}
-use Rattle.range_collect.specs.Lanes.{IsSeen}
-use Rattle.integers_and_lists.proofs.Places.{moved}
+use Rattle.range_collect.specs.LineFiles.{IsSeen}
+use Rattle.range_lemmas.proofs.Places.{moved}
 use Rattle.range_collect.proofs.pairing.pair.Goals as goal
 
 pub loop-read-init : goal.loop-read-init
@@ -42,7 +42,8 @@ loop-read-preserved g c =
       room = omega (arith, lr, inv.room, push.len, push.capacity);
       feeders_count = omega (arith, lf, lr, inv.feeders_count);
       estimators_count = omega (arith, le, lr, inv.estimators_count);
-      results = λ place x y z in_f in_r in_e. inv.results (suc place) x y z (ap (λ l. slice_get l (suc place)) f ∙ in_f) (ap (λ l. slice_get l (suc place)) r ∙ in_r) (ap (λ l. slice_get l (suc place)) e ∙ in_e);
+      results = λ place x y z in_f in_r in_e. inv.results (suc place) x y z (ap (λ l. slice_get l (suc place)) f ∙ in_f)
+          (ap (λ l. slice_get l (suc place)) r ∙ in_r) (ap (λ l. slice_get l (suc place)) e ∙ in_e);
       feeders = rw push.items (moved (λ f. f.feeder) all one _ _ _ _ inv.feeders f made.0);
       reads = rw push.items (moved (λ f. f.read) all one _ _ _ _ inv.reads r made.1);
       estimators = rw push.items (moved (λ f. f.estimator) all one _ _ _ _ inv.estimators e made.2);

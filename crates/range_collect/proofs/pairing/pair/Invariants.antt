@@ -1,8 +1,8 @@
 use Rattle.std.proofs.Common.{◌≡◌, ◌+◌, ◌≤◌, ◌++◌, All, map, vec_len, vec_capacity, length}
 use Rattle.std.specs.Vec.Iter.{into_iter_items}
 use Rattle.range_collect.specs.Follow.{IsResult}
-use Rattle.range_collect.specs.Lanes.{IsSeen}
-use Rattle.integers_and_lists.proofs.Places.{Threes}
+use Rattle.range_collect.specs.LineFiles.{IsSeen}
+use Rattle.range_lemmas.proofs.Places.{Threes}
 use Rattle.range_collect.proofs.pairing.pair.Given as goal
 
 abbrev pub invariant-loop-read : goal.invariant-loop-read

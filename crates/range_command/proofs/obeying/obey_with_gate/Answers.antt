@@ -3,7 +3,7 @@ use Rattle.std.proofs.lemmas.Result.{IfErr-weaker, on_ok_weaker}
 use Rattle.range_fixes.specs.Reading.{reading_from}
 use Rattle.range_words.specs.WordList.{IsRefusalOf}
 use Rattle.range_command.specs.Obeying.{IsOfRun, IsTold}
-use Rattle.range_command.proofs.Sources.{told_of_run}
+use Rattle.range_command.proofs.RunSources.{told_of_run}
 use Rattle.range_command.proofs.obeying.obey_with_gate.Goals as goal
 
 pub returns-in-Ok-clause-done : goal.returns-in-Ok-clause-done
@@ -13,7 +13,8 @@ pub returns-in-Ok-clause-told : goal.returns-in-Ok-clause-told
 returns-in-Ok-clause-told g c =
     IfErr-weaker c.run_over.result (IsOfRun c.in-Ok.words (λ unit. reading_from g.S.Read.remaining unit c.args.input))
     (IsTold (map string_bytes c.args.words.now) (λ unit. reading_from g.S.Read.remaining unit c.args.input))
-    (told_of_run (map string_bytes c.args.words.now) (λ unit. reading_from g.S.Read.remaining unit c.args.input) c.in-Ok.words c.in-Ok.ensures.ok) c.run_over.ensures.told
+    (told_of_run (map string_bytes c.args.words.now) (λ unit. reading_from g.S.Read.remaining unit c.args.input) c.in-Ok.words c.in-Ok.ensures.ok)
+    c.run_over.ensures.told
 
 pub returns-in-Err-Help-clause-done : goal.returns-in-Err-Help-clause-done
 returns-in-Err-Help-clause-done g c =

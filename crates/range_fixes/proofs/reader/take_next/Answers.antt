@@ -1,7 +1,7 @@
 use Rattle.std.proofs.Common.{◌<◌, arith, rules}
 use Rattle.std.proofs.lemmas.Result.{err_from_is_err_and}
-use Rattle.range_fixes.proofs.ReadingFacts.{leads-end, leads-far, later-end}
-use Rattle.range_fixes.proofs.TakenFacts.{taken-at-fault}
+use Rattle.range_fixes.proofs.ReadingFacts.{leads_end, leads_far, later_end}
+use Rattle.range_fixes.proofs.TakenFacts.{taken_at_fault}
 use Rattle.range_fixes.proofs.reader.take_next.Goals as goal
 use Rattle.range_fixes.proofs.reader.take_next.Goals.{in-Some, in-None+in_ok-has_use-in-None}
 
@@ -11,26 +11,26 @@ returns-in_err-one-clause-limit g c = let limit = c.in_err-one.ensures.limit in 
 pub returns-in_err-one-clause-gives : goal.returns-in_err-one-clause-gives
 returns-in_err-one-clause-gives g c =
     let p = err_from_is_err_and c.from_residual-in_err-one.result c.from_residual-in_err-one.ensures.1 in
-    rw (p.1, p.2) (λ text. leads-far _ _ _ c.loop-one.invariant.unused (leads-end c.args.given _ _ _ (c.in_err-one.ensures.takes text)))
+    rw (p.1, p.2) (λ text. leads_far _ _ _ c.loop-one.invariant.unused (leads_end c.args.given _ _ _ (c.in_err-one.ensures.takes text)))
 
 pub returns-in_err-one-clause-taken : goal.returns-in_err-one-clause-taken
 returns-in_err-one-clause-taken g c =
     let p = err_from_is_err_and c.from_residual-in_err-one.result c.from_residual-in_err-one.ensures.1 in
     let inv = c.loop-one.invariant in
     let step = c.in_err-one.ensures in
-    λ more going. rw (p.1, p.2) (λ other. taken-at-fault _ _ _ _ _ _ _ inv.taken step.taken step.failed inv.count.0 step.limit.0 step.one going)
+    λ more going. rw (p.1, p.2) (λ other. taken_at_fault _ _ _ _ _ _ _ inv.taken step.taken step.failed inv.count.0 step.limit.0 step.one going)
 
 pub returns-then-given-eq0-clause-gives : goal.returns-then-given-eq0-clause-gives
 returns-then-given-eq0-clause-gives g c =
     let none = rw c.in_default.is at c.in_ok-one.ensures.takes in
-    λ _. leads-far _ _ _ c.loop-one.invariant.unused (rw c.if-given-eq0.true (leads-end 0 _ _ _ none))
+    λ _. leads_far _ _ _ c.loop-one.invariant.unused (rw c.if-given-eq0.true (leads_end 0 _ _ _ none))
 
 pub returns-else-given-eq0-clause-gives : goal.returns-else-given-eq0-clause-gives
 returns-else-given-eq0-clause-gives g c =
     let none = rw c.in_default.is at c.in_ok-one.ensures.takes in
     let some : 0 < c.args.given = omega arith in
-    let end = leads-end c.args.given _ _ _ none in
-    leads-far _ _ _ c.loop-one.invariant.unused (rw (later-end c.args.given c.take_record.new.previous some) at end)
+    let end = leads_end c.args.given _ _ _ none in
+    leads_far _ _ _ c.loop-one.invariant.unused (rw (later_end c.args.given c.take_record.new.previous some) at end)
 
 pub returns-in_err-has_use-in-None-clause-gives : goal.returns-in_err-has_use-in-None-clause-gives
 returns-in_err-has_use-in-None-clause-gives g c =

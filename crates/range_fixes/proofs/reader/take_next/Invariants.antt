@@ -11,7 +11,8 @@ invariant-loop-one g l = record {
   going : l.records.stopped ≡ false;
   count : (l.fn.read ≤ l.read) × (l.read ≤ fix_limit);
   header : l.header ≡ Some l.has_use;
-  unused : Leads (option_map (rest_of l.unit l.fn.header l.fn.read l.given l.fn.previous) l.fn.records.left) (option_map (rest_of l.unit (Some l.has_use) l.read l.given l.previous) l.records.left);
+  unused : Leads (option_map (rest_of l.unit l.fn.header l.fn.read l.given l.fn.previous) l.fn.records.left)
+      (option_map (rest_of l.unit (Some l.has_use) l.read l.given l.previous) l.records.left);
   taken : Taken (option_map length (below l.fn.header l.fn.records.left)) (l.read - l.fn.read) (option_map length l.records.left);
   animal : KeepsAnimal l.fn.previous l.previous;
   within : IfSome l.previous IsWithin;

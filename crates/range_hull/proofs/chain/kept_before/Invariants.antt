@@ -1,17 +1,17 @@
 use Rattle.std.proofs.Common.{◌+◌, ◌-◌, ◌<◌, ◌≤◌, pos, ◌≤ℤ◌, ◌≡◌, ◌-ℤ◌}
 use Rattle.range_plane.specs.Edges.{at}
-use Rattle.range_chain.specs.Blocks.{joined}
-use Rattle.range_chain.specs.Chain.{Stands, place}
+use Rattle.range_pieces.specs.Pieces.{all_points}
+use Rattle.range_pieces.specs.PointList.{Stands, place}
 use Rattle.range_hull.specs.Area.{swept_before}
 use Rattle.range_hull.specs.Chain.{bend}
 use Rattle.range_hull.proofs.chain.kept_before.Given as goal
 
 abbrev pub invariant-loop-side : goal.invariant-loop-side
 invariant-loop-side g l =
-    let L = joined l.chain.blocks in
-    let i = place l.chain.blocks l.fn.c in
-    let k = place l.chain.blocks l.kept in
-    Stands l.chain.blocks l.kept
+    let L = all_points l.chain.pieces in
+    let i = place l.chain.pieces l.fn.c in
+    let k = place l.chain.pieces l.kept in
+    Stands l.chain.pieces l.kept
     × (k ≤ i)
     × (0 < i → 0 < k)
     × (k < i → bend l.side (at L (k - 1)) (at L k) l.p ≤ℤ pos 0)
@@ -21,4 +21,4 @@ invariant-loop-side g l =
     × (l.initial.tally.turns ≤ l.tally.turns)
 
 abbrev pub decreases-loop-side : goal.decreases-loop-side
-decreases-loop-side g l = place l.chain.blocks l.kept
+decreases-loop-side g l = place l.chain.pieces l.kept

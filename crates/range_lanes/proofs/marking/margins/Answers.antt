@@ -3,7 +3,7 @@ use Rattle.std.proofs.lemmas.List.{get_or_read}
 use Rattle.range_plane.specs.Covering.{is_covered, is_on_segment}
 use Rattle.range_plane.specs.Edges.{at}
 use Rattle.range_plane.specs.Plane.{origin}
-use Rattle.range_lanes.proofs.Edges.{few_cover}
+use Rattle.range_lanes.proofs.LaneEdges.{few_cover}
 use Rattle.range_lanes.proofs.Turning.{map_same}
 use Rattle.range_lanes.proofs.marking.margins.Goals as goal
 
@@ -15,4 +15,5 @@ returns-then-corners-le2 c =
     let first : a ≡ at L 0 = get_or_read L 0 a c.requires.some c.index-corners-0.is origin in
     let last : b ≡ at L (length L - 1) = get_or_read L (length L - 1) b (omega arith) c.index-corners-corners.is origin in
     c.margins_of_segment.ensures
-    ∙ map_same (λ q. is_on_segment q a b) (is_covered L) (λ q. few_cover c.covered_is_decided.ensures.set c.covered_is_decided.ensures.segment c.larger_sets_cover_more.ensures c.few_cover_little.ensures.two L a b q c.requires.some c.if-corners-le2.true first last) c.args.block.now
+    ∙ map_same (λ q. is_on_segment q a b) (is_covered L) (λ q. few_cover c.covered_is_decided.ensures.set c.covered_is_decided.ensures.segment
+    c.larger_sets_cover_more.ensures c.few_cover_little.ensures.two L a b q c.requires.some c.if-corners-le2.true first last) c.args.group.now

@@ -1,5 +1,5 @@
 use Rattle.std.proofs.Common.{sym, subst}
-use Rattle.range_line.proofs.Steps.{At}
+use Rattle.range_line.proofs.RuleSteps.{At}
 use Rattle.range_line.proofs.EndFacts.{at_or, compared}
 use Rattle.range_line.proofs.settling.compare.Goals as goal
 

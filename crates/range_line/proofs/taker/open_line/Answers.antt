@@ -7,7 +7,7 @@ use Rattle.range_line.specs.Rule.{taker_pass, after_opening}
 use Rattle.range_line.specs.Lines.{new_feeder, new_taker, files_from}
 use Rattle.range_line.specs.Passes.{LinePass, first_known, line_from, line_of}
 use Rattle.range_line.proofs.Orderly.{orderly_empty}
-use Rattle.range_line.proofs.Steps.{begins, not_in_none}
+use Rattle.range_line.proofs.RuleSteps.{begins, not_in_none}
 use Rattle.range_line.proofs.Files.{files_more, file_is_new, first_of_files, first_or_next, has_a_file}
 use Rattle.range_line.proofs.Passes.{taking_of, new_taker_view, new_view}
 use Rattle.range_line.proofs.taker.open_line.Goals as goal
@@ -40,11 +40,13 @@ loop-number-preserved g c =
     let known : view new ≡ taker_pass cap (files ++ file ∷ []) [] [] = c.in_ok-open.ensures.taker ∙ ap (after_opening cap file) inv.1 in
     let depth = ap (λ (v : PassView). v.depth) known in
     let line = c.open.ensures.line in
-    let first : get_or (view old).files 0 file ≡ c.args.first = ap (λ (v : PassView). get_or v.files 0 file) inv.1 ∙ first_or_next c.args.first c.args.step c.loop-number.number in
+    let first : get_or (view old).files 0 file ≡ c.args.first = ap (λ (v : PassView). get_or v.files 0 file) inv.1
+    ∙ first_or_next c.args.first c.args.step c.loop-number.number in
     let feeder = c.in_ok-open.ensures.feeder ∙ ap (λ n. new_feeder (line_from old n) file) first in (
       c.open.ensures.channel,
       known ∙ (λ i. taker_pass (sym depth i) (sym more i) [] []),
-      c.push_reserved.ensures.items ∙ (λ i. inv.2 i ++ feeder i ∷ []) ∙ sym (map-append (new_feeder (line_from old c.args.first)) files (file ∷ [])) ∙ (λ i. map (new_feeder ((sym line i).0, (sym line i).1, c.args.first)) (sym more i)),
+      c.push_reserved.ensures.items ∙ (λ i. inv.2 i ++ feeder i ∷ []) ∙ sym (map-append (new_feeder (line_from old c.args.first)) files (file ∷ []))
+          ∙ (λ i. map (new_feeder ((sym line i).0, (sym line i).1, c.args.first)) (sym more i)),
       inr depth,
       omega (arith, inv.4, c.push_reserved.ensures.len),
       omega (arith, inv.5, c.push_reserved.ensures.capacity),
@@ -64,9 +66,11 @@ returns-clause-taker g c =
     let all = c.loop-number-test.false in
     let files = ap (λ (v : PassView). v.files) inv.1 in
     let number : c.loop-number.number ≡ c.args.count = omega (arith, all) in
-    let none : (view p).files ≡ [] → ⊥ = λ e. has_a_file c.args.first c.args.step c.loop-number.number (omega (arith, all, c.requires.files.3)) (sym files ∙ e) in
+    let none : (view p).files ≡ [] → ⊥ = λ e. has_a_file c.args.first c.args.step c.loop-number.number (omega (arith, all, c.requires.files.3))
+    (sym files ∙ e) in
     subst (λ n. new_view p ≡ new_taker (line_of p) (files_from c.args.first c.args.step n) c.args.depth) number
-    (new_taker_view p (files_from c.args.first c.args.step c.loop-number.number) c.args.depth inv.1 (⊎_elim (λ e. absurd (none e)) (λ e. e ∙ c.in_ok-sender.ensures.1) inv.3))
+    (new_taker_view p (files_from c.args.first c.args.step c.loop-number.number) c.args.depth inv.1
+    (⊎_elim (λ e. absurd (none e)) (λ e. e ∙ c.in_ok-sender.ensures.1) inv.3))
 
 pub returns-clause-feeders : goal.returns-clause-feeders
 returns-clause-feeders g c =

@@ -25,7 +25,8 @@ pub returns-then-not-comes_before-2 : goal.returns-then-not-comes_before-2
 returns-then-not-comes_before-2 c =
     let L = c.args.corners.now in
     let some : 0 < length L = omega (arith, eqb-false _ _ (sym c.if-is_empty.ensures)) in
-    let e : c.index-corners-top.result ≡ at L c.args.top = get_or_read L c.args.top c.index-corners-top.result (c.requires.top.within some) c.index-corners-top.is origin in
+    let e : c.index-corners-top.result ≡ at L c.args.top = get_or_read L c.args.top c.index-corners-top.result
+    (c.requires.top.within some) c.index-corners-top.is origin in
     let greater = c.comes_before-then-not-comes_before-2 in
     top_covered L c.args.top c.args.q greater.result c.requires.top some
     (subst (λ (x : Position). IsAtMost x c.args.q) e c.if-not-comes_before-2.ensures.no)

@@ -1,6 +1,6 @@
 use Rattle.std.proofs.Common.{sym, arith}
 use Rattle.std.proofs.lemmas.Option.{get_or_from_slice_get, slice_get_within}
-use Rattle.range_plane.proofs.Least.{least-all, least-next, least-stays}
+use Rattle.range_plane.proofs.Least.{least_all, least_next, least_stays}
 use Rattle.range_plane.proofs.plain.least_of.Goals as goal
 use Rattle.range_plane.proofs.plain.least_of.Goals.{then-comes_before, else-comes_before}
 
@@ -15,9 +15,11 @@ loop-p-init c =
 
 pub loop-p-preserved : goal.loop-p-preserved
 loop-p-preserved c = elim c.if-comes_before.branch [
-  | then-comes_before w ↦ rw w.least-is (least-next c.args.points.now c.loop-p.p-index c.loop-p.least c.p-item.result c.loop-p.invariant c.loop-p-test.true c.p-item.is (rw w.if-comes_before.true at c.comes_before.ensures.yes))
-  | else-comes_before w ↦ rw w.least-is (least-stays c.args.points.now c.loop-p.p-index c.loop-p.least c.p-item.result c.loop-p.invariant c.loop-p-test.true c.p-item.is (rw w.if-comes_before.false at c.comes_before.ensures.no))
+  | then-comes_before w ↦ rw w.least-is (least_next c.args.points.now c.loop-p.p-index c.loop-p.least c.p-item.result c.loop-p.invariant c.loop-p-test.true
+      c.p-item.is (rw w.if-comes_before.true at c.comes_before.ensures.yes))
+  | else-comes_before w ↦ rw w.least-is (least_stays c.args.points.now c.loop-p.p-index c.loop-p.least c.p-item.result c.loop-p.invariant c.loop-p-test.true
+      c.p-item.is (rw w.if-comes_before.false at c.comes_before.ensures.no))
 ]
 
 pub returns-clause-least : goal.returns-clause-least
-returns-clause-least c = least-all c.args.points.now c.loop-p.p-index c.loop-p.least c.loop-p.invariant c.loop-p-test.false
+returns-clause-least c = least_all c.args.points.now c.loop-p.p-index c.loop-p.least c.loop-p.invariant c.loop-p-test.false

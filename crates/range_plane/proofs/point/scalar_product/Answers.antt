@@ -29,7 +29,14 @@ overflow_add-result c =
     let q = c.q.inside in
     let first = abs_product a.e q.e b.e q.e c.a.invariant.0 c.q.invariant.0 c.b.invariant.0 c.q.invariant.0 in
     let second = abs_product a.n q.n b.n q.n c.a.invariant.1 c.q.invariant.1 c.b.invariant.1 c.q.invariant.1 in
-    rw (difference_is a.e q.e c.a.invariant.0 c.q.invariant.0, difference_is b.e q.e c.b.invariant.0 c.q.invariant.0, difference_is a.n q.n c.a.invariant.1 c.q.invariant.1, difference_is b.n q.n c.b.invariant.1 c.q.invariant.1, product_is (a.e -ℤ q.e) (b.e -ℤ q.e) first, product_is (a.n -ℤ q.n) (b.n -ℤ q.n) second)
+    rw (
+      difference_is a.e q.e c.a.invariant.0 c.q.invariant.0,
+      difference_is b.e q.e c.b.invariant.0 c.q.invariant.0,
+      difference_is a.n q.n c.a.invariant.1 c.q.invariant.1,
+      difference_is b.n q.n c.b.invariant.1 c.q.invariant.1,
+      product_is (a.e -ℤ q.e) (b.e -ℤ q.e) first,
+      product_is (a.n -ℤ q.n) (b.n -ℤ q.n) second,
+    )
     (scalar_product_fits (position q.e q.n) (position a.e a.n) (position b.e b.n) c.q.invariant c.a.invariant c.b.invariant)
 
 pub returns : goal.returns
@@ -40,6 +47,14 @@ returns c =
     let q = c.q.inside in
     let first = abs_product a.e q.e b.e q.e c.a.invariant.0 c.q.invariant.0 c.b.invariant.0 c.q.invariant.0 in
     let second = abs_product a.n q.n b.n q.n c.a.invariant.1 c.q.invariant.1 c.b.invariant.1 c.q.invariant.1 in
-    rw (difference_is a.e q.e c.a.invariant.0 c.q.invariant.0, difference_is b.e q.e c.b.invariant.0 c.q.invariant.0, difference_is a.n q.n c.a.invariant.1 c.q.invariant.1, difference_is b.n q.n c.b.invariant.1 c.q.invariant.1, product_is (a.e -ℤ q.e) (b.e -ℤ q.e) first, product_is (a.n -ℤ q.n) (b.n -ℤ q.n) second)
+    rw (
+      difference_is a.e q.e c.a.invariant.0 c.q.invariant.0,
+      difference_is b.e q.e c.b.invariant.0 c.q.invariant.0,
+      difference_is a.n q.n c.a.invariant.1 c.q.invariant.1,
+      difference_is b.n q.n c.b.invariant.1 c.q.invariant.1,
+      product_is (a.e -ℤ q.e) (b.e -ℤ q.e) first,
+      product_is (a.n -ℤ q.n) (b.n -ℤ q.n) second,
+    )
     (rw (← c.a.view_is, ← c.b.view_is, ← c.q.view_is)
-    (to_z-of_z w64 (scalar_product (position q.e q.n) (position a.e a.n) (position b.e b.n)) (scalar_product_fits (position q.e q.n) (position a.e a.n) (position b.e b.n) c.q.invariant c.a.invariant c.b.invariant)))
+    (to_z-of_z w64 (scalar_product (position q.e q.n) (position a.e a.n) (position b.e b.n))
+    (scalar_product_fits (position q.e q.n) (position a.e a.n) (position b.e b.n) c.q.invariant c.a.invariant c.b.invariant)))

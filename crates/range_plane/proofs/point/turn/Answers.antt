@@ -28,7 +28,14 @@ overflow_sub-result-5 c =
     let q = c.c.inside in
     let first = abs_product b.e a.e q.n a.n c.b.invariant.0 c.a.invariant.0 c.c.invariant.1 c.a.invariant.1 in
     let second = abs_product b.n a.n q.e a.e c.b.invariant.1 c.a.invariant.1 c.c.invariant.0 c.a.invariant.0 in
-    rw (difference_is b.e a.e c.b.invariant.0 c.a.invariant.0, difference_is q.n a.n c.c.invariant.1 c.a.invariant.1, difference_is b.n a.n c.b.invariant.1 c.a.invariant.1, difference_is q.e a.e c.c.invariant.0 c.a.invariant.0, product_is (b.e -ℤ a.e) (q.n -ℤ a.n) first, product_is (b.n -ℤ a.n) (q.e -ℤ a.e) second)
+    rw (
+      difference_is b.e a.e c.b.invariant.0 c.a.invariant.0,
+      difference_is q.n a.n c.c.invariant.1 c.a.invariant.1,
+      difference_is b.n a.n c.b.invariant.1 c.a.invariant.1,
+      difference_is q.e a.e c.c.invariant.0 c.a.invariant.0,
+      product_is (b.e -ℤ a.e) (q.n -ℤ a.n) first,
+      product_is (b.n -ℤ a.n) (q.e -ℤ a.e) second,
+    )
     (turn_fits (position a.e a.n) (position b.e b.n) (position q.e q.n) c.a.invariant c.b.invariant c.c.invariant)
 
 pub returns-clause-value : goal.returns-clause-value
@@ -39,9 +46,17 @@ returns-clause-value c =
     let q = c.c.inside in
     let first = abs_product b.e a.e q.n a.n c.b.invariant.0 c.a.invariant.0 c.c.invariant.1 c.a.invariant.1 in
     let second = abs_product b.n a.n q.e a.e c.b.invariant.1 c.a.invariant.1 c.c.invariant.0 c.a.invariant.0 in
-    rw (difference_is b.e a.e c.b.invariant.0 c.a.invariant.0, difference_is q.n a.n c.c.invariant.1 c.a.invariant.1, difference_is b.n a.n c.b.invariant.1 c.a.invariant.1, difference_is q.e a.e c.c.invariant.0 c.a.invariant.0, product_is (b.e -ℤ a.e) (q.n -ℤ a.n) first, product_is (b.n -ℤ a.n) (q.e -ℤ a.e) second)
+    rw (
+      difference_is b.e a.e c.b.invariant.0 c.a.invariant.0,
+      difference_is q.n a.n c.c.invariant.1 c.a.invariant.1,
+      difference_is b.n a.n c.b.invariant.1 c.a.invariant.1,
+      difference_is q.e a.e c.c.invariant.0 c.a.invariant.0,
+      product_is (b.e -ℤ a.e) (q.n -ℤ a.n) first,
+      product_is (b.n -ℤ a.n) (q.e -ℤ a.e) second,
+    )
     (rw (← c.a.view_is, ← c.b.view_is, ← c.c.view_is)
-    (to_z-of_z w64 (turn (position a.e a.n) (position b.e b.n) (position q.e q.n)) (turn_fits (position a.e a.n) (position b.e b.n) (position q.e q.n) c.a.invariant c.b.invariant c.c.invariant)))
+    (to_z-of_z w64 (turn (position a.e a.n) (position b.e b.n) (position q.e q.n))
+    (turn_fits (position a.e a.n) (position b.e b.n) (position q.e q.n) c.a.invariant c.b.invariant c.c.invariant)))
 
 pub returns-clause-bound : goal.returns-clause-bound
 unfolding turn
@@ -51,6 +66,14 @@ returns-clause-bound c =
     let q = c.c.inside in
     let first = abs_product b.e a.e q.n a.n c.b.invariant.0 c.a.invariant.0 c.c.invariant.1 c.a.invariant.1 in
     let second = abs_product b.n a.n q.e a.e c.b.invariant.1 c.a.invariant.1 c.c.invariant.0 c.a.invariant.0 in
-    rw (difference_is b.e a.e c.b.invariant.0 c.a.invariant.0, difference_is q.n a.n c.c.invariant.1 c.a.invariant.1, difference_is b.n a.n c.b.invariant.1 c.a.invariant.1, difference_is q.e a.e c.c.invariant.0 c.a.invariant.0, product_is (b.e -ℤ a.e) (q.n -ℤ a.n) first, product_is (b.n -ℤ a.n) (q.e -ℤ a.e) second)
-    (rw (to_z-of_z w64 (turn (position a.e a.n) (position b.e b.n) (position q.e q.n)) (turn_fits (position a.e a.n) (position b.e b.n) (position q.e q.n) c.a.invariant c.b.invariant c.c.invariant))
+    rw (
+      difference_is b.e a.e c.b.invariant.0 c.a.invariant.0,
+      difference_is q.n a.n c.c.invariant.1 c.a.invariant.1,
+      difference_is b.n a.n c.b.invariant.1 c.a.invariant.1,
+      difference_is q.e a.e c.c.invariant.0 c.a.invariant.0,
+      product_is (b.e -ℤ a.e) (q.n -ℤ a.n) first,
+      product_is (b.n -ℤ a.n) (q.e -ℤ a.e) second,
+    )
+    (rw (to_z-of_z w64 (turn (position a.e a.n) (position b.e b.n) (position q.e q.n))
+    (turn_fits (position a.e a.n) (position b.e b.n) (position q.e q.n) c.a.invariant c.b.invariant c.c.invariant))
     (abs_turn (position a.e a.n) (position b.e b.n) (position q.e q.n) c.a.invariant c.b.invariant c.c.invariant))

@@ -8,7 +8,8 @@ loop-number-preserved g c =
     let moves = rw c.in-Ok-Some.field-0-is at c.in-Ok-Some.ensures.moves in
     let text = rw c.in-Ok-Some.field-0-is at c.in-Ok-Some.ensures.text in
     record {
-      fixes = rw c.push_reserved.ensures.items (gives_more _ c.loop-number.reader c.next.new.self c.loop-number.fixes.items c.in-Ok-Some.fix inv.fixes c.in-Ok-Some.ensures.reads text moves.counted);
+      fixes = rw c.push_reserved.ensures.items (gives_more _ c.loop-number.reader c.next.new.self c.loop-number.fixes.items c.in-Ok-Some.fix inv.fixes
+          c.in-Ok-Some.ensures.reads text moves.counted);
       count = omega (arith, inv.count, c.push_reserved.ensures.len);
       room = omega (arith, inv.room, c.push_reserved.ensures.capacity);
       limit = c.next.ensures.limit;

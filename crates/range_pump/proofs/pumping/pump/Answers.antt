@@ -9,6 +9,7 @@ returns g c =
     elim c.if-not-is_gone.branch [
       | then-not-is_gone w ↦
           let own = rw w.if-not-is_gone.true at c.is_gone.ensures in
-          rw w.feeder-is (pumped _ c.args.block c.args.feeder c.send_fixes-read.new.feeder w.close.new.self c.send_fixes-read.result w.close.result fed own w.close.ensures.sent)
+          rw w.feeder-is (pumped _ c.args.block c.args.feeder c.send_fixes-read.new.feeder w.close.new.self c.send_fixes-read.result w.close.result fed own
+          w.close.ensures.sent)
       | else-not-is_gone w ↦ rw w.feeder-is fed.pumped
     ]

@@ -28,7 +28,8 @@ loop-more-preserved g c =
     record {
       limit = read.limit;
       count = inv.count + 1;
-      way = λ source reads. way_more c.send_block.new.feeder (record { width = c.requires.block.0; way = inv.way source reads; gives = read.fixes; small = read.size }) whole c.in_ok-send_block.ensures.sent;
+      way = λ source reads. way_more c.send_block.new.feeder (record
+          { width = c.requires.block.0; way = inv.way source reads; gives = read.fixes; small = read.size }) whole c.in_ok-send_block.ensures.sent;
     }
 
 pub loop-more-smaller : goal.loop-more-smaller
@@ -43,7 +44,13 @@ returns-in_err-send_block-clause-fed g c = λ source reads.
     let gone = c.in_err-send_block.ensures.gone in
     let is : c.from_residual.result ≡ Err c.in_err-send_block.field-0.0 = search rules in
     rw (is, gone.0)
-    (fed_gone c.send_block.new.feeder (record { width = c.requires.block.0; way = c.loop-more.invariant.way source reads; gives = read.fixes; small = read.size }) gone.2 gone.1)
+    (fed_gone c.send_block.new.feeder (record {
+      width = c.requires.block.0;
+      way = c.loop-more.invariant.way source reads;
+      gives = read.fixes;
+      small =
+          read.size;
+    }) gone.2 gone.1)
 
 pub returns-in_err-more-clause-fed : goal.returns-in_err-more-clause-fed
 returns-in_err-more-clause-fed g c = λ source reads.
@@ -53,11 +60,22 @@ returns-in_err-more-clause-fed g c = λ source reads.
     let ends = rw c.in_err-more.was at read.fault in
     let is : c.from_residual-in_err-more.result ≡ Err fault = search rules in
     rw is
-    (fed_fault c.send_block.new.feeder fault (record { width = c.requires.block.0; way = c.loop-more.invariant.way source reads; gives = read.fixes; small = read.size }) c.in_ok-send_block.ensures.sent own ends)
+    (fed_fault c.send_block.new.feeder fault (record {
+      width = c.requires.block.0;
+      way = c.loop-more.invariant.way source reads;
+      gives = read.fixes;
+      small =
+          read.size;
+    }) c.in_ok-send_block.ensures.sent own ends)
 
 pub returns-then-not-branch-clause-fed : goal.returns-then-not-branch-clause-fed
 returns-then-not-branch-clause-fed g c = λ source reads.
     let read = c.read_block-fixes.ensures in
     let end = read.end (c.in_ok-more.was ∙ ap (λ b. Ok b) c.if-not-branch.true) in
-    fed_end c.send_block.new.feeder c.name_of.result (record { width = c.requires.block.0; way = c.loop-more.invariant.way source reads; gives = read.fixes; small = read.size }) c.in_ok-send_block.ensures.sent end.0 end.1
+    fed_end c.send_block.new.feeder c.name_of.result (record {
+      width = c.requires.block.0;
+      way = c.loop-more.invariant.way source reads;
+      gives = read.fixes;
+      small = read.size;
+    }) c.in_ok-send_block.ensures.sent end.0 end.1
     c.name_of.ensures.name c.name_of.ensures.refused

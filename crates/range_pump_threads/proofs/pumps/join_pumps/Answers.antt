@@ -4,7 +4,7 @@ use Rattle.std.specs.Vec.Iter.{into_iter_items}
 use Rattle.std.proofs.lemmas.List.{length_push}
 use Rattle.range_fixes.specs.Reading.{reading_from}
 use Rattle.range_pump.specs.Pump.{IsPumped}
-use Rattle.integers_and_lists.proofs.Places.{threes_pushed}
+use Rattle.range_lemmas.proofs.Places.{threes_pushed}
 use Rattle.range_pump_threads.proofs.pumps.join_pumps.Goals as goal
 
 pub loop-handle-preserved : goal.loop-handle-preserved
@@ -26,7 +26,9 @@ loop-handle-preserved g c =
         j.1 ∙ (ap (λ l. j.0 ++ l) step ∙ sym (append_assoc j.0 (h ∷ []) _)),
         (let d = length_push j.0 h in let n = ap length a.items in let l = length_push fs c.join-feeder.result.feeder in omega (arith, d, n, l, j.2)),
         (let d = length_push j.0 h in let n = ap length b.items in let l = length_push rs c.join-feeder.result.read in omega (arith, d, n, l, j.3)),
-        rw (a.items, b.items) (threes_pushed (λ h f r. IsPumped (reading_from g.S.Read.remaining h.promise.plan.unit h.promise.source.value) h.promise.plan.block h.promise.feeder.value f r) j.0 fs rs h c.join-feeder.result.feeder c.join-feeder.result.read j.2 j.3 j.4 c.join-feeder.ensures),
+        rw (a.items, b.items) (threes_pushed (λ h f r. IsPumped (reading_from g.S.Read.remaining h.promise.plan.unit h.promise.source.value)
+            h.promise.plan.block h.promise.feeder.value f r) j.0 fs rs h c.join-feeder.result.feeder c.join-feeder.result.read j.2 j.3 j.4
+            c.join-feeder.ensures),
       );
     }
 

@@ -2,7 +2,7 @@ use Rattle.std.specs.Int.{w64}
 use Rattle.std.specs.Prelude.{FitsSigned}
 use Rattle.std.proofs.Common.{rules}
 use Rattle.std.proofs.lemmas.Int.{to_z-of_z}
-use Rattle.range_report.proofs.ListFacts.{five-parts}
+use Rattle.range_report.proofs.ListFacts.{five_parts}
 use Rattle.range_report.proofs.lines.push_box.Goals as goal
 
 pub returns : goal.returns
@@ -13,4 +13,5 @@ returns g c =
     let max_n : FitsSigned w64 c.args.extent.max_n = search rules in
     let low = simp to_z-of_z at c.in_ok-push_point.ensures in
     let high = simp to_z-of_z at c.in_ok-push_point-2.ensures in
-    five-parts _ _ _ _ _ _ _ _ _ _ _ c.in_ok-extend_from_slice.ensures.items c.in_ok-extend_from_slice-2.ensures.items low high c.in_ok-extend_from_slice-3.ensures.items
+    five_parts _ _ _ _ _ _ _ _ _ _ _ c.in_ok-extend_from_slice.ensures.items c.in_ok-extend_from_slice-2.ensures.items low high
+    c.in_ok-extend_from_slice-3.ensures.items

@@ -16,7 +16,10 @@ pub returns : goal.returns
 unfolding animal_text
 returns g c =
     let animal = c.args.animal.now in
-    let rows : flat_map text_of c.push_numbered.new.parts.items ≡ flat_map text_of c.push.new.self.items ++ texts animal Rows (length animal.rows) = rw (c.as_slice.ensures) at c.in_ok-push_numbered.ensures in
-    let corners : flat_map text_of c.push_numbered-2.new.parts.items ≡ flat_map text_of c.push_numbered.new.parts.items ++ texts animal Corners (length animal.polygon) = rw (c.corners-corners.ensures.value) at c.in_ok-push_numbered-2.ensures in
-    four_texts text_of c.new-parts.result.items c.push.new.self.items c.push_numbered.new.parts.items c.push_numbered-2.new.parts.items c.push-2.new.self.items _ _ _ _ _ _ c.new-parts.ensures.items c.in_ok-push.ensures.items
+    let rows : flat_map text_of c.push_numbered.new.parts.items ≡ flat_map text_of c.push.new.self.items ++ texts animal Rows (length animal.rows) =
+    rw (c.as_slice.ensures) at c.in_ok-push_numbered.ensures in
+    let corners : flat_map text_of c.push_numbered-2.new.parts.items ≡ flat_map text_of c.push_numbered.new.parts.items ++ texts animal Corners
+    (length animal.polygon) = rw (c.corners-corners.ensures.value) at c.in_ok-push_numbered-2.ensures in
+    four_texts text_of c.new-parts.result.items c.push.new.self.items c.push_numbered.new.parts.items c.push_numbered-2.new.parts.items c.push-2.new.self.items
+    _ _ _ _ _ _ c.new-parts.ensures.items c.in_ok-push.ensures.items
     rows (numbered_cut (row_line animal.name) animal.rows) corners (numbered_cut (corner_line animal.name) animal.polygon) c.in_ok-push-2.ensures.items

@@ -7,4 +7,5 @@ use Rattle.range_report.proofs.writing.animal_texts.Goals as goal
 
 pub returns : goal.returns
 returns g c =
-    IfOk-weaker c.part_texts.result _ _ (λ texts each. texts_of_parts (λ text. text.items) text_of _ texts.items each ∙ ap (flat_map text_of) c.deref.ensures.value ∙ c.in_ok-parts.ensures) c.part_texts.ensures
+    IfOk-weaker c.part_texts.result _ _ (λ texts each. texts_of_parts (λ text. text.items) text_of _ texts.items each
+    ∙ ap (flat_map text_of) c.deref.ensures.value ∙ c.in_ok-parts.ensures) c.part_texts.ensures

@@ -1,6 +1,7 @@
 use Rattle.std.proofs.Common.{append_assoc, rules}
 use Rattle.range_report.proofs.writing.part_text.Goals as goal
-use Rattle.range_report.proofs.writing.part_text.Goals.{in-Head+in_ok-push_head-in-Head+in_ok-push_box-in-Head, in-Rows+in_ok-push_rows-in-Rows, in-Corners+in_ok-push_corners-in-Corners, in-Percents+in_ok-push_percents-in-Percents}
+use Rattle.range_report.proofs.writing.part_text.Goals.{in-Head+in_ok-push_head-in-Head+in_ok-push_box-in-Head, in-Rows+in_ok-push_rows-in-Rows}
+use Rattle.range_report.proofs.writing.part_text.Goals.{in-Corners+in_ok-push_corners-in-Corners, in-Percents+in_ok-push_percents-in-Percents}
 
 pub returns : goal.returns
 returns g c = elim c.match-lines.branch [

@@ -1,6 +1,6 @@
 use Rattle.std.proofs.Common.{◌≡◌, ◌∙◌, ap}
 use Rattle.rayon.proofs.ToStd.{slice-AllZip}
-use Rattle.integers_and_lists.proofs.Gathered.{IsResultOf, gathered}
+use Rattle.range_lemmas.proofs.Gathered.{IsResultOf, gathered}
 use Rattle.range_report.specs.Parts.{text_of}
 use Rattle.range_report.proofs.writing.part_texts.Goals as goal
 

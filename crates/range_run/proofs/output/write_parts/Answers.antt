@@ -14,7 +14,8 @@ pub loop-part-preserved : goal.loop-part-preserved
 loop-part-preserved g c =
     let contents = g.W.Write.contents in
     let text = flat_map (λ part. part.items) c.args.parts.items in
-    let before = subst (λ l. WritesBefore l text (contents c.args.out.now) (contents c.loop-part.out)) (ap (flat_map (λ part. part.items)) c.in-Some.ensures.steps.0) c.loop-part.invariant in
+    let before = subst (λ l. WritesBefore l text (contents c.args.out.now) (contents c.loop-part.out))
+    (ap (flat_map (λ part. part.items)) c.in-Some.ensures.steps.0) c.loop-part.invariant in
     let written = subst (Appends (contents c.loop-part.out) (contents c.write_whole.new.out)) c.deref.ensures.value c.in_ok-write_whole.ensures.whole in
     part_written _ _ _ _ _ _ before written
 
@@ -22,7 +23,8 @@ pub returns-in_err-write_whole-clause-prefix : goal.returns-in_err-write_whole-c
 returns-in_err-write_whole-clause-prefix g c =
     let contents = g.W.Write.contents in
     let text = flat_map (λ part. part.items) c.args.parts.items in
-    let before = subst (λ l. WritesBefore l text (contents c.args.out.now) (contents c.loop-part.out)) (ap (flat_map (λ part. part.items)) c.in-Some.ensures.steps.0) c.loop-part.invariant in
+    let before = subst (λ l. WritesBefore l text (contents c.args.out.now) (contents c.loop-part.out))
+    (ap (flat_map (λ part. part.items)) c.in-Some.ensures.steps.0) c.loop-part.invariant in
     let prefix = subst (AppendsPrefix (contents c.loop-part.out) (contents c.write_whole.new.out)) c.deref.ensures.value c.in_err-write_whole.ensures.prefix in
     part_cut _ _ _ _ _ _ _ before prefix
 

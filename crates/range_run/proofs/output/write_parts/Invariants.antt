@@ -6,4 +6,5 @@ use Rattle.range_run.proofs.output.write_parts.Given as goal
 abbrev pub invariant-loop-part : goal.invariant-loop-part
 invariant-loop-part g l =
     let contents = g.W.Write.contents in
-    WritesBefore (flat_map (λ part. part.items) (into_iter_items l.part-iterator)) (flat_map (λ part. part.items) l.fn.parts.items) (contents l.fn.out) (contents l.out)
+    WritesBefore (flat_map (λ part. part.items) (into_iter_items l.part-iterator)) (flat_map (λ part. part.items) l.fn.parts.items) (contents l.fn.out)
+    (contents l.out)

@@ -9,7 +9,8 @@ use Rattle.range_stats.specs.Percent.{distance, scaled_distance, entry}
 use Rattle.range_stats.proofs.distances.keys.Goals as goal
 
 entry_is : (points : List Position) (i : ℕ) (p : Position) → p ≡ at points i → (count eastings northings d : ℕ) → count ≡ length points
-    → pos eastings ≡ total (map (λ q. q.e) points) → pos northings ≡ total (map (λ q. q.n) points) → d ≡ scaled_distance count (pos eastings) (pos northings) p → (d, i) ≡ entry points i
+    → pos eastings ≡ total (map (λ q. q.e) points) → pos northings ≡ total (map (λ q. q.n) points) → d ≡ scaled_distance count (pos eastings) (pos northings) p
+    → (d, i) ≡ entry points i
 unfolding distance
 entry_is points i p here count eastings northings d number es ns far =
     let is : d ≡ distance points p =
@@ -21,5 +22,7 @@ loop-place-preserved g c =
     let points = c.args.fixes.now.points in
     let i = c.loop-place.place in
     let here : at points i ≡ c.at.result = get_or_from_slice_get points i c.at.result origin c.at.ensures in
-    let item = entry_is points i c.at.result (sym here) _ _ _ _ c.len-count.ensures c.sums-eastings.ensures.eastings c.sums-eastings.ensures.northings c.scaled_distance-distance.ensures.value in
-    c.in_ok-push.ensures.items ∙ ap₂ (λ l x. l ++ x ∷ []) c.loop-place.invariant (c.key.ensures ∙ ap key item) ∙ sym (map-range_with_len_more (λ i. key (entry points i)) 0 i i (omega arith))
+    let item = entry_is points i c.at.result (sym here) _ _ _ _ c.len-count.ensures c.sums-eastings.ensures.eastings c.sums-eastings.ensures.northings
+    c.scaled_distance-distance.ensures.value in
+    c.in_ok-push.ensures.items ∙ ap₂ (λ l x. l ++ x ∷ []) c.loop-place.invariant (c.key.ensures ∙ ap key item)
+    ∙ sym (map-range_with_len_more (λ i. key (entry points i)) 0 i i (omega arith))

@@ -9,7 +9,8 @@ use Rattle.range_plane.specs.Polygon.{IsPolygon}
 use Rattle.range_stats.proofs.ranking.add_points.Goals as goal
 
 -- one more member from the end
-drop_more : (xs : List Position) (n : ℕ) (x : Position) → n < length (reverse xs) → x ≡ get_or (reverse xs) n x → drop (length xs - (n + 1)) xs ≡ x ∷ drop (length xs - n) xs
+drop_more : (xs : List Position) (n : ℕ) (x : Position) → n < length (reverse xs) → x ≡ get_or (reverse xs) n x
+    → drop (length xs - (n + 1)) xs ≡ x ∷ drop (length xs - n) xs
 drop_more xs n x within is =
     let inside : n < length xs = omega (arith, length-reverse xs) in
     let k = length xs - 1 - n in
@@ -24,11 +25,19 @@ loop-point-preserved g c =
     let n = length c.loop-point.yielded in
     let p = c.in-Some.point.now in
     let turn : (n < length (reverse xs)) × (p ≡ get_or (reverse xs) n p) =
-    YieldsList-turn (YieldsList-from_rev_slice xs (search rules)) c.loop-point.yielded _ c.loop-point.yielded_by _ _ c.in-Some.point c.in-Some.is c.next.ensures.steps in
+    YieldsList-turn (YieldsList-from_rev_slice xs (search rules)) c.loop-point.yielded _ c.loop-point.yielded_by _ _ c.in-Some.point c.in-Some.is
+    c.next.ensures.steps in
     let more = length_push c.loop-point.yielded c.in-Some.point in
     let kept = c.in_ok-reserve.ensures.unchanged in
     record {
-      count = omega (arith, more, c.loop-point.invariant.count, c.insert.ensures.inserted, c.insert.ensures.skipped, ap (λ (h : Hull). h.inserted + h.skipped) kept);
+      count = omega (
+        arith,
+        more,
+        c.loop-point.invariant.count,
+        c.insert.ensures.inserted,
+        c.insert.ensures.skipped,
+        ap (λ (h : Hull). h.inserted + h.skipped) kept,
+      );
       polygon = λ S before.
           let so_far = drop (length xs - n) xs ++ S in
           let here = subst (λ (h : Hull). IsPolygon so_far h.corners) (sym kept) (c.loop-point.invariant.polygon S before) in
@@ -40,7 +49,8 @@ pub returns : goal.returns
 returns g c = λ S before.
     let xs = c.args.points.now in
     let n = length c.loop-point.yielded in
-    let end = YieldsList-end (YieldsList-from_rev_slice xs (search rules)) c.loop-point.yielded _ c.loop-point.yielded_by _ _ c.in-None.is c.next.ensures.steps in
+    let end = YieldsList-end (YieldsList-from_rev_slice xs (search rules)) c.loop-point.yielded _ c.loop-point.yielded_by _ _ c.in-None.is c.next.ensures.steps
+    in
     let none : length xs - n ≡ 0 = omega (arith, end.1, length-reverse xs) in
     record {
       polygon = subst (λ m. IsPolygon (drop m xs ++ S) c.loop-point.hull.corners) none (c.loop-point.invariant.polygon S before.polygon);

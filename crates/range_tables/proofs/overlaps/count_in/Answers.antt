@@ -13,7 +13,10 @@ returns-then-are_apart_by_northing c =
     let a = animal.animal.extent in
     let b = range.animal.extent in
     let apart : (are_apart_by_easting a b || are_apart_by_northing a b) ≡ true = elim c.if-are_apart_by_easting.branch [
-      | then-are_apart_by_easting w ↦ or_left (are_apart_by_easting a b) (are_apart_by_northing a b) (sym c.are_apart_by_easting.ensures ∙ w.if-are_apart_by_easting.true)
-      | else-are_apart_by_easting w ↦ or_right (are_apart_by_easting a b) (are_apart_by_northing a b) (sym w.are_apart_by_northing.ensures ∙ (sym w.value-is ∙ c.if-are_apart_by_northing.true))
+      | then-are_apart_by_easting w ↦ or_left (are_apart_by_easting a b) (are_apart_by_northing a b)
+          (sym c.are_apart_by_easting.ensures ∙ w.if-are_apart_by_easting.true)
+      | else-are_apart_by_easting w ↦ or_right (are_apart_by_easting a b) (are_apart_by_northing a b)
+          (sym w.are_apart_by_northing.ensures ∙ (sym w.value-is ∙ c.if-are_apart_by_northing.true))
     ] in
-    sym (apart_overlap_is_none c.covering_is_reaching.ensures c.covered_is_decided.ensures.set animal.fixes.points range.fixes.points a b c.requires.animal.extent c.requires.range.extent apart)
+    sym (apart_overlap_is_none c.covering_is_reaching.ensures c.covered_is_decided.ensures.set animal.fixes.points range.fixes.points a b
+    c.requires.animal.extent c.requires.range.extent apart)

@@ -1,8 +1,8 @@
 use Rattle.std.proofs.Common.{length, ◌∙◌}
 use Rattle.rayon.proofs.ToStd.{slice-map}
-use Rattle.range_tables.specs.Overlaps.{fixes_in, row_of}
+use Rattle.range_tables.specs.Overlaps.{points_of_each, row_of}
 use Rattle.range_tables.specs.Tables.{pairs}
-use Rattle.range_tables.proofs.Pairs.{pairs_below}
+use Rattle.range_tables.proofs.AnimalPairs.{pairs_below}
 use Rattle.range_tables.proofs.overlaps.overlaps.Goals as goal
 
 pub collect-requires-clause-ready : goal.collect-requires-clause-ready
@@ -15,4 +15,5 @@ returns g c =
     let measured = c.args.measured.now in
     let rows = c.in_ok-rows.ensures in
     let chain = rw (c.map.ensures.base, c.map.ensures.f, c.with_min_len.ensures.base) at rows.1 in
-    c.new.ensures ∙ rows.2 ∙ slice-map chain.0 (pairs (length measured)) (chain.1 ∙ c.par_iter.ensures ∙ c.in_ok-pairs.ensures) (row_of (fixes_in measured)) rows.0 chain.2
+    c.new.ensures ∙ rows.2 ∙ slice-map chain.0 (pairs (length measured)) (chain.1 ∙ c.par_iter.ensures ∙ c.in_ok-pairs.ensures)
+    (row_of (points_of_each measured)) rows.0 chain.2

@@ -1,5 +1,5 @@
 use Rattle.std.proofs.Common.{◌≡◌}
-use Rattle.range_tables.proofs.Pairs.{pairs_before}
+use Rattle.range_tables.proofs.AnimalPairs.{pairs_before}
 use Rattle.range_tables.proofs.overlaps.pairs.Given as goal
 
 abbrev pub invariant-loop-animal : goal.invariant-loop-animal

@@ -1,6 +1,6 @@
 use Rattle.std.proofs.Common.{List, subst, ◌∙◌}
 use Rattle.std.specs.List.{AllZip}
-use Rattle.integers_and_lists.proofs.Gathered.{IsResultOf, gathered}
+use Rattle.range_lemmas.proofs.Gathered.{IsResultOf, gathered}
 use Rattle.range_tables.specs.Tracks.{IsMeasuredOf}
 use Rattle.range_tables.specs.declared.track.Track.{Track}
 use Rattle.range_tables.proofs.tables.measure_all.Goals as goal

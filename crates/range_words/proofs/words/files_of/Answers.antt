@@ -11,7 +11,8 @@ use Rattle.range_words.proofs.words.files_of.Goals as goal
 pub returns-in_default-clause-files : goal.returns-in_default-clause-files
 returns-in_default-clause-files c =
     let f = found_of c.args.matches.now in
-    ap (map (string_bytes {Z = Global})) c.new.ensures.items ∙ no_texts c.get_strs.result _ (c.get_strs.ensures ∙ raw_values-rows f (codes "FILE")) c.in_default.is
+    ap (map (string_bytes {Z = Global})) c.new.ensures.items ∙ no_texts c.get_strs.result _
+    (c.get_strs.ensures ∙ raw_values-rows f (codes "FILE")) c.in_default.is
 
 pub returns-then-paths-clause-err : goal.returns-then-paths-clause-err
 returns-then-paths-clause-err c =

@@ -11,6 +11,7 @@ returns-clause-value c =
     let f = found_of c.args.matches.now in
     let name = c.args.name.now in
     let small : c.args.limit < 2 ^ 32 = search rules in
-    let read = number_is (λ bs r. ParsesUnsigned 32 10 bs r × ExplainsUnsignedError 10 bs r × HasUnsignedDigitsIfOk bs r) c.args.limit (one_text f name) c.get_one.result c.args.default small
+    let read = number_is (λ bs r. ParsesUnsigned 32 10 bs r × ExplainsUnsignedError 10 bs r × HasUnsignedDigitsIfOk bs r) c.args.limit
+    (one_text f name) c.get_one.result c.args.default small
     (λ u x g. g.0) c.get_one.ensures.none c.get_one.ensures.value c.requires.passed in
     c.unwrap_or.ensures ∙ read ∙ ap (λ o. option_map_or (λ text. digits_value 10 (without_leading_plus text)) o c.args.default) (one_text-rows f name)

@@ -7,7 +7,7 @@ use Rattle.range_line.specs.Lines.{ended_feeder, ended_taker, files_from, AreOfL
 use Rattle.range_line.specs.Messages.{of_file, IsLawful}
 use Rattle.range_collect.specs.Work.{EachHolds}
 use Rattle.range_collect.proofs.Holding.{ended_files, ended_twice, holds_sent}
-use Rattle.integers_and_lists.proofs.Places.{map_length, of_all}
+use Rattle.range_lemmas.proofs.Places.{map_length, of_all}
 use Rattle.range_collect.proofs.worker.Worker.drain.Goals as goal
 
 pub loop-init : goal.loop-init
@@ -24,7 +24,11 @@ loop-init g c =
 pub settle-later-requires : goal.settle-later-requires
 settle-later-requires g c =
     let inv = c.loop.invariant in
-    record { line = inv.line; files = subst (λ (l : List ℕ). IsPermutation (map (λ (f : FeederView). f.file) c.loop.feeders.items) l) inv.order (IsPermutation-refl _) }
+    record {
+      line = inv.line;
+      files = subst (λ (l : List ℕ). IsPermutation (map (λ (f : FeederView). f.file) c.loop.feeders.items) l) inv.order
+          (IsPermutation-refl _);
+    }
 
 pub give-requires-clause-next : goal.give-requires-clause-next
 give-requires-clause-next g c =
@@ -56,7 +60,8 @@ loop-preserved g c =
       order = ap (map (λ (f : FeederView). f.file)) s.feeders ∙ (ended_files c.loop.feeders.items ∙ (inv.order ∙ sym files));
       feeders = ap (map ended_feeder) s.feeders ∙ (ended_twice c.loop.feeders.items ∙ inv.feeders);
       known = files ∙ (inv.known ∙ ap (files_from n.first n.step) (sym c.give.ensures.len));
-      holds = subst (λ (ms : List Message). EachHolds n.first n.step ms c.give.new.estimators.items) (sym taken) (c.give.ensures.holds c.loop.taker.taken inv.holds);
+      holds = subst (λ (ms : List Message). EachHolds n.first n.step ms c.give.new.estimators.items) (sym taken)
+          (c.give.ensures.holds c.loop.taker.taken inv.holds);
     }
 
 pub returns-in_default-clause-holds : goal.returns-in_default-clause-holds
@@ -70,7 +75,8 @@ returns-in_default-clause-holds g c = λ place f e in_feeders in_estimators.
     let taken : new ≡ old = ap (λ (v : TakerView). v.taken) (s.taker ∙ ap (ended_taker c.loop.taker) c.in_default.is) in
     let all = of_all (λ (f : FeederView). IsAllTaken new f) fs place f (rw c.in_default.is at s.whole) in_feeders in
     let order = ap (map (λ (f : FeederView). f.file)) s.feeders ∙ (ended_files c.loop.feeders.items ∙ (inv.order ∙ inv.known)) in
-    holds_sent n.first n.step (vec_len c.loop.estimators) old fs place f e order in_feeders (ap (λ (ms : List Message). of_file ms f.file) (sym taken) ∙ all) (inv.holds place e in_estimators)
+    holds_sent n.first n.step (vec_len c.loop.estimators) old fs place f e order in_feeders (ap (λ (ms : List Message). of_file ms f.file) (sym taken) ∙ all)
+    (inv.holds place e in_estimators)
 
 pub returns-in_default-clause-count : goal.returns-in_default-clause-count
 returns-in_default-clause-count g c =

@@ -5,7 +5,7 @@ use Rattle.range_line.specs.Lines.{files_from}
 use Rattle.range_estimator.specs.Estimation.{Estimation}
 use Rattle.range_collect.specs.Follow.{Holds}
 use Rattle.range_collect.specs.Work.{EachHolds}
-use Rattle.integers_and_lists.proofs.Places.{of_all}
+use Rattle.range_lemmas.proofs.Places.{of_all}
 use Rattle.range_collect.proofs.worker.Worker.new.Goals as goal
 
 pub loop-made-preserved : goal.loop-made-preserved
@@ -24,7 +24,8 @@ pub invariant_of-result : goal.invariant_of-result
 invariant_of-result g c =
     let inv = c.loop-made.invariant in
     let numbers = c.args.numbers in
-    let all : EachHolds numbers.first numbers.step [] c.loop-made.estimators.items = λ place e is. of_all (λ (e : Estimation). Holds e []) c.loop-made.estimators.items place e inv.holds is in (
+    let all : EachHolds numbers.first numbers.step [] c.loop-made.estimators.items =
+    λ place e is. of_all (λ (e : Estimation). Holds e []) c.loop-made.estimators.items place e inv.holds is in (
       c.requires.files ∙ ap (files_from numbers.first numbers.step) (omega (arith, inv.len)),
       subst (λ (ms : List Message). EachHolds numbers.first numbers.step ms c.loop-made.estimators.items) (sym c.requires.fresh) all,
     )

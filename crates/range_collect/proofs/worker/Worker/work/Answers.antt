@@ -34,7 +34,8 @@ loop-preserved g c =
       files = e.line.1 ∙ inv.files;
       live = e.line.2;
       known = e.line.1 ∙ (inv.known ∙ ap (files_from n.first n.step) (sym c.give.ensures.len));
-      holds = subst (λ (ms : List Message). EachHolds n.first n.step ms c.give.new.estimators.items) (sym t) (c.give.ensures.holds c.loop.taker.taken inv.holds);
+      holds = subst (λ (ms : List Message). EachHolds n.first n.step ms c.give.new.estimators.items) (sym t)
+          (c.give.ensures.holds c.loop.taker.taken inv.holds);
     }
 
 -- the taker is left as it was where nothing was taken

@@ -8,9 +8,11 @@ pub returns-then-lies_within : goal.returns-then-lies_within
 returns-then-lies_within g c =
     let upper = c.lies_within-then-lies_within in
     subst (λ (h : Hull). upper.result ≡ is_covered h.corners c.args.p) c.self.view_is
-    (covered_by_upper c.covering_is_reaching.ensures c.covered_is_decided.ensures.set c.self.invariant.chains c.args.p c.if-lies_within.ensures.within upper.result upper.ensures.within upper.ensures.beyond)
+    (covered_by_upper c.covering_is_reaching.ensures c.covered_is_decided.ensures.set c.self.invariant.chains c.args.p c.if-lies_within.ensures.within
+    upper.result upper.ensures.within upper.ensures.beyond)
 
 pub returns-else-lies_within : goal.returns-else-lies_within
 returns-else-lies_within g c =
     c.if-lies_within.false
-    ∙ subst (λ (h : Hull). false ≡ is_covered h.corners c.args.p) c.self.view_is (covered_none c.covering_is_reaching.ensures c.covered_is_decided.ensures.set c.self.invariant.chains c.args.p c.if-lies_within.ensures.beyond)
+    ∙ subst (λ (h : Hull). false ≡ is_covered h.corners c.args.p) c.self.view_is
+    (covered_none c.covering_is_reaching.ensures c.covered_is_decided.ensures.set c.self.invariant.chains c.args.p c.if-lies_within.ensures.beyond)

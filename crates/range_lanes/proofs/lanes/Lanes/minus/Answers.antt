@@ -5,7 +5,8 @@ use Rattle.range_lanes.proofs.lanes.Lanes.minus.Goals as goal
 
 pub overflow_sub-result : goal.overflow_sub-result
 overflow_sub-result c =
-    exact_asks ◌-ℤ◌ turn_limit exact_difference c.self.inside.lanes c.other.inside.lanes (rw c.self.view_is c.requires.left) (rw c.other.view_is c.requires.right)
+    exact_asks ◌-ℤ◌ turn_limit exact_difference c.self.inside.lanes c.other.inside.lanes (rw c.self.view_is c.requires.left)
+    (rw c.other.view_is c.requires.right)
 
 pub invariant_of-result : goal.invariant_of-result
 invariant_of-result c =

@@ -11,7 +11,8 @@ another-transcript-requires-clause-rule g c = let s = c.self.inside in forks s.p
 pub absorb-requires-clause-rule : goal.absorb-requires-clause-rule
 absorb-requires-clause-rule g c =
     let s = c.self.inside in
-    merges c.args.pass.now c.another-transcript.result _ _ _ _ _ c.requires.taker.0 (ended_of s.pass c.another-transcript.result _ s.file s.closed s.sent_fixes c.self.invariant.1 c.another-transcript.ensures.rule.1)
+    merges c.args.pass.now c.another-transcript.result _ _ _ _ _ c.requires.taker.0
+    (ended_of s.pass c.another-transcript.result _ s.file s.closed s.sent_fixes c.self.invariant.1 c.another-transcript.ensures.rule.1)
 
 pub returns-clause-taker : goal.returns-clause-taker
 returns-clause-taker g c = (
@@ -19,5 +20,6 @@ returns-clause-taker g c = (
   c.absorb.ensures.channel.0.2,
   (let seen = ap (λ (f : FeederView). f.line) c.self.view_is in
       let first = ap (λ (v : PassView). get_or v.files 0 0) c.absorb.ensures.rule ∙ ap first_file c.requires.line ∙ sym (ap first_file seen) in
-      same_line (sends_on c.self.inside.sender) c.absorb.new.pass c.self.inside.pass c.absorb.ensures.channel.0 c.self.invariant.0 first ∙ seen ∙ sym c.requires.line),
+      same_line (sends_on c.self.inside.sender) c.absorb.new.pass c.self.inside.pass c.absorb.ensures.channel.0 c.self.invariant.0 first ∙ seen
+      ∙ sym c.requires.line),
 )

@@ -7,7 +7,11 @@ pub take-requires-clause-rule : goal.take-requires-clause-rule
 take-requires-clause-rule g c = let t = c.self.invariant.1 in (pops c.self.inside.pass t, learns c.self.inside.pass t)
 
 pub invariant_of-self : goal.invariant_of-self
-invariant_of-self g c = (c.take.ensures.channel.0, received c.self.inside.pass c.take.new.pass (λ kept. kept) c.take.result c.self.invariant.1 c.take.ensures.rule)
+invariant_of-self g c = (
+  c.take.ensures.channel.0,
+  received c.self.inside.pass c.take.new.pass
+      (λ kept. kept) c.take.result c.self.invariant.1 c.take.ensures.rule,
+)
 
 pub returns-clause-of_line : goal.returns-clause-of_line
 returns-clause-of_line g c =

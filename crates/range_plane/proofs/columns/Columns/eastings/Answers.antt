@@ -1,7 +1,7 @@
 use Rattle.std.proofs.Common.{sym, ap, map, arith, ◌∙◌}
 use Rattle.range_plane.specs.Columns.{Contents}
 use Rattle.range_plane.specs.Plane.{Position}
-use Rattle.range_plane.proofs.Zipped.{eastings_of_zipped}
+use Rattle.range_plane.proofs.ZippedPoints.{eastings_of_zipped}
 use Rattle.range_plane.proofs.columns.Columns.eastings.Goals as goal
 
 pub returns-clause-value : goal.returns-clause-value

@@ -1,7 +1,7 @@
 use Rattle.std.proofs.Common.{ℤ, List, All, IsOk, sym, subst, arith}
 use Rattle.range_plane.specs.Plane.{IsCoordinate}
 use Rattle.range_plane.proofs.Bounds.{coordinate_is}
-use Rattle.range_plane.proofs.Zipped.{coordinates_push, zipped_push}
+use Rattle.range_plane.proofs.ZippedPoints.{coordinates_push, zipped_push}
 use Rattle.range_plane.proofs.columns.Columns.push_reserved.Goals as goal
 
 pub invariant_of-self : goal.invariant_of-self

@@ -2,7 +2,7 @@ use Rattle.std.proofs.Common.{◌%◌, ◌<◌, All, ℕ, List, [], length, arit
 use Rattle.range_plane.specs.Fix.{fix_limit}
 use Rattle.range_plane.specs.Plane.{Position}
 use Rattle.range_stats.specs.Keys.{IsCutAdded}
-use Rattle.range_stats.proofs.Places.{keys_within, ranking_of_cut}
+use Rattle.range_stats.proofs.RankPlaces.{keys_within, ranking_of_cut}
 use Rattle.range_stats.proofs.ranking.Ranking.new.Goals as goal
 
 pub push_cut-requires-clause-places : goal.push_cut-requires-clause-places

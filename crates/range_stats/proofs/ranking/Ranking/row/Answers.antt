@@ -7,5 +7,6 @@ pub returns-clause-row : goal.returns-clause-row
 returns-clause-row g c = λ points levels ranking asked.
     let ranked = c.args.self.now in
     IfOk-weaker c.read.result (IsFirstRow ranked c.args.level) (IsPercentRow points c.args.level)
-    (λ row first. percent_row c.larger_sets_cover_more.ensures c.few_cover_little.ensures.one c.corners_cover_the_set.ensures c.covering_members_are_corners.ensures points levels ranked ranking c.args.level c.requires asked row first)
+    (λ row first. percent_row c.larger_sets_cover_more.ensures c.few_cover_little.ensures.one c.corners_cover_the_set.ensures
+    c.covering_members_are_corners.ensures points levels ranked ranking c.args.level c.requires asked row first)
     c.read.ensures.row

@@ -26,10 +26,12 @@ loop-level-preserved g c =
     let levels = c.args.levels.now in
     let i = c.loop-level.level-index in
     let size : c.len.result ≡ length ranked = omega (arith, c.len.ensures, c.self.inside.points.ok, ap length c.self.view_is) in
-    let count : c.kept_count-kept.result ≡ kept_count (get_or levels i 0) (length ranked) = c.kept_count-kept.ensures ∙ ap (kept_count (get_or levels i 0)) size in
+    let count : c.kept_count-kept.result ≡ kept_count (get_or levels i 0) (length ranked) = c.kept_count-kept.ensures
+    ∙ ap (kept_count (get_or levels i 0)) size in
     record {
       hull = subst (λ n. IsHullOf (take n ranked) c.read.new.hull) (sym count) c.in_ok-row.ensures.hull;
-      rows = row_more ranked levels c.loop-level.rows.items c.push.new.self.items i c.in_ok-row.row c.loop-level-test.true c.loop-level.invariant.rows c.in_ok-row.ensures.row c.in_ok-push.ensures.items;
+      rows = row_more ranked levels c.loop-level.rows.items c.push.new.self.items i c.in_ok-row.row c.loop-level-test.true c.loop-level.invariant.rows
+          c.in_ok-row.ensures.row c.in_ok-push.ensures.items;
     }
 
 pub returns : goal.returns
@@ -38,4 +40,5 @@ returns g c = λ points ranking.
     let levels = c.args.levels.now in
     let all : take c.loop-level.level-index levels ≡ levels = take_all c.loop-level.level-index levels (omega arith) in
     let rows = subst (λ (l : List ℕ). AllZip (IsFirstRow ranked) l c.loop-level.rows.items) all c.loop-level.invariant.rows in
-    percent_rows c.larger_sets_cover_more.ensures c.few_cover_little.ensures.one c.corners_cover_the_set.ensures c.covering_members_are_corners.ensures points levels ranked ranking c.requires c.loop-level.rows.items rows
+    percent_rows c.larger_sets_cover_more.ensures c.few_cover_little.ensures.one c.corners_cover_the_set.ensures c.covering_members_are_corners.ensures points
+    levels ranked ranking c.requires c.loop-level.rows.items rows

@@ -1,0 +1,53 @@
+-- What is known of the files of one line, and of all lines.
+use Rattle.std.specs.Prelude.{◌≡◌, ℕ, ◌+◌, ◌*◌, ◌<◌, ◌≤◌, List, [], ◌∷◌, ◌++◌, length, slice_get, Some, Option, Bool, All}
+use Rattle.std.specs.declared.clone.Clone.{Ghosts}
+use Rattle.range_options.specs.Limits.{file_limit}
+use Rattle.range_fixes.specs.Reading.{Reading}
+use Rattle.range_line.specs.Lines.{files_from, first_file, new_feeder, FeederView, Line, TakerView}
+use Rattle.range_line.specs.Messages.{of_file, IsLawful}
+use Rattle.range_estimator.specs.Estimation.{Estimation, IsEstimate}
+use Rattle.range_collect.specs.Results.{IsFollowed}
+use Rattle.range_pump.specs.Pump.{IsPumped, Read}
+use Rattle.range_collect.specs.declared.followed.Followed.{Followed}
+
+-- the first file of a line, and the step to the next
+abbrev pub AreNumbers : ℕ → ℕ → Type 0
+AreNumbers first step = (first < file_limit) × (1 ≤ step) × (step ≤ file_limit)
+
+-- what is known of the ends of a file that were looked at
+pub record IsSeen (feeder : FeederView) (e : Estimation) (mark : Bool) : Type 0 where
+  pub marked : mark ≡ feeder.closed
+  pub own : of_file feeder.sent feeder.file ≡ feeder.sent
+  pub lawful : IsLawful feeder.sent feeder.file
+  pub estimate : IsEstimate e.fixes e.rows e.corners
+
+-- the pumps of a line have returned, and its worker has nothing more to take
+pub record IsLineRun (first step size : ℕ) (sources : List (Option Reading)) (feeders : List FeederView) (reads : List Read) (worker : TakerView) : Type 0 where
+  pub counts : (length feeders ≡ length sources) × (length reads ≡ length sources)
+  pub files : worker.files ≡ files_from first step (length sources)
+  pub begins : first_file worker.line ≡ first
+  pub pumped : (place : ℕ) (source : Option Reading) (f : FeederView) (r : Read) → slice_get sources place ≡ Some source → slice_get feeders place ≡ Some f
+      → slice_get reads place ≡ Some r → IsPumped source size (new_feeder worker.line (first + place * step)) f r
+
+-- the files of a line were followed
+pub record IsLineFollowed {A : Type 0} {clone : Ghosts A} (first step size : ℕ) (sources : List (Option Reading))
+    (results : List (Followed A clone)) : Type 0 where
+  pub line : Line
+  pub begins : first_file line ≡ first
+  pub of_line : All (λ f. f.feeder.line ≡ line) results
+  pub count : length results ≡ length sources
+  pub followed : (place : ℕ) (source : Option Reading) (f : Followed A clone) → slice_get sources place ≡ Some source → slice_get results place ≡ Some f
+      → IsFollowed source (first + place * step) size f
+
+-- the files of all lines were followed, the line at a place having the file of this number first
+pub record AreLinesFollowed {A : Type 0} {clone : Ghosts A} (size : ℕ) (shares : List (List (Option Reading)))
+    (results : List (List (Followed A clone))) : Type 0 where
+  pub count : length results ≡ length shares
+  pub each : (place : ℕ) (sources : List (Option Reading)) (followed : List (Followed A clone)) → slice_get shares place ≡ Some sources
+      → slice_get results place ≡ Some followed
+      → IsLineFollowed place (length shares) size sources followed
+
+-- the first member heads the first share, and the others are dealt from the second share on, the first one coming last
+abbrev pub Dealt : {X : Type 0} → List X → List (List X) → Type 0
+Dealt [] shares = All (λ share. share ≡ []) shares
+Dealt {X} (x ∷ xs) shares = (share : List X) × (rest : List (List X)) × (shares ≡ (x ∷ share) ∷ rest) × Dealt xs (rest ++ share ∷ [])

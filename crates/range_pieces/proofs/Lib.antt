@@ -1,0 +1,4 @@
+pub mod PieceCuts
+pub mod Joins
+pub mod Falling
+pub mod Shelves

@@ -1,0 +1,4 @@
+pub mod Pieces
+pub mod PointList
+pub mod Rising
+pub mod Shelf

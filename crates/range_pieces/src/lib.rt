@@ -1,0 +1,14 @@
+//! A list of points in pieces: what is inserted moves the points of one piece.
+#![tactic(auto)]
+
+mod cursor;
+mod edits;
+mod piece;
+mod point_list;
+mod search;
+mod shelf;
+
+pub use cursor::Cursor;
+pub use piece::PIECE_SIZE;
+pub use point_list::PointList;
+pub use search::places_in_both;

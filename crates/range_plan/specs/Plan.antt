@@ -1,7 +1,0 @@
--- How files are followed.
-use Rattle.std.specs.Prelude.{ℕ, ◌≤◌}
-use Rattle.range_plan.specs.Limits.{block_limit, depth_limit, worker_limit}
-
--- the fixes of a block, the messages that a line holds, and the workers
-abbrev pub IsPlan : ℕ → ℕ → ℕ → Type 0
-IsPlan block depth workers = ((1 ≤ block) × (block ≤ block_limit)) × ((1 ≤ depth) × (depth ≤ depth_limit)) × ((1 ≤ workers) × (workers ≤ worker_limit))

@@ -1,0 +1,47 @@
+// Runs over files with each fault of their reader but too many records, which runs over sources without end have.
+
+use crate::line::line;
+use crate::runs::run_in;
+use range_analysis::AnalyseFault;
+use range_command::{Output, obey};
+use range_plane::Scale;
+use range_run::{RunFault, status};
+use std::fs::File;
+use std::process::Abort;
+use std::rt::Files;
+use std::sync::Wait;
+use std::thread::Threads;
+use test_files::{BadFile, bad_records, files_without_fix};
+
+// A run over the file is refused with its fault, and so are words over it as the input, with the text of the
+// fault. Nothing is written.
+fn expect_refused<R: Wait + Threads + Sync + Files<File = File> + AllocGlobal + Abort>(
+    rt: &R,
+    bad: BadFile,
+) {
+    let alloc = rt.alloc();
+    let (file, fault) = (0, bad.fault);
+    let mut out = Vec::new(alloc);
+    let outcome = run_in(rt, alloc, bad.source(), Scale::Decimetre, &mut out);
+    assert!(rt; out.is_empty() && status(&outcome) == 1, "{fault}");
+    let expected = RunFault::Analyse(AnalyseFault::File { file, fault });
+    assert!(rt; outcome == Err(expected), "{fault}");
+    let words = line(rt, alloc, &["--unit", "dm"]);
+    let mut out = Output::new(Vec::new(alloc));
+    let refused = obey(rt, words.as_slice(), bad.source(), &mut out);
+    let refusal = refused.err().expect(rt, "a refusal");
+    assert!(rt; out.writer().is_empty() && refusal.status() == 1, "{fault}");
+    let told = format!(in alloc; "{refusal}").expect(rt, "memory");
+    let text = format!(in alloc; "standard input: {fault}").expect(rt, "memory");
+    assert!(rt; told.as_str() == text.as_str(), "{told}");
+}
+
+#[test]
+fn each_fault(rt: HostRuntime) {
+    for file in bad_records(3, Scale::Decimetre) {
+        expect_refused(&rt, file);
+    }
+    for file in files_without_fix() {
+        expect_refused(&rt, file);
+    }
+}

@@ -1,0 +1,35 @@
+//! Tests of command lines: what words say, and which are refused; the reports of runs, byte for byte and in
+//! every plan, files with each fault, sources and outputs that fail at each call; the words that the system gives;
+//! the line and the status of each refusal; and what the program answers to whole command lines.
+#![tactic(auto)]
+
+#[cfg(test)]
+mod answers;
+#[cfg(test)]
+mod bad_runs;
+#[cfg(test)]
+mod failing;
+#[cfg(test)]
+mod failing_runs;
+#[cfg(test)]
+mod files;
+#[cfg(test)]
+mod herd;
+#[cfg(test)]
+mod levels;
+#[cfg(test)]
+mod line;
+#[cfg(test)]
+mod options;
+#[cfg(test)]
+mod plans;
+#[cfg(test)]
+mod reasons;
+#[cfg(test)]
+mod refusals;
+#[cfg(test)]
+mod runs;
+#[cfg(test)]
+mod started;
+#[cfg(test)]
+mod words;

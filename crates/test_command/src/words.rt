@@ -1,0 +1,208 @@
+// What words say, and which are refused.
+
+use crate::line::read;
+use range_plane::Scale;
+use range_words::{LevelFault, WordFault};
+use std::alloc::Global;
+use std::process::Abort;
+
+// What `--version` says: the name, the version, and the sum of the logic, as `rt version` says it.
+const VERSION: &str = "homerange 1.0.0 (logic dac8208d650f15bf)\n";
+
+// Words say this: so many files, these levels, and this block, depth and workers; the unit is the metre.
+fn expect<R: Abort>(rt: &R, alloc: Global, words: &[&str], said: (usize, &[u8], (u32, u32, u32))) {
+    let (files, levels, plan) = said;
+    let read = read(rt, alloc, words).expect(rt, "words");
+    let found = read.options.plan;
+    assert!(rt; read.files.len() == files);
+    assert!(rt; read.options.levels.as_slice() == levels);
+    assert!(rt; (found.block, found.depth, found.workers) == plan);
+    assert!(rt; found.unit == Scale::Metre);
+}
+
+#[test]
+fn words_that_are_read(rt: HostRuntime) {
+    let alloc = rt.alloc();
+    let (plan, levels) = ((256, 4, 2), [50, 95, 100].as_slice());
+    let cases = [
+        ([].as_slice(), (0, levels, plan)),
+        (&["--percent", "7,7", "x.csv"], (1, &[7, 7], plan)),
+        (
+            &["x.csv", "--workers", "8", "y.csv"],
+            (2, levels, (256, 4, 8)),
+        ),
+        (
+            &["--block", "1024", "--depth=+64"],
+            (0, levels, (1024, 64, 2)),
+        ),
+        (
+            &[
+                "--block=1",
+                "--depth",
+                "01",
+                "--workers=1",
+                "--percent=1,100",
+            ],
+            (0, &[1, 100], (1, 1, 1)),
+        ),
+        (&["--", "--block"], (1, levels, plan)),
+    ];
+    for (words, said) in cases {
+        expect(&rt, alloc, words, said);
+    }
+}
+
+#[test]
+fn units(rt: HostRuntime) {
+    let alloc = rt.alloc();
+    let cases = [
+        (["--unit", "m"].as_slice(), Scale::Metre),
+        (&["--unit=dm", "x.csv"], Scale::Decimetre),
+        (&["x.csv", "--unit", "dm", "--block", "1"], Scale::Decimetre),
+    ];
+    for (words, unit) in cases {
+        let read = read(&rt, alloc, words).expect(&rt, "words");
+        assert!(rt; read.options.plan.unit == unit, "{words:?}");
+    }
+}
+
+#[test]
+fn paths_are_kept(rt: HostRuntime) {
+    let alloc = rt.alloc();
+    let read = read(&rt, alloc, &["b.csv", "a b.csv", "b.csv"]).expect(&rt, "words");
+    let files = read.files.as_slice();
+    assert!(rt; files.len() == 3 && files[0].as_str() == "b.csv");
+    assert!(rt; files[1].as_str() == "a b.csv" && files[2].as_str() == "b.csv");
+}
+
+// Words that `clap` refuses by something else than its help and the version.
+#[test]
+fn bad_words(rt: HostRuntime) {
+    let alloc = rt.alloc();
+    let cases = [
+        ["--block", "0"].as_slice(),
+        &["--block", "1025"],
+        &["--block", "x"],
+        &["--block"],
+        &["--block", "1", "--block", "1"],
+        &["--depth", "0"],
+        &["--depth", "65"],
+        &["--workers", "0"],
+        &["--workers", "9"],
+        &["--percent"],
+        &["--unit"],
+        &["--unit", "km"],
+        &["--unit", "DM"],
+        &["--unit", "cdm"],
+        &["--unit", "dmm"],
+        &["--unit", "mm"],
+        &["--unit", ""],
+        &["--unit=d"],
+        &["--unit", "m", "--unit", "m"],
+        &["--unit", "km", "--percent", "0"],
+        &["--bogus", "--help"],
+        &["--bogus", "--version"],
+    ];
+    for words in cases {
+        let refused = read(&rt, alloc, words);
+        assert!(rt;
+            matches!(&refused, Err(WordFault::BadWords(_))),
+            "{words:?}"
+        );
+    }
+}
+
+#[test]
+fn bad_levels(rt: HostRuntime) {
+    let alloc = rt.alloc();
+    let bad = |index| LevelFault::BadLevel { index };
+    let cases = [
+        ("0", bad(0)),
+        ("", bad(0)),
+        ("50,101", bad(1)),
+        ("50, 95", bad(1)),
+        ("1,2,3,4,5,6,7,8,", LevelFault::TooMany),
+        ("1,2,3,4,5,6,7,8,9", LevelFault::TooMany),
+    ];
+    for (levels, fault) in cases {
+        let refused = read(&rt, alloc, &["--percent", levels]);
+        assert!(rt;
+            matches!(&refused, Err(WordFault::BadLevels(found)) if *found == fault),
+            "{levels}"
+        );
+    }
+}
+
+// One file more is refused, and before levels that are bad.
+#[test]
+fn sixty_four_files(rt: HostRuntime) {
+    let alloc = rt.alloc();
+    for levels in ["--percent=50", "--percent=0"] {
+        let mut words = vec![in alloc; "x"; 65].expect(&rt, "memory");
+        words.push(levels).expect(&rt, "memory");
+        let refused = read(&rt, alloc, words.as_slice());
+        assert!(rt; matches!(&refused, Err(WordFault::TooManyFiles)));
+    }
+    let words = vec![in alloc; "x"; 64].expect(&rt, "memory");
+    let read = read(&rt, alloc, words.as_slice()).expect(&rt, "words");
+    assert!(rt; read.files.len() == 64);
+}
+
+// The help names every option with its default, in lines of 80 columns, and is asked for before a word that is bad.
+#[test]
+fn help(rt: HostRuntime) {
+    let alloc = rt.alloc();
+    let parts = [
+        "Usage: homerange [--percent LIST] [--unit UNIT] [--block N] [--depth N]\n",
+        " [--workers N] [FILE ...]\n",
+        "m for metres, dm for decimetres\n",
+        " [default: m]\n",
+        "1 to 8 whole numbers\n",
+        " from 1 to 100, separated by commas [default: 50,95,100]\n",
+        "\n\nSpeed:\n      --block <N> ",
+        "1 to 1024 [default: 256]\n      --depth <N> ",
+        "1 to 64 [default: 4]\n      --workers <N> ",
+        "1 to 8 [default: 2]\n\n",
+        "  -V, --version ",
+        "Files to read, 64 at most",
+        "animal,second,easting,northing and",
+        "animal,second,easting,northing,use each",
+        "1 to 32 bytes",
+        "0 to 1099511627776",
+        "0 to\n              16777216, or with --unit dm whole decimetres from 0 to\n              134217728\n",
+        "  unit,dm\n",
+        "1\n  to 1048576 such lines",
+        "use       1, or 0 for",
+        "(p*n + 99)/100",
+    ];
+    for words in [["--help"].as_slice(), &["-h"], &["--help", "--bogus"]] {
+        let refused = read(&rt, alloc, words);
+        let text = match &refused {
+            Err(WordFault::Help(text)) => text.as_str(),
+            _ => "",
+        };
+        for part in parts {
+            assert!(rt; text.contains(part), "{part}");
+        }
+        for line in text.lines() {
+            assert!(rt; line.chars().count() <= 80, "{line}");
+        }
+    }
+}
+
+// The version is asked for as help is, and its text is one line.
+#[test]
+fn version(rt: HostRuntime) {
+    let alloc = rt.alloc();
+    for words in [
+        ["--version"].as_slice(),
+        &["-V"],
+        &["--block", "1", "--version", "--bogus"],
+    ] {
+        let refused = read(&rt, alloc, words);
+        assert!(rt;
+            matches!(&refused, Err(WordFault::Version(text)) if text.as_str() == VERSION),
+            "{words:?}"
+        );
+    }
+}

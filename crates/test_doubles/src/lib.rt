@@ -1,0 +1,120 @@
+//! An allocator that refuses one growth, and a source that does as it is told. They are for tests alone.
+#![tactic(auto)]
+
+mod scripted;
+
+pub use scripted::ScriptedSource;
+use std::alloc::{AllocError, Allocator};
+use std::sync::atomic::{AtomicU64, Ordering};
+
+/// A number of allocations that no run comes to.
+const NEVER: u64 = 1 << 63;
+
+/// For tests alone: passes each allocation on to `A` but one, which fails. All that is lent a `&` to it
+/// shares its count, in other threads too. No contract can say what a shared count holds, so none
+/// promises which allocation fails.
+#[derive(Drop)]
+pub struct Refusing<A: Allocator> {
+    inner: A,
+    /// How many allocations are left up to the one that fails: 0 once it failed, and then it wraps.
+    left: AtomicU64,
+}
+
+impl<A: Allocator> Refusing<A> {
+    /// Refuses growth `number` of those to come, the first being 1; with 0 it refuses none.
+    pub fn new(inner: A, number: u32) -> Refusing<A> {
+        let left = if number == 0 {
+            NEVER
+        } else {
+            u64::from(number)
+        };
+        Refusing {
+            inner,
+            left: AtomicU64::new(left),
+        }
+    }
+
+    /// Whether the allocation failed by now.
+    pub fn has_refused(&self) -> bool {
+        let left = self.left.load(Ordering::SeqCst);
+        left == 0 || left > NEVER
+    }
+}
+
+// Counts a growth, and answers whether it is the one to refuse.
+fn is_refused(left: &AtomicU64) -> bool {
+    left.fetch_sub(1, Ordering::SeqCst) == 1
+}
+
+unsafe impl<A: Allocator> Allocator for Refusing<A> {
+    ghost dealloc_token = { λ heap ty ptr. A.dealloc_token heap.inner ty ptr };
+
+    fn allocate(&self, size: usize, align: usize) -> Result<*mut u8, AllocError> {
+        if is_refused(&self.left) {
+            return Err(AllocError);
+        }
+        self.inner.allocate(size, align)
+    }
+
+    unsafe fn deallocate(&self, ptr: *mut u8, size: usize, align: usize) {
+        self.inner.deallocate(ptr, size, align);
+    }
+}
+
+#[cfg(test)]
+mod tests {
+    use super::*;
+    use std::alloc::Global;
+
+    const NUMBERS: u32 = 100;
+
+    // Whether the list is 0, 1, .. up to `count`.
+    fn counts_up(list: &Vec<u32, &Refusing<Global>>, count: u32) -> bool {
+        let mut expected = 0u32;
+        for &x in list {
+            if x != expected || expected >= count {
+                return false;
+            }
+            expected += 1;
+        }
+        expected == count
+    }
+
+    #[test]
+    fn the_growth_of_that_number_alone_is_refused(rt: HostRuntime) {
+        for number in 1..=3 {
+            let alloc = Refusing::new(rt.alloc(), number);
+            let mut list = Vec::new(&alloc);
+            let mut growths = 0u32;
+            let mut refusals = 0u32;
+            for x in 0..NUMBERS {
+                let capacity = list.capacity();
+                if list.push(x).is_err() {
+                    refusals = refusals.wrapping_add(1);
+                    growths = growths.wrapping_add(1);
+                    assert_eq!(rt; growths, number, "the allocation that failed");
+                    assert!(rt; alloc.has_refused(), "at growth {number}");
+                    assert!(rt; counts_up(&list, x), "after growth {number}");
+                    assert!(rt; list.push(x).is_ok(), "again after growth {number}");
+                }
+                if list.capacity() > capacity {
+                    growths = growths.wrapping_add(1);
+                }
+                assert_eq!(rt; alloc.has_refused(), growths >= number, "at {x}");
+            }
+            assert_eq!(rt; refusals, 1, "refusals");
+            assert!(rt; counts_up(&list, NUMBERS), "in the end");
+        }
+    }
+
+    #[test]
+    fn with_0_no_growth_is_refused(rt: HostRuntime) {
+        let alloc = Refusing::new(rt.alloc(), 0);
+        let mut list = Vec::new(&alloc);
+        assert!(rt; !alloc.has_refused(), "before the first");
+        for x in 0..NUMBERS {
+            assert!(rt; list.push(x).is_ok(), "at {x}");
+        }
+        assert!(rt; !alloc.has_refused(), "in the end");
+    }
+}

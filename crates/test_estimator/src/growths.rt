@@ -1,0 +1,147 @@
+// Tests of failed allocations.
+
+use crate::fixes::{SQUARE, fixes_of, has_corners, holds, takes};
+use range_estimator::Estimator;
+use range_plane::Fix;
+use std::alloc::Global;
+use std::process::Abort;
+use test_doubles::Refusing;
+
+// More growths than a run here makes.
+const MANY_GROWTHS: u32 = 100;
+
+// The columns of the fixes, those of the block, both chains of the hull, the rows and the marks.
+const LEAST_GROWTHS: u32 = 8;
+
+// Whether a block was taken while one allocation failed, or that allocation was one before the block.
+#[derive(Clone, Copy, PartialEq)]
+enum Outcome {
+    RefusedBefore,
+    Refused,
+    Taken,
+}
+
+// Checks that the estimator of these fixes is stopped, and as it was before it was refused memory: each of
+// the fixes was tested.
+fn expect_stopped(
+    rt: &impl Abort,
+    alloc: Global,
+    estimator: &Estimator<&Refusing<Global>>,
+    fixes: &[Fix],
+    corners: &[(i64, i64)],
+) {
+    assert!(rt; estimator.stopped(), "stopped");
+    assert!(rt; holds(estimator, fixes), "fixes");
+    assert!(rt; estimator.tested() as usize == fixes.len(), "tested");
+    assert!(rt; has_corners(rt, alloc, estimator, corners), "corners");
+}
+
+// Gives an estimator the fixes before a place, whose polygon has these corners, and then the others as a
+// block, while the growth of this number is refused.
+fn refuse_growth(
+    rt: &impl Abort,
+    alloc: Global,
+    fixes: &[Fix],
+    place: usize,
+    corners: &[(i64, i64)],
+    number: u32,
+) -> Outcome {
+    assert!(rt; place <= fixes.len());
+    let (before, block) = fixes.split_at(place);
+    let refusing = Refusing::new(alloc, number);
+    let mut estimator = Estimator::new(&refusing);
+    if !before.is_empty() && !takes(rt, &mut estimator, before) {
+        return Outcome::RefusedBefore;
+    }
+    let taken = takes(rt, &mut estimator, block);
+    assert!(rt; refusing.has_refused() != taken, "at growth {number}");
+    if taken {
+        assert!(rt;
+            !estimator.stopped() && holds(&estimator, fixes),
+            "in the end"
+        );
+        return Outcome::Taken;
+    }
+    expect_stopped(rt, alloc, &estimator, before, corners);
+    Outcome::Refused
+}
+
+// Refuses each growth in turn, up to a run without a refusal, and gives how many growths of the block there
+// were.
+fn growths_of_block(
+    rt: &impl Abort,
+    alloc: Global,
+    fixes: &[Fix],
+    place: usize,
+    corners: &[(i64, i64)],
+) -> u32 {
+    let mut refused = 0u32;
+    for number in 1..MANY_GROWTHS {
+        match refuse_growth(rt, alloc, fixes, place, corners, number) {
+            Outcome::RefusedBefore => {}
+            Outcome::Refused => refused = refused.wrapping_add(1),
+            Outcome::Taken => return refused,
+        }
+    }
+    assert!(rt; false, "no run without a refusal");
+    0
+}
+
+#[test]
+fn blocks_are_refused_each_growth(rt: HostRuntime) {
+    let fixes = fixes_of(&rt, rt.alloc(), &SQUARE);
+    let first = growths_of_block(&rt, rt.alloc(), &fixes, 0, &[]);
+    assert!(rt; first >= LEAST_GROWTHS, "growths of the first block");
+    let four = fixes_of(&rt, rt.alloc(), &SQUARE[..4]);
+    let second = growths_of_block(&rt, rt.alloc(), &four, 2, &[(0, 0), (10, 0)]);
+    assert!(rt; second > 0, "growths of the second block");
+}
+
+// Checks that a polygon is made, or made at a second call, where the growth of this number is refused.
+// Whether it was.
+fn polygon_is_refused(rt: &impl Abort, alloc: Global, estimator: &Estimator, number: u32) -> bool {
+    let refusing = Refusing::new(alloc, number);
+    match estimator.polygon(&refusing) {
+        Ok(polygon) => {
+            assert!(rt; !refusing.has_refused(), "at growth {number}");
+            assert!(rt; polygon.corners().len() == 4, "at growth {number}");
+            false
+        }
+        Err(_) => {
+            assert!(rt; refusing.has_refused(), "at growth {number}");
+            let polygon = estimator.polygon(&refusing).expect(rt, "again");
+            assert!(rt; polygon.corners().len() == 4, "after growth {number}");
+            true
+        }
+    }
+}
+
+#[test]
+fn polygon_is_refused_each_growth(rt: HostRuntime) {
+    let fixes = fixes_of(&rt, rt.alloc(), &SQUARE);
+    let mut estimator = Estimator::new(rt.alloc());
+    assert!(rt; takes(&rt, &mut estimator, &fixes), "memory");
+    for number in 1..MANY_GROWTHS {
+        if !polygon_is_refused(&rt, rt.alloc(), &estimator, number) {
+            assert!(rt; number > 1, "growths");
+            assert!(rt; !estimator.stopped(), "running");
+            return;
+        }
+    }
+    assert!(rt; false, "no run without a refusal");
+}
+
+// A hundred blocks of a fix that is covered, after one block: fewer growths than blocks, so the polygon
+// is not copied anew for each.
+#[test]
+fn polygon_is_copied_where_it_changed(rt: HostRuntime) {
+    let fixes = fixes_of(&rt, rt.alloc(), &SQUARE);
+    let covered = fixes_of(&rt, rt.alloc(), &SQUARE[4..]);
+    let alloc = Refusing::new(rt.alloc(), 60);
+    let mut estimator = Estimator::new(&alloc);
+    assert!(rt; takes(&rt, &mut estimator, &fixes), "memory");
+    for i in 0..100 {
+        assert!(rt; takes(&rt, &mut estimator, &covered), "block {i}");
+    }
+    assert!(rt; estimator.tested() == 5 && !alloc.has_refused());
+}

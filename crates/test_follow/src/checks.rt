@@ -1,0 +1,86 @@
+// Sources that are followed side by side, and checks of their results.
+
+use crate::files::Case;
+use range_collect::{Followed, follow};
+use range_estimator::Row;
+use range_fixes::{Name, ReadFault};
+use range_options::Plan;
+use range_plane::{Point, Polygon, Scale};
+use range_pump::Gate;
+use std::alloc::Global;
+use std::io::Read;
+use std::process::Abort;
+use std::sync::Wait;
+use std::thread::Threads;
+
+pub(crate) fn plan(rt: &impl Abort, block: u32, depth: u32, workers: u32) -> Plan {
+    Plan::new(block, depth, workers, Scale::Metre).expect(rt, "a plan")
+}
+
+// Follows sources side by side, and gives a result for each.
+pub(crate) fn follow_all<R: Wait + Threads + Sync + Abort, S: Read + Send + Drop, G: Gate>(
+    rt: &R,
+    alloc: Global,
+    sources: Vec<S>,
+    gate: &G,
+    plan: Plan,
+) -> Vec<Followed> {
+    let count = sources.len();
+    assert!(rt; count > 0 && count <= 64, "sources");
+    let all = follow(rt, alloc, alloc, sources, gate, plan).expect(rt, "memory");
+    assert!(rt; all.len() == count, "results");
+    all
+}
+
+// Whether the rows that were found are the first of these.
+pub(crate) fn begin_with(rows: &[(u64, u32, u128)], found: &[Row]) -> bool {
+    found.len() <= rows.len()
+        && found.iter().zip(rows).all(|(row, &(second, corners, area2))| {
+            row.second == second && row.corners == corners && row.area2 == area2
+        })
+}
+
+// Whether the corners that were found are these.
+fn are_corners(found: &[Point], corners: &[(i64, i64)]) -> bool {
+    found.len() == corners.len()
+        && found
+            .iter()
+            .zip(corners)
+            .all(|(p, &(e, n))| p.e == e && p.n == n)
+}
+
+// Checks that the file was read to its end, sent and taken whole.
+pub(crate) fn expect_whole(rt: &impl Abort, alloc: Global, followed: &Followed, case: Case) {
+    assert!(rt; followed.marked && followed.feeder.closed(), "the mark");
+    assert!(rt; !followed.estimator.stopped(), "running");
+    assert!(rt; is_name(&followed.read, case.name), "the name");
+    let rows = followed.estimator.rows();
+    assert!(rt; rows.len() == case.rows.len(), "so many rows");
+    assert!(rt; begin_with(case.rows, rows), "the rows");
+    assert!(rt; followed.feeder.sent_fixes() == rows.len() as u64, "fixes");
+    let polygon: Polygon = followed.estimator.polygon(alloc).expect(rt, "memory");
+    assert!(rt; are_corners(polygon.corners(), case.corners), "corners");
+}
+
+// Whether the reader gave this name.
+pub(crate) fn is_name(read: &Result<Name, ReadFault>, name: &[u8]) -> bool {
+    matches!(read, Ok(found) if found.as_slice() == name)
+}
+
+// Whether the file of an animal `A` was read to its end, and its mark and so many fixes were taken.
+pub(crate) fn is_whole(followed: &Followed, fixes: usize) -> bool {
+    is_name(&followed.read, b"A")
+        && followed.marked
+        && followed.feeder.sent_fixes() == fixes as u64
+        && followed.estimator.rows().len() == fixes
+}
+
+// Whether the file has this fault, and the mark and the fixes before it, so many, were sent and taken.
+pub(crate) fn is_cut(followed: &Followed, fault: ReadFault, fixes: usize) -> bool {
+    matches!(&followed.read, Err(found) if *found == fault)
+        && followed.marked
+        && followed.feeder.closed()
+        && followed.feeder.sent_fixes() == fixes as u64
+        && !followed.estimator.stopped()
+        && followed.estimator.rows().len() == fixes
+}

@@ -1,0 +1,124 @@
+// Tests of faults: files with each fault of their reader beside others, and sources that fail.
+
+use crate::checks::{begin_with, expect_whole, follow_all, is_cut, is_name};
+use crate::files::{LINE, SQUARE};
+use crate::plans::follow_one;
+use range_collect::Followed;
+use range_fixes::ReadFault;
+use range_options::Plan;
+use range_plane::Scale;
+use range_pump::FreeGate;
+use std::alloc::Global;
+use std::process::Abort;
+use std::sync::Wait;
+use std::thread::Threads;
+use test_doubles::ScriptedSource;
+use test_files::{BadFile, bad_records, files_without_fix};
+
+// Checks that the file has its fault as it is, and that the mark and the fixes before it were sent and taken.
+fn expect_bad(rt: &impl Abort, followed: &Followed, file: BadFile) {
+    let (fixes, fault) = (file.fixes, file.fault);
+    assert!(rt; is_cut(followed, fault, fixes as usize), "{fault}");
+    let rows = followed.estimator.rows();
+    assert!(rt;
+        rows.iter().all(|row| row.second == 7 && row.corners == 1 && row.area2 == 0),
+        "the rows before: {fault}"
+    );
+}
+
+// Follows a bad file between two good ones, which are as they would be alone.
+fn expect_between<R: Wait + Threads + Sync + Abort>(
+    rt: &R,
+    alloc: Global,
+    file: BadFile,
+    plan: Plan,
+) {
+    let sources = vec![in alloc;
+        ScriptedSource::new(SQUARE.text, 8192),
+        file.source(),
+        ScriptedSource::new(LINE.text, 8192),
+    ];
+    let all = follow_all(rt, alloc, sources.expect(rt, "memory"), &FreeGate, plan);
+    assert!(rt; all.len() == 3, "results");
+    expect_whole(rt, alloc, &all[0], SQUARE);
+    expect_bad(rt, &all[1], file);
+    expect_whole(rt, alloc, &all[2], LINE);
+}
+
+// Follows two bad files with a good one between them, each of which has its own fault.
+fn expect_around<R: Wait + Threads + Sync + Abort>(
+    rt: &R,
+    alloc: Global,
+    first: BadFile,
+    last: BadFile,
+    plan: Plan,
+) {
+    let sources = vec![in alloc;
+        first.source(),
+        ScriptedSource::new(SQUARE.text, 8192),
+        last.source(),
+    ];
+    let all = follow_all(rt, alloc, sources.expect(rt, "memory"), &FreeGate, plan);
+    assert!(rt; all.len() == 3, "results");
+    expect_bad(rt, &all[0], first);
+    expect_whole(rt, alloc, &all[1], SQUARE);
+    expect_bad(rt, &all[2], last);
+}
+
+// In blocks that end before the fault, at it, and behind it.
+#[test]
+fn a_bad_file_between_others(rt: HostRuntime) {
+    for (block, depth, workers) in [(1, 1, 1), (2, 4, 2), (3, 1, 1), (1024, 64, 2)] {
+        for unit in [Scale::Metre, Scale::Decimetre] {
+            let plan = Plan::new(block, depth, workers, unit).expect(&rt, "a plan");
+            for file in bad_records(4, unit) {
+                expect_between(&rt, rt.alloc(), file, plan);
+            }
+            for file in files_without_fix() {
+                expect_between(&rt, rt.alloc(), file, plan);
+            }
+        }
+    }
+}
+
+// Each fault beside the next one, so also a source that fails beside a bad record, on one line and on two.
+#[test]
+fn two_bad_files(rt: HostRuntime) {
+    let unit = Scale::Decimetre;
+    let (firsts, lasts) = (bad_records(2, unit), bad_records(3, unit));
+    for workers in [1, 2] {
+        let plan = Plan::new(2, 1, workers, unit).expect(&rt, "a plan");
+        let following = lasts.iter().skip(1).chain(lasts.iter().take(1));
+        for (&first, &last) in firsts.iter().zip(following) {
+            expect_around(&rt, rt.alloc(), first, last, plan);
+        }
+    }
+}
+
+// A source that fails at each of its reads in turn: the fixes before are sent and taken, and the mark.
+#[test]
+fn failing_sources(rt: HostRuntime) {
+    for most in [1, 3, 8, 8192] {
+        let mut before = 0;
+        for reads in 0..100 {
+            let source = ScriptedSource::failing(SQUARE.text, most, reads);
+            let plan = Plan::new(2, 4, 2, Scale::Metre).expect(&rt, "a plan");
+            let followed = follow_one(&rt, rt.alloc(), source, plan);
+            if is_name(&followed.read, SQUARE.name) {
+                break;
+            }
+            let rows = followed.estimator.rows();
+            let fixes = rows.len();
+            assert!(rt;
+                is_cut(&followed, ReadFault::Read, fixes),
+                "after {reads} reads"
+            );
+            assert!(rt;
+                before <= fixes && begin_with(SQUARE.rows, rows),
+                "after {reads} reads"
+            );
+            before = fixes;
+        }
+        assert!(rt; before == 5, "all but the end by {most} bytes");
+    }
+}

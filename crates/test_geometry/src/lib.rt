@@ -1,0 +1,41 @@
+//! Tests of the plane, of what a polygon covers of many points, of lists of points in pieces, of the on-line
+//! hull, and of percent polygons and overlaps: worked values, values from other programs, polygons against those by
+//! definition, and each call that takes memory refused it, a growth at a time.
+#![tactic(auto)]
+
+#[cfg(test)]
+mod columns;
+#[cfg(test)]
+mod corners;
+#[cfg(test)]
+mod covering;
+#[cfg(test)]
+mod growths;
+#[cfg(test)]
+mod hull_covering;
+#[cfg(test)]
+mod hull_growths;
+#[cfg(test)]
+mod hull_polygons;
+#[cfg(test)]
+mod hull_rows;
+#[cfg(test)]
+mod lanes;
+#[cfg(test)]
+mod limits;
+#[cfg(test)]
+mod list_edits;
+#[cfg(test)]
+mod list_growths;
+#[cfg(test)]
+mod list_searches;
+#[cfg(test)]
+mod overlaps;
+#[cfg(test)]
+mod percents;
+#[cfg(test)]
+mod plain;
+#[cfg(test)]
+mod points;
+#[cfg(test)]
+mod stats_growths;

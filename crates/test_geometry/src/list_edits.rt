@@ -1,0 +1,163 @@
+// Edits of a chain beside the same edits of a plain list.
+
+ghost use Rattle.std.specs.Prelude.{◌≡◌, ◌<◌, ◌≤◌, length};
+ghost use Rattle.range_pieces.specs.Pieces.{all_points};
+ghost use Rattle.range_pieces.specs.PointList.{Stands, place};
+
+use range_pieces::{Cursor, PIECE_SIZE, PointList};
+use range_plane::Point;
+use std::process::Abort;
+
+// The next number of Knuth's generator for MMIX.
+fn next(seed: u64) -> u64 {
+    seed.wrapping_mul(6364136223846793005)
+        .wrapping_add(1442695040888963407)
+}
+
+fn below(seed: u64, limit: usize) -> usize
+    requires { 0 < limit }
+    ensures { result < limit }
+{
+    ((seed >> 33) as usize) % limit
+}
+
+// The place after the first `k` points.
+fn cursor_at(chain: &PointList, k: usize) -> Cursor
+    requires { k ≤ length (all_points chain.now.pieces) }
+    ensures stands { Stands chain.now.pieces result }
+    ensures place { place chain.now.pieces result ≡ k }
+{
+    let mut c = chain.start();
+    for _ in 0..k {
+        c = chain.next(c);
+    }
+    c
+}
+
+// Puts `p` in the place of the points from `from` up to `to`.
+fn replace_in_list(
+    rt: &(impl Abort + AllocGlobal),
+    list: &[Point],
+    from: usize,
+    to: usize,
+    p: Point,
+) -> Vec<Point> {
+    let mut edited = Vec::new(rt.alloc());
+    for (i, q) in list.iter().enumerate() {
+        if i == from {
+            edited.push(p).expect(rt, "memory");
+        }
+        if i < from || i >= to {
+            edited.push(*q).expect(rt, "memory");
+        }
+    }
+    if from >= list.len() {
+        edited.push(p).expect(rt, "memory");
+    }
+    edited
+}
+
+// Makes `count` edits, each of a run of fewer than `longest` points.
+fn edit_many(rt: &(impl Abort + AllocGlobal), count: u32, longest: usize)
+    requires { 0 < longest }
+{
+    let mut chain = PointList::new(rt.alloc());
+    let mut list: Vec<Point> = Vec::new(rt.alloc());
+    let mut seed = 1;
+    for i in 0..count {
+        chain.reserve(1).expect(rt, "memory");
+        let len = chain.len();
+        if len == usize::MAX {
+            return;
+        }
+        seed = next(seed);
+        let from = below(seed, len + 1);
+        seed = next(seed);
+        let to = from.saturating_add(below(seed, longest)).min(len);
+        let p = Point::new(i64::from(i), 0).expect(rt, "a point");
+        if chain.spare() > 0 && from <= to {
+            let start = cursor_at(&chain, from);
+            let end = cursor_at(&chain, to);
+            chain.replace_run(start, end, p);
+        }
+        list = replace_in_list(rt, &list, from, to, p);
+        let points = chain.to_vec(rt.alloc()).expect(rt, "memory");
+        assert!(rt; points.as_slice() == list.as_slice(), "after edit {i}");
+        assert!(rt; chain.len() == list.len(), "after edit {i}");
+    }
+}
+
+#[test]
+fn inserts_are_those_in_a_list(rt: HostRuntime) {
+    edit_many(&rt, 1200, 1);
+}
+
+#[test]
+fn short_runs_are_those_in_a_list(rt: HostRuntime) {
+    edit_many(&rt, 1200, 3);
+}
+
+// A chain of four pieces, of which runs of up to three pieces are replaced.
+#[test]
+fn runs_across_pieces(rt: HostRuntime) {
+    for to in [0, 1, 2, 255, 256, 257, 300, 512, 513, 768, 769, 1023, 1024] {
+        for from in [0, 1, 2, 128, 255, 256, 257, 511, 600, 768, 1023] {
+            let mut chain = PointList::new(rt.alloc());
+            chain.reserve(4 * PIECE_SIZE + 1).expect(&rt, "memory");
+            let mut list: Vec<Point> = Vec::new(rt.alloc());
+            for i in 0..4 * PIECE_SIZE {
+                let p = Point::new(i as i64, 1).expect(&rt, "a point");
+                list.push(p).expect(&rt, "memory");
+                if chain.spare() > 0 {
+                    let end = chain.end();
+                    chain.replace_run(end, end, p);
+                }
+            }
+            assert!(rt; chain.piece_count() == 4);
+            let p = Point::new(7, 7).expect(&rt, "a point");
+            if from <= to && to <= chain.len() && chain.spare() > 0 {
+                let start = cursor_at(&chain, from);
+                let end = cursor_at(&chain, to);
+                chain.replace_run(start, end, p);
+                let list = replace_in_list(&rt, &list, from, to, p);
+                let points = chain.to_vec(rt.alloc()).expect(&rt, "memory");
+                assert!(rt; points.as_slice() == list.as_slice(), "{from} to {to}");
+            }
+        }
+    }
+}
+
+// Goes through all points, and back.
+fn go_on_and_back(rt: &impl Abort, chain: &PointList) {
+    let mut on = chain.start();
+    let mut seen = 0i64;
+    for _ in 0..600 {
+        if !chain.is_end(on) {
+            assert!(rt; chain.get(on).e == 599i64.wrapping_sub(seen));
+            seen = seen.wrapping_add(1);
+            on = chain.next(on);
+        }
+    }
+    assert!(rt; chain.is_end(on) && seen == 600 && on == chain.end());
+    for _ in 0..600 {
+        if !chain.is_start(on) {
+            on = chain.previous(on);
+        }
+    }
+    assert!(rt; chain.is_start(on) && on == chain.start());
+}
+
+#[test]
+fn cursors_go_on_and_back(rt: HostRuntime) {
+    let mut chain = PointList::new(rt.alloc());
+    assert!(rt; chain.len() == 0);
+    chain.reserve(600).expect(&rt, "memory");
+    for i in 0..600 {
+        let p = Point::new(i, 5).expect(&rt, "a point");
+        if chain.spare() > 0 {
+            let start = chain.start();
+            chain.replace_run(start, start, p);
+        }
+    }
+    go_on_and_back(&rt, &chain);
+}

@@ -1,0 +1,298 @@
+// Tests of the pump, in one thread: the line can hold all that is sent.
+
+ghost use Rattle.std.specs.Prelude.{◌≡◌, ◌≤◌, false, [], IfOk};
+
+use range_fixes::{Name, ReadFault};
+use range_line::{Body, Feeder, Message, Taker, open_line};
+use range_plane::{Fix, Scale};
+use range_pump::{Gate, Pumped, pump};
+use std::alloc::Global;
+use std::process::Abort;
+use std::sync::Wait;
+use std::sync::atomic::{AtomicU64, AtomicUsize, Ordering};
+use std::test::Fail;
+use test_doubles::ScriptedSource;
+
+// Fixes by their seconds, eastings and northings: a square, and a fix within it.
+const SQUARE: [(u64, i64, i64); 5] = [
+    (0, 0, 0),
+    (60, 10, 0),
+    (120, 10, 10),
+    (180, 0, 10),
+    (240, 5, 5),
+];
+
+// The fixes of `SQUARE`.
+pub(crate) const FILE_A: &[u8] =
+    b"animal,second,easting,northing\nA,0,0,0\nA,60,10,0\nA,120,10,10\nA,180,0,10\nA,240,5,5\n";
+
+const HEADER: &[u8] = b"animal,second,easting,northing\n";
+
+const FILE: u32 = 3;
+
+// Counts its calls before a send, and those of them that came at the expected places.
+#[derive(Drop)]
+pub(crate) struct Expecting {
+    places: &'static [u64],
+    calls: AtomicUsize,
+    fits: AtomicU64,
+}
+
+impl Expecting {
+    pub(crate) fn new(places: &'static [u64]) -> Expecting {
+        Expecting {
+            places,
+            calls: AtomicUsize::new(0),
+            fits: AtomicU64::new(0),
+        }
+    }
+
+    // Whether a call came at each of the first places in turn, so many, and no other.
+    pub(crate) fn has_heard(&self, count: usize) -> bool {
+        self.calls.load(Ordering::SeqCst) == count
+            && self.fits.load(Ordering::SeqCst) == count as u64
+    }
+
+    // Whether a call came at each of the places in turn, and no other.
+    fn is_met(&self) -> bool {
+        self.has_heard(self.places.len())
+    }
+}
+
+impl Gate for Expecting {
+    fn before_send(&self, file: u32, place: u64) {
+        let call = self.calls.fetch_add(1, Ordering::SeqCst);
+        if file == FILE && self.places.get(call) == Some(&place) {
+            self.fits.fetch_add(1, Ordering::SeqCst);
+        }
+    }
+
+    fn after_take(&self, _file: u32, _place: u64) {}
+}
+
+// The ends of a new line of this depth, from 1 to 8.
+pub(crate) fn open_one(alloc: Global, depth: usize) -> Result<(Feeder, Taker), Fail>
+    requires depth { (1 ≤ depth) × (depth ≤ 8) }
+    ensures feeder { IfOk result (λ r. (r.0.closed ≡ false) × (r.0.ended ≡ false)
+        × (r.0.sent ≡ [])) }
+    ensures taker { IfOk result (λ r. r.1.ended ≡ false) }
+{
+    let (mut feeders, taker) = open_line(alloc, FILE, 1, 1, depth)?;
+    let feeder = feeders.pop().ok_or("no feeder")?;
+    Ok((feeder, taker))
+}
+
+// Whether the feeder sent so many fixes and is closed as it says, and the file has this fault.
+pub(crate) fn ends(pumped: &Pumped, fixes: u64, closed: bool, fault: ReadFault) -> bool {
+    pumped.feeder.sent_fixes() == fixes
+        && pumped.feeder.closed() == closed
+        && matches!(&pumped.read, Err(found) if *found == fault)
+}
+
+fn is_name(read: &Result<Name, ReadFault>, bytes: &[u8]) -> bool {
+    matches!(read, Ok(name) if name.as_slice() == bytes)
+}
+
+// Whether these are the fixes of `SQUARE` from the place on, `count` of them.
+fn are_square(fixes: &[Fix], place: usize, count: usize) -> bool {
+    let mut equal = fixes.len() == count;
+    for (fix, &(second, e, n)) in fixes.iter().zip(SQUARE.iter().skip(place)) {
+        equal = equal && fix.second == second && fix.at.e == e && fix.at.n == n;
+    }
+    equal
+}
+
+// Whether this is the block of `count` fixes of `SQUARE` from the place on.
+pub(crate) fn is_block(taken: &Option<Message>, place: usize, count: usize) -> bool {
+    match taken {
+        Some(message) => {
+            let fits = match &message.body {
+                Body::Block(block) => are_square(block.as_slice(), place, count),
+                Body::Mark => false,
+            };
+            message.file == FILE && message.place == place as u64 && fits
+        }
+        None => false,
+    }
+}
+
+// Whether this is a block of one fix with this easting.
+fn is_at(body: &Body, easting: i64) -> bool {
+    match body {
+        Body::Block(block) => matches!(block.as_slice(), [fix] if fix.at.e == easting),
+        Body::Mark => false,
+    }
+}
+
+// Whether this is the mark after so many fixes.
+pub(crate) fn is_mark(taken: &Option<Message>, place: u64) -> bool {
+    match taken {
+        Some(message) => {
+            message.file == FILE && message.place == place && matches!(message.body, Body::Mark)
+        }
+        None => false,
+    }
+}
+
+// Takes the block at the place, of at most two of the first fixes of `SQUARE`, so many, if there is one.
+fn expect_block<R: Wait + Abort>(rt: &R, taker: &mut Taker, fixes: usize, place: usize)
+    requires { taker.old.ended ≡ false }
+    ensures { taker.new.ended ≡ false }
+{
+    if place < fixes {
+        let count = (fixes - place).min(2);
+        assert!(rt;
+            is_block(&taker.take(rt), place, count),
+            "the block at {place}"
+        );
+    }
+}
+
+// Takes what a pump sent in blocks of two: the first fixes of `SQUARE`, so many, and the mark.
+fn expect_taken<R: Wait + Abort>(rt: &R, taker: &mut Taker, fixes: usize)
+    requires { taker.old.ended ≡ false }
+{
+    expect_block(rt, taker, fixes, 0);
+    expect_block(rt, taker, fixes, 2);
+    expect_block(rt, taker, fixes, 4);
+    assert!(rt;
+        is_mark(&taker.take(rt), fixes as u64),
+        "the mark after {fixes}"
+    );
+}
+
+#[test]
+fn whole_file(rt: HostRuntime) -> Result<(), Fail> {
+    let (feeder, mut taker) = open_one(rt.alloc(), 4)?;
+    let gate = Expecting::new(&[0, 2, 4, 5]);
+    let source = ScriptedSource::new(FILE_A, 8192);
+    let pumped = pump(&rt, rt.alloc(), source, feeder, &gate, 2, Scale::Metre);
+    assert!(rt; is_name(&pumped.read, b"A"), "the name");
+    assert!(rt; pumped.feeder.closed(), "the end");
+    assert!(rt; pumped.feeder.sent_fixes() == 5, "fixes");
+    assert!(rt; gate.is_met(), "calls");
+    expect_taken(&rt, &mut taker, 5);
+    Ok(())
+}
+
+// The last block is full, and none comes after it.
+#[test]
+fn full_blocks(rt: HostRuntime) -> Result<(), Fail> {
+    let (feeder, mut taker) = open_one(rt.alloc(), 4)?;
+    let gate = Expecting::new(&[0, 5]);
+    let source = ScriptedSource::new(FILE_A, 8192);
+    let pumped = pump(&rt, rt.alloc(), source, feeder, &gate, 5, Scale::Metre);
+    assert!(rt; is_name(&pumped.read, b"A"), "the name");
+    assert!(rt; gate.is_met(), "calls");
+    assert!(rt; is_block(&taker.take(&rt), 0, 5), "the block");
+    assert!(rt; is_mark(&taker.take(&rt), 5), "the mark");
+    Ok(())
+}
+
+#[test]
+fn cut_record(rt: HostRuntime) -> Result<(), Fail> {
+    let (feeder, mut taker) = open_one(rt.alloc(), 4)?;
+    let text = FILE_A.strip_suffix(b",5\n").ok_or("no suffix")?;
+    let gate = Expecting::new(&[0, 2, 4]);
+    let source = ScriptedSource::new(text, 8192);
+    let pumped = pump(&rt, rt.alloc(), source, feeder, &gate, 2, Scale::Metre);
+    let fault = ReadFault::WrongFieldCount {
+        rec: 5,
+        found: 3,
+        wanted: 4,
+    };
+    assert!(rt; ends(&pumped, 4, true, fault), "the fault");
+    assert!(rt; gate.is_met(), "calls");
+    expect_taken(&rt, &mut taker, 4);
+    Ok(())
+}
+
+// A fix past the limit of metres is sent in decimetres.
+#[test]
+fn units(rt: HostRuntime) -> Result<(), Fail> {
+    let text = b"animal,second,easting,northing\nA,0,16777217,0\n".as_slice();
+    let (feeder, mut taker) = open_one(rt.alloc(), 4)?;
+    let (gate, source) = (Expecting::new(&[0]), ScriptedSource::new(text, 8192));
+    let unit = Scale::Metre;
+    let pumped = pump(&rt, rt.alloc(), source, feeder, &gate, 2, unit);
+    let (rec, field) = (1, 2);
+    let fault = ReadFault::TooLarge { rec, field, unit };
+    assert!(rt; ends(&pumped, 0, true, fault), "metres");
+    assert!(rt; gate.is_met() && is_mark(&taker.take(&rt), 0), "the mark");
+    let (feeder, mut taker) = open_one(rt.alloc(), 4)?;
+    let (gate, source) = (Expecting::new(&[0, 1]), ScriptedSource::new(text, 8192));
+    let unit = Scale::Decimetre;
+    let pumped = pump(&rt, rt.alloc(), source, feeder, &gate, 2, unit);
+    assert!(rt; gate.is_met() && is_name(&pumped.read, b"A"), "decimetres");
+    let block = taker.take(&rt).ok_or("no block")?;
+    assert!(rt; is_at(&block.body, 16_777_217), "the block");
+    assert!(rt; is_mark(&taker.take(&rt), 1), "the mark");
+    Ok(())
+}
+
+#[test]
+fn taker_gone(rt: HostRuntime) -> Result<(), Fail> {
+    for (text, fault) in [(FILE_A, ReadFault::Gone), (HEADER, ReadFault::NoFixes)] {
+        let (feeder, taker) = open_one(rt.alloc(), 4)?;
+        drop(taker);
+        let (gate, source) = (Expecting::new(&[0]), ScriptedSource::new(text, 8192));
+        let pumped = pump(&rt, rt.alloc(), source, feeder, &gate, 2, Scale::Metre);
+        assert!(rt; ends(&pumped, 0, false, fault), "{fault}");
+        assert!(rt; gate.is_met(), "one call: {fault}");
+    }
+    Ok(())
+}
+
+// A source that fails at each of its reads in turn: the fixes before are sent, and the mark.
+#[test]
+fn failing_sources(rt: HostRuntime) -> Result<(), Fail> {
+    for most in [1, 3, 8, 8192] {
+        let mut before = 0;
+        for reads in 0..100 {
+            let (feeder, mut taker) = open_one(rt.alloc(), 4)?;
+            let (gate, source) = (
+                Expecting::new(&[]),
+                ScriptedSource::failing(FILE_A, most, reads),
+            );
+            let pumped = pump(&rt, rt.alloc(), source, feeder, &gate, 2, Scale::Metre);
+            if is_name(&pumped.read, b"A") {
+                break;
+            }
+            let fixes = pumped.feeder.sent_fixes();
+            assert!(rt;
+                ends(&pumped, fixes, true, ReadFault::Read),
+                "after {reads} reads"
+            );
+            assert!(rt;
+                before <= fixes && fixes <= 5,
+                "after {reads} reads by {most} bytes"
+            );
+            expect_taken(&rt, &mut taker, fixes as usize);
+            before = fixes;
+        }
+        assert!(rt; before == 5, "all but the end by {most} bytes");
+    }
+    Ok(())
+}
+
+// A name of each length comes whole.
+#[test]
+fn names(rt: HostRuntime) -> Result<(), Fail> {
+    let alloc = rt.alloc();
+    let longest = b"abcdefghijklmnopqrstuvwxyz012345";
+    for length in 1..=longest.len() {
+        let name = &longest[..length];
+        let mut text = Vec::from_slice(alloc, HEADER)?;
+        text.extend_from_slice(name)?;
+        text.extend_from_slice(b",0,0,0")?;
+        let (feeder, _taker) = open_one(alloc, 4)?;
+        let (gate, source) = (
+            Expecting::new(&[0, 1]),
+            ScriptedSource::new(text.as_slice(), 8192),
+        );
+        let pumped = pump(&rt, alloc, source, feeder, &gate, 2, Scale::Metre);
+        assert!(rt; is_name(&pumped.read, name), "a name of {length} bytes");
+        assert!(rt; gate.is_met() && pumped.feeder.closed(), "the end");
+    }
+    Ok(())
+}
