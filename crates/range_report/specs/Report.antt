@@ -38,6 +38,14 @@ abbrev pub row_line : List ℕ → ℕ → Row → List ℕ
 row_line name n row =
     codes "row," ++ name ++ field n ++ field row.second ++ field row.corners ++ field row.area2 ++ codes "\n"
 
+-- what the line of each row of an animal begins with
+abbrev pub row_head : List ℕ → List ℕ
+row_head name = codes "row," ++ name ++ codes ","
+
+-- what the line of a row ends with
+abbrev pub row_tail : Row → List ℕ
+row_tail row = field row.corners ++ field row.area2 ++ codes "\n"
+
 -- a corner of the polygon, with its number
 abbrev pub corner_line : List ℕ → ℕ → Position → List ℕ
 corner_line name number corner = codes "corner," ++ name ++ field number ++ point_text corner.e corner.n ++ codes "\n"

@@ -1,9 +1,9 @@
 // The lines of a report.
 
-ghost use Rattle.std.specs.Prelude.{◌≡◌, ◌+◌, ◌++◌, ◌<◌, ◌^◌, All, OnOk, codes, length, map};
+ghost use Rattle.std.specs.Prelude.{◌≡◌, ◌+◌, ◌++◌, ◌<◌, ◌^◌, All, IfOk, IfSome, OnOk, codes, decimal, length, map};
 ghost use Rattle.std.specs.List.{flat_map};
 ghost use Rattle.range_tables.specs.Names.{name_at};
-ghost use Rattle.range_report.specs.Report.{animal_line, box_line, corner_line, end_line, lines_from, overlap_line, percent_line, point_text, row_line};
+ghost use Rattle.range_report.specs.Report.{animal_line, box_line, corner_line, end_line, field, lines_from, overlap_line, percent_line, point_text, row_head, row_line, row_tail};
 
 use itoa::{Buffer, Integer};
 use range_estimator::Row;
@@ -73,27 +73,57 @@ pub(crate) fn push_box<A: Allocator>(
     Ok(())
 }
 
-// Appends the line of the row of the first n fixes.
-fn push_row<A: Allocator>(
-    text: &mut Vec<u8, A>,
-    name: &[u8],
-    n: usize,
+// What the line of each row of an animal begins with.
+fn row_head<A: Allocator>(alloc: A, name: &[u8]) -> Result<Vec<u8, A>, AllocError>
+    ensures { IfOk result (λ head. head.items ≡ row_head name.now) }
+{
+    let mut head = Vec::new(alloc);
+    head.extend_from_slice(b"row,")?;
+    head.extend_from_slice(name)?;
+    head.extend_from_slice(b",")?;
+    Ok(head)
+}
+
+// Makes the end of a row's line, unless it is that of the row before: most fixes change no polygon.
+fn set_tail<A: Allocator>(
+    tail: &mut Vec<u8, A>,
+    before: Option<Row>,
     row: Row,
 ) -> Result<(), AllocError>
-    ensures { OnOk result (text.new.items ≡ text.old.items ++ row_line name.now n row) }
+    requires { IfSome before (λ other. tail.old.items ≡ row_tail other) }
+    ensures { OnOk result (tail.new.items ≡ row_tail row) }
 {
-    text.extend_from_slice(b"row,")?;
-    text.extend_from_slice(name)?;
-    push_field(text, n)?;
-    push_field(text, row.second)?;
-    push_field(text, row.corners)?;
-    push_field(text, row.area2)?;
-    text.extend_from_slice(b"\n")?;
-    Ok(())
+    if let Some(other) = before
+        && other.corners == row.corners
+        && other.area2 == row.area2
+    {
+        return Ok(());
+    }
+    tail.clear();
+    push_field(tail, row.corners)?;
+    push_field(tail, row.area2)?;
+    tail.extend_from_slice(b"\n")
+}
+
+// Appends the line of the row of the first n fixes, which begins and ends so.
+fn push_row<A: Allocator>(
+    text: &mut Vec<u8, A>,
+    head: &[u8],
+    n: usize,
+    second: u64,
+    tail: &[u8],
+) -> Result<(), AllocError>
+    ensures { OnOk result (text.new.items
+        ≡ text.old.items ++ head.now ++ decimal n ++ field second ++ tail.now) }
+{
+    text.extend_from_slice(head)?;
+    push_number(text, n)?;
+    push_field(text, second)?;
+    text.extend_from_slice(tail)
 }
 
 // Appends the lines of rows, of which the first has this place, counted from 0.
-pub(crate) fn push_rows<A: Allocator>(
+pub(crate) fn push_rows<A: Allocator + Copy>(
     text: &mut Vec<u8, A>,
     name: &[u8],
     from: usize,
@@ -103,8 +133,14 @@ pub(crate) fn push_rows<A: Allocator>(
     ensures { OnOk result (text.new.items ≡ text.old.items
         ++ lines_from (row_line name.now) (from + 1) rows.now) }
 {
+    let alloc = *text.allocator();
+    let head = row_head(alloc, name)?;
+    let mut tail = Vec::new(alloc);
+    let mut before = None;
     for (i, row) in rows.iter().enumerate() {
-        push_row(text, name, from + i + 1, *row)?;
+        set_tail(&mut tail, before, *row)?;
+        push_row(text, &head, from + i + 1, row.second, &tail)?;
+        before = Some(*row);
     }
     Ok(())
 }

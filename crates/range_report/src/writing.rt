@@ -53,7 +53,7 @@ fn some_of<T>(members: &[T], from: usize) -> &[T]
 }
 
 // The lines of a part.
-fn part_text<A: Allocator>(alloc: A, part: &Part<'_>) -> Result<Vec<u8, A>, AllocError>
+fn part_text<A: Allocator + Copy>(alloc: A, part: &Part<'_>) -> Result<Vec<u8, A>, AllocError>
     ensures { IfOk result (λ text. text.items ≡ text_of part.now) }
 {
     let mut text = Vec::with_capacity(alloc, room_of(part))?;

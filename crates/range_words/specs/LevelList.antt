@@ -1,5 +1,5 @@
 -- Levels in a text: numbers from 1 to 100, separated by commas.
-use Rattle.std.specs.Prelude.{◌≡◌, ℕ, ◌<◌, ◌≤◌, ◌&&◌, ◌==◌, Bool, List, [], length, nat_le, Option, Some, None, IsSome, if◌then◌else◌, slice_index_or}
+use Rattle.std.specs.Prelude.{◌≡◌, ℕ, ◌<◌, ◌≤◌, ◌&&◌, ◌==◌, List, [], length, nat_le, Option, Some, None, IsSome, if◌then◌else◌, slice_index_or}
 use Rattle.std.specs.List.{slice_split}
 use Rattle.std.specs.Str.Parse.{digits_value}
 use Rattle.range_numbers.specs.Number.{is_number}

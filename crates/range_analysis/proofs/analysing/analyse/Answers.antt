@@ -22,10 +22,10 @@ judge-requires-clause-files g c κs within =
       omega (arith, all, told, some.1, c.args.sources.ok.0, c.in_ok-followed.followed.ok.0),
     )
 
-both : (g : given.Over) (c : After-judge g) → IfOk c.judge.result
+analysis_or_fault : (g : given.Over) (c : After-judge g) → IfOk c.judge.result
     (IsAnalysisOf (readings g.S.Read.remaining c.args.plan.unit c.args.sources.items) c.args.levels.now c.args.plan.unit)
     × IfErr c.judge.result (HasNoAnalysisOf (readings g.S.Read.remaining c.args.plan.unit c.args.sources.items))
-both g c =
+analysis_or_fault g c =
     let sources = readings g.S.Read.remaining c.args.plan.unit c.args.sources.items in
     let followed = c.in_ok-followed.followed.items in
     let size = c.args.plan.within.0 in
@@ -35,7 +35,7 @@ both g c =
     c.in_ok-followed.ensures.followed)
 
 pub returns-clause-analysis : goal.returns-clause-analysis
-returns-clause-analysis g c = (both g c).0
+returns-clause-analysis g c = (analysis_or_fault g c).0
 
 pub returns-clause-fault : goal.returns-clause-fault
-returns-clause-fault g c = (both g c).1
+returns-clause-fault g c = (analysis_or_fault g c).1

@@ -1,6 +1,9 @@
-use Rattle.std.proofs.Common.{◌≡◌, ◌+◌, ◌++◌, take}
-use Rattle.range_report.specs.Report.{row_line, lines_from}
+use Rattle.std.proofs.Common.{◌≡◌, ◌+◌, ◌++◌, take, IfSome}
+use Rattle.range_report.specs.Report.{row_line, row_tail, lines_from}
 use Rattle.range_report.proofs.lines.push_rows.Given as goal
 
 abbrev pub invariant-loop-i : goal.invariant-loop-i
-invariant-loop-i g l = l.text.items ≡ l.initial.text.items ++ lines_from (row_line l.name) (l.from + 1) (take l.i l.rows)
+invariant-loop-i g l = record {
+  lines : l.text.items ≡ l.initial.text.items ++ lines_from (row_line l.name) (l.from + 1) (take l.i l.rows);
+  tail : IfSome l.before (λ other. l.tail.items ≡ row_tail other);
+}

@@ -1,6 +1,5 @@
-use Rattle.std.proofs.Common.{◌≡◌, ◌+◌, ◌<◌, ◌≤◌, min, true, Some, rules, tests, arith, sym, ap, ◌∙◌}
+use Rattle.std.proofs.Common.{◌≡◌, ◌<◌, ◌≤◌, Some, rules, tests, arith, sym, ap, ◌∙◌}
 use Rattle.std.specs.Str.Parse.{digits_value}
-use Rattle.range_numbers.specs.Number.{is_number}
 use Rattle.range_options.specs.Limits.{level_limit}
 use Rattle.range_words.proofs.LevelParts.{bad_level, good_level, no_number}
 use Rattle.range_words.proofs.level.level_in.Goals as goal
