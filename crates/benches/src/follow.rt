@@ -3,7 +3,7 @@
 use bench_tracks::{cloud, read_points, shuffle, spiral, walk};
 use itoa::Buffer;
 use range_collect::{Followed, follow};
-use range_options::Plan;
+use range_options::{FILE_LIMIT, Plan};
 use range_plane::{Point, Scale};
 use range_pump::FreeGate;
 use std::alloc::{AllocError, Global};
@@ -73,7 +73,7 @@ fn time_workers<R: Runtime + Wait + Threads + Sync>(
     for file in files {
         sources.push(file.as_slice())?;
     }
-    if sources.is_empty() || sources.len() > 64 {
+    if sources.is_empty() || sources.len() > FILE_LIMIT as usize {
         return Ok(());
     }
     let start = Instant::now(rt)?;

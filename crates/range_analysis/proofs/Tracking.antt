@@ -1,12 +1,10 @@
 -- Files that become tracks, one after the other.
 use Rattle.std.proofs.Common.{◌≡◌, ℕ, ◌+◌, ◌<◌, get_or, arith, List, [], ◌∷◌, ◌++◌, length, map, Some, refl, sym, ap, ◌∙◌}
 use Rattle.std.proofs.lemmas.List.{get_or-map, length-map}
-use Rattle.std.specs.declared.clone.Clone.{Ghosts}
 use Rattle.range_plane.specs.declared.fix.Fix.{Fix}
-use Rattle.range_collect.specs.declared.followed.Followed.{Followed}
 use Rattle.range_tables.specs.Names.{name_at}
 use Rattle.range_tables.specs.declared.track.Track.{Track}
-use Rattle.range_analysis.specs.Entries.{Entry, good, entries_of, entry_of, first_bad_from, names_of}
+use Rattle.range_analysis.specs.Entries.{Entry, good, first_bad_from, names_of}
 use Rattle.range_analysis.specs.Names.{IsFirstRepeat}
 use Rattle.range_analysis.specs.Tracks.{entries_in}
 
@@ -35,12 +33,6 @@ name_is tracks place track within is =
 
 pub entries_count : (tracks : List Track) → length (entries_in tracks) ≡ length tracks
 entries_count tracks = length-map tracks (λ t. good t.name t.estimator.fixes)
-
--- there are as many tracks as files
-pub tracks_count : {A : Type 0} {clone : Ghosts A} (tracks : List Track) (followed : List (Followed A clone)) → entries_in tracks ≡ entries_of followed
-    → length tracks ≡ length followed
-tracks_count tracks followed same =
-    omega (arith, ap length same, entries_count tracks, length-map followed (λ f. entry_of f.read f.estimator.fixes))
 
 pub repeat_within : (tracks : List Track) (first second : ℕ) → IsFirstRepeat (names_of (entries_in tracks)) (Some (first, second)) → (first < length tracks)
     × (second < length tracks)

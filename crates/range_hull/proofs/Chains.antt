@@ -340,7 +340,8 @@ stands_before {side} {L} c i j k lt =
     ]
 
 -- q past the chord from i to j, before the corner before p
-chord_stays_left : {side : Side} {L : List Position} {p : Position} {from place to : ℕ} → IsChain side L → IsPlaced side L p from place to → (q : Position) (i j : ℕ)
+chord_stays_left : {side : Side} {L : List Position} {p : Position} {from place to : ℕ} → IsChain side L → IsPlaced side L p from place to
+    → (q : Position) (i j : ℕ)
     → i < j → j < length L → rank (at L i) ≤ℤ rank q → rank q ≤ℤ rank (at L j) → pos 0 ≤ℤ bend side (at L i) (at L j) q → 0 < from
     → rank q <ℤ rank (at L (from - 1)) → LiesWithin side (replaced L p from to) q
 chord_stays_left {side} {L} {p} {from} {place} {to} c t q i j ij k iq qj h s qw =
@@ -357,7 +358,8 @@ chord_stays_left {side} {L} {p} {from} {place} {to} c t q i j ij k iq qj h s qw 
           (c.convex i (from - 1) j iw (omega (arith, g)) k) h)
     ]
 
-chord_stays_right : {side : Side} {L : List Position} {p : Position} {from place to : ℕ} → IsChain side L → IsPlaced side L p from place to → (q : Position) (i j : ℕ)
+chord_stays_right : {side : Side} {L : List Position} {p : Position} {from place to : ℕ} → IsChain side L → IsPlaced side L p from place to
+    → (q : Position) (i j : ℕ)
     → i < j → j < length L → rank (at L i) ≤ℤ rank q → rank q ≤ℤ rank (at L j) → pos 0 ≤ℤ bend side (at L i) (at L j) q → to < length L
     → rank (at L to) <ℤ rank q → LiesWithin side (replaced L p from to) q
 chord_stays_right {side} {L} {p} {from} {place} {to} c t q i j ij k iq qj h s zq =

@@ -1,5 +1,5 @@
 -- Pieces that are joined, and what of the joined list stands before and after a place in a piece.
-use Rattle.std.proofs.Common.{◌≡◌, refl, sym, ap, ◌∙◌, ℕ, suc, ◌+◌, ◌<◌, ◌≤◌, List, [], ◌∷◌, ◌++◌, length, take, drop, get_or, set, arith, length-append}
+use Rattle.std.proofs.Common.{◌≡◌, sym, ap, ◌∙◌, ℕ, suc, ◌+◌, ◌<◌, ◌≤◌, List, [], ◌∷◌, ◌++◌, length, take, drop, get_or, set, arith, length-append}
 use Rattle.std.proofs.lemmas.List.{set_split, get_or_append_left, append-nil, append_assoc, drop_more, drop_all, take_all, take_more, take-append-drop}
 use Rattle.std.proofs.lemmas.List.{take-append-le, drop-append-le, get_or-append-add}
 use Rattle.std.proofs.lemmas.List.Concat.{flat_map-append}
@@ -17,13 +17,7 @@ joined_cut bs i = sym (ap all_points (take-append-drop i bs)) ∙ joined_append 
 pub joined_drop : (bs : List (List Position)) (i : ℕ) → i < length bs → all_points (drop i bs) ≡ piece bs i ++ all_points (drop (i + 1) bs)
 joined_drop bs i h = ap all_points (drop_more bs i [] h)
 
-pub joined_past : (bs : List (List Position)) (i : ℕ) → length bs ≤ i → all_points (drop i bs) ≡ []
-joined_past bs i h = ap all_points (drop_all i bs h)
-
 -- ---- offsets
-pub offset_none : (bs : List (List Position)) → offset bs 0 ≡ 0
-offset_none bs = refl
-
 pub offset_more : (bs : List (List Position)) (i : ℕ) → i < length bs → offset bs (i + 1) ≡ offset bs i + length (piece bs i)
 offset_more bs i h =
     ap (λ (xs : List (List Position)). length (all_points xs)) (take_more bs i [] h)
@@ -75,12 +69,6 @@ get_or_joined bs i a d h le =
     ∙ get_or_append_left (piece bs i) (all_points (drop (i + 1) bs)) d a le
 
 -- ---- pieces in the place of pieces
-pub joined_splice : (bs mid : List (List Position)) (i k : ℕ) → all_points (take i bs ++ mid ++ drop k bs) ≡ all_points
-    (take i bs) ++ all_points mid ++ all_points (drop k bs)
-joined_splice bs mid i k =
-    joined_append (take i bs ++ mid) (drop k bs)
-    ∙ ap (λ (xs : List Position). xs ++ all_points (drop k bs)) (joined_append (take i bs) mid)
-
 -- p within piece i
 pub joined_put : (bs : List (List Position)) (i a b : ℕ) (p : Position) → i < length bs → a ≤ length (piece bs i) → b ≤ length (piece bs i)
     → all_points (set bs i (replaced (piece bs i) p a b)) ≡ replaced (all_points bs) p (offset bs i + a) (offset bs i + b)

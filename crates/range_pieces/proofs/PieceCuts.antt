@@ -111,21 +111,6 @@ cut_splice bs mid M i k le within s f c = record {
   ];
 }
 
--- where neighbours may be small nowhere, they are not
-pub cut_closed : (bs : List (List Position)) (lo hi : ℕ) → hi ≤ lo → IsCut bs lo hi → IsCut bs 0 0
-cut_closed bs lo hi le c = record {
-  filled = c.filled;
-  bound = c.bound;
-  tight = λ m h o. c.tight m h (elim (cases_lt m lo) [ inl l ↦ inl l | inr g ↦ inr (omega (arith, g, le)) ]);
-}
-
-pub cut_open : (bs : List (List Position)) (lo hi : ℕ) → IsCut bs 0 0 → IsCut bs lo hi
-cut_open bs lo hi c = record {
-  filled = c.filled;
-  bound = c.bound;
-  tight = λ m h o. c.tight m h (inr (omega arith));
-}
-
 -- a piece that grows
 size_set : (bs : List (List Position)) (i : ℕ) (b : List Position) → i < length bs → (m : ℕ) → ((m ≡ i) × (length (piece (set bs i b) m) ≡ length b))
     ⊎ (length (piece (set bs i b) m) ≡ length (piece bs m))
@@ -262,21 +247,6 @@ cut_join bs lo i le h fits c =
         ]
       ];
     }
-
--- two neighbours that hold much stay
-pub cut_less : (bs : List (List Position)) (lo i : ℕ) → (i + 1 < length bs → piece_size < length (piece bs i) + length (piece bs (i + 1))) → IsCut bs lo (i + 1)
-    → IsCut bs lo i
-cut_less bs lo i much c = record {
-  filled = c.filled;
-  bound = c.bound;
-  tight = λ m g o. elim o [
-    | inl l ↦ c.tight m g (inl l)
-    | inr ge ↦ elim (cases_eq m i) [
-      | inl q ↦ omega (arith, size_at bs m i q, size_at bs (m + 1) (i + 1) (omega (arith, q)), much (omega (arith, q, g)))
-      | inr n ↦ c.tight m g (inr (let d : i + 1 ≤ m = omega (arith, ge, n) in d))
-    ]
-  ];
-}
 
 -- a full piece cut in two
 pub cut_split : (bs : List (List Position)) (i a : ℕ) → i < length bs → 0 < a → a < length (piece bs i) → IsCut bs 0 0

@@ -2,9 +2,10 @@
 use Rattle.std.specs.Prelude.{ℕ}
 use Rattle.range_plane.specs.Plane.{coordinate_limit}
 use Rattle.range_plane.specs.declared.scale.Scale.{Scale}
+use Rattle.range_plane.specs.declared.scale.TheConstants.{METRE_LIMIT}
 use Rattle.range_plane.specs.declared.scale.Scale.TheVariants.{Metre, Decimetre}
 
 -- the greatest easting and northing of a fix that is read from a file
 abbrev pub limit : Scale → ℕ
-limit Metre = 16777216
+limit Metre = METRE_LIMIT
 limit Decimetre = coordinate_limit

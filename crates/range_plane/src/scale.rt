@@ -7,6 +7,9 @@ ghost use Rattle.range_plane.specs.Scale.{limit};
 use crate::point::COORDINATE_LIMIT;
 use std::fmt;
 
+// The greatest easting and northing of a file in metres.
+const METRE_LIMIT: u32 = 16_777_216;
+
 /// The unit in which the eastings and northings of a run are counted.
 #[derive(Clone, Copy, PartialEq, Eq, Debug)]
 pub enum Scale {
@@ -22,7 +25,7 @@ impl Scale {
         ensures within { IsCoordinate result }
     {
         match self {
-            Scale::Metre => 16_777_216,
+            Scale::Metre => i64::from(METRE_LIMIT),
             Scale::Decimetre => COORDINATE_LIMIT,
         }
     }

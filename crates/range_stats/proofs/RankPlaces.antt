@@ -21,9 +21,6 @@ use Rattle.range_stats.proofs.Rankings.{Entry, IsApart, filter_map, nearest_are_
 abbrev pub entries : List Position → List Entry
 entries points = map (entry points) (places points)
 
-length_entries : (points : List Position) → length (entries points) ≡ length points
-length_entries points = length-map (places points) (entry points) ∙ length-range_with_len 0 (length points)
-
 -- no two entries have one place
 places_from : (f : ℕ → ℕ) (d m a n : ℕ) → m < a → AllByRecursion (λ (x : Entry). same_place (d, m) x ≡ false) (map (λ i. (f i, i)) (range_with_len a n))
 places_from f d m a zero lt = tt

@@ -7,8 +7,8 @@ use Rattle.std.proofs.Math.Seq.{drop-append_seam, take-append_seam}
 use Rattle.std.proofs.lemmas.Bool.{cases_lt}
 use Rattle.std.proofs.lemmas.Bool.Decides.{nat_tests}
 use Rattle.std.proofs.lemmas.List.{append_assoc, drop-append-le, drop_all, map-append, take-append-le}
-use Rattle.std.proofs.lemmas.List.Elements.{All-append, All-cons, All-drop, All-head, All-nil, All-same, All-tail, All-take, All-weaker}
-use Rattle.std.proofs.lemmas.List.Sorted.{All-permutation, IsPermutation-append_left, IsPermutation-refl, IsPermutation-trans, length_permutation}
+use Rattle.std.proofs.lemmas.List.Elements.{All-append, All-cons, All-drop, All-head, All-nil, All-same, All-tail, All-take}
+use Rattle.std.proofs.lemmas.List.Sorted.{All-permutation, IsPermutation-append_left, IsPermutation-trans, length_permutation}
 use Rattle.range_plane.specs.Edges.{at}
 use Rattle.range_plane.specs.Fix.{fix_limit}
 use Rattle.range_plane.specs.Plane.{Position}
@@ -66,16 +66,6 @@ points_joined points nearest after key old p here =
     let point = λ (k : ℕ). at points (k % fix_limit) in
     append_assoc (old ++ map point nearest) (p ∷ []) (map point after) ∙ append_assoc old (map point nearest) (p ∷ map point after)
     ∙ ap (λ q. old ++ (map point nearest ++ q ∷ map point after)) (sym here) ∙ ap (λ l. old ++ l) (sym (map-append point nearest (key ∷ after)))
-
-pub cut_uncut : (points : List Position) (levels keys : List ℕ) (old new : List Position) → All (λ level. length keys ≤ kept_count level (length points)) levels
-    → new ≡ old ++ kept_points points keys → IsCutAdded points levels keys old new
-cut_uncut points levels keys old new all joined = (
-  keys,
-  IsPermutation-refl keys,
-  All-weaker (λ level. length keys ≤ kept_count level (length points)) (λ level. IsCutAt (kept_count level (length points)) keys)
-      (λ level more. cut_at_end keys (kept_count level (length points)) more) levels all,
-  joined,
-)
 
 pub cut_more : (points : List Position) (levels keys before after : List ℕ) (key kept : ℕ) (old then : List Position) (p : Position) (new : List Position)
     → IsPermutation keys (before ++ key ∷ after) → IsSplitAround nat_cmp before key after

@@ -19,7 +19,8 @@ pub no_number : (part : List ℕ) → is_number part ≡ false → level_in part
 unfolding level_in
 no_number part other = rw other refl
 
-pub good_level : (part : List ℕ) → is_number part ≡ true → 1 ≤ digits_value 10 part → digits_value 10 part ≤ level_limit → level_in part ≡ Some (digits_value 10 part)
+pub good_level : (part : List ℕ) → is_number part ≡ true → 1 ≤ digits_value 10 part → digits_value 10 part ≤ level_limit
+    → level_in part ≡ Some (digits_value 10 part)
 unfolding level_in
 good_level part number some few =
     let test : (nat_le 1 (digits_value 10 part) && nat_le (digits_value 10 part) level_limit) ≡ true = grind (arith, nat_tests) in

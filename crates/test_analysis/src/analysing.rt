@@ -4,7 +4,7 @@ use crate::files::{levels_of, same_animal};
 use crate::tables::{FOX_TABLES, HARE_TABLES, expect_animals, overlap};
 use range_analysis::{AnalyseFault, analyse};
 use range_fixes::ReadFault;
-use range_options::Plan;
+use range_options::{FILE_LIMIT, Plan};
 use range_plane::Scale;
 use range_pump::Gate;
 use range_tables::Analysis;
@@ -91,7 +91,10 @@ fn analysed<R: Wait + Threads + Sync + Abort, G: Gate>(
     gate: &G,
     plan: Plan,
 ) -> Result<Analysis, AnalyseFault> {
-    assert!(rt; !sources.is_empty() && sources.len() <= 64, "sources");
+    assert!(rt;
+        !sources.is_empty() && sources.len() <= FILE_LIMIT as usize,
+        "sources"
+    );
     let levels = levels_of(rt, alloc, &[50, 95, 100]);
     analyse(rt, alloc, sources, gate, plan, &levels)
 }

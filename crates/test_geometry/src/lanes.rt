@@ -119,7 +119,7 @@ fn turned(rt: &impl Abort, alloc: Global, cols: &Columns) -> Columns {
 }
 
 // The box and both sums of the first points of a line along the eastings, and of one that also rises: of
-// none, of less than go through the lanes at once, of two such blocks, and of one point more. They are the
+// none, of less than go through the lanes at once, of two such groups, and of one point more. They are the
 // same from the other end.
 #[test]
 fn extremes_and_sums_along_lines(rt: HostRuntime) {

@@ -47,7 +47,8 @@ returns g c =
       count = omega (arith, told, made, is.counts.1);
       followed = line_followed (λ (f : Followed _ _). f.feeder) (λ f. f.read) (λ f. f.estimator)
           (λ f. f.marked) c.args.numbers.first c.args.numbers.step c.args.job.now.plan.block
-          (readings g.S.Read.remaining c.args.job.now.plan.unit c.args.sources.items) line.feeders.items d.result.0.items line.reads.items line.worker d.result.1.items
+          (readings g.S.Read.remaining c.args.job.now.plan.unit c.args.sources.items) line.feeders.items d.result.0.items
+          line.reads.items line.worker d.result.1.items
           results
           is d.ensures.feeders d.ensures.holds p.feeders p.reads p.estimators p.seen;
     }

@@ -31,9 +31,9 @@ returns-then-rank g c =
       none = refl;
     }
 
-apart : (g : given.Over) (c : After-bulges g) → (place c.args.chain.now.pieces c.args.spot.at < length (all_points c.args.chain.now.pieces))
+falls_before_next : (g : given.Over) (c : After-bulges g) → (place c.args.chain.now.pieces c.args.spot.at < length (all_points c.args.chain.now.pieces))
     × (rank c.args.p <ℤ rank (at (all_points c.args.chain.now.pieces) (place c.args.chain.now.pieces c.args.spot.at)))
-apart g c =
+falls_before_next g c =
     let spot = c.requires.spot in
     let here = after_at _ _ c.args.spot.before c.args.spot.after c.in-Some.after spot.beside spot.falls.bound c.in-Some.is in
     let after : rank c.args.p ≤ℤ rank c.in-Some.after = not_after _ _ c.args.p c.in-Some.after spot.falls here.0 here.1 in
@@ -60,8 +60,8 @@ returns g c =
           let outside : 0 < k → k < length L → pos 0 <ℤ bend c.args.side (at L (k - 1)) c.args.p (at L k) =
           λ some within. subst (λ z. pos 0 <ℤ z) (value g c) (OnTrue_at h c.bulges.ensures.yes) in
           outside);
-      apart = OnTrue_from _ _ (λ h. let before : k < length L → rank c.args.p <ℤ rank (at L k) = λ within. (apart g c).1 in before);
-      inside = OnFalse_from _ _ (λ h. between_within spot.falls some (apart g c).0 (apart g c).1
+      apart = OnTrue_from _ _ (λ h. let before : k < length L → rank c.args.p <ℤ rank (at L k) = λ within. (falls_before_next g c).1 in before);
+      inside = OnFalse_from _ _ (λ h. between_within spot.falls some (falls_before_next g c).0 (falls_before_next g c).1
           (subst (λ z. z ≤ℤ pos 0) (value g c) (OnFalse_at h c.bulges.ensures.no)));
       turns = omega (arith, c.bulges.ensures.turns);
       rises = omega (arith, c.bulges.ensures.turns);
@@ -71,6 +71,6 @@ returns g c =
           λ some within. OnTrue_at h c.bulges.ensures.gained ∙ ap (λ z. pos c.args.tally.now.area +ℤ z) (value g c) in
           gained);
       at_first = λ z. absurd (omega (arith, z, some));
-      at_last = λ z. absurd (omega (arith, z, (apart g c).0));
+      at_last = λ z. absurd (omega (arith, z, (falls_before_next g c).0));
       none = c.bulges.ensures.none;
     }

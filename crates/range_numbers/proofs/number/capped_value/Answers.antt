@@ -7,9 +7,9 @@ use Rattle.std.proofs.lemmas.Str.{digit_value_digit}
 use Rattle.std.proofs.lemmas.List.Recursion.{and_at}
 use Rattle.range_numbers.proofs.number.capped_value.Goals as goal
 
-both : (a b : Bool) → (a && b) ≡ true → b ≡ true
-both true b e = e
-both false b e = cc e
+right_of_and : (a b : Bool) → (a && b) ≡ true → b ≡ true
+right_of_and true b e = e
+right_of_and false b e = cc e
 
 pub loop-digit-preserved : goal.loop-digit-preserved
 loop-digit-preserved c =
@@ -17,7 +17,7 @@ loop-digit-preserved c =
     let i = c.loop-digit.digit-index in
     let inside : i < length xs = omega arith in
     let digit : is_ascii_digit (get_or xs i 0) ≡ true = and_at (list_all is_ascii_digit) is_ascii_digit refl (λ _ _. refl) xs i 0 inside
-    (both (nat_lt 0 (length xs)) _ c.requires.digits) in
+    (right_of_and (nat_lt 0 (length xs)) _ c.requires.digits) in
     let range : IsInRange 48 57 (get_or xs i 0) = search (rules, tests) in
     let more = digits_value_more 10 xs i inside in
     let value = digit_value_digit (get_or xs i 0) range in
