@@ -1,9 +1,9 @@
 -- Sets of positions are read by membership: what the laws of the plane say of lists with the same members, and of larger ones.
-use Rattle.std.proofs.Common.{◌≡◌, sym, subst, List, [], ◌∷◌, ◌++◌, Contains, IsTrue, inl, inr, ℤ, pos, ◌-ℤ◌, ◌*ℤ◌, ◌≤ℤ◌, ap, ◌∙◌, arith}
+use Rattle.std.proofs.Common.{◌≡◌, sym, subst, List, [], ◌∷◌, ◌++◌, Contains, inl, inr, ℤ, pos, ◌-ℤ◌, ◌*ℤ◌, ◌≤ℤ◌, ap, ◌∙◌, arith}
 use Rattle.std.proofs.lemmas.Int.{ints}
 use Rattle.std.proofs.lemmas.List.Elements.{Contains-append_left, Contains-push, Contains-push_cases}
-use Rattle.range_plane.specs.Covering.{Covers, advance, is_covered}
-use Rattle.range_plane.specs.Laws.{CornersCoverTheSet, CoveredIsDecided, CoveringIsReaching, CoveringMembersAreCorners, LargerSetsCoverMore}
+use Rattle.range_plane.specs.Covering.{Covers, advance}
+use Rattle.range_plane.specs.Laws.{CornersCoverTheSet, CoveringIsReaching, CoveringMembersAreCorners}
 use Rattle.range_plane.specs.Plane.{Position}
 use Rattle.range_plane.specs.Polygon.{IsPolygon}
 use Rattle.range_lemmas.proofs.Integers.{linear}
@@ -39,11 +39,3 @@ polygon_pushed reaching corners cover S L p polygon = same_members reaching corn
 
     from : (x : Position) → Contains (S ++ p ∷ []) x → Contains (p ∷ S) x
     from x m = elim (Contains-push_cases S p x m) [ inl k ↦ contains_later p S x k | inr e ↦ subst (Contains (p ∷ S)) e (contains_first p S) ]
-
--- what a polygon covers is covered by that of more points
-pub covered_later : CoveredIsDecided → CornersCoverTheSet → LargerSetsCoverMore → (S T L M : List Position) (p : Position) → IsPolygon S L
-    → IsPolygon (S ++ T) M
-    → IsTrue (is_covered L p) → IsTrue (is_covered M p)
-covered_later decided cover larger S T L M p before after covered =
-    let first = (cover S L before p).0 ((decided L p).0 covered) in
-    (decided M p).1 ((cover (S ++ T) M after p).1 (larger S (S ++ T) p (λ x m. Contains-append_left S T x m) first))

@@ -1,3 +1,2 @@
 pub mod Estimation
-pub mod Marker
 pub mod Table

@@ -7,9 +7,10 @@ ghost use Rattle.range_plane.specs.Polygon.{IsPolygon};
 ghost use Rattle.range_plane.specs.Row.{points_of};
 ghost use Rattle.range_estimator.specs.Estimation.{IsEstimate};
 
-use crate::marker::Marker;
+use crate::block::load;
 use crate::row::Row;
 use crate::table::Table;
+use range_marker::Marker;
 use range_plane::{Columns, Fix, OutOfMemory, Polygon};
 use std::alloc::{Allocator, Global};
 use std::marker::Model;
@@ -21,6 +22,8 @@ use std::marker::Model;
 #[derive(Drop)]
 pub struct Estimator<A: Allocator + Copy = Global> {
     table: Table<A>,
+    // The points of the last block.
+    points: Columns<A>,
     marker: Marker<A>,
     stopped: bool,
 }
@@ -55,6 +58,7 @@ impl<A: Allocator + Copy> Estimator<A> {
     {
         Estimator {
             table: Table::new(alloc),
+            points: Columns::new(alloc),
             marker: Marker::new(alloc),
             stopped: false,
         }
@@ -74,7 +78,8 @@ impl<A: Allocator + Copy> Estimator<A> {
         ensures estimate { IsEstimate self.new.fixes self.new.rows self.new.corners }
     {
         if self.table.reserve(block.len()).is_err()
-            || self.marker.mark(&self.table, block).is_err()
+            || load(&mut self.points, block).is_err()
+            || self.table.mark(&mut self.marker, &self.points).is_err()
         {
             self.stopped = true;
             return Err(OutOfMemory);

@@ -2,8 +2,8 @@
 //! the table of incremental area analysis.
 #![tactic(auto)]
 
+mod block;
 mod estimator;
-mod marker;
 mod row;
 mod table;
 

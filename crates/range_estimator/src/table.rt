@@ -1,6 +1,6 @@
 // The table of incremental area analysis, which grows by a fix at a time.
 
-ghost use Rattle.std.specs.Prelude.{◌≡◌, ◌+◌, ◌<◌, ◌≤◌, ◌∷◌, ◌++◌, [], List, true, IfOk, IsTrue, OnOk, count_by, if◌then◌else◌, length, map, not};
+ghost use Rattle.std.specs.Prelude.{◌≡◌, ◌+◌, ◌<◌, ◌≤◌, ◌∷◌, ◌++◌, [], List, true, IfOk, IfSome, IsTrue, OnOk, count_by, if◌then◌else◌, length, map, not};
 ghost use Rattle.range_plane.specs.Covering.{is_covered};
 ghost use Rattle.range_plane.specs.Fix.{fix_limit};
 ghost use Rattle.range_plane.specs.Plane.{Position};
@@ -10,9 +10,10 @@ ghost use Rattle.range_estimator.specs.Estimation.{IsEstimate};
 
 use crate::row::Row;
 use range_hull::OnlineHull;
+use range_marker::{Marker, add_point, covered_points_stay_covered};
 use range_plane::{
-    Columns, Fix, OutOfMemory, Point, Polygon, corners_cover_the_set, covered_is_decided,
-    covering_is_reaching, covering_members_are_corners, larger_sets_cover_more,
+    Columns, Fix, OutOfMemory, Polygon, corners_cover_the_set, covering_is_reaching,
+    covering_members_are_corners,
 };
 use std::alloc::Allocator;
 use std::marker::Model;
@@ -41,26 +42,6 @@ impl<A: Allocator> Model for Table<A> {
     } };
 
     ghost invariant = { λ t. IsSoundTable t.rows.items t.columns.points t.hull };
-}
-
-// Adds a point to a hull; where it is covered, by counting it alone.
-fn add_point<A: Allocator>(hull: &mut OnlineHull<A>, p: Point, covered: bool)
-    requires room { 0 < hull.old.spare }
-    requires few { hull.old.inserted + hull.old.skipped < fix_limit }
-    requires covered { covered ≡ true → IsTrue (is_covered hull.old.corners p) }
-    ensures set { (S : List Position) → IsPolygon S hull.old.corners
-        → IsPolygon (p ∷ S) hull.new.corners }
-    ensures inserted { hull.new.inserted ≡ hull.old.inserted + (if covered then 0 else 1) }
-    ensures points { hull.new.inserted + hull.new.skipped ≡ hull.old.inserted + hull.old.skipped
-        + 1 }
-    ensures covered { covered ≡ true → hull.new.corners ≡ hull.old.corners }
-    ensures spare { hull.old.spare ≤ hull.new.spare + 1 }
-{
-    if covered {
-        hull.skip(p);
-    } else {
-        hull.insert(p);
-    }
 }
 
 impl<A: Allocator> Table<A> {
@@ -130,9 +111,7 @@ impl<A: Allocator> Table<A> {
             + count_by (λ p. not (is_covered self.old.corners p)) (points_of block.now) }
         ensures untested { self.new.tested ≡ self.old.tested → self.new.corners ≡ self.old.corners }
     {
-        corners_cover_the_set();
-        covered_is_decided();
-        larger_sets_cover_more();
+        covered_points_stay_covered();
         // The fixes, rows and corners of a table that is opened are known to go together.
         let _ = &self.hull;
         for (i, fix) in block.iter().enumerate() {
@@ -169,18 +148,20 @@ impl<A: Allocator> Table<A> {
         self.hull.inserted()
     }
 
-    // How many corners the polygon has.
-    pub(crate) fn corner_count(&self) -> u32
-        ensures { result ≡ length self.now.corners }
+    // Marks which of the points the polygon covers.
+    pub(crate) fn mark(
+        &self,
+        marker: &mut Marker<A>,
+        points: &Columns<A>,
+    ) -> Result<(), OutOfMemory>
+    where
+        A: Copy,
+        requires { IfSome marker.old.copy (λ corners. corners ≡ self.now.corners) }
+        ensures copy { IfSome marker.new.copy (λ corners. corners ≡ self.now.corners) }
+        ensures marks { OnOk result (marker.new.marks
+            ≡ map (is_covered self.now.corners) points.now.points) }
     {
-        self.hull.corner_count()
-    }
-
-    // Whether the polygon covers `p`.
-    pub(crate) fn covers(&self, p: Point) -> bool
-        ensures { result ≡ is_covered self.now.corners p }
-    {
-        self.hull.covers(p)
+        marker.mark(&self.hull, points)
     }
 
     // The polygon of the fixes, in a list of its own.

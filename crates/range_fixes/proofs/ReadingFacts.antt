@@ -130,10 +130,11 @@ own_fix unit rec previous a b c d =
     (λ s. own_bind _ _ (own_number unit rec 2 _ c) (λ e. own_bind _ _ (own_number unit rec 3 _ d)
     (λ n. own_cond (falls previous s) (Err (SecondFalls rec)) _ refl tt))))
 
-own_used : (rec : ℕ) (bytes : List ℕ) → IsOwn (used_in rec bytes)
-own_used rec bytes = own_cond (bytes_eq bytes (codes "1")) (Ok true) _ tt (own_cond (bytes_eq bytes (codes "0")) (Ok false) (Err (BadUse rec)) tt refl)
+own_used : (rec : ℕ) (field : Option (List ℕ)) → IsOwn (used_in rec field)
+own_used rec None = tt
+own_used rec (Some bytes) = own_cond (bytes_eq bytes (codes "1")) (Ok true) _ tt (own_cond (bytes_eq bytes (codes "0")) (Ok false) (Err (BadUse rec)) tt refl)
 
-own_checks : (unit : Scale) (rec : ℕ) (previous : Option Previous) (a b c d e : List ℕ) → IsOwn (checks_of unit rec previous a b c d e)
+own_checks : (unit : Scale) (rec : ℕ) (previous : Option Previous) (a b c d : List ℕ) (e : Option (List ℕ)) → IsOwn (checks_of unit rec previous a b c d e)
 own_checks unit rec previous a b c d e = own_bind _ _ (own_fix unit rec previous a b c d) (λ fix. own_bind _ _ (own_used rec e) (λ used. tt))
 
 own_checked : (unit : Scale) (has_use : Bool) (rec : ℕ) (previous : Option Previous) (fields : Record) → IsOwn (checked_in unit has_use rec previous fields)
@@ -180,7 +181,7 @@ fix_within unit rec previous a b c d =
     let second = number_within unit rec 1 second_limit b in
     (rw counted at second, rw named at name))))))
 
-checks_within : (unit : Scale) (rec : ℕ) (previous : Option Previous) (a b c d e : List ℕ)
+checks_within : (unit : Scale) (rec : ℕ) (previous : Option Previous) (a b c d : List ℕ) (e : Option (List ℕ))
     → IfOk (checks_of unit rec previous a b c d e) (λ one. IsFixWithin a one.fix)
 checks_within unit rec previous a b c d e =
     ok_bind _ (fix_in unit rec previous a b c d) _ (λ fix passed. ok_bind _ (used_in rec e) _

@@ -43,9 +43,10 @@ number_in unit rec field most bytes =
     else if nat_lt most (digits_value 10 bytes) then Err (TooLarge rec field unit)
     else Ok (digits_value 10 bytes)
 
--- whether the fix of record number rec is used, by the field that says so
-abbrev pub used_in : ℕ → List ℕ → Result Bool ReadFault
-used_in rec bytes = if bytes_eq bytes (codes "1") then Ok true else if bytes_eq bytes (codes "0") then Ok false else Err (BadUse rec)
+-- whether the fix of record number rec is used, by the field that says so; a record that has no field `use` is used
+abbrev pub used_in : ℕ → Option (List ℕ) → Result Bool ReadFault
+used_in rec None = Ok true
+used_in rec (Some bytes) = if bytes_eq bytes (codes "1") then Ok true else if bytes_eq bytes (codes "0") then Ok false else Err (BadUse rec)
 
 -- the fix of record number rec in this unit, or the first fault of its first four fields
 abbrev pub fix_in : Scale → ℕ → Option Previous → List ℕ → List ℕ → List ℕ → List ℕ → Result Fix ReadFault
@@ -57,19 +58,19 @@ fix_in unit rec previous name second easting northing = do
   if falls previous s then Err (SecondFalls rec) else Ok (record { second = s; at = position (pos e) (pos n) })
 
 -- the checks of record number rec, in their order
-abbrev pub checks_of : Scale → ℕ → Option Previous → List ℕ → List ℕ → List ℕ → List ℕ → List ℕ → Result Checked ReadFault
+abbrev pub checks_of : Scale → ℕ → Option Previous → List ℕ → List ℕ → List ℕ → List ℕ → Option (List ℕ) → Result Checked ReadFault
 checks_of unit rec previous name second easting northing used = do
   fix ← fix_in unit rec previous name second easting northing
   is_used ← used_in rec used
   Ok (record { fix = fix; used = is_used })
 
--- what record number rec comes to below a header that has the column `use` or not, or the first fault of the record; one that has no field `use` is used
+-- what record number rec comes to below a header that has the column `use` or not, or the first fault of the record
 unfoldable pub checked_in : Scale → Bool → ℕ → Option Previous → Record → Result Checked ReadFault
-checked_in unit false rec previous (name ∷ second ∷ easting ∷ northing ∷ []) = checks_of unit rec previous name second easting northing (codes "1")
-checked_in unit true rec previous (name ∷ second ∷ easting ∷ northing ∷ used ∷ []) = checks_of unit rec previous name second easting northing used
+checked_in unit false rec previous (name ∷ second ∷ easting ∷ northing ∷ []) = checks_of unit rec previous name second easting northing None
+checked_in unit true rec previous (name ∷ second ∷ easting ∷ northing ∷ used ∷ []) = checks_of unit rec previous name second easting northing (Some used)
 checked_in unit has_use rec previous fields = Err (WrongFieldCount rec (length fields) (width has_use))
 
 -- a record split into fields below such a header
-abbrev pub IsSplit : Bool → Record → List ℕ → List ℕ → List ℕ → List ℕ → List ℕ → Type 0
-IsSplit false fields name second easting northing used = (fields ≡ name ∷ second ∷ easting ∷ northing ∷ []) × (used ≡ codes "1")
-IsSplit true fields name second easting northing used = fields ≡ name ∷ second ∷ easting ∷ northing ∷ used ∷ []
+abbrev pub IsSplit : Bool → Record → List ℕ → List ℕ → List ℕ → List ℕ → Option (List ℕ) → Type 0
+IsSplit has_use fields name second easting northing None = (has_use ≡ false) × (fields ≡ name ∷ second ∷ easting ∷ northing ∷ [])
+IsSplit has_use fields name second easting northing (Some used) = (has_use ≡ true) × (fields ≡ name ∷ second ∷ easting ∷ northing ∷ used ∷ [])

@@ -38,21 +38,21 @@ fn width(has_use: bool) -> usize
     }
 }
 
-// The fields of a record. One that has no field `use` is used.
+// The fields of a record; `used` is `None` where it has no field `use`.
 #[derive(Clone, Copy)]
 struct Fields<'a> {
     name: &'a [u8],
     second: &'a [u8],
     easting: &'a [u8],
     northing: &'a [u8],
-    used: &'a [u8],
+    used: Option<&'a [u8]>,
 }
 
 // The fields of a record, if it has as many as the header asks.
 fn fields_in(row: &ByteRecord, has_use: bool) -> Option<Fields<'_>>
     ensures { MatchOption result (length (fields_of row.now) ≢ width has_use)
-        (λ f. IsSplit has_use
-        (fields_of row.now) f.name.now f.second.now f.easting.now f.northing.now f.used.now) }
+        (λ f. IsSplit has_use (fields_of row.now) f.name.now f.second.now f.easting.now
+        f.northing.now (option_map (λ u. u.now) f.used)) }
 {
     if row.len() != width(has_use) {
         return None;
@@ -62,7 +62,7 @@ fn fields_in(row: &ByteRecord, has_use: bool) -> Option<Fields<'_>>
         second: row.get(1)?,
         easting: row.get(2)?,
         northing: row.get(3)?,
-        used: if has_use { row.get(4)? } else { b"1" },
+        used: row.get(4),
     })
 }
 
@@ -95,7 +95,7 @@ pub(crate) fn header_of(row: &ByteRecord) -> Option<bool>
         && fields.second == b"second".as_slice()
         && fields.easting == b"easting".as_slice()
         && fields.northing == b"northing".as_slice()
-        && (!has_use || fields.used == b"use".as_slice());
+        && (!has_use || fields.used == Some(b"use".as_slice()));
     if is_header { Some(has_use) } else { None }
 }
 
@@ -180,10 +180,13 @@ fn fix_in(
     Ok(Fix { second, at })
 }
 
-// Whether a record is used, by the field that says so.
-fn used_in(field: &[u8], rec: u32) -> Result<bool, ReadFault>
-    ensures { result ≡ used_in rec field.now }
+// Whether a record is used, by the field that says so. One that has no such field is used.
+fn used_in(field: Option<&[u8]>, rec: u32) -> Result<bool, ReadFault>
+    ensures { result ≡ used_in rec (option_map (λ f. f.now) field.entry) }
 {
+    let Some(field) = field else {
+        return Ok(true);
+    };
     if field == b"1".as_slice() {
         Ok(true)
     } else if field == b"0".as_slice() {

@@ -1,12 +1,13 @@
 -- Groups of eight points.
 use Rattle.std.proofs.Common.{◌≡◌, ℕ, ◌+◌, ◌%◌, ℤ, pos, ◌-ℤ◌, Bool, cond, List, [], ◌∷◌, length, map, replicate, take, drop, count_by, fold, refl, ap, ◌∙◌, sym}
-use Rattle.std.proofs.Common.{arith, FitsSigned, to_z, of_z, w64}
+use Rattle.std.proofs.Common.{◌<◌, ◌++◌, Some, get_or, slice_get, arith, length-drop, FitsSigned, to_z, of_z, w64}
 use lib.Lanes.{zip2, chunk, Each1, mask_l, top}
 use lib.Count.{ones}
 use lib.Signed.{le_z}
 use Rattle.std.specs.List.{All}
 use Rattle.std.proofs.lemmas.Int.{to_z-of_z}
-use Rattle.std.proofs.lemmas.List.{length-map}
+use Rattle.std.proofs.lemmas.List.{get_or-drop, length-map, map_more}
+use Rattle.std.proofs.lemmas.Option.{get_or_from_slice_get}
 use Rattle.std.specs.List.{take-map, drop-map}
 use Rattle.std.proofs.lemmas.Simd.{map-map, zip2_splat, zip2_splat_left, Each1-chunk, tops_compared, mask_l-mod, ones-mask_l}
 use Rattle.range_plane.specs.Plane.{Position, position, IsCoordinate, coordinate_limit}
@@ -73,3 +74,10 @@ count_mask zs h =
     ∙ ap ones (mask_l-mod (map (not_below 0) bits) 64 (omega (arith, length-map bits (not_below 0))))
     ∙ ones-mask_l (not_below 0) bits
     ∙ count_bits (not_below 0) 0 zs not_below_zero h.1
+
+-- one point more of a group
+pub group_more : {A : Type 0} (f : Position → A) (ps : List Position) (at i : ℕ) (p : Position) → at + i < length ps → slice_get ps (at + i) ≡ Some p
+    → map f (chunk at (i + 1) ps) ≡ map f (chunk at i ps) ++ f p ∷ []
+group_more f ps at i p within here =
+    let read : get_or (drop at ps) i p ≡ p = get_or-drop at ps i p ∙ get_or_from_slice_get ps (at + i) p p here in
+    map_more f (drop at ps) i p (omega (arith, length-drop at ps, within)) ∙ ap (λ q. map f (chunk at i ps) ++ f q ∷ []) read

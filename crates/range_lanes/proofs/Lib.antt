@@ -4,4 +4,5 @@ pub mod Counting
 pub mod LaneEdges
 pub mod Signed
 pub mod Summing
+pub mod Taken
 pub mod Turning

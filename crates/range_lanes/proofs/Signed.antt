@@ -1,15 +1,17 @@
 -- Lanes of signed numbers, as the vector operations keep them: each by its bits.
 use Rattle.std.proofs.Common.{◌≡◌, ℕ, ◌+◌, ◌<◌, ℤ, ◌+ℤ◌, ◌-ℤ◌, ◌*ℤ◌, List, [], ◌∷◌, map, refl, ap, ◌∙◌, sym, arith, w32, w64, lit<, FitsSigned, to_z, of_z}
-use Rattle.std.proofs.Common.{cond, Bool, true, false}
+use Rattle.std.proofs.Common.{cond, Bool, true, false, ◌&&◌, ◌^◌, bit_or, ltb}
 use lib.Lanes.{zip2, Each1, Each2, sel_l, top}
 use lib.Signed.{lt_z}
-use Rattle.std.specs.Int.{int_min, int_max}
+use Rattle.std.specs.Int.{int_min, int_max, int_bit_or}
 use Rattle.range_plane.specs.Plane.{IsCoordinate, coordinate_limit, product_limit, turn_limit}
 use Rattle.range_lemmas.proofs.Sizes.{abs_add, abs_mul, abs_sub, abs_up_to, fits_from_size}
-use Rattle.range_lanes.specs.Lanes.{IsBounded, AreLanes}
+use Rattle.range_lanes.specs.Lanes.{IsBounded, AreLanes, is_not_negative}
 use Rattle.std.specs.List.{All}
 use Rattle.std.proofs.lemmas.List.Elements.{All-head, All-tail}
 use Rattle.std.proofs.lemmas.Simd.{Each1-weaker, length-zip2}
+use Rattle.std.proofs.Math.Facts.{Fits-of_z, Fits-or, sfits_to_z}
+use Rattle.std.proofs.lemmas.Nat.{le_or_l, le_or_r, or_lt}
 use Rattle.std.proofs.lemmas.Int.{to_z-of_z, ints, fits_signed_from_abs}
 
 -- the bits read back are the lanes
@@ -154,6 +156,37 @@ min_fits x y f g = either_fits (lt_z y x) y x g f
 
 pub max_fits : (x y : ℤ) → FitsSigned w64 x → FitsSigned w64 y → FitsSigned w64 (int_max x y)
 max_fits x y f g = either_fits (lt_z y x) x y f g
+
+-- ---- a bitwise or
+pub or_fits : (x y : ℤ) → FitsSigned w64 x → FitsSigned w64 y → FitsSigned w64 (int_bit_or w64 x y)
+or_fits x y f g = sfits_to_z (Fits-or (Fits-of_z f) (Fits-of_z g))
+
+-- the sign of a number that is read from bits
+sign_of_bits : (n : ℕ) → is_not_negative (to_z w64 n) ≡ ltb n (2 ^ 63)
+sign_of_bits n = grind (arith, ints)
+
+or_below_half : (a b : ℕ) → ltb (bit_or a b) (2 ^ 63) ≡ (ltb a (2 ^ 63) && ltb b (2 ^ 63))
+or_below_half a b = grind (arith, or_lt 63 a b, le_or_l a b, le_or_r a b)
+
+or_sign : (x y : ℤ) → FitsSigned w64 x → FitsSigned w64 y → is_not_negative (int_bit_or w64 x y) ≡ (is_not_negative x && is_not_negative y)
+or_sign x y f g =
+    let sign_kept : (z : ℤ) → FitsSigned w64 z → ltb (of_z w64 z) (2 ^ 63) ≡ is_not_negative z =
+    λ z h. sym (sign_of_bits (of_z w64 z)) ∙ ap is_not_negative (to_z-of_z w64 z h) in
+    sign_of_bits (bit_or (of_z w64 x) (of_z w64 y)) ∙ or_below_half (of_z w64 x) (of_z w64 y)
+    ∙ ap (λ s. s && ltb (of_z w64 y) (2 ^ 63)) (sign_kept x f) ∙ ap (λ s. is_not_negative x && s) (sign_kept y g)
+
+pub signs_of_or : (xs ys : List ℤ) → Each1 (FitsSigned w64) xs → Each1 (FitsSigned w64) ys
+    → map is_not_negative (zip2 (int_bit_or w64) xs ys) ≡ zip2 ◌&&◌ (map is_not_negative xs) (map is_not_negative ys)
+signs_of_or [] ys p q = refl
+signs_of_or (x ∷ xs) [] p q = refl
+signs_of_or (x ∷ xs) (y ∷ ys) p q =
+    ap (λ b. b ∷ map is_not_negative (zip2 (int_bit_or w64) xs ys)) (or_sign x y p.0 q.0)
+    ∙ ap (λ l. (is_not_negative x && is_not_negative y) ∷ l) (signs_of_or xs ys p.1 q.1)
+
+-- an or on bits, lane by lane
+pub or_is : (xs ys : List ℤ) → Each1 (FitsSigned w64) xs → Each1 (FitsSigned w64) ys
+    → map (to_z w64) (zip2 bit_or (map (of_z w64) xs) (map (of_z w64) ys)) ≡ zip2 (int_bit_or w64) xs ys
+or_is xs ys p q = lanes_are (int_bit_or w64) bit_or (FitsSigned w64) (FitsSigned w64) (λ x y p q. refl) xs ys p q
 
 -- ---- through 32 bits and back
 narrow_fits : (x : ℤ) → IsBounded coordinate_limit x → FitsSigned w32 x

@@ -2,7 +2,6 @@
 use Rattle.std.proofs.Common.{◌≡◌, ℤ, pos, negsuc, ◌+ℤ◌, ◌-ℤ◌, ◌*ℤ◌, neg_ℤ, Bool, ◌&&◌, zero, suc, List, [], ◌∷◌, map, refl, ap, ◌∙◌, sym, subst, arith, lit<}
 use Rattle.std.proofs.Common.{int_le, to_z, of_z, w64}
 use lib.Lanes.{zip2, Each1}
-use Rattle.std.specs.Int.{int_min}
 use Rattle.std.proofs.lemmas.Int.{ints}
 use Rattle.std.proofs.lemmas.Simd.{map-map, zip2-map, Each1-weaker}
 use Rattle.range_plane.specs.Plane.{IsCoordinate, Position, turn, coordinate_limit, product_limit, turn_limit}
@@ -91,19 +90,10 @@ sum_small xs ys zs f g e =
     (λ x y p q. abs_add x y product_limit product_limit p q) xs ys f g)
 
 -- ---- signs
-min_sign : (x y : ℤ) → is_not_negative (int_min x y) ≡ (is_not_negative x && is_not_negative y)
-min_sign x y = grind (arith, ints)
-
 negated_sign : (x : ℤ) → is_not_negative (pos 0 -ℤ x) ≡ int_le x (pos 0)
 negated_sign (pos zero) = refl
 negated_sign (pos (suc n)) = grind (arith, ints)
 negated_sign (negsuc n) = grind (arith, ints)
-
-pub signs_of_least : (xs ys : List ℤ) → map is_not_negative (zip2 int_min xs ys) ≡ zip2 ◌&&◌ (map is_not_negative xs) (map is_not_negative ys)
-signs_of_least [] ys = refl
-signs_of_least (x ∷ xs) [] = refl
-signs_of_least (x ∷ xs) (y ∷ ys) =
-    ap (λ b. b ∷ map is_not_negative (zip2 int_min xs ys)) (min_sign x y) ∙ ap (λ l. (is_not_negative x && is_not_negative y) ∷ l) (signs_of_least xs ys)
 
 signs_of_negated : (f : Position → ℤ) (vs : List Position) (xs ys : List ℤ) → xs ≡ map f vs → ys ≡ map (λ x. pos 0 -ℤ x) xs
     → map is_not_negative ys ≡ map (λ p. int_le (f p) (pos 0)) vs
@@ -115,11 +105,10 @@ signs_of_negated f vs xs ys e h =
 pub signs_of_map : (f : Position → ℤ) (vs : List Position) (xs : List ℤ) → xs ≡ map f vs → map is_not_negative xs ≡ map (λ p. is_not_negative (f p)) vs
 signs_of_map f vs xs e = ap (map is_not_negative) e ∙ map-map is_not_negative f vs
 
--- the least of margins, where each says a test
+-- margins joined, where each says a test
 pub both_signs : (f g : Position → Bool) (vs : List Position) (xs ys zs : List ℤ) → map is_not_negative xs ≡ map f vs → map is_not_negative ys ≡ map g vs
-    → zs ≡ zip2 int_min xs ys → map is_not_negative zs ≡ map (λ p. f p && g p) vs
-both_signs f g vs xs ys zs hx hy e =
-    ap (map is_not_negative) e ∙ signs_of_least xs ys ∙ ap (λ l. zip2 ◌&&◌ l (map is_not_negative ys)) hx ∙ ap (zip2 ◌&&◌ (map f vs)) hy ∙ zip2-map ◌&&◌ f g vs
+    → map is_not_negative zs ≡ zip2 ◌&&◌ (map is_not_negative xs) (map is_not_negative ys) → map is_not_negative zs ≡ map (λ p. f p && g p) vs
+both_signs f g vs xs ys zs hx hy e = e ∙ ap (λ l. zip2 ◌&&◌ l (map is_not_negative ys)) hx ∙ ap (zip2 ◌&&◌ (map f vs)) hy ∙ zip2-map ◌&&◌ f g vs
 
 naught_signs : (x : ℤ) → (int_le x (pos 0) && is_not_negative x) ≡ int_eq x (pos 0)
 naught_signs (pos zero) = refl
@@ -127,7 +116,9 @@ naught_signs (pos (suc n)) = grind (arith, ints)
 naught_signs (negsuc n) = grind (arith, ints)
 
 pub segment_signs : (a b : Position) (vs : List Position) (t f nt nf m z : List ℤ) → t ≡ map (turn a b) vs → f ≡ map (λ q. scalar_product q a b) vs
-    → nt ≡ map (λ x. pos 0 -ℤ x) t → nf ≡ map (λ x. pos 0 -ℤ x) f → m ≡ zip2 int_min nt t → z ≡ zip2 int_min m nf
+    → nt ≡ map (λ x. pos 0 -ℤ x) t → nf ≡ map (λ x. pos 0 -ℤ x) f
+    → map is_not_negative m ≡ zip2 ◌&&◌ (map is_not_negative nt) (map is_not_negative t)
+    → map is_not_negative z ≡ zip2 ◌&&◌ (map is_not_negative m) (map is_not_negative nf)
     → map is_not_negative z ≡ map (λ q. is_on_segment q a b) vs
 segment_signs a b vs t f nt nf m z ht hf hnt hnf hm hz =
     let straight = both_signs (λ q. int_le (turn a b q) (pos 0)) (λ q. is_not_negative (turn a b q)) vs nt t m (signs_of_negated (turn a b) vs t nt ht hnt)

@@ -1,3 +1,4 @@
 pub mod Extent
+pub mod InnerPlaces
 pub mod Lanes
 pub mod Totals

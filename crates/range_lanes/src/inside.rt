@@ -1,13 +1,16 @@
 // Which of many points a polygon covers.
 
-ghost use Rattle.std.specs.Prelude.{◌≡◌, ◌*◌, ◌<◌, ◌≤◌, count_by, length, map, take};
+ghost use Rattle.std.specs.Prelude.{◌≡◌, ◌+◌, ◌*◌, ◌<◌, ◌≤◌, ◌++◌, Contains, count_by, length, map, take};
+ghost use Rattle.std.specs.Simd.Lanes.{chunk};
 ghost use Rattle.range_plane.specs.Covering.{is_covered};
+ghost use Rattle.range_plane.specs.Plane.{Position};
 ghost use Rattle.range_plane.specs.Polygon.{IsPolygon};
 
 use crate::eight::Eight;
+use crate::inner::{INNER_CORNERS, inner_of};
 use crate::lanes::LANE_COUNT;
 use crate::marking::margins;
-use range_plane::{Columns, Point, Polygon};
+use range_plane::{Columns, Point, Polygon, covered_is_decided, larger_sets_cover_more};
 use std::alloc::Allocator;
 
 // The most corners of a polygon all of whose edges are tried, for eight points at once. In a polygon of
@@ -15,7 +18,8 @@ use std::alloc::Allocator;
 const LANE_CORNERS: usize = 36;
 
 /// Marks at the place of each point whether the polygon covers it. Where the corners are few, each edge
-/// costs a few steps for eight points; where they are many, each point costs a binary search.
+/// costs a few steps for eight points; where they are many, each point costs a binary search, unless a polygon of
+/// twelve of the corners covers it and the seven others of its group.
 pub fn mark_inside<A: Allocator, B: Allocator>(
     corners: &Polygon<A>,
     cols: &Columns<B>,
@@ -24,7 +28,7 @@ pub fn mark_inside<A: Allocator, B: Allocator>(
     requires { length out.old ≡ length cols.now.points }
     ensures { out.new ≡ map (is_covered corners.now) cols.now.points }
 {
-    let marked = mark_groups(corners.corners(), cols, out);
+    let marked = mark_groups(corners, cols, out);
     for i in marked..cols.len() {
         out[i] = corners.covers(cols.at(i));
     }
@@ -53,8 +57,26 @@ fn groups_for_lanes(corners: &[Point], points: usize) -> usize
     }
 }
 
+// Marks the points of whole groups of eight, and says how many points these are: none where there is no corner.
+fn mark_groups<A: Allocator, B: Allocator>(
+    polygon: &Polygon<A>,
+    cols: &Columns<B>,
+    out: &mut [bool],
+) -> usize
+    requires { length out.old ≡ length cols.now.points }
+    ensures within { result ≤ length cols.now.points }
+    ensures marks { take result out.new
+        ≡ map (is_covered polygon.now) (take result cols.now.points) }
+{
+    if polygon.corners().len() > INNER_CORNERS {
+        mark_by_inner(polygon, cols, out)
+    } else {
+        mark_by_edges(polygon.corners(), cols, out)
+    }
+}
+
 // Marks the points of the groups that go through the lanes, and says how many points these are.
-fn mark_groups<A: Allocator>(corners: &[Point], cols: &Columns<A>, out: &mut [bool]) -> usize
+fn mark_by_edges<A: Allocator>(corners: &[Point], cols: &Columns<A>, out: &mut [bool]) -> usize
     requires polygon { IsPolygon corners.now corners.now }
     requires places { length out.old ≡ length cols.now.points }
     ensures within { result ≤ length cols.now.points }
@@ -67,6 +89,74 @@ fn mark_groups<A: Allocator>(corners: &[Point], cols: &Columns<A>, out: &mut [bo
         margins(corners, &Eight::load(cols, at)).mark(out, at);
     }
     LANE_COUNT * groups
+}
+
+// Marks the points of all whole groups, and says how many points these are. Most groups of a track lie within the
+// inner polygon, which tells that the polygon covers them.
+fn mark_by_inner<A: Allocator, B: Allocator>(
+    polygon: &Polygon<A>,
+    cols: &Columns<B>,
+    out: &mut [bool],
+) -> usize
+    requires many { INNER_CORNERS ≤ length polygon.now }
+    requires places { length out.old ≡ length cols.now.points }
+    ensures within { result ≤ length cols.now.points }
+    ensures marks { take result out.new
+        ≡ map (is_covered polygon.now) (take result cols.now.points) }
+{
+    let inner = inner_of(polygon.corners());
+    let groups = cols.len() / LANE_COUNT;
+    for group in 0..groups {
+        mark_group(polygon, &inner, cols, LANE_COUNT * group, out);
+    }
+    LANE_COUNT * groups
+}
+
+// Marks the eight points from `at` on, by the inner polygon where it covers them all.
+fn mark_group<A: Allocator, B: Allocator>(
+    polygon: &Polygon<A>,
+    inner: &[Point],
+    cols: &Columns<B>,
+    at: usize,
+    out: &mut [bool],
+)
+    requires polygon { IsPolygon inner.now inner.now }
+    requires some { 0 < length inner.now }
+    requires within { (p : Position) → Contains inner.now p → Contains polygon.now p }
+    requires room { at + LANE_COUNT ≤ length cols.now.points }
+    requires places { length out.old ≡ length cols.now.points }
+    ensures { take (at + LANE_COUNT) out.new
+        ≡ take at out.old ++ map (is_covered polygon.now) (chunk at LANE_COUNT cols.now.points) }
+{
+    covered_is_decided();
+    larger_sets_cover_more();
+    let group = Eight::load(cols, at);
+    let corners = polygon.corners();
+    let quick = margins(inner, &group);
+    if quick.count_not_negative() as usize == LANE_COUNT {
+        quick.mark(out, at);
+    } else if corners.len() <= LANE_CORNERS {
+        margins(corners, &group).mark(out, at);
+    } else {
+        mark_each(polygon, cols, at, out);
+    }
+}
+
+// Marks the eight points from `at` on, each by a binary search.
+fn mark_each<A: Allocator, B: Allocator>(
+    polygon: &Polygon<A>,
+    cols: &Columns<B>,
+    at: usize,
+    out: &mut [bool],
+)
+    requires room { at + LANE_COUNT ≤ length cols.now.points }
+    requires places { length out.old ≡ length cols.now.points }
+    ensures { take (at + LANE_COUNT) out.new
+        ≡ take at out.old ++ map (is_covered polygon.now) (chunk at LANE_COUNT cols.now.points) }
+{
+    for i in 0..LANE_COUNT {
+        out[at + i] = polygon.covers(cols.at(at + i));
+    }
 }
 
 // How many points the corners cover of the groups that go through the lanes, and how many these have.

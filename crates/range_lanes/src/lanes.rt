@@ -1,6 +1,6 @@
 // Eight signed numbers, and operations on them that give exact results.
 
-ghost use Rattle.std.specs.Prelude.{◌≡◌, ◌+◌, ◌++◌, ◌≤◌, ◌+ℤ◌, ◌-ℤ◌, ◌*ℤ◌, All, pos, count_by, length, map, replicate, take};
+ghost use Rattle.std.specs.Prelude.{◌≡◌, ◌+◌, ◌++◌, ◌&&◌, ◌≤◌, ◌+ℤ◌, ◌-ℤ◌, ◌*ℤ◌, All, pos, count_by, length, map, replicate, take};
 ghost use Rattle.std.specs.Int.{int_min, int_max};
 ghost use Rattle.std.specs.Simd.Lanes.{zip2, chunk, Each1};
 ghost use Rattle.range_plane.specs.Plane.{IsCoordinate, coordinate_limit, turn_limit};
@@ -116,6 +116,17 @@ impl Lanes {
     {
         Lanes {
             lanes: self.lanes.simd_max(other.lanes),
+        }
+    }
+
+    // Numbers of which each is negative exactly where at least one of the two is.
+    #[inline(always)]
+    pub(crate) fn negative_in_either(self, other: Lanes) -> Lanes
+        ensures { map is_not_negative result
+            ≡ zip2 ◌&&◌ (map is_not_negative self) (map is_not_negative other) }
+    {
+        Lanes {
+            lanes: self.lanes | other.lanes,
         }
     }
 

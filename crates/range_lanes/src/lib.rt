@@ -3,6 +3,7 @@
 
 mod eight;
 mod extent;
+mod inner;
 mod inside;
 mod lanes;
 mod marking;

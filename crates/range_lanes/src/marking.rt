@@ -38,10 +38,13 @@ fn margins_of_segment(a: Point, b: Point, group: &Eight) -> Lanes
 {
     let turned = turns(a, b, group);
     let products = scalar_products(a, b, group);
-    turned.negated().least(turned).least(products.negated())
+    turned
+        .negated()
+        .negative_in_either(turned)
+        .negative_in_either(products.negated())
 }
 
-// The same for three or more corners: the least of the point's turns from all edges.
+// The same for three or more corners: below 0 exactly where the point's turn from some edge is.
 #[inline(always)]
 fn margins_of_edges(corners: &[Point], group: &Eight) -> Lanes
     requires polygon { IsPolygon corners.now corners.now }
@@ -53,7 +56,7 @@ fn margins_of_edges(corners: &[Point], group: &Eight) -> Lanes
     let last = corners.len() - 1;
     let mut margins = turns(corners[last], corners[0], group);
     for i in 0..last {
-        margins = margins.least(turns(corners[i], corners[i + 1], group));
+        margins = margins.negative_in_either(turns(corners[i], corners[i + 1], group));
     }
     margins
 }

@@ -1,6 +1,7 @@
 //! Percent polygons, and the overlap of one animal's fixes with the range of another.
 #![tactic(auto)]
 
+mod adding;
 mod cuts;
 mod distances;
 mod overlaps;

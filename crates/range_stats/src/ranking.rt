@@ -6,13 +6,14 @@ ghost use Rattle.range_plane.specs.Fix.{fix_limit};
 ghost use Rattle.range_plane.specs.Plane.{Position};
 ghost use Rattle.range_stats.specs.Percent.{IsFirstRow, IsHullOf, IsPercentRow, IsRanking, kept_count};
 
+use crate::adding::add_points;
 use crate::cuts::{kept_count, push_cut};
 use crate::distances::keys;
 use crate::percents::PercentRow;
 use range_hull::OnlineHull;
 use range_plane::{
     Columns, OutOfMemory, Point, corners_cover_the_set, covering_members_are_corners,
-    few_cover_little, larger_sets_cover_more,
+    few_cover_little, larger_sets_cover_more, polygon_of_its_corners,
 };
 use std::alloc::{Allocator, Global};
 use std::marker::Model;
@@ -70,7 +71,7 @@ impl<A: Allocator> Ranking<A> {
         corners_cover_the_set();
         covering_members_are_corners();
         let mut hull = OnlineHull::new(alloc);
-        self.read(&mut hull, 0, level)
+        self.read(alloc, &mut hull, 0, level)
     }
 
     /// The percent polygons at the levels that the points were ranked for, in their order. Levels that rise share
@@ -100,7 +101,7 @@ impl<A: Allocator> Ranking<A> {
                 hull = OnlineHull::new(alloc);
                 done = 0;
             }
-            let row = self.read(&mut hull, done, *level)?;
+            let row = self.read(alloc, &mut hull, done, *level)?;
             rows.push(row)?;
             done = kept;
         }
@@ -111,6 +112,7 @@ impl<A: Allocator> Ranking<A> {
     // added.
     fn read<B: Allocator>(
         &self,
+        alloc: B,
         hull: &mut OnlineHull<B>,
         done: usize,
         level: u8,
@@ -128,8 +130,9 @@ impl<A: Allocator> Ranking<A> {
         few_cover_little();
         corners_cover_the_set();
         covering_members_are_corners();
+        polygon_of_its_corners();
         let kept = kept_count(level, self.points.len());
-        add_points(hull, &self.points[done..kept])?;
+        add_points(alloc, hull, &self.points[done..kept])?;
         Ok(PercentRow {
             level,
             kept: kept as u32,
@@ -137,20 +140,4 @@ impl<A: Allocator> Ranking<A> {
             area2: hull.area2(),
         })
     }
-}
-
-// Adds the points to a hull. The last come first, since they cover most of the others: the farthest are among those
-// that a level keeps and no lower one.
-fn add_points<A: Allocator>(hull: &mut OnlineHull<A>, points: &[Point]) -> Result<(), OutOfMemory>
-where
-    A: Copy,
-    requires few { hull.old.inserted + hull.old.skipped + length points.now ≤ fix_limit }
-    ensures { (S : List Position) → IsHullOf S hull.old
-        → IfOk result (λ done. IsHullOf (points.now ++ S) hull.new) }
-{
-    for point in points.iter().rev() {
-        hull.reserve(1)?;
-        hull.insert(*point);
-    }
-    Ok(())
 }

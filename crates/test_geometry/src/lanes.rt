@@ -271,7 +271,31 @@ fn expect_near_parabola(rt: &impl Abort, alloc: Global, corners: u8) {
 
 #[test]
 fn marks_near_parabolas(rt: HostRuntime) {
-    for corners in [0, 1, 2, 3, 16, 35, 36, 37] {
+    for corners in [0, 1, 2, 3, 12, 13, 16, 35, 36, 37] {
         expect_near_parabola(&rt, rt.alloc(), corners);
+    }
+}
+
+// Points one above the other, from below so many corners to above them: groups of eight without, at both edges, near
+// them, and so far within that some of the corners cover all eight.
+fn expect_across_parabola(rt: &impl Abort, alloc: Global, corners: u8) {
+    let polygon = plain_of(rt, alloc, &parabola(rt, alloc, u16::from(corners)));
+    let mut cols = Columns::new(alloc);
+    let mut expected = Vec::new(alloc);
+    let e = corners / 2;
+    for n in 0..u16::from(corners) * u16::from(corners) {
+        let q = point(rt, (i64::from(e), i64::from(n)));
+        cols.push(q).expect(rt, "memory");
+        expected
+            .push(is_in_parabola(corners, e, n))
+            .expect(rt, "memory");
+    }
+    assert!(rt; marks(rt, alloc, &polygon, &cols) == expected, "{corners}");
+}
+
+#[test]
+fn marks_across_parabolas(rt: HostRuntime) {
+    for corners in [12, 13, 24, 36, 37, 50] {
+        expect_across_parabola(&rt, rt.alloc(), corners);
     }
 }

@@ -30,6 +30,8 @@ mod list_growths;
 #[cfg(test)]
 mod list_searches;
 #[cfg(test)]
+mod marks;
+#[cfg(test)]
 mod overlaps;
 #[cfg(test)]
 mod percents;

@@ -22,7 +22,7 @@ fn has_row(found: PercentRow, (level, kept, corners, area2): Row) -> bool {
 
 // Checks rows, each by itself, and all and each read off one ranking.
 fn expect_rows(rt: &impl Abort, alloc: Global, fixes: &Columns, rows: &[Row]) {
-    assert!(rt; fixes.len() <= 250);
+    assert!(rt; fixes.len() <= 1300);
     let levels = rows
         .iter()
         .map(|row| row.0)
@@ -116,7 +116,7 @@ fn line(rt: HostRuntime) {
 
 #[test]
 fn scattered_far(rt: HostRuntime) {
-    let fixes = scattered(&rt, rt.alloc(), 0xFF_FFFF);
+    let fixes = scattered(&rt, rt.alloc(), 250, 0xFF_FFFF);
     expect_rows(
         &rt,
         rt.alloc(),
@@ -136,7 +136,7 @@ fn scattered_far(rt: HostRuntime) {
 // Levels in no order, and one of them twice.
 #[test]
 fn levels_in_any_order(rt: HostRuntime) {
-    let fixes = scattered(&rt, rt.alloc(), 0xFF_FFFF);
+    let fixes = scattered(&rt, rt.alloc(), 250, 0xFF_FFFF);
     expect_rows(
         &rt,
         rt.alloc(),
@@ -155,7 +155,7 @@ fn levels_in_any_order(rt: HostRuntime) {
 // With many ties.
 #[test]
 fn scattered_near(rt: HostRuntime) {
-    let fixes = scattered(&rt, rt.alloc(), 0xF);
+    let fixes = scattered(&rt, rt.alloc(), 250, 0xF);
     expect_rows(
         &rt,
         rt.alloc(),
@@ -168,6 +168,35 @@ fn scattered_near(rt: HostRuntime) {
             (95, 238, 10, 406),
             (99, 248, 9, 428),
             (100, 250, 6, 443),
+        ],
+    );
+}
+
+// More points than are marked at once.
+#[test]
+fn many_scattered(rt: HostRuntime) {
+    let far = scattered(&rt, rt.alloc(), 1300, 0xFF_FFFF);
+    expect_rows(
+        &rt,
+        rt.alloc(),
+        &far,
+        &[
+            (10, 130, 16, 44_598_644_377_774),
+            (50, 650, 30, 256_039_945_182_629),
+            (95, 1235, 25, 524_802_166_184_445),
+            (100, 1300, 19, 555_318_582_666_498),
+        ],
+    );
+    let near = scattered(&rt, rt.alloc(), 1300, 0x3F);
+    expect_rows(
+        &rt,
+        rt.alloc(),
+        &near,
+        &[
+            (10, 130, 15, 723),
+            (50, 650, 23, 4_189),
+            (95, 1235, 18, 7_526),
+            (100, 1300, 8, 7_926),
         ],
     );
 }

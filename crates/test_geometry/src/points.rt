@@ -143,11 +143,11 @@ pub(crate) fn next(seed: u64) -> u64 {
         .wrapping_add(1442695040888963407)
 }
 
-// 250 points anywhere in a square of this side, one less than a power of two.
-pub(crate) fn scattered(rt: &impl Abort, alloc: Global, mask: u32) -> Columns {
+// So many points anywhere in a square of this side, one less than a power of two.
+pub(crate) fn scattered(rt: &impl Abort, alloc: Global, count: u32, mask: u32) -> Columns {
     let mut columns = Columns::new(alloc);
     let mut seed = 1;
-    for _ in 0..250 {
+    for _ in 0..count {
         seed = next(seed);
         let e = (seed >> 33) as u32 & mask;
         seed = next(seed);

@@ -8,10 +8,11 @@ use std::alloc::{Allocator, Global};
 use std::process::Abort;
 use test_doubles::Refusing;
 
-// A ranking takes memory twice, rows once, and a hull for each of its chains.
+// A ranking takes memory twice, rows once, a hull for each of its chains, and the points that are marked at once for
+// both columns and for the marks.
 const RANKING_GROWTHS: u32 = 2;
 
-const HULL_GROWTHS: u32 = 2;
+const HULL_GROWTHS: u32 = 2 + 3;
 
 const HALF_OF_RING: PercentRow = PercentRow {
     level: 50,

@@ -26,8 +26,9 @@ loop-i-preserved c =
     let to : c.index-corners-i-in-loop-i.result ≡ at L (i + 1) = get_or_read L (i + 1) c.index-corners-i-in-loop-i.result
     (omega arith) c.index-corners-i-in-loop-i.is origin in
     let turned = c.turns.ensures.value ∙ ap (λ a. map (turn a c.index-corners-i-in-loop-i.result) vs) from ∙ ap (λ b. map (turn (at L i) b) vs) to in
-    rw add-one (both_signs (is_left_of_first L i) (is_left (at L i) (at L (i + 1))) vs c.loop-i.margins c.turns.result c.least-margins.result c.loop-i.invariant
-    (signs_of_map (turn (at L i) (at L (i + 1))) vs c.turns.result turned) c.least-margins.ensures)
+    rw add-one (both_signs (is_left_of_first L i) (is_left (at L i) (at L (i + 1))) vs c.loop-i.margins c.turns.result
+    c.negative_in_either-margins.result c.loop-i.invariant (signs_of_map (turn (at L i) (at L (i + 1))) vs c.turns.result turned)
+    c.negative_in_either-margins.ensures)
 
 pub returns : goal.returns
 returns c =

@@ -1,12 +1,12 @@
 use Rattle.std.proofs.Common.{◌++◌, ◌∷◌, [], List, arith, sym, ap, subst, ◌∙◌, append_assoc, take}
 use Rattle.std.proofs.lemmas.List.{map-append}
+use Rattle.std.proofs.lemmas.List.Elements.{Contains-append_left}
 use Rattle.range_plane.specs.Plane.{Position}
 use Rattle.range_plane.specs.Polygon.{IsPolygon}
 use Rattle.range_plane.specs.Row.{points_of}
 use Rattle.range_plane.specs.declared.fix.Fix.{Fix}
 use Rattle.range_estimator.specs.Table.{TableView}
 use Rattle.range_estimator.proofs.MarkedBlocks.{count_more, mark_at, taken_more, untested_more}
-use Rattle.range_estimator.proofs.Sets.{covered_later}
 use Rattle.range_estimator.proofs.table.Table.take_marked.Goals as goal
 
 pub take-requires-clause-covered : goal.take-requires-clause-covered
@@ -17,8 +17,8 @@ take-requires-clause-covered g c = λ marked.
     let points = ap points_of c.loop-i.invariant.fixes ∙ map-append (λ (f : Fix). f.at) old.fixes taken in
     let after = subst (λ (S : List Position). IsPolygon S c.loop-i.self.corners) points c.loop-i.invariant.estimate.polygon in
     let mark = mark_at old.corners c.args.block.now c.args.marks.now c.loop-i.i c.index-block-i.result c.requires.marks c.loop-i-test.true c.index-block-i.is in
-    covered_later c.covered_is_decided.ensures.set c.corners_cover_the_set.ensures c.larger_sets_cover_more.ensures (points_of old.fixes)
-    (points_of taken) old.corners c.loop-i.self.corners c.index-block-i.result.at before after (sym mark ∙ marked)
+    c.covered_points_stay_covered.ensures (points_of old.fixes) (points_of old.fixes ++ points_of taken) old.corners c.loop-i.self.corners
+    c.index-block-i.result.at before after (λ s. Contains-append_left (points_of old.fixes) (points_of taken) s) (sym mark ∙ marked)
 
 pub loop-i-preserved : goal.loop-i-preserved
 loop-i-preserved g c =

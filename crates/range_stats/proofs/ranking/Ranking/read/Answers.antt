@@ -13,6 +13,9 @@ overflow_cast-result g c =
     let few : c.len.result ≤ fix_limit = omega (arith, c.len.ensures, c.self.invariant) in
     record { fits = omega (arith, kept, few) }
 
+pub add_points-requires-clause-polygon : goal.add_points-requires-clause-polygon
+add_points-requires-clause-polygon g c = c.polygon_of_its_corners.ensures (take c.args.done c.args.self.now) c.args.hull.now.corners c.requires.hull.polygon
+
 pub returns-clause-row : goal.returns-clause-row
 returns-clause-row g c =
     let ranked = c.args.self.now in

@@ -1,0 +1,79 @@
+-- Corners that are taken from a polygon in their order, spread evenly over it, are a polygon.
+use Rattle.std.proofs.Common.{◌≡◌, ◌≢◌, refl, sym, subst, ◌∙◌, ℕ, zero, suc, ◌/◌, ◌%◌, ◌<◌, ◌≤◌, List, [], ◌∷◌, length, get_or, arith, suc-mul, inl, inr}
+use Rattle.std.proofs.Common.{Contains, AllPairs}
+use Rattle.std.proofs.Math.Nat.{mul-le-mul_right}
+use Rattle.std.proofs.lemmas.Bool.{cases_eq}
+use Rattle.range_lemmas.proofs.Members.{each, empty_contains_nothing}
+use Rattle.range_plane.specs.Covering.{Covers}
+use Rattle.range_plane.specs.Laws.{CoveringMembersAreCorners, LargerSetsCoverMore, OneCoversItself}
+use Rattle.range_plane.specs.Plane.{IsAtMost, Position}
+use Rattle.range_plane.specs.Polygon.{BeginsWithLeast, IsPolygon, TurnsLeft}
+use Rattle.range_lanes.specs.InnerPlaces.{place_of}
+
+-- ---- places
+next_place : (n i : ℕ) → 12 ≤ n → place_of i n < place_of (suc i) n
+next_place n i many = omega (arith, suc-mul i (n / 12), suc-mul i (n % 12))
+
+places_rise : (n i j : ℕ) → 12 ≤ n → i < j → place_of i n < place_of j n
+places_rise n i zero many less = absurd (omega (arith, less))
+places_rise n i (suc j) many less =
+    elim (cases_eq i j) [
+      | inl same ↦ subst (λ k. place_of k n < place_of (suc j) n) (sym same) (next_place n j many)
+      | inr other ↦ omega (arith, places_rise n i j many (omega (arith, less, other)), next_place n j many)
+    ]
+
+pub place_within : (n i : ℕ) → 12 ≤ n → i < 12 → place_of i n < n
+place_within n i many few =
+    let first : i ≤ 11 = omega (arith, few) in
+    omega (arith, mul-le-mul_right (n / 12) first, mul-le-mul_right (n % 12) first)
+
+-- ---- corners at these places
+pub record AreTaken (L inner : List Position) : Type 0 where
+  pub many : 12 ≤ length L
+  pub count : length inner ≡ 12
+  pub each : (i : ℕ) (d : Position) → i < 12 → get_or inner i d ≡ get_or L (place_of i (length L)) d
+
+module _ (L inner : List Position) (taken : AreTaken L inner) where
+  abbrev place : ℕ → ℕ
+  place i = place_of i (length L)
+
+  rise : (i j : ℕ) → i < j → place i < place j
+  rise i j less = places_rise (length L) i j taken.many less
+
+  inside : (i : ℕ) → i < length inner → i < 12
+  inside i within = omega (arith, taken.count, within)
+
+  pub taken_members : (x : Position) → Contains inner x → Contains L x
+  taken_members x member =
+      let few = inside member.0 member.1 in
+      (place member.0, place_within (length L) member.0 taken.many few, sym (taken.each member.0 x few) ∙ member.2)
+
+  taken_distinct : AllPairs (λ a b. a ≢ b) L → AllPairs (λ a b. a ≢ b) inner
+  taken_distinct distinct = λ i j d less within same.
+      let few = inside j within in
+      distinct (place i) (place j) d (rise i j less) (place_within (length L) j taken.many few)
+      (sym (taken.each i d (omega (arith, less, few))) ∙ same ∙ taken.each j d few)
+
+  taken_turns : TurnsLeft L → TurnsLeft inner
+  taken_turns turns = λ i j k d first second within.
+      let few = inside k within in
+      rw (taken.each i d (omega (arith, first, second, few)), taken.each j d (omega (arith, second, few)), taken.each k d few)
+      (turns (place i) (place j) (place k) d (rise i j first) (rise j k second) (place_within (length L) k taken.many few))
+
+taken_least : (L inner : List Position) → AreTaken L inner → BeginsWithLeast L → BeginsWithLeast inner
+taken_least [] inner taken least = absurd (omega (arith, taken.many))
+taken_least (c ∷ L) [] taken least = tt
+taken_least (c ∷ L) (a ∷ inner) taken least = λ x member.
+    let start : place_of 0 (length (c ∷ L)) ≡ 0 = omega arith in
+    let first : a ≡ c = taken.each 0 c (omega arith) ∙ (λ i. get_or (c ∷ L) (start i) c) in
+    subst (λ y. IsAtMost y x) (sym first) (least x (taken_members (c ∷ L) (a ∷ inner) taken x member))
+
+-- a set covers its members
+covers_member : LargerSetsCoverMore → OneCoversItself → (S : List Position) (x : Position) → Contains S x → Covers S x
+covers_member larger one S x member = larger (x ∷ []) S x (each (Contains S) x [] member (λ s none. absurd (empty_contains_nothing s none))) ((one x x).1 refl)
+
+pub taken_polygon : LargerSetsCoverMore → OneCoversItself → CoveringMembersAreCorners → (L inner : List Position) → AreTaken L inner → IsPolygon L L
+    → IsPolygon inner inner
+taken_polygon larger one covering L inner taken polygon =
+    covering inner inner (λ x member. member) (covers_member larger one inner) (taken_distinct L inner taken polygon.distinct)
+    (taken_least L inner taken polygon.least_first) (taken_turns L inner taken polygon.convex)
