@@ -70,7 +70,7 @@ def times_of(track, count, commands, folder, turns):
     arguments = [*options_of(track, count), file_of(track, count)]
     chosen = {name: command for name, command in commands.items() if not options_of(track, count) or name != "vectors"}
     found = timing.medians([[*command, *arguments] for command in chosen.values()], folder, turns)
-    return {name: took for name, (took, _, _) in zip(chosen, found)}
+    return {name: took for name, (took, *_) in zip(chosen, found)}
 
 
 def lines_of(track, counts, commands, folder, turns):

@@ -5,8 +5,9 @@ stops where they differ. Then they are run in turns, since a machine's pace wand
 
 Of a part a time is the least of all runs, each of which makes several passes over marks and percent polygons. Of the
 whole program it is the median of the turns, from start to end, with the report sent to /dev/null; beside it stand the
-medians of the processor's time and of the most memory that a run held. The ratio is the time to that of the plain way
-that took the least, which is named.
+medians of the processor's time, its own and the system's, and of the most memory that a run held. The ratios are those
+of the time and of the processor's time to the plain way that took the least time, which is named. Behind the table
+stands the share of the processors' time that other machines took meanwhile.
 """
 
 import argparse
@@ -30,17 +31,23 @@ ROWS = {
     "follow-walk-1": "one file followed, walk",
     "follow-files-4": "eight files followed",
     "walk": "program, walk",
+    "walk-block-1": "program, walk, with `--block 1`",
     "walk-cores-1": "program, walk, on one core",
     "walk-cores-1-block-1": "program, walk, on one core with `--block 1`",
     "scattered": "program, scattered",
+    "growing": "program, spiral",
     "eight-workers-4": "program, eight files",
     "herd": "program, 64 files",
     "curve": "program, curve",
     "curve-shuffled": "program, curve shuffled",
+    "curve-falling": "program, curve falling",
     "fine-curve-shuffled": "program, fine curve shuffled",
 }
 CASES = (*(case for part in parts.PARTS for case in part.cases), *program.CASES)
-HEAD = "| What | ms | processor, ms | MB | plain Rust, ms | ratio |\n|---|---|---|---|---|---|"
+HEAD = (
+    "| What | ms | user, ms | system, ms | MB | plain Rust, ms | user, ms | system, ms | ratio | of processor time |"
+    "\n|---|---|---|---|---|---|---|---|---|---|"
+)
 
 
 def named_case(name):
@@ -67,12 +74,14 @@ def built(path, crate, *arguments):
 
 
 def row(case, ours, plain):
-    """A line of the table: what ours took, one number or three, and the milliseconds of the plain ways."""
+    """A line of the table: what ours and each plain way took, the time alone or all four numbers."""
     way = min(plain, key=plain.get)
-    time, processor, memory = (*ours, None, None)[:3]
-    digits = 0 if time >= 100 else 1
-    cells = [f"{time:.{digits}f}", *("" if x is None else f"{x:.0f}" for x in (processor, memory))]
-    cells += [f"{plain[way]:.{digits}f}, {way}", f"{time / plain[way]:.2f}"]
+    digits = 0 if ours[0] >= 100 else 1
+    cells = [f"{ours[0]:.{digits}f}", *(f"{x:.0f}" for x in ours[1:])]
+    cells += [""] * (4 - len(cells))
+    cells += [f"{plain[way][0]:.{digits}f}, {way}", *(f"{x:.0f}" for x in plain[way][1:3])]
+    cells += [""] * (7 - len(cells))
+    cells += [f"{ours[0] / plain[way][0]:.2f}", f"{sum(ours[1:3]) / sum(plain[way][1:3]):.2f}" if ours[1:] else ""]
     return f"| {ROWS.get(case, case)} | {' | '.join(cells)} |"
 
 
@@ -84,7 +93,7 @@ def time_parts(wanted, options, plain):
         runs = 1 if options.compare else options.runs or 5
         for case, took in parts.best(part, benches, plain, wanted, runs).items():
             ours = took.pop(parts.OURS)
-            print(case if options.compare else row(case, (ours,), took), flush=True)
+            print(case if options.compare else row(case, (ours,), {way: (ms,) for way, ms in took.items()}), flush=True)
 
 
 def time_programs(cases, options, plain, folder):
@@ -99,13 +108,14 @@ def time_programs(cases, options, plain, folder):
             continue
         found = dict(zip(commands, timing.medians(list(commands.values()), folder, options.runs or case.turns)))
         ours = found.pop("homerange")
-        print(row(case.name, ours, {way: took for way, (took, _, _) in found.items()}), flush=True)
+        print(row(case.name, ours, found), flush=True)
 
 
 def main():
     options = read_options()
     wanted = options.cases or list(ROWS)
     whole = [program.CASES[case] for case in wanted if case in program.CASES]
+    began = timing.now()
     with tempfile.TemporaryDirectory() as folder:
         plain = functools.cache(functools.partial(programs.plain, folder=folder))
         print("All ways come to the same in:" if options.compare else HEAD, flush=True)
@@ -113,6 +123,8 @@ def main():
             timing.apart(time_parts, set(wanted), options, plain)
         if whole:
             time_programs(whole, options, plain, folder)
+    if not options.compare:
+        print(timing.stolen_since(began))
 
 
 if __name__ == "__main__":

@@ -2,6 +2,7 @@
 
 import multiprocessing
 import os
+import pathlib
 import statistics
 import subprocess
 import time
@@ -29,18 +30,35 @@ def apart(work, *given):
         raise SystemExit(working.exitcode)
 
 
-def measured(command, folder):
-    """The milliseconds that a command takes, those of its processor time, and the MB that it holds at most."""
+def measured(command, folder, out=subprocess.DEVNULL):
+    """The milliseconds that a command takes, those of its processor time, its own and the system's, and the most MB."""
     start = time.perf_counter()
-    running = subprocess.Popen(command, cwd=folder, stdout=subprocess.DEVNULL)
+    running = subprocess.Popen(command, cwd=folder, stdout=out)
     _, status, usage = os.wait4(running.pid, 0)
     took = time.perf_counter() - start
     if status:
         raise SystemExit(f"{command} ended with {status}")
-    return took * 1000, (usage.ru_utime + usage.ru_stime) * 1000, usage.ru_maxrss / 1024
+    return took * 1000, usage.ru_utime * 1000, usage.ru_stime * 1000, usage.ru_maxrss / 1024
 
 
 def medians(commands, folder, turns):
-    """Of each command the medians of its time, processor time and peak; the commands take turns."""
+    """Of each command the medians of what it takes; the commands take turns."""
     runs = [[measured(command, folder) for command in commands] for _ in range(turns)]
     return [tuple(map(statistics.median, zip(*command))) for command in zip(*runs)]
+
+
+def stolen():
+    """The seconds of this machine's processors that other machines had while work waited here, since it was started."""
+    ticks = pathlib.Path("/proc/stat").read_text().split("\n")[0].split()[8]
+    return int(ticks) / os.sysconf("SC_CLK_TCK")
+
+
+def now():
+    """The time, and what other machines had until then."""
+    return time.monotonic(), stolen()
+
+
+def stolen_since(then):
+    """The share of the processors' time that other machines took since then, in words."""
+    (began, before), (ended, after) = then, now()
+    return f"Other machines took {(after - before) / (ended - began) / os.cpu_count():.1%} of the processors' time."
