@@ -1,18 +1,12 @@
 """The convex polygons of the fixes nearest to their mean, by SciPy: kept fixes, corners and doubled area of each
 level."""
 
-import math
-import pathlib
 import sys
 
-import numpy
+from kept import kept_fixes
 from scipy.spatial import ConvexHull
 
-path = pathlib.Path(sys.argv[1])
-xy = numpy.loadtxt(path, delimiter=",", skiprows=1, usecols=(2, 3))
-nearest = numpy.argsort(((xy - xy.mean(axis=0)) ** 2).sum(axis=1), kind="stable")
-
-for level in (50, 95, 100):
-    kept = xy[nearest[: math.ceil(len(xy) * level / 100)]]
+animal, levels = kept_fixes(sys.argv[1])
+for level, kept in levels.items():
     hull = ConvexHull(kept)
-    print(f"percent,{path.stem},{level},{len(kept)},{len(hull.vertices)},{2 * hull.volume:.0f}")
+    print(f"percent,{animal},{level},{len(kept)},{len(hull.vertices)},{2 * hull.volume:.0f}")
