@@ -114,3 +114,84 @@ pub fn shuffle(points: &mut [Point])
         points.swap(i, j);
     }
 }
+
+#[cfg(test)]
+mod tests {
+    use super::*;
+    use std::process::Abort;
+
+    fn point(rt: &impl Abort, (e, n): (i64, i64)) -> Point {
+        Point::new(e, n).expect(rt, "a point")
+    }
+
+    // Checks how many points a track has, the first two and the last.
+    fn expect_track(
+        rt: &impl Abort,
+        track: Result<Vec<Point>, AllocError>,
+        expected: [(i64, i64); 3],
+    ) {
+        let Ok(points) = track else {
+            assert!(rt; false, "memory");
+            return;
+        };
+        assert_eq!(rt; points.len(), TRACK_POINTS);
+        let ends = [points[0], points[1], points[TRACK_POINTS - 1]];
+        for (end, place) in ends.iter().zip(expected) {
+            assert!(rt; *end == point(rt, place), "{place:?}");
+        }
+    }
+
+    // The places are those that the same steps in Python come to.
+    #[test]
+    fn tracks_begin_and_end_where_they_should(rt: HostRuntime) {
+        let cloud_ends = [
+            (7_100_271, 8_546_438),
+            (10_877_665, 6_423_381),
+            (12_328_885, 11_310_625),
+        ];
+        expect_track(&rt, cloud(rt.alloc()), cloud_ends);
+        let walk_ends = [
+            (8_388_450, 8_388_627),
+            (8_388_753, 8_388_387),
+            (7_601_451, 7_921_903),
+        ];
+        expect_track(&rt, walk(rt.alloc()), walk_ends);
+        let spiral_ends = [
+            (8_391_108, 8_388_617),
+            (8_391_107, 8_388_627),
+            (14_286_287, 3_833_524),
+        ];
+        expect_track(&rt, spiral(rt.alloc()), spiral_ends);
+    }
+
+    #[test]
+    fn lines_of_other_kinds_are_left_out(rt: HostRuntime) {
+        let text = "1,2\neasting,northing\n3\n-1,5\n4,5,6\n7,8";
+        let Ok(points) = read_points(rt.alloc(), text) else {
+            assert!(rt; false, "memory");
+            return;
+        };
+        let expected = [point(&rt, (1, 2)), point(&rt, (7, 8))];
+        assert!(rt; points.as_slice() == expected.as_slice());
+    }
+
+    // A line from the origin, shuffled: each point is there, in another order, and in the columns as in the list.
+    #[test]
+    fn shuffled_points_in_columns(rt: HostRuntime) {
+        let Ok(line) = read_points(rt.alloc(), "0,0\n1,1\n2,2\n3,3") else {
+            assert!(rt; false, "memory");
+            return;
+        };
+        let mut points = Vec::from_slice(rt.alloc(), &line).expect(&rt, "memory");
+        shuffle(&mut points);
+        assert!(rt; points != line && points.len() == 4);
+        for p in &line {
+            assert!(rt; points.contains(p));
+        }
+        let columns = columns_of(rt.alloc(), &points).expect(&rt, "memory");
+        assert_eq!(rt; columns.len(), points.len());
+        for i in 0..points.len() {
+            assert!(rt; columns.at(i) == points[i]);
+        }
+    }
+}
