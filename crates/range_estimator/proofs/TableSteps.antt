@@ -4,7 +4,7 @@ use Rattle.std.proofs.Common.{length-append}
 use Rattle.std.proofs.lemmas.List.{map-append, take-append-le, take_all}
 use Rattle.std.proofs.lemmas.Option.{slice_get_within}
 use Rattle.std.proofs.Math.Nat.{suc_inj}
-use Rattle.range_plane.specs.Laws.{CornersCoverTheSet, CoveringIsReaching, CoveringMembersAreCorners}
+use Rattle.range_plane.specs.Laws.{CornersCoverTheSet, CoveringMembersAreCorners, SetsCoverTheirMembers}
 use Rattle.range_plane.specs.Plane.{Position}
 use Rattle.range_plane.specs.Polygon.{IsPolygon, area2}
 use Rattle.range_plane.specs.Row.{IsRow, points_of}
@@ -69,14 +69,14 @@ table_pushed fixes rows row p table gives =
     }
 
 -- ---- the estimate of fixes, with a row and a point more
-pub estimate_pushed : CoveringIsReaching → CoveringMembersAreCorners → CornersCoverTheSet
+pub estimate_pushed : SetsCoverTheirMembers → CoveringMembersAreCorners → CornersCoverTheSet
     → (rows : List Row) (points : List Position) (row : Row) (p : Position) (L M : List Position) → length rows ≡ length points
     → IsEstimate (fixes_of rows points) rows L
     → ((S : List Position) → IsPolygon S L → IsPolygon (p ∷ S) M) → length M ≡ row.corners → area2 M ≡ pos row.area2
     → IsEstimate (fixes_of (rows ++ row ∷ []) (points ++ p ∷ [])) (rows ++ row ∷ []) M
-estimate_pushed reaching corners cover rows points row p L M count old more many area =
+estimate_pushed members corners cover rows points row p L M count old more many area =
     let fixes = fixes_of rows points in
     let all = sym (map-append (λ (f : Fix). f.at) fixes (fix_at row p ∷ [])) in
-    let polygon = subst (λ S. IsPolygon S M) all (polygon_pushed reaching corners cover (points_of fixes) M p (more (points_of fixes) old.polygon)) in
+    let polygon = subst (λ S. IsPolygon S M) all (polygon_pushed members corners cover (points_of fixes) M p (more (points_of fixes) old.polygon)) in
     subst (λ F. IsEstimate F (rows ++ row ∷ []) M) (sym (fixes_pushed rows points row p count))
     (record { table = table_pushed fixes rows row p old.table (M, polygon, many, area); polygon = polygon })

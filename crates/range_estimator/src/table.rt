@@ -12,8 +12,8 @@ use crate::row::Row;
 use range_hull::OnlineHull;
 use range_marker::{Marker, add_point, covered_points_stay_covered};
 use range_plane::{
-    Columns, Fix, OutOfMemory, Polygon, corners_cover_the_set, covering_is_reaching,
-    covering_members_are_corners,
+    Columns, Fix, OutOfMemory, Polygon, corners_cover_the_set, covering_members_are_corners,
+    sets_cover_their_members,
 };
 use std::alloc::Allocator;
 use std::marker::Model;
@@ -86,7 +86,7 @@ impl<A: Allocator> Table<A> {
         ensures covered { covered ≡ true → self.new.corners ≡ self.old.corners }
         ensures spare { self.old.spare ≤ self.new.spare + 1 }
     {
-        covering_is_reaching();
+        sets_cover_their_members();
         covering_members_are_corners();
         corners_cover_the_set();
         self.columns.push_reserved(fix.at);

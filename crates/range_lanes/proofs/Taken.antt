@@ -5,14 +5,14 @@ use Rattle.std.proofs.Math.Nat.{mul-le-mul_right}
 use Rattle.std.proofs.lemmas.Bool.{cases_eq}
 use Rattle.range_lemmas.proofs.Members.{each, empty_contains_nothing}
 use Rattle.range_plane.specs.Covering.{Covers}
-use Rattle.range_plane.specs.Laws.{CoveringMembersAreCorners, LargerSetsCoverMore, OneCoversItself}
+use Rattle.range_plane.specs.Laws.{CoveringMembersAreCorners, SetsCoverTheirMembers}
 use Rattle.range_plane.specs.Plane.{IsAtMost, Position}
 use Rattle.range_plane.specs.Polygon.{BeginsWithLeast, IsPolygon, TurnsLeft}
 use Rattle.range_lanes.specs.InnerPlaces.{place_of}
 
 -- ---- places
 next_place : (n i : ℕ) → 12 ≤ n → place_of i n < place_of (suc i) n
-next_place n i many = omega (arith, suc-mul i (n / 12), suc-mul i (n % 12))
+next_place n i many = omega (arith, suc-mul i n)
 
 places_rise : (n i j : ℕ) → 12 ≤ n → i < j → place_of i n < place_of j n
 places_rise n i zero many less = absurd (omega (arith, less))
@@ -25,7 +25,7 @@ places_rise n i (suc j) many less =
 pub place_within : (n i : ℕ) → 12 ≤ n → i < 12 → place_of i n < n
 place_within n i many few =
     let first : i ≤ 11 = omega (arith, few) in
-    omega (arith, mul-le-mul_right (n / 12) first, mul-le-mul_right (n % 12) first)
+    omega (arith, mul-le-mul_right n first)
 
 -- ---- corners at these places
 pub record AreTaken (L inner : List Position) : Type 0 where
@@ -68,12 +68,8 @@ taken_least (c ∷ L) (a ∷ inner) taken least = λ x member.
     let first : a ≡ c = taken.each 0 c (omega arith) ∙ (λ i. get_or (c ∷ L) (start i) c) in
     subst (λ y. IsAtMost y x) (sym first) (least x (taken_members (c ∷ L) (a ∷ inner) taken x member))
 
--- a set covers its members
-covers_member : LargerSetsCoverMore → OneCoversItself → (S : List Position) (x : Position) → Contains S x → Covers S x
-covers_member larger one S x member = larger (x ∷ []) S x (each (Contains S) x [] member (λ s none. absurd (empty_contains_nothing s none))) ((one x x).1 refl)
-
-pub taken_polygon : LargerSetsCoverMore → OneCoversItself → CoveringMembersAreCorners → (L inner : List Position) → AreTaken L inner → IsPolygon L L
+pub taken_polygon : SetsCoverTheirMembers → CoveringMembersAreCorners → (L inner : List Position) → AreTaken L inner → IsPolygon L L
     → IsPolygon inner inner
-taken_polygon larger one covering L inner taken polygon =
-    covering inner inner (λ x member. member) (covers_member larger one inner) (taken_distinct L inner taken polygon.distinct)
+taken_polygon members covering L inner taken polygon =
+    covering inner inner (λ x member. member) (members inner) (taken_distinct L inner taken polygon.distinct)
     (taken_least L inner taken polygon.least_first) (taken_turns L inner taken polygon.convex)

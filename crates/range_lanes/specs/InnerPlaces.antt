@@ -1,6 +1,6 @@
 -- The places of some corners, spread evenly over all.
-use Rattle.std.specs.Prelude.{ℕ, ◌+◌, ◌*◌, ◌/◌, ◌%◌}
+use Rattle.std.specs.Prelude.{ℕ, ◌*◌, ◌/◌}
 
 -- the place of inner corner i of twelve among n corners
 abbrev pub place_of : ℕ → ℕ → ℕ
-place_of i n = i * (n / 12) + i * (n % 12) / 12
+place_of i n = i * n / 12

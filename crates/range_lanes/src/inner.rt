@@ -5,10 +5,10 @@ ghost use Rattle.range_lanes.specs.InnerPlaces.{place_of};
 ghost use Rattle.range_plane.specs.Plane.{Position};
 ghost use Rattle.range_plane.specs.Polygon.{IsPolygon};
 
-use range_plane::{Point, covering_members_are_corners, few_cover_little, larger_sets_cover_more};
+use range_plane::{Point, covering_members_are_corners, sets_cover_their_members};
 
 // How many corners an inner polygon has. More of them cover more of the polygon, and cost more.
-// docs/PERFORMANCE.md has the times.
+// docs/PERFORMANCE.md has what they cost.
 pub(crate) const INNER_CORNERS: usize = 12;
 
 // The place of an inner corner among so many corners, without a product that could be too great.
@@ -27,8 +27,7 @@ pub(crate) fn inner_of(corners: &[Point]) -> [Point; INNER_CORNERS]
     ensures polygon { IsPolygon result result }
     ensures within { (p : Position) → Contains result p → Contains corners.now p }
 {
-    larger_sets_cover_more();
-    few_cover_little();
+    sets_cover_their_members();
     covering_members_are_corners();
     let mut inner = [corners[0]; INNER_CORNERS];
     for i in 0..INNER_CORNERS {

@@ -1,11 +1,13 @@
 // Numbers in decimal digits.
 
-ghost use Rattle.std.specs.Prelude.{◌≡◌, ◌+◌, ◌<◌, ◌≤◌, MatchOption, false, length, min, true};
+ghost use Rattle.std.specs.Prelude.{◌≡◌, ◌+◌, ◌*◌, ◌<◌, ◌≤◌, MatchOption, false, length, min, true};
 ghost use Rattle.std.specs.Str.Parse.{digits_value};
 ghost use Rattle.range_numbers.specs.Number.{is_number};
 
-// As many digits fit 64 bits, whatever they are.
-const SHORT: usize = 19;
+use crate::groups::{GROUP, PAIR, pair_value};
+
+// What a one counts before so many digits.
+const PAIR_PLACE: u64 = 100_000_000;
 
 /// A limit to which a value is held is less.
 pub const VALUE_LIMIT: u64 = 1 << 60;
@@ -30,10 +32,9 @@ fn capped_value(digits: &[u8], limit: u64) -> u64
     value
 }
 
-// The value of few digits, in one pass and without a limit at each of them; `None` where the bytes are no
-// number.
-fn short_value(bytes: &[u8]) -> Option<u64>
-    requires short { length bytes.now ≤ SHORT }
+// The value of fewer digits than a group has; `None` where the bytes are no number.
+fn few_value(bytes: &[u8]) -> Option<u64>
+    requires few { length bytes.now < GROUP }
     ensures { MatchOption result (is_number bytes.now ≡ false)
         (λ value. (is_number bytes.now ≡ true) × (value ≡ digits_value 10 bytes.now)) }
 {
@@ -48,6 +49,31 @@ fn short_value(bytes: &[u8]) -> Option<u64>
     if bytes.is_empty() { None } else { Some(value) }
 }
 
+// The value of at most as many digits as two groups have; `None` where the bytes are no number.
+fn short_value(bytes: &[u8]) -> Option<u64>
+    requires short { length bytes.now ≤ PAIR }
+    ensures { MatchOption result (is_number bytes.now ≡ false)
+        (λ value. (is_number bytes.now ≡ true) × (value ≡ digits_value 10 bytes.now)) }
+{
+    if bytes.len() < GROUP {
+        few_value(bytes)
+    } else {
+        pair_value(bytes)
+    }
+}
+
+// The value of at most as many digits more, of which the last ones are taken apart; `None` where the bytes are no
+// number.
+fn long_value(bytes: &[u8]) -> Option<u64>
+    requires more { PAIR < length bytes.now }
+    requires long { length bytes.now ≤ 2 * PAIR }
+    ensures { MatchOption result (is_number bytes.now ≡ false)
+        (λ value. (is_number bytes.now ≡ true) × (value ≡ digits_value 10 bytes.now)) }
+{
+    let (first, last) = bytes.split_at(bytes.len() - PAIR);
+    Some(short_value(first)? * PAIR_PLACE + short_value(last)?)
+}
+
 /// The value of a number of one or more digits, of which the first may be zeros: exact up to the limit, and
 /// anything above it past that. `None` where the bytes are none, or not all digits.
 pub fn value_of(bytes: &[u8], limit: u64) -> Option<u64>
@@ -56,8 +82,11 @@ pub fn value_of(bytes: &[u8], limit: u64) -> Option<u64>
         (λ value. (is_number bytes.now ≡ true)
         × (min (limit + 1) value ≡ min (limit + 1) (digits_value 10 bytes.now))) }
 {
-    if bytes.len() <= SHORT {
+    if bytes.len() <= PAIR {
         return short_value(bytes);
+    }
+    if bytes.len() <= 2 * PAIR {
+        return long_value(bytes);
     }
     if is_number(bytes) {
         Some(capped_value(bytes, limit))

@@ -7,6 +7,9 @@ use Rattle.range_plane.specs.Polygon.{BeginsWithLeast, IsPolygon, TurnsLeft, are
 abbrev pub LargerSetsCoverMore : Type 0
 LargerSetsCoverMore = (S T : List Position) (q : Position) → ((s : Position) → Contains S s → Contains T s) → Covers S q → Covers T q
 
+abbrev pub SetsCoverTheirMembers : Type 0
+SetsCoverTheirMembers = (S : List Position) (s : Position) → Contains S s → Covers S s
+
 -- no direction strictly separates q from the set: in each, some member is not behind q
 abbrev pub ReachesEveryWay : List Position → Position → Type 0
 ReachesEveryWay S q = (d : Position) → (s : Position) × Contains S s × (pos 0 ≤ℤ advance d q s)

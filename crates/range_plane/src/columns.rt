@@ -123,8 +123,8 @@ impl<A: Allocator> Columns<A> {
         ensures points { self.new.points ≡ self.old.points ++ p ∷ [] }
         ensures spare { self.old.spare ≤ self.new.spare + 1 }
     {
-        let _ = self.eastings.push(p.e);
-        let _ = self.northings.push(p.n);
+        self.eastings.push_reserved(p.e);
+        self.northings.push_reserved(p.n);
     }
 
     /// Pushes a point, and takes memory where there is no room for it.

@@ -1,11 +1,16 @@
 // Laws of what sets cover and of polygons. Each is a function that does nothing and promises
 // the law, for the proofs of the crates above.
 
-ghost use Rattle.range_plane.specs.Laws.{AreasAreNotNegative, CornersCoverTheSet, CornersStandForTheSet, CoveredIsDecided, CoveredPointsChangeNothing, CoveringIsReaching, CoveringIsTransitive, CoveringMembersAreCorners, EverySetHasAPolygon, LargerSetsCoverMore, ManyCoverTheLeftOfTheirEdges, NoneCoversNothing, OnSegmentIsDecided, OneCoversItself, OnePolygon, PolygonOfItsCorners, TwoCoverTheirSegment};
+ghost use Rattle.range_plane.specs.Laws.{AreasAreNotNegative, CornersCoverTheSet, CornersStandForTheSet, CoveredIsDecided, CoveredPointsChangeNothing, CoveringIsReaching, CoveringIsTransitive, CoveringMembersAreCorners, EverySetHasAPolygon, LargerSetsCoverMore, ManyCoverTheLeftOfTheirEdges, NoneCoversNothing, OnSegmentIsDecided, OneCoversItself, OnePolygon, PolygonOfItsCorners, SetsCoverTheirMembers, TwoCoverTheirSegment};
 
 /// A larger set covers all that a smaller one covers.
 pub fn larger_sets_cover_more()
     ensures { LargerSetsCoverMore }
+{}
+
+/// A set covers each of its members.
+pub fn sets_cover_their_members()
+    ensures { SetsCoverTheirMembers }
 {}
 
 /// A set covers a point exactly where no direction strictly separates the two.

@@ -23,7 +23,7 @@ pub use laws::{
     covered_points_change_nothing, covering_is_reaching, covering_is_transitive,
     covering_members_are_corners, every_set_has_a_polygon, few_cover_little,
     larger_sets_cover_more, many_cover_the_left_of_their_edges, one_polygon,
-    polygon_of_its_corners,
+    polygon_of_its_corners, sets_cover_their_members,
 };
 pub use memory::OutOfMemory;
 pub use order::rank;

@@ -1,7 +1,7 @@
 //! How a file is handed on: a pump reads its fixes, and sends them on a line in blocks and then a mark.
 #![tactic(auto)]
 
-mod batch;
+mod block;
 mod gate;
 mod pumping;
 

@@ -9,7 +9,7 @@ ghost use Rattle.range_line.specs.Messages.{joined};
 ghost use Rattle.range_pump.specs.Feeding.{after_block, IsFed};
 ghost use Rattle.range_pump.specs.Pump.{IsPumped};
 
-use crate::batch::read_block;
+use crate::block::read_block;
 use crate::gate::Gate;
 use range_fixes::{FixReader, Name, ReadFault};
 use range_line::Feeder;

@@ -11,7 +11,7 @@ taken c = record {
 
 pub returns-clause-polygon : goal.returns-clause-polygon
 returns-clause-polygon c =
-    taken_polygon c.larger_sets_cover_more.ensures c.few_cover_little.ensures.one c.covering_members_are_corners.ensures c.args.corners.now c.loop-i.inner
+    taken_polygon c.sets_cover_their_members.ensures c.covering_members_are_corners.ensures c.args.corners.now c.loop-i.inner
     (taken c) c.requires.polygon
 
 pub returns-clause-within : goal.returns-clause-within

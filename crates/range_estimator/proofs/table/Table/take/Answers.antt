@@ -17,7 +17,7 @@ estimate : (g : given.Over) (c : goal.After-push_reserved-2 g) → IsEstimate
     (fixes_of c.push_reserved-2.new.self.items c.push_reserved.new.self.points) c.push_reserved-2.new.self.items c.add_point.new.hull.corners
 estimate g c =
     rw (c.push_reserved-2.ensures.items, c.push_reserved.ensures.points)
-    (estimate_pushed c.covering_is_reaching.ensures c.covering_members_are_corners.ensures c.corners_cover_the_set.ensures c.self.inside.rows.items
+    (estimate_pushed c.sets_cover_their_members.ensures c.covering_members_are_corners.ensures c.corners_cover_the_set.ensures c.self.inside.rows.items
     c.self.inside.columns.points _ c.args.fix.at c.self.inside.hull.corners c.add_point.new.hull.corners
     c.self.invariant.count c.self.invariant.estimate c.add_point.ensures.set (sym c.corner_count-corners.ensures) (sym c.area2.ensures))
 

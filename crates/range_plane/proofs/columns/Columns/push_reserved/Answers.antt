@@ -1,4 +1,4 @@
-use Rattle.std.proofs.Common.{ℤ, List, All, IsOk, sym, subst, arith}
+use Rattle.std.proofs.Common.{ℤ, List, All, sym, subst, arith}
 use Rattle.range_plane.specs.Plane.{IsCoordinate}
 use Rattle.range_plane.proofs.Bounds.{coordinate_is}
 use Rattle.range_plane.proofs.ZippedPoints.{coordinates_push, zipped_push}
@@ -7,14 +7,9 @@ use Rattle.range_plane.proofs.columns.Columns.push_reserved.Goals as goal
 pub invariant_of-self : goal.invariant_of-self
 invariant_of-self g c =
     let inside = c.self.inside in
-    let room = rw (← c.self.view_is) at c.requires in
-    let ok_e : IsOk c.push.result = c.push.ensures.succeeds (omega arith) in
-    let ok_n : IsOk c.push-2.result = c.push-2.ensures.succeeds (omega arith) in
-    let items_e = rw (ok_e, coordinate_is c.p.inside.e c.p.invariant.0) at c.push.ensures.items in
-    let items_n = rw (ok_n, coordinate_is c.p.inside.n c.p.invariant.1) at c.push-2.ensures.items in
-    let len_e = rw ok_e at c.push.ensures.len in
-    let len_n = rw ok_n at c.push-2.ensures.len in (
-      omega (arith, c.self.invariant.0, len_e, len_n),
+    let items_e = rw (coordinate_is c.p.inside.e c.p.invariant.0) at c.push_reserved.ensures.items in
+    let items_n = rw (coordinate_is c.p.inside.n c.p.invariant.1) at c.push_reserved-2.ensures.items in (
+      omega (arith, c.self.invariant.0, c.push_reserved.ensures.len, c.push_reserved-2.ensures.len),
       subst (All IsCoordinate) (sym {A = List ℤ} items_e) (coordinates_push inside.eastings.items c.p.inside.e c.self.invariant.1 c.p.invariant.0),
       subst (All IsCoordinate) (sym {A = List ℤ} items_n) (coordinates_push inside.northings.items c.p.inside.n c.self.invariant.2 c.p.invariant.1),
     )

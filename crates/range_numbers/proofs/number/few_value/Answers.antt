@@ -5,7 +5,7 @@ use Rattle.std.proofs.Math.Nat.{pow-le-pow_right, pow-suc}
 use Rattle.std.proofs.lemmas.Int.Digits.{digits_value_more}
 use Rattle.std.proofs.lemmas.List.Folds.{list_all_more}
 use Rattle.std.proofs.lemmas.Str.{digit_value_digit}
-use Rattle.range_numbers.proofs.number.short_value.Goals as goal
+use Rattle.range_numbers.proofs.number.few_value.Goals as goal
 
 ten_to_the_most : (i : ℕ) → i ≤ 18 → 10 ^ i ≤ 10 ^ 18
 ten_to_the_most i few = pow-le-pow_right {n = 10} (omega arith) {i = i} {j = 18} few

@@ -1,6 +1,6 @@
 use Rattle.std.proofs.Common.{arith, rules}
 use Rattle.range_pump.proofs.Readings.{gives_more}
-use Rattle.range_pump.proofs.batch.read_block.Goals as goal
+use Rattle.range_pump.proofs.block.read_block.Goals as goal
 
 pub loop-number-preserved : goal.loop-number-preserved
 loop-number-preserved g c =
