@@ -1,6 +1,6 @@
 // Tests of numbers in decimal digits.
 
-use range_numbers::value_of;
+use range_numbers::{VALUE_LIMIT, value_of};
 
 #[test]
 fn values_up_to_a_limit(rt: HostRuntime) {
@@ -28,4 +28,74 @@ fn values_past_a_limit(rt: HostRuntime) {
         let value = value_of(bytes, 100);
         assert!(rt; value.is_some_and(|value| value > 100), "{bytes:?}");
     }
+}
+
+// The digits are taken in groups, which share some: so each place has another digit.
+#[test]
+fn values_of_each_length(rt: HostRuntime) {
+    for (bytes, value) in [
+        (b"1".as_slice(), 1),
+        (b"12", 12),
+        (b"123", 123),
+        (b"1234", 1234),
+        (b"12345", 12_345),
+        (b"123456", 123_456),
+        (b"1234567", 1_234_567),
+        (b"12345678", 12_345_678),
+        (b"123456789", 123_456_789),
+        (b"1234567890", 1_234_567_890),
+        (b"12345678901", 12_345_678_901),
+        (b"123456789012", 123_456_789_012),
+        (b"1234567890123", 1_234_567_890_123),
+        (b"12345678901234", 12_345_678_901_234),
+        (b"123456789012345", 123_456_789_012_345),
+        (b"1234567890123456", 1_234_567_890_123_456),
+        (b"12345678901234567", 12_345_678_901_234_567),
+        (b"123456789012345678", 123_456_789_012_345_678),
+        (b"9", 9),
+        (b"98", 98),
+        (b"987", 987),
+        (b"9876", 9876),
+        (b"98765", 98_765),
+        (b"987654", 987_654),
+        (b"9876543", 9_876_543),
+        (b"98765432", 98_765_432),
+        (b"987654321", 987_654_321),
+        (b"9876543210", 9_876_543_210),
+        (b"98765432109", 98_765_432_109),
+        (b"987654321098", 987_654_321_098),
+        (b"9876543210987", 9_876_543_210_987),
+        (b"98765432109876", 98_765_432_109_876),
+        (b"987654321098765", 987_654_321_098_765),
+        (b"9876543210987654", 9_876_543_210_987_654),
+        (b"98765432109876543", 98_765_432_109_876_543),
+        (b"987654321098765432", 987_654_321_098_765_432),
+    ] {
+        assert!(rt;
+            value_of(bytes, VALUE_LIMIT - 1) == Some(value),
+            "{bytes:?}"
+        );
+    }
+}
+
+// How many of the first bytes are a number with another byte at one place.
+fn numbers_with(byte: u8) -> u32 {
+    let mut count = 0;
+    for place in 0..18usize {
+        let mut bytes = *b"123456789012345678";
+        bytes[place] = byte;
+        for length in place + 1..19 {
+            count += u32::from(value_of(&bytes[..length], VALUE_LIMIT - 1).is_some());
+        }
+    }
+    count
+}
+
+#[test]
+fn no_digit_at_each_place(rt: HostRuntime) {
+    for byte in [0, b' ', b'/', b':', b'a', 0x7F, 0x80, 0xB0, 0xFF] {
+        assert!(rt; numbers_with(byte) == 0, "{byte}");
+    }
+    // 18 lengths from the first place on, 17 from the second, and so on.
+    assert!(rt; numbers_with(b'0') == 171);
 }
