@@ -1,4 +1,5 @@
 pub mod Cutting
+pub mod LastDigit
 pub mod ListFacts
 pub mod NumberedLines
 pub mod Texts

@@ -1,6 +1,6 @@
 // The lines of a report.
 
-ghost use Rattle.std.specs.Prelude.{◌≡◌, ◌+◌, ◌++◌, ◌<◌, ◌^◌, All, IfOk, IfSome, OnOk, codes, decimal, length, map};
+ghost use Rattle.std.specs.Prelude.{◌≡◌, ◌+◌, ◌-◌, ◌++◌, ◌<◌, ◌^◌, All, IfOk, IfSome, OnOk, codes, decimal, length, map};
 ghost use Rattle.std.specs.List.{flat_map};
 ghost use Rattle.range_tables.specs.Names.{name_at};
 ghost use Rattle.range_report.specs.Report.{animal_line, box_line, corner_line, end_line, field, lines_from, overlap_line, percent_line, point_text, row_head, row_line, row_tail};
@@ -105,20 +105,45 @@ fn set_tail<A: Allocator>(
     tail.extend_from_slice(b"\n")
 }
 
-// Appends the line of the row of the first n fixes, which begins and ends so.
-fn push_row<A: Allocator>(
-    text: &mut Vec<u8, A>,
+// Appends the number of a row, and the comma behind it.
+fn push_row_number<A: Allocator>(start: &mut Vec<u8, A>, n: usize) -> Result<(), AllocError>
+    ensures { OnOk result (start.new.items ≡ start.old.items ++ decimal n ++ codes ",") }
+{
+    push_number(start, n)?;
+    start.extend_from_slice(b",")
+}
+
+// Makes what a row's line begins with, up to the comma behind its number, from that of the row before: most
+// often the last digit alone changes.
+fn set_row_number<A: Allocator>(
+    start: &mut Vec<u8, A>,
     head: &[u8],
     n: usize,
+) -> Result<(), AllocError>
+    requires { start.old.items ≡ head.now ++ decimal (n - 1) ++ codes "," }
+    ensures { OnOk result (start.new.items ≡ head.now ++ decimal n ++ codes ",") }
+{
+    if n % 10 != 0 {
+        let last = start.len() - 2;
+        start[last] = b'0' + (n % 10) as u8;
+        return Ok(());
+    }
+    start.truncate(head.len());
+    push_row_number(start, n)
+}
+
+// Appends the line of a row of this second, which begins and ends so.
+fn push_row<A: Allocator>(
+    text: &mut Vec<u8, A>,
+    start: &[u8],
     second: u64,
     tail: &[u8],
 ) -> Result<(), AllocError>
     ensures { OnOk result (text.new.items
-        ≡ text.old.items ++ head.now ++ decimal n ++ field second ++ tail.now) }
+        ≡ text.old.items ++ start.now ++ decimal second ++ tail.now) }
 {
-    text.extend_from_slice(head)?;
-    push_number(text, n)?;
-    push_field(text, second)?;
+    text.extend_from_slice(start)?;
+    push_number(text, second)?;
     text.extend_from_slice(tail)
 }
 
@@ -135,11 +160,15 @@ pub(crate) fn push_rows<A: Allocator + Copy>(
 {
     let alloc = *text.allocator();
     let head = row_head(alloc, name)?;
+    // What the line of a row before the first would begin with.
+    let mut start = Vec::from_slice(alloc, &head)?;
+    push_row_number(&mut start, from)?;
     let mut tail = Vec::new(alloc);
     let mut before = None;
     for (i, row) in rows.iter().enumerate() {
+        set_row_number(&mut start, &head, from + i + 1)?;
         set_tail(&mut tail, before, *row)?;
-        push_row(text, &head, from + i + 1, row.second, &tail)?;
+        push_row(text, &start, row.second, &tail)?;
         before = Some(*row);
     }
     Ok(())
