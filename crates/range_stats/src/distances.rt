@@ -1,10 +1,10 @@
 // The distances of points from their mean, and keys by which the points are ranked.
 
-ghost use Rattle.std.specs.Prelude.{◌≡◌, ◌*◌, ◌%◌, ◌<◌, ◌≤◌, pos, IfOk, length, map};
+ghost use Rattle.std.specs.Prelude.{◌≡◌, ◌*◌, ◌%◌, ◌<◌, ◌≤◌, ◌-ℤ◌, ◌*ℤ◌, pos, unsigned_abs, IfOk, length, map};
 ghost use Rattle.range_plane.specs.Fix.{fix_limit};
-ghost use Rattle.range_plane.specs.Plane.{coordinate_limit};
+ghost use Rattle.range_plane.specs.Plane.{IsCoordinate, coordinate_limit};
 ghost use Rattle.range_stats.specs.Keys.{distance_limit, key};
-ghost use Rattle.range_stats.specs.Percent.{entry, places, scaled_distance};
+ghost use Rattle.range_stats.specs.Percent.{entry, places, scaled_distance, square};
 
 use range_lanes::sums;
 use range_plane::{Columns, FIX_LIMIT, OutOfMemory, Point};
@@ -12,6 +12,25 @@ use std::alloc::Allocator;
 
 // How many places there are, beside each distance.
 const PLACES: u128 = FIX_LIMIT as u128;
+
+// How far a coordinate lies from the mean of points, times their number. `sum` is the sum of their coordinates.
+fn offset(count: u64, coordinate: i64, sum: u64) -> i64
+    requires count { count ≤ fix_limit }
+    requires coordinate { IsCoordinate coordinate }
+    requires sum { sum ≤ fix_limit * coordinate_limit }
+    ensures value { result ≡ pos count *ℤ coordinate -ℤ pos sum }
+    ensures bound { unsigned_abs result ≤ fix_limit * coordinate_limit }
+{
+    count as i64 * coordinate - sum as i64
+}
+
+// The square of a number.
+fn square(number: i64) -> u128
+    ensures { result ≡ square number }
+{
+    let number = i128::from(number);
+    (number * number) as u128
+}
 
 // The squared distance of `p` from the mean of points, times the square of their number: so it is a whole
 // number. `count` is their number, the others are the sums of their coordinates.
@@ -22,9 +41,7 @@ fn scaled_distance(count: u64, eastings: u64, northings: u64, p: Point) -> u128
     ensures value { result ≡ scaled_distance count (pos eastings) (pos northings) p }
     ensures bound { result ≤ distance_limit }
 {
-    let east = u128::from((count * p.e.unsigned_abs()).abs_diff(eastings));
-    let north = u128::from((count * p.n.unsigned_abs()).abs_diff(northings));
-    east * east + north * north
+    square(offset(count, p.e, eastings)) + square(offset(count, p.n, northings))
 }
 
 // A distance and a place as one number.
@@ -52,12 +69,17 @@ pub(crate) fn keys<A: Allocator, B: Allocator>(
     ensures { IfOk result (λ keys. keys.items
         ≡ map (λ i. key (entry fixes.now.points i)) (places fixes.now.points)) }
 {
-    let (eastings, northings) = sums(fixes);
-    let count = fixes.len() as u64;
-    let mut keys = Vec::with_capacity(alloc, fixes.len())?;
-    for place in 0..fixes.len() {
-        let distance = scaled_distance(count, eastings, northings, fixes.at(place));
-        keys.push(key(distance, place))?;
+    let (easting_sum, northing_sum) = sums(fixes);
+    let (eastings, northings) = (fixes.eastings(), fixes.northings());
+    let count = fixes.len();
+    let mut keys = Vec::with_capacity(alloc, count)?;
+    for place in 0..count {
+        let point = Point {
+            e: eastings[place],
+            n: northings[place],
+        };
+        let distance = scaled_distance(count as u64, easting_sum, northing_sum, point);
+        keys.push_reserved(key(distance, place));
     }
     Ok(keys)
 }
