@@ -1,6 +1,7 @@
 pub mod Eights
 pub mod Choosing
 pub mod Counting
+pub mod Known
 pub mod LaneEdges
 pub mod Signed
 pub mod Summing

@@ -1,10 +1,8 @@
 -- Corners that are taken from a polygon in their order, spread evenly over it, are a polygon.
-use Rattle.std.proofs.Common.{◌≡◌, ◌≢◌, refl, sym, subst, ◌∙◌, ℕ, zero, suc, ◌/◌, ◌%◌, ◌<◌, ◌≤◌, List, [], ◌∷◌, length, get_or, arith, suc-mul, inl, inr}
+use Rattle.std.proofs.Common.{◌≡◌, ◌≢◌, sym, subst, ◌∙◌, ℕ, zero, suc, ◌<◌, ◌≤◌, List, [], ◌∷◌, length, get_or, arith, suc-mul, inl, inr}
 use Rattle.std.proofs.Common.{Contains, AllPairs}
 use Rattle.std.proofs.Math.Nat.{mul-le-mul_right}
 use Rattle.std.proofs.lemmas.Bool.{cases_eq}
-use Rattle.range_lemmas.proofs.Members.{each, empty_contains_nothing}
-use Rattle.range_plane.specs.Covering.{Covers}
 use Rattle.range_plane.specs.Laws.{CoveringMembersAreCorners, SetsCoverTheirMembers}
 use Rattle.range_plane.specs.Plane.{IsAtMost, Position}
 use Rattle.range_plane.specs.Polygon.{BeginsWithLeast, IsPolygon, TurnsLeft}

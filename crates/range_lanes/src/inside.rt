@@ -1,10 +1,11 @@
 // Which of many points a polygon covers.
 
-ghost use Rattle.std.specs.Prelude.{◌≡◌, ◌+◌, ◌*◌, ◌<◌, ◌≤◌, ◌++◌, Contains, count_by, length, map, take};
+ghost use Rattle.std.specs.Prelude.{◌≡◌, ◌+◌, ◌*◌, ◌<◌, ◌≤◌, ◌++◌, ℕ, ℤ, Contains, Some, count_by, length, map, slice_get, take, true};
 ghost use Rattle.std.specs.Simd.Lanes.{chunk};
 ghost use Rattle.range_plane.specs.Covering.{is_covered};
 ghost use Rattle.range_plane.specs.Plane.{Position};
 ghost use Rattle.range_plane.specs.Polygon.{IsPolygon};
+ghost use Rattle.range_lanes.specs.Lanes.{is_not_negative};
 
 use crate::eight::Eight;
 use crate::inner::{INNER_CORNERS, inner_of};
@@ -13,13 +14,13 @@ use crate::marking::margins;
 use range_plane::{Columns, Point, Polygon, covered_is_decided, larger_sets_cover_more};
 use std::alloc::Allocator;
 
-// The most corners of a polygon all of whose edges are tried, for eight points at once. In a polygon of
-// more the edges that matter are searched for, a point at a time. docs/PERFORMANCE.md has the times of both.
+// The most corners of a polygon all of whose edges are tried where points are counted, for eight at once. In a polygon
+// of more the edges that matter are searched for, a point at a time. docs/PERFORMANCE.md has what marks cost.
 const LANE_CORNERS: usize = 36;
 
-/// Marks at the place of each point whether the polygon covers it. Where the corners are few, each edge
-/// costs a few steps for eight points; where they are many, each point costs a binary search, unless a polygon of
-/// twelve of the corners covers it and the seven others of its group.
+/// Marks at the place of each point whether the polygon covers it. Each edge costs a few steps for eight points.
+/// Where there are more than twelve corners, a polygon of twelve of them is tried, and each point that it does not
+/// cover costs a binary search.
 pub fn mark_inside<A: Allocator, B: Allocator>(
     corners: &Polygon<A>,
     cols: &Columns<B>,
@@ -131,32 +132,42 @@ fn mark_group<A: Allocator, B: Allocator>(
     covered_is_decided();
     larger_sets_cover_more();
     let group = Eight::load(cols, at);
-    let corners = polygon.corners();
     let quick = margins(inner, &group);
     if quick.count_not_negative() as usize == LANE_COUNT {
         quick.mark(out, at);
-    } else if corners.len() <= LANE_CORNERS {
-        margins(corners, &group).mark(out, at);
     } else {
-        mark_each(polygon, cols, at, out);
+        mark_each(polygon, &quick.to_array(), cols, at, out);
     }
 }
 
-// Marks the eight points from `at` on, each by a binary search.
+// Marks the eight points from `at` on. Those whose number is at least 0 are known to be covered, the others are
+// searched for.
 fn mark_each<A: Allocator, B: Allocator>(
     polygon: &Polygon<A>,
+    numbers: &[i64; LANE_COUNT],
     cols: &Columns<B>,
     at: usize,
     out: &mut [bool],
 )
+    requires known { (i : ℕ) (number : ℤ) (p : Position) → slice_get numbers.now i ≡ Some number
+        → slice_get cols.now.points (at + i) ≡ Some p
+        → is_not_negative number ≡ true → is_covered polygon.now p ≡ true }
     requires room { at + LANE_COUNT ≤ length cols.now.points }
     requires places { length out.old ≡ length cols.now.points }
     ensures { take (at + LANE_COUNT) out.new
         ≡ take at out.old ++ map (is_covered polygon.now) (chunk at LANE_COUNT cols.now.points) }
 {
     for i in 0..LANE_COUNT {
-        out[at + i] = polygon.covers(cols.at(at + i));
+        out[at + i] = is_known_or_covered(polygon, numbers[i], cols.at(at + i));
     }
+}
+
+// Whether a polygon covers a point, which is known where the number is at least 0.
+fn is_known_or_covered<A: Allocator>(polygon: &Polygon<A>, number: i64, p: Point) -> bool
+    requires { is_not_negative number ≡ true → is_covered polygon.now p ≡ true }
+    ensures { result ≡ is_covered polygon.now p }
+{
+    number >= 0 || polygon.covers(p)
 }
 
 // How many points the corners cover of the groups that go through the lanes, and how many these have.

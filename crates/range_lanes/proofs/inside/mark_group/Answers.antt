@@ -1,16 +1,11 @@
-use Rattle.std.proofs.Common.{◌≡◌, ◌++◌, length, map, take, sym, ap, ◌∙◌, arith}
-use Rattle.std.proofs.lemmas.List.Elements.{Contains-get_or}
+use Rattle.std.proofs.Common.{◌≡◌, ◌++◌, length, map, take, sym, ap, ◌∙◌}
+use lib.Lanes.{chunk}
 use Rattle.std.proofs.lemmas.Simd.{length-chunk}
 use Rattle.range_plane.specs.Covering.{is_covered}
-use Rattle.range_plane.specs.Edges.{at}
-use Rattle.range_plane.specs.Plane.{origin}
+use Rattle.range_lanes.specs.Lanes.{is_not_negative}
 use Rattle.range_lanes.proofs.Counting.{all_pass, count_signs}
+use Rattle.range_lanes.proofs.Known.{passes_where_not_negative}
 use Rattle.range_lanes.proofs.inside.mark_group.Goals as goal
-
-pub margins-requires-clause-some : goal.margins-requires-clause-some
-margins-requires-clause-some g c =
-    let member = c.requires.within (at c.args.inner.now 0) (Contains-get_or c.args.inner.now 0 origin c.requires.some) in
-    omega (arith, member.1, ap length c.corners-corners.ensures.value)
 
 pub returns-then-count_not_negative-eq-LANE_COUNT : goal.returns-then-count_not_negative-eq-LANE_COUNT
 returns-then-count_not_negative-eq-LANE_COUNT g c =
@@ -25,3 +20,14 @@ returns-then-count_not_negative-eq-LANE_COUNT g c =
     (λ q within. (decided polygon q).1 (c.larger_sets_cover_more.ensures inner polygon q c.requires.within ((decided inner q).0 within))) group counted in
     c.mark.ensures
     ∙ ap (λ marks. take c.args.at c.args.out.now ++ marks) (c.margins-quick.ensures ∙ covered ∙ ap (map (is_covered polygon)) c.load-group.ensures)
+
+pub mark_each-requires-clause-known : goal.mark_each-requires-clause-known
+mark_each-requires-clause-known g c = λ i number p here there known.
+    let inner = c.args.inner.now in
+    let polygon = c.args.polygon.now in
+    let decided = c.covered_is_decided.ensures.set in
+    let numbers = c.to_array.result in
+    let same : map is_not_negative numbers ≡ map (is_covered inner) (chunk c.args.at 8 c.args.cols.now.points) =
+    ap (map is_not_negative) c.to_array.ensures ∙ c.margins-quick.ensures ∙ ap (map (is_covered inner)) c.load-group.ensures in
+    let covered = passes_where_not_negative (is_covered inner) numbers c.args.at c.args.cols.now.points c.requires.room same i number p here there known in
+    (decided polygon p).1 (c.larger_sets_cover_more.ensures inner polygon p c.requires.within ((decided inner p).0 covered))
