@@ -1,12 +1,9 @@
 -- Sets of positions are read by membership: what the laws of the plane say of lists with the same members, and of larger ones.
-use Rattle.std.proofs.Common.{◌≡◌, sym, subst, List, [], ◌∷◌, ◌++◌, Contains, inl, inr, ℤ, pos, ◌-ℤ◌, ◌*ℤ◌, ◌≤ℤ◌, ap, ◌∙◌, arith}
-use Rattle.std.proofs.lemmas.Int.{ints}
+use Rattle.std.proofs.Common.{sym, subst, List, [], ◌∷◌, ◌++◌, Contains, inl, inr}
 use Rattle.std.proofs.lemmas.List.Elements.{Contains-append_left, Contains-push, Contains-push_cases}
-use Rattle.range_plane.specs.Covering.{Covers, advance}
 use Rattle.range_plane.specs.Laws.{CornersCoverTheSet, CoveringMembersAreCorners, SetsCoverTheirMembers}
 use Rattle.range_plane.specs.Plane.{Position}
 use Rattle.range_plane.specs.Polygon.{IsPolygon}
-use Rattle.range_lemmas.proofs.Integers.{linear}
 use Rattle.range_lemmas.proofs.Members.{contained, contains_first, contains_later}
 
 -- the same members have the same polygon

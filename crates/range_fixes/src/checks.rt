@@ -113,7 +113,8 @@ fn is_name(field: &[u8]) -> bool
     !field.is_empty() && field.len() <= NAME_LIMIT && field.iter().all(|byte| is_name_byte(*byte))
 }
 
-// Checks the name of a record. One that is that of the record before was checked there.
+// Checks the name of a record. One that is that of the record before was checked there; the test of slices is
+// quicker than a loop over their bytes.
 fn check_animal(name: &[u8], rec: u32, previous: Option<&Previous>) -> Result<(), ReadFault>
     requires within { IfSome previous (λ p. IsWithin p.now) }
     ensures { result ≡ animal_in rec (option_map (λ p. p.now) previous.entry) name.now }

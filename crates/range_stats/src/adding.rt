@@ -12,7 +12,7 @@ use range_marker::{Marker, add_point, covered_points_stay_covered};
 use range_plane::{Columns, OutOfMemory, Point, polygon_of_its_corners};
 use std::alloc::Allocator;
 
-// How many points are marked at once. docs/PERFORMANCE.md has the times.
+// How many points are marked at once. docs/PERFORMANCE.md has what other numbers cost.
 const BATCH: usize = 512;
 
 // Adds the points to a hull, in batches. The last come first, since they cover most of the others: the farthest are
