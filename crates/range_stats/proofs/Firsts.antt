@@ -1,10 +1,10 @@
 -- Polygons of the first of points that are ranked, under laws of the plane.
-use Rattle.std.proofs.Common.{◌≡◌, ◌∙◌, ℕ, ◌+◌, ◌-◌, ◌≤◌, List, [], ◌∷◌, ◌++◌, length, get_or, take, drop, arith, rules, ◌<◌, refl, sym, ap, subst}
+use Rattle.std.proofs.Common.{◌≡◌, ◌∙◌, ℕ, ◌+◌, ◌-◌, ◌≤◌, List, [], ◌∷◌, ◌++◌, length, get_or, map, take, drop, arith, rules, ◌<◌, refl, sym, ap, subst}
 use Rattle.std.specs.Prelude.{Contains}
 use Rattle.std.specs.List.{All, AllByRecursion, AllZip}
 use Rattle.std.specs.List.Sorted.{IsPermutation}
 use Rattle.std.proofs.Math.Seq.{take-add}
-use Rattle.std.proofs.lemmas.List.{length-map, length-take-le, take_more}
+use Rattle.std.proofs.lemmas.List.{drop-map, length-map, length-take-le, take-map, take_more}
 use Rattle.std.proofs.lemmas.List.Elements.{All-contains, All-contains_itself, recursion_from_All}
 use Rattle.std.proofs.lemmas.List.Sorted.{IsPermutation-append_comm, IsPermutation-sym, length_permutation}
 use Rattle.std.proofs.lemmas.Slice.Zip.{all_zipped_more}
@@ -13,6 +13,7 @@ use Rattle.range_plane.specs.Edges.{at}
 use Rattle.range_plane.specs.Laws.{CornersCoverTheSet, CoveringMembersAreCorners, LargerSetsCoverMore, OneCoversItself}
 use Rattle.range_plane.specs.Plane.{Position}
 use Rattle.range_plane.specs.Polygon.{IsPolygon}
+use Rattle.range_stats.specs.Keys.{points_at}
 use Rattle.range_stats.specs.Percent.{AreNearestFirst, IsFirstRow, IsHullOf, IsPercentRow, IsRanking, kept_count, nearest, nearest_points}
 use Rattle.range_stats.specs.declared.percents.PercentRow.{PercentRow}
 use Rattle.range_stats.proofs.RankedMembers.{polygon_of_permutation}
@@ -26,14 +27,18 @@ zip_through P Q R through (x ∷ xs) [] each zipped = absurd zipped
 zip_through P Q R through (x ∷ xs) (y ∷ ys) each zipped = (through x y each.0 zipped.0, zip_through P Q R through xs ys each.1 zipped.1)
 
 module _ (larger : LargerSetsCoverMore) (one : OneCoversItself) (corners : CornersCoverTheSet) (covering : CoveringMembersAreCorners) where
-  -- to a hull of the first so many the next ones were added
-  pub more_first : (ranked : List Position) (done kept : ℕ) → done ≤ kept → (hull : Hull)
-      → IsHullOf (take (kept - done) (drop done ranked) ++ take done ranked) hull → IsHullOf (take kept ranked) hull
-  more_first ranked done kept less hull added =
-      let part = take (kept - done) (drop done ranked) in
+  -- to a hull of the first so many points in places the next ones were added
+  pub more_first : (points : List Position) (places : List ℕ) (ranked : List Position) → points_at points places ≡ ranked → (done kept : ℕ) → done ≤ kept
+      → (hull : Hull) → IsHullOf (points_at points (take (kept - done) (drop done places)) ++ take done ranked) hull → IsHullOf (take kept ranked) hull
+  more_first points places ranked is done kept less hull added =
+      let point = at points in
+      let part = map point (take (kept - done) (drop done places)) in
       let before = take done ranked in
+      let read : part ≡ take (kept - done) (drop done ranked) = sym (take-map point (kept - done) (drop done places))
+      ∙ ap (take (kept - done)) (sym (drop-map point done places) ∙ ap (drop done) is) in
       let total : done + (kept - done) ≡ kept = omega (arith, less) in
-      let joined : before ++ part ≡ take kept ranked = sym (take-add done (kept - done) ranked) ∙ ap (λ n. take n ranked) total in
+      let joined : before ++ part ≡ take kept ranked = ap (λ l. before ++ l) read ∙ sym (take-add done (kept - done) ranked)
+      ∙ ap (λ n. take n ranked) total in
       let moved = subst (IsPermutation (part ++ before)) joined (IsPermutation-append_comm part before) in
       record {
         polygon = polygon_of_permutation larger one corners covering (part ++ before) (take kept ranked) hull.corners moved added.polygon;

@@ -8,13 +8,13 @@ use Rattle.std.proofs.lemmas.List.{drop-map, length-map, take-map}
 use Rattle.std.proofs.lemmas.List.Elements.{All-map}
 use Rattle.std.proofs.lemmas.List.Folds.{fold-map}
 use Rattle.std.proofs.lemmas.List.FromFn.{get_or-range_with_len, length-range_with_len}
-use Rattle.std.proofs.lemmas.List.Sorted.{IsPermutation-map, length_permutation}
+use Rattle.std.proofs.lemmas.List.Sorted.{All-permutation, IsPermutation-map, length_permutation}
 use Rattle.std.proofs.lemmas.Simd.{map-map}
 use Rattle.std.proofs.Math.Nat.{mul-le-mul_right}
 use Rattle.range_plane.specs.Edges.{at}
 use Rattle.range_plane.specs.Plane.{Position}
 use Rattle.range_plane.specs.Fix.{fix_limit}
-use Rattle.range_stats.specs.Keys.{IsCutAdded, IsCutAt, entry_in, key, kept_points}
+use Rattle.range_stats.specs.Keys.{ArePlaces, IsCutAdded, IsCutAt, entry_in, key, place_in, points_at}
 use Rattle.range_stats.specs.Percent.{AreNearestFirst, IsRanking, comes_before, distance, entry, kept_count, nearest, nearest_points, places}
 use Rattle.range_stats.proofs.Rankings.{Entry, IsApart, filter_map, nearest_are_first, rank_in, same_place}
 
@@ -51,7 +51,7 @@ entries_in_keys [] within = refl
 entries_in_keys (a ∷ all) within = ap₂ (λ x l. x ∷ l) (entry_in_key a within.0) (entries_in_keys all within.1)
 
 -- keys in another order hold the entries of the points
-pub keys_moved : (points : List Position) (moved_keys : List ℕ) → length points ≤ fix_limit → IsPermutation (keys points) moved_keys
+keys_moved : (points : List Position) (moved_keys : List ℕ) → length points ≤ fix_limit → IsPermutation (keys points) moved_keys
     → IsPermutation (entries points) (map entry_in moved_keys)
 keys_moved points moved_keys few moved =
     let all : map entry_in (keys points) ≡ entries points =
@@ -84,17 +84,17 @@ entries_of_nearest points k =
     ∙ ap (map (entry points)) (λ i. filter (λ j. same j i) (places points))
 
 -- ---- keys in another order
-pub length_moved : (points : List Position) (cut : List ℕ) → IsPermutation (keys points) cut → length cut ≡ length points
+length_moved : (points : List Position) (cut : List ℕ) → IsPermutation (keys points) cut → length cut ≡ length points
 length_moved points cut moved = length_permutation (keys points) cut moved ∙ length-map (places points) (λ i. key (entry points i))
     ∙ length-range_with_len 0 (length points)
 
 place_in_key : (distance place n : ℕ) → place < n → n ≤ fix_limit → key (distance, place) % fix_limit < n
 place_in_key distance place n within few = omega arith
 
-pub keys_within : (points : List Position) → length points ≤ fix_limit → All (λ key. key % fix_limit < length points) (keys points)
+keys_within : (points : List Position) → length points ≤ fix_limit → All (λ key. place_in key < length points) (keys points)
 keys_within points few =
     let n = length points in
-    All-map (λ key. key % fix_limit < n) (λ i. key (entry points i)) (places points)
+    All-map (λ key. place_in key < n) (λ i. key (entry points i)) (places points)
     (λ k d within.
     let place = get_or (places points) k d in
     let long = length-range_with_len 0 n in
@@ -102,8 +102,8 @@ keys_within points few =
     place_in_key (distance points (at points place)) place n (omega (arith, is, within, long)) few)
 
 -- the points at the places in keys that are cut at k: the first k are the nearest
-pub nearest_of_keys : (points : List Position) (cut : List ℕ) (k : ℕ) → length points ≤ fix_limit → IsPermutation (keys points) cut → IsCutAt k cut
-    → AreNearestFirst points (kept_points points cut) k
+nearest_of_keys : (points : List Position) (cut : List ℕ) (k : ℕ) → length points ≤ fix_limit → IsPermutation (keys points) cut → IsCutAt k cut
+    → AreNearestFirst points (points_at points (map place_in cut)) k
 nearest_of_keys points cut k few moved apart =
     let point = λ (a : Entry). at points a.1 in
     let ranked = map entry_in cut in
@@ -111,7 +111,8 @@ nearest_of_keys points cut k few moved apart =
     (nearest_are_first (entries points) ranked k (keys_moved points cut few moved) (entries_apart cut k apart)
     (apart_from (λ i. distance points (at points i)) 0 (length points))) in
     let read : map point (map (entry points) (nearest points k)) ≡ nearest_points points k = map-map point (entry points) (nearest points k) in
-    let here : map point (take k ranked) ≡ take k (kept_points points cut) = sym (take-map point k ranked) ∙ ap (take k) (map-map point entry_in cut) in
+    let here : map point (take k ranked) ≡ take k (points_at points (map place_in cut)) =
+    sym (take-map point k ranked) ∙ ap (take k) (map-map point entry_in cut ∙ sym (map-map (at points) place_in cut)) in
     subst (IsPermutation (nearest_points points k)) here (subst (λ (l : List Position). IsPermutation l (map point (take k ranked))) read
     (IsPermutation-map point _ _ first))
 
@@ -119,12 +120,21 @@ nearest_of_keys points cut k few moved apart =
 pub kept_count_le : (level n : ℕ) → level ≤ 100 → kept_count level n ≤ n
 kept_count_le level n few = omega (arith, mul-le-mul_right n few)
 
--- the points in keys that are cut at what each of the levels keeps
-pub ranking_of_cut : (points : List Position) (levels : List ℕ) (ranked : List Position) → length points ≤ fix_limit
-    → IsCutAdded points levels (keys points) [] ranked → IsRanking points levels ranked
+-- the points at places that are cut at what each of the levels keeps
+pub ranking_of_cut : (points : List Position) (levels ranked : List ℕ) → length points ≤ fix_limit → IsCutAdded levels (length points) (keys points) [] ranked
+    → IsRanking points levels (points_at points ranked)
 ranking_of_cut points levels ranked few (cut, moved, each, read) =
-    subst (IsRanking points levels) (sym read)
+    subst (λ l. IsRanking points levels (points_at points l)) (sym read)
     record {
-      same_length = length-map cut (λ key. at points (key % fix_limit)) ∙ length_moved points cut moved;
+      same_length = length-map (map place_in cut) (at points) ∙ length-map cut place_in ∙ length_moved points cut moved;
       nearest_first = λ i d within. nearest_of_keys points cut (kept_count (get_or levels i d) (length points)) few moved (each i d within);
     }
+
+pub places_of_cut : (points : List Position) (levels ranked : List ℕ) → length points ≤ fix_limit → IsCutAdded levels (length points) (keys points) [] ranked
+    → ArePlaces points ranked × (length ranked ≤ fix_limit)
+places_of_cut points levels ranked few (cut, moved, each, read) =
+    let n = length points in
+    let within = All-permutation (λ key. place_in key < n) (keys points) cut moved (keys_within points few) in (
+      subst (All (λ place. place < n)) (sym read) (All-map (λ place. place < n) place_in cut within),
+      omega (arith, ap length read, length-map cut place_in, length_moved points cut moved, few),
+    )

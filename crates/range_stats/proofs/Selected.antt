@@ -1,18 +1,14 @@
 -- Keys of which one is selected, and those before it are cut.
-use Rattle.std.proofs.Common.{◌≡◌, ◌⊎◌, inl, inr, ℕ, ◌%◌, ◌<◌, ◌≤◌, false, List, [], ◌∷◌, ◌++◌, length, get_or, map, take, drop, sym, ap, subst, ◌∙◌, arith}
+use Rattle.std.proofs.Common.{◌≡◌, ◌⊎◌, inl, inr, ℕ, ◌<◌, ◌≤◌, false, List, [], ◌∷◌, ◌++◌, length, get_or, map, take, drop, sym, ap, subst, ◌∙◌, arith}
 use Rattle.std.specs.List.{All}
 use Rattle.std.specs.List.Sorted.{IsPermutation, IsSplitAround}
 use Rattle.std.specs.Ordering.{is_lt, nat_cmp}
-use Rattle.std.proofs.Math.Seq.{drop-append_seam, take-append_seam}
 use Rattle.std.proofs.lemmas.Bool.{cases_lt}
 use Rattle.std.proofs.lemmas.Bool.Decides.{nat_tests}
 use Rattle.std.proofs.lemmas.List.{append_assoc, drop-append-le, drop_all, map-append, take-append-le}
-use Rattle.std.proofs.lemmas.List.Elements.{All-append, All-cons, All-drop, All-head, All-nil, All-same, All-tail, All-take}
+use Rattle.std.proofs.lemmas.List.Elements.{All-append, All-cons, All-nil, All-same, All-take}
 use Rattle.std.proofs.lemmas.List.Sorted.{All-permutation, IsPermutation-append_left, IsPermutation-trans, length_permutation}
-use Rattle.range_plane.specs.Edges.{at}
-use Rattle.range_plane.specs.Fix.{fix_limit}
-use Rattle.range_plane.specs.Plane.{Position}
-use Rattle.range_stats.specs.Keys.{IsCutAdded, IsCutAt, kept_points}
+use Rattle.range_stats.specs.Keys.{IsCutAdded, IsCutAt, place_in}
 use Rattle.range_stats.specs.Percent.{kept_count}
 
 -- no key comes after the last
@@ -48,36 +44,24 @@ module _ (before nearest after : List ℕ) (key : ℕ) (moved : IsPermutation be
       go (inl less) = cut_before k (few less) cut
       go (inr more) = cut_at_end (nearest ++ key ∷ after) k (omega (arith, long, more))
 
--- what holds of keys holds of the one that is selected, and of those before and after it
-pub in_parts : (P : ℕ → Type 0) (keys before after : List ℕ) (key : ℕ) → IsPermutation keys (before ++ key ∷ after) → All P keys → All P before × P key
-    × All P after
-in_parts P keys before after key moved all =
-    let whole = All-permutation P keys (before ++ key ∷ after) moved all in
-    let rest = subst (All P) (drop-append_seam before (key ∷ after)) (All-drop P (length before) (before ++ key ∷ after) whole) in (
-      subst (All P) (take-append_seam before (key ∷ after)) (All-take P (length before) (before ++ key ∷ after) whole),
-      All-head P key after rest,
-      All-tail P key after rest,
-    )
+-- the places in keys, where those before the selected one were put in another order
+places_joined : (nearest after : List ℕ) (key : ℕ) (old : List ℕ) (place : ℕ) → place ≡ place_in key
+    → ((old ++ map place_in nearest) ++ place ∷ []) ++ map place_in after ≡ old ++ map place_in (nearest ++ key ∷ after)
+places_joined nearest after key old place here =
+    append_assoc (old ++ map place_in nearest) (place ∷ []) (map place_in after) ∙ append_assoc old (map place_in nearest) (place ∷ map place_in after)
+    ∙ ap (λ q. old ++ (map place_in nearest ++ q ∷ map place_in after)) here ∙ ap (λ l. old ++ l) (sym (map-append place_in nearest (key ∷ after)))
 
--- the points of the keys, where those before the selected one were put in another order
-points_joined : (points : List Position) (nearest after : List ℕ) (key : ℕ) (old : List Position) (p : Position) → at points (key % fix_limit) ≡ p
-    → ((old ++ kept_points points nearest) ++ p ∷ []) ++ kept_points points after ≡ old ++ kept_points points (nearest ++ key ∷ after)
-points_joined points nearest after key old p here =
-    let point = λ (k : ℕ). at points (k % fix_limit) in
-    append_assoc (old ++ map point nearest) (p ∷ []) (map point after) ∙ append_assoc old (map point nearest) (p ∷ map point after)
-    ∙ ap (λ q. old ++ (map point nearest ++ q ∷ map point after)) (sym here) ∙ ap (λ l. old ++ l) (sym (map-append point nearest (key ∷ after)))
-
-pub cut_more : (points : List Position) (levels keys before after : List ℕ) (key kept : ℕ) (old then : List Position) (p : Position) (new : List Position)
+pub cut_more : (n : ℕ) (levels keys before after : List ℕ) (key kept : ℕ) (old then : List ℕ) (place : ℕ) (new : List ℕ)
     → IsPermutation keys (before ++ key ∷ after) → IsSplitAround nat_cmp before key after
-    → length before ≡ kept → All (λ level. kept_count level (length points) < length keys → kept_count level (length points) ≤ kept) levels
-    → IsCutAdded points levels before old then → at points (key % fix_limit) ≡ p
-    → new ≡ (then ++ p ∷ []) ++ kept_points points after → IsCutAdded points levels keys old new
-cut_more points levels keys before after key kept old then p new moved split long greatest (nearest, turned, cut, joined) here is =
+    → length before ≡ kept → All (λ level. kept_count level n < length keys → kept_count level n ≤ kept) levels
+    → IsCutAdded levels n before old then → place ≡ place_in key
+    → new ≡ (then ++ place ∷ []) ++ map place_in after → IsCutAdded levels n keys old new
+cut_more n levels keys before after key kept old then place new moved split long greatest (nearest, turned, cut, joined) here is =
     let whole = nearest ++ key ∷ after in
     let again : IsPermutation keys whole = IsPermutation-trans _ _ _ moved (IsPermutation-append_left (key ∷ after) before nearest turned) in
-    let each : All (λ level. IsCutAt (kept_count level (length points)) whole) levels =
+    let each : All (λ level. IsCutAt (kept_count level n) whole) levels =
     λ i d within.
-    let k = kept_count (get_or levels i d) (length points) in
+    let k = kept_count (get_or levels i d) n in
     cut_anywhere before nearest after key turned split k (length keys) (length_permutation keys whole again)
     (λ less. omega (arith, long, greatest i d within less)) (cut i d within) in
-    (whole, again, each, is ∙ ap (λ l. (l ++ p ∷ []) ++ kept_points points after) joined ∙ points_joined points nearest after key old p here)
+    (whole, again, each, is ∙ ap (λ l. (l ++ place ∷ []) ++ map place_in after) joined ∙ places_joined nearest after key old place here)

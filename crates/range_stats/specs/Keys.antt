@@ -18,9 +18,17 @@ key entry = entry.0 * fix_limit + entry.1
 abbrev pub entry_in : ℕ → ℕ × ℕ
 entry_in key = (key / fix_limit, key % fix_limit)
 
--- the points at the places in keys
-abbrev pub kept_points : List Position → List ℕ → List Position
-kept_points points keys = map (λ key. at points (key % fix_limit)) keys
+-- the place in a key
+abbrev pub place_in : ℕ → ℕ
+place_in key = key % fix_limit
+
+-- the points at places
+abbrev pub points_at : List Position → List ℕ → List Position
+points_at points places = map (at points) places
+
+-- each place is that of a point
+abbrev pub ArePlaces : List Position → List ℕ → Type 0
+ArePlaces points places = All (λ place. place < length points) places
 
 -- none of the first k keys is greater than one after them
 abbrev pub IsCutAt : ℕ → List ℕ → Type 0
@@ -31,7 +39,7 @@ abbrev pub IsGreatestCut : List ℕ → ℕ → ℕ → Option ℕ → Type 0
 IsGreatestCut levels n limit None = All (λ level. limit ≤ kept_count level n) levels
 IsGreatestCut levels n limit (Some kept) = (kept < limit) × All (λ level. kept_count level n < limit → kept_count level n ≤ kept) levels
 
--- to the old points those in the keys are added, in an order that is cut at what each of the levels keeps of all points
-abbrev pub IsCutAdded : List Position → List ℕ → List ℕ → List Position → List Position → Type 0
-IsCutAdded points levels keys old new = (cut : List ℕ) × IsPermutation keys cut × All (λ level. IsCutAt (kept_count level (length points)) cut) levels
-    × (new ≡ old ++ kept_points points cut)
+-- to the old places those in the keys are added, in an order that is cut at what each of the levels keeps of n points
+abbrev pub IsCutAdded : List ℕ → ℕ → List ℕ → List ℕ → List ℕ → Type 0
+IsCutAdded levels n keys old new = (cut : List ℕ) × IsPermutation keys cut × All (λ level. IsCutAt (kept_count level n) cut) levels
+    × (new ≡ old ++ map place_in cut)

@@ -5,86 +5,100 @@ ghost use Rattle.range_plane.specs.Covering.{is_covered};
 ghost use Rattle.range_plane.specs.Fix.{fix_limit};
 ghost use Rattle.range_plane.specs.Plane.{Position};
 ghost use Rattle.range_plane.specs.Polygon.{IsPolygon};
+ghost use Rattle.range_stats.specs.Keys.{ArePlaces, points_at};
 ghost use Rattle.range_stats.specs.Percent.{IsHullOf};
 
 use range_hull::OnlineHull;
 use range_marker::{Marker, add_point, covered_points_stay_covered};
-use range_plane::{Columns, OutOfMemory, Point, polygon_of_its_corners};
+use range_plane::{Columns, OutOfMemory, polygon_of_its_corners};
 use std::alloc::Allocator;
 
 // How many points are marked at once. docs/PERFORMANCE.md has what other numbers cost.
 const BATCH: usize = 512;
 
-// Adds the points to a hull, in batches. The last come first, since they cover most of the others: the farthest are
+// Adds the points at the places to a hull, in batches. The last come first, since they cover most of the others: the farthest are
 // among those that a level keeps and no lower one.
-pub(crate) fn add_points<A: Allocator + Copy>(
+pub(crate) fn add_points<A: Allocator + Copy, B: Allocator>(
     alloc: A,
     hull: &mut OnlineHull<A>,
-    points: &[Point],
+    fixes: &Columns<B>,
+    places: &[u32],
 ) -> Result<(), OutOfMemory>
+    requires places { ArePlaces fixes.now.points places.now }
     requires polygon { IsPolygon hull.old.corners hull.old.corners }
-    requires few { hull.old.inserted + hull.old.skipped + length points.now ≤ fix_limit }
+    requires few { hull.old.inserted + hull.old.skipped + length places.now ≤ fix_limit }
     ensures { (S : List Position) → IsHullOf S hull.old
-        → IfOk result (λ done. IsHullOf (points.now ++ S) hull.new) }
+        → IfOk result (λ done. IsHullOf (points_at fixes.now.points places.now ++ S) hull.new) }
 {
     polygon_of_its_corners();
-    let mut left = points.len();
+    let mut left = places.len();
     while left > 0 {
         let start = left.saturating_sub(BATCH);
-        add_batch(alloc, hull, &points[start..left])?;
+        add_batch(alloc, hull, fixes, &places[start..left])?;
         left = start;
     }
     Ok(())
 }
 
-// The points in columns.
-fn columns_of<A: Allocator + Copy>(alloc: A, points: &[Point]) -> Result<Columns<A>, OutOfMemory>
-    ensures { IfOk result (λ cols. cols.points ≡ points.now) }
+// The points at the places, in columns.
+fn columns_of<A: Allocator + Copy, B: Allocator>(
+    alloc: A,
+    fixes: &Columns<B>,
+    places: &[u32],
+) -> Result<Columns<A>, OutOfMemory>
+    requires { ArePlaces fixes.now.points places.now }
+    ensures { IfOk result (λ cols. cols.points ≡ points_at fixes.now.points places.now) }
 {
     let mut cols = Columns::new(alloc);
-    cols.reserve(points.len())?;
-    for point in points {
-        cols.push_reserved(*point);
+    cols.reserve(places.len())?;
+    for place in places {
+        cols.push_reserved(fixes.at(*place as usize));
     }
     Ok(cols)
 }
 
-// Adds a batch of points. Those that the polygon covers before it are counted alone.
-fn add_batch<A: Allocator + Copy>(
+// Adds a batch of points, those at the places. Those that the polygon covers before it are counted alone.
+fn add_batch<A: Allocator + Copy, B: Allocator>(
     alloc: A,
     hull: &mut OnlineHull<A>,
-    points: &[Point],
+    fixes: &Columns<B>,
+    places: &[u32],
 ) -> Result<(), OutOfMemory>
+    requires places { ArePlaces fixes.now.points places.now }
     requires polygon { IsPolygon hull.old.corners hull.old.corners }
-    requires few { hull.old.inserted + hull.old.skipped + length points.now ≤ fix_limit }
+    requires few { hull.old.inserted + hull.old.skipped + length places.now ≤ fix_limit }
     ensures counted { OnOk result (hull.new.inserted + hull.new.skipped
-        ≡ hull.old.inserted + hull.old.skipped + length points.now) }
+        ≡ hull.old.inserted + hull.old.skipped + length places.now) }
     ensures set { OnOk result ((S : List Position) → IsPolygon S hull.old.corners
-        → IsPolygon (points.now ++ S) hull.new.corners) }
+        → IsPolygon (points_at fixes.now.points places.now ++ S) hull.new.corners) }
 {
-    let batch = columns_of(alloc, points)?;
+    let batch = columns_of(alloc, fixes, places)?;
     let mut marker = Marker::new(alloc);
     marker.mark(hull, &batch)?;
-    hull.reserve(points.len())?;
-    add_marked(hull, points, marker.marks());
+    hull.reserve(batch.len())?;
+    add_marked(hull, &batch, marker.marks());
     Ok(())
 }
 
 // Adds points, the last of them first, of which the marks say which ones the polygon covers as it stands.
-fn add_marked<A: Allocator>(hull: &mut OnlineHull<A>, points: &[Point], marks: &[bool])
+fn add_marked<A: Allocator, B: Allocator>(
+    hull: &mut OnlineHull<A>,
+    batch: &Columns<B>,
+    marks: &[bool],
+)
     requires polygon { IsPolygon hull.old.corners hull.old.corners }
-    requires few { hull.old.inserted + hull.old.skipped + length points.now ≤ fix_limit }
-    requires room { length points.now ≤ hull.old.spare }
-    requires marks { marks.now ≡ map (is_covered hull.old.corners) points.now }
+    requires few { hull.old.inserted + hull.old.skipped + length batch.now.points ≤ fix_limit }
+    requires room { length batch.now.points ≤ hull.old.spare }
+    requires marks { marks.now ≡ map (is_covered hull.old.corners) batch.now.points }
     ensures counted { hull.new.inserted + hull.new.skipped
-        ≡ hull.old.inserted + hull.old.skipped + length points.now }
+        ≡ hull.old.inserted + hull.old.skipped + length batch.now.points }
     ensures set { (S : List Position) → IsPolygon S hull.old.corners
-        → IsPolygon (points.now ++ S) hull.new.corners }
+        → IsPolygon (batch.now.points ++ S) hull.new.corners }
 {
     covered_points_stay_covered();
-    let mut left = points.len();
+    let mut left = batch.len();
     while left > 0 {
         left -= 1;
-        add_point(hull, points[left], marks[left]);
+        add_point(hull, batch.at(left), marks[left]);
     }
 }

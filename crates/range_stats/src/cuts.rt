@@ -1,12 +1,11 @@
-// Points put in an order in which those that a level keeps come before all others.
+// Places of points in an order in which those that a level keeps come before all others.
 
-ghost use Rattle.std.specs.Prelude.{◌≡◌, ◌++◌, ◌%◌, ◌<◌, ◌≤◌, All, IfOk, length};
+ghost use Rattle.std.specs.Prelude.{◌≡◌, ◌+◌, ◌++◌, ◌≤◌, length, map, vec_capacity, vec_len};
 ghost use Rattle.range_plane.specs.Fix.{fix_limit};
-ghost use Rattle.range_stats.specs.Keys.{IsCutAdded, IsGreatestCut, kept_points};
+ghost use Rattle.range_stats.specs.Keys.{IsCutAdded, IsGreatestCut, place_in};
 ghost use Rattle.range_stats.specs.Percent.{kept_count};
 
 use crate::distances::place_in;
-use range_plane::{Columns, OutOfMemory, Point};
 use std::alloc::Allocator;
 
 // How many of `count` points a level keeps.
@@ -32,41 +31,38 @@ fn greatest_cut(levels: &[u8], count: usize, limit: usize) -> Option<usize>
     greatest
 }
 
-// Adds the points at the places in the keys.
-fn push_points<A: Allocator, B: Allocator>(
-    points: &mut Vec<Point, A>,
-    fixes: &Columns<B>,
-    keys: &[u128],
-) -> Result<(), OutOfMemory>
-    requires { All (λ key. key % fix_limit < length fixes.now.points) keys.now }
-    ensures { IfOk result (λ done. points.new.items ≡ points.old.items
-        ++ kept_points fixes.now.points keys.now) }
+// Adds the places in the keys.
+fn push_places<A: Allocator>(places: &mut Vec<u32, A>, keys: &[u128])
+    requires room { vec_len places.old + length keys.now ≤ vec_capacity places.old }
+    ensures items { places.new.items ≡ places.old.items ++ map place_in keys.now }
+    ensures len { vec_len places.new ≡ vec_len places.old + length keys.now }
+    ensures capacity { vec_capacity places.new ≡ vec_capacity places.old }
 {
     for key in keys {
-        points.push(fixes.at(place_in(*key)))?;
+        places.push_reserved(place_in(*key));
     }
-    Ok(())
 }
 
-// Adds the points at the places in the keys, cut at what each of the levels keeps: the greatest level first, and
+// Adds the places in the keys, cut at what each of the levels keeps of `count` points: the greatest level first, and
 // each lower one within the keys that the one before it keeps.
-pub(crate) fn push_cut<A: Allocator, B: Allocator>(
-    points: &mut Vec<Point, A>,
-    fixes: &Columns<B>,
+pub(crate) fn push_cut<A: Allocator>(
+    places: &mut Vec<u32, A>,
     keys: &mut [u128],
     levels: &[u8],
-) -> Result<(), OutOfMemory>
-    requires few { length fixes.now.points ≤ fix_limit }
-    requires places { All (λ key. key % fix_limit < length fixes.now.points) keys.old }
-    ensures { IfOk result
-        (λ done. IsCutAdded fixes.now.points levels.now keys.old
-        points.old.items points.new.items) }
+    count: usize,
+)
+    requires few { count ≤ fix_limit }
+    requires room { vec_len places.old + length keys.old ≤ vec_capacity places.old }
+    ensures items { IsCutAdded levels.now count keys.old places.old.items places.new.items }
+    ensures len { vec_len places.new ≡ vec_len places.old + length keys.old }
+    ensures capacity { vec_capacity places.new ≡ vec_capacity places.old }
 {
-    let Some(kept) = greatest_cut(levels, fixes.len(), keys.len()) else {
-        return push_points(points, fixes, keys);
+    let Some(kept) = greatest_cut(levels, count, keys.len()) else {
+        push_places(places, keys);
+        return;
     };
     let (nearest, key, others) = keys.select_nth_unstable(kept);
-    push_cut(points, fixes, nearest, levels)?;
-    points.push(fixes.at(place_in(*key)))?;
-    push_points(points, fixes, others)
+    push_cut(places, nearest, levels, count);
+    places.push_reserved(place_in(*key));
+    push_places(places, others);
 }

@@ -1,9 +1,9 @@
 // The distances of points from their mean, and keys by which the points are ranked.
 
-ghost use Rattle.std.specs.Prelude.{◌≡◌, ◌*◌, ◌%◌, ◌<◌, ◌≤◌, ◌-ℤ◌, ◌*ℤ◌, pos, unsigned_abs, IfOk, length, map};
+ghost use Rattle.std.specs.Prelude.{◌≡◌, ◌*◌, ◌<◌, ◌≤◌, ◌-ℤ◌, ◌*ℤ◌, pos, unsigned_abs, IfOk, length, map};
 ghost use Rattle.range_plane.specs.Fix.{fix_limit};
 ghost use Rattle.range_plane.specs.Plane.{IsCoordinate, coordinate_limit};
-ghost use Rattle.range_stats.specs.Keys.{distance_limit, key};
+ghost use Rattle.range_stats.specs.Keys.{distance_limit, key, place_in};
 ghost use Rattle.range_stats.specs.Percent.{entry, places, scaled_distance, square};
 
 use range_lanes::sums;
@@ -54,10 +54,10 @@ fn key(distance: u128, place: usize) -> u128
 }
 
 // The place in a key.
-pub(crate) fn place_in(key: u128) -> usize
-    ensures { result ≡ key % fix_limit }
+pub(crate) fn place_in(key: u128) -> u32
+    ensures { result ≡ place_in key }
 {
-    (key % PLACES) as usize
+    (key % PLACES) as u32
 }
 
 // The key of each point: its distance from the mean of all, scaled as above, and its place.

@@ -12,8 +12,8 @@ use crate::distances::keys;
 use crate::percents::PercentRow;
 use range_hull::OnlineHull;
 use range_plane::{
-    Columns, OutOfMemory, Point, corners_cover_the_set, covering_members_are_corners,
-    few_cover_little, larger_sets_cover_more, polygon_of_its_corners,
+    Columns, OutOfMemory, corners_cover_the_set, covering_members_are_corners, few_cover_little,
+    larger_sets_cover_more, polygon_of_its_corners,
 };
 use std::alloc::{Allocator, Global};
 use std::marker::Model;
@@ -21,46 +21,50 @@ use std::marker::Model;
 /// Points by their distance from the mean of all, ranked for some levels: the points that one of these levels
 /// keeps come before all others, and its percent polygon is that of the first so many.
 #[derive(Drop)]
-pub struct Ranking<A: Allocator = Global> {
-    points: Vec<Point, A>,
+pub struct Ranking<'a, A: Allocator = Global, B: Allocator = Global> {
+    fixes: &'a Columns<B>,
+    // The places of the points, in the order in which they are ranked.
+    places: Vec<u32, A>,
 }
 
-impl<A: Allocator> Model for Ranking<A> {
+impl<'a, A: Allocator, B: Allocator> Model for Ranking<'a, A, B> {
     ghost use Rattle.std.specs.Prelude.{◌≤◌, List, length};
     ghost use Rattle.range_plane.specs.Fix.{fix_limit};
     ghost use Rattle.range_plane.specs.Plane.{Position};
+    ghost use Rattle.range_stats.specs.Keys.{ArePlaces, points_at};
 
     ghost Value = { List Position };
 
-    ghost view = { λ r. r.points.items };
+    ghost view = { λ r. points_at r.fixes.now.points r.places.items };
 
-    ghost invariant = { λ r. length r.points.items ≤ fix_limit };
+    ghost invariant = { λ r. ArePlaces r.fixes.now.points r.places.items
+        × (length r.places.items ≤ fix_limit) };
 }
 
-impl<A: Allocator> Ranking<A> {
+impl<'a, A: Allocator, B: Allocator> Ranking<'a, A, B> {
     /// Ranks the points for the levels by their distance from their mean, and points as near as each other by
     /// their places. The levels stand in any order.
-    pub fn new<B: Allocator>(
+    pub fn new(
         alloc: A,
-        fixes: &Columns<B>,
+        fixes: &'a Columns<B>,
         levels: &[u8],
-    ) -> Result<Ranking<A>, OutOfMemory>
+    ) -> Result<Ranking<'a, A, B>, OutOfMemory>
     where
         A: Copy,
         requires { length fixes.now.points ≤ fix_limit }
         ensures { IfOk result (IsRanking fixes.now.points levels.now) }
     {
         let mut keys = keys(alloc, fixes)?;
-        let mut points = Vec::with_capacity(alloc, keys.len())?;
-        push_cut(&mut points, fixes, &mut keys, levels)?;
-        Ok(Ranking { points })
+        let mut places = Vec::with_capacity(alloc, keys.len())?;
+        push_cut(&mut places, &mut keys, levels, fixes.len());
+        Ok(Ranking { fixes, places })
     }
 
     /// The percent polygon at a level, which is one of those that the points were ranked for. The hull that it
     /// is made with takes memory from `alloc`.
-    pub fn row<B: Allocator>(&self, alloc: B, level: u8) -> Result<PercentRow, OutOfMemory>
+    pub fn row<C: Allocator>(&self, alloc: C, level: u8) -> Result<PercentRow, OutOfMemory>
     where
-        B: Copy,
+        C: Copy,
         requires { level ≤ 100 }
         ensures kept { IfOk result (λ row. row.kept ≡ kept_count level (length self.now)) }
         ensures row { (points : List Position) (levels : List ℕ) → IsRanking points levels self.now
@@ -77,13 +81,13 @@ impl<A: Allocator> Ranking<A> {
     /// The percent polygons at the levels that the points were ranked for, in their order. Levels that rise share
     /// one hull, to which each adds the points that the one before it does not keep; it takes memory from `alloc`,
     /// as the rows do.
-    pub fn rows<B: Allocator>(
+    pub fn rows<C: Allocator>(
         &self,
-        alloc: B,
+        alloc: C,
         levels: &[u8],
-    ) -> Result<Vec<PercentRow, B>, OutOfMemory>
+    ) -> Result<Vec<PercentRow, C>, OutOfMemory>
     where
-        B: Copy,
+        C: Copy,
         requires { All (λ level. level ≤ 100) levels.now }
         ensures { (points : List Position) → IsRanking points levels.now self.now
             → IfOk result (λ rows. AllZip (IsPercentRow points) levels.now rows.items) }
@@ -96,7 +100,7 @@ impl<A: Allocator> Ranking<A> {
         let mut hull = OnlineHull::new(alloc);
         let mut done = 0;
         for level in levels {
-            let kept = kept_count(*level, self.points.len());
+            let kept = kept_count(*level, self.places.len());
             if kept < done {
                 hull = OnlineHull::new(alloc);
                 done = 0;
@@ -110,15 +114,15 @@ impl<A: Allocator> Ranking<A> {
 
     // Reads the row of a level off a hull of the first `done` points, to which those up to what the level keeps are
     // added.
-    fn read<B: Allocator>(
+    fn read<C: Allocator>(
         &self,
-        alloc: B,
-        hull: &mut OnlineHull<B>,
+        alloc: C,
+        hull: &mut OnlineHull<C>,
         done: usize,
         level: u8,
     ) -> Result<PercentRow, OutOfMemory>
     where
-        B: Copy,
+        C: Copy,
         requires level { level ≤ 100 }
         requires done { done ≤ kept_count level (length self.now) }
         requires hull { IsHullOf (take done self.now) hull.old }
@@ -131,8 +135,8 @@ impl<A: Allocator> Ranking<A> {
         corners_cover_the_set();
         covering_members_are_corners();
         polygon_of_its_corners();
-        let kept = kept_count(level, self.points.len());
-        add_points(alloc, hull, &self.points[done..kept])?;
+        let kept = kept_count(level, self.places.len());
+        add_points(alloc, hull, self.fixes, &self.places[done..kept])?;
         Ok(PercentRow {
             level,
             kept: kept as u32,

@@ -1,5 +1,6 @@
 use Rattle.std.proofs.Common.{◌≡◌, suc, ◌-◌, ◌<◌, ◌++◌, ◌∷◌, List, false, length, drop, get_or, sym, ap, subst, ◌∙◌, arith}
 use Rattle.std.proofs.Math.Seq.{drop-cons}
+use Rattle.std.proofs.lemmas.Option.{get_or_from_slice_get}
 use Rattle.std.proofs.lemmas.List.{get_or-map}
 use Rattle.std.proofs.lemmas.List.Elements.{Contains-append_right}
 use Rattle.range_plane.specs.Covering.{is_covered}
@@ -9,27 +10,29 @@ use Rattle.range_stats.proofs.adding.add_marked.Goals as goal
 
 pub add_point-requires-clause-covered : goal.add_point-requires-clause-covered
 add_point-requires-clause-covered g c = λ marked.
-    let points = c.args.points.now in
+    let points = c.args.batch.now.points in
     let corners = c.args.hull.now.corners in
-    let p = c.index-points-left.result in
+    let p = c.at.result in
     let place = c.loop-left.left - 1 in
+    let here : p ≡ get_or points place p = sym (get_or_from_slice_get points place p p c.at.ensures) in
     let within : place < length points = omega (arith, c.loop-left.invariant.within, c.loop-left-test.true) in
     let mark : get_or c.args.marks.now place false ≡ is_covered corners p = ap (λ l. get_or l place false) c.requires.marks
-    ∙ get_or-map (is_covered corners) points place p false within ∙ ap (is_covered corners) (sym c.index-points-left.is) in
+    ∙ get_or-map (is_covered corners) points place p false within ∙ ap (is_covered corners) (sym here) in
     let taken = drop c.loop-left.left points in
     c.covered_points_stay_covered.ensures corners (taken ++ corners) corners c.loop-left.hull.corners p c.requires.polygon
     (c.loop-left.invariant.set corners c.requires.polygon) (λ s. Contains-append_right taken corners s) (sym mark ∙ marked)
 
 pub loop-left-preserved : goal.loop-left-preserved
 loop-left-preserved g c =
-    let points = c.args.points.now in
+    let points = c.args.batch.now.points in
     let left = c.loop-left.left in
-    let p = c.index-points-left.result in
+    let p = c.at.result in
+    let here : p ≡ get_or points (left - 1) p = sym (get_or_from_slice_get points (left - 1) p p c.at.ensures) in
     let inv = c.loop-left.invariant in
     let within : left - 1 < length points = omega (arith, inv.within, c.loop-left-test.true) in
     let next : suc (left - 1) ≡ left = omega (arith, c.loop-left-test.true) in
     let longer : p ∷ drop left points ≡ drop (left - 1) points =
-    sym (drop-cons points (left - 1) p within ∙ ap (λ q. q ∷ drop (suc (left - 1)) points) (sym c.index-points-left.is) ∙ ap (λ n. p ∷ drop n points) next) in
+    sym (drop-cons points (left - 1) p within ∙ ap (λ q. q ∷ drop (suc (left - 1)) points) (sym here) ∙ ap (λ n. p ∷ drop n points) next) in
     record {
       within = omega (arith, within);
       room = omega (arith, inv.room, c.add_point.ensures.spare, c.loop-left-test.true);
@@ -41,4 +44,4 @@ loop-left-preserved g c =
 pub returns-clause-set : goal.returns-clause-set
 returns-clause-set g c = λ S before.
     let none : c.loop-left.left ≡ 0 = omega (arith, c.loop-left-test.false) in
-    subst (λ n. IsPolygon (drop n c.args.points.now ++ S) c.loop-left.hull.corners) none (c.loop-left.invariant.set S before)
+    subst (λ n. IsPolygon (drop n c.args.batch.now.points ++ S) c.loop-left.hull.corners) none (c.loop-left.invariant.set S before)

@@ -1,6 +1,7 @@
 use Rattle.std.proofs.Common.{◌≡◌, ◌∙◌, ℕ, List, length, get_or, take, arith, sym, ap, subst}
 use Rattle.std.specs.List.{AllZip}
-use Rattle.std.proofs.lemmas.List.{take_all}
+use Rattle.std.proofs.lemmas.List.{length-map, take_all}
+use Rattle.range_plane.specs.Edges.{at}
 use Rattle.range_stats.specs.Percent.{IsFirstRow, IsHullOf, kept_count}
 use Rattle.range_stats.proofs.Firsts.{none_first, percent_rows, row_more}
 use Rattle.range_stats.proofs.ranking.Ranking.rows.Goals as goal
@@ -25,7 +26,13 @@ loop-level-preserved g c =
     let ranked = c.args.self.now in
     let levels = c.args.levels.now in
     let i = c.loop-level.level-index in
-    let size : c.len.result ≡ length ranked = omega (arith, c.len.ensures, c.self.inside.points.ok, ap length c.self.view_is) in
+    let size : c.len.result ≡ length ranked = omega (
+      arith,
+      c.len.ensures,
+      c.self.inside.places.ok,
+      length-map c.self.inside.places.items (at c.self.inside.fixes.now.points),
+      ap length c.self.view_is,
+    ) in
     let count : c.kept_count-kept.result ≡ kept_count (get_or levels i 0) (length ranked) = c.kept_count-kept.ensures
     ∙ ap (kept_count (get_or levels i 0)) size in
     record {
