@@ -123,7 +123,8 @@ def drawn_names():
     for place, (program, track) in enumerate(names):
         y = TOP + 12 + 18 * place
         dashes = ' stroke-dasharray="5 4"' if track == "walk" else ""
-        yield f'<line x1="{LEFT + 12}" y1="{y}" x2="{LEFT + 44}" y2="{y}" stroke="{COLOURS[program]}" stroke-width="2"{dashes}/>'
+        style = f'stroke="{COLOURS[program]}" stroke-width="2"{dashes}'
+        yield f'<line x1="{LEFT + 12}" y1="{y}" x2="{LEFT + 44}" y2="{y}" {style}/>'
         yield f'<text x="{LEFT + 52}" y="{y + 4}">{program}, {track}</text>'
 
 

@@ -66,7 +66,8 @@ impl Refusal {
     }
 
     /// The status with which the program ends: 1 for a file that cannot be opened, 2 for words that are
-    /// refused, 3 where memory ran out, 4 for help or a version that cannot be written, and that of the run where there was one.
+    /// refused, 3 where memory ran out, 4 for help or a version that cannot be written, and that of the run where there
+    /// was one.
     pub fn status(&self) -> u8
         ensures { result ≡ refusal_status self.now }
     {

@@ -16,8 +16,8 @@ use std::alloc::Allocator;
 // How many points are marked at once. docs/PERFORMANCE.md has what other numbers cost.
 const BATCH: usize = 512;
 
-// Adds the points at the places to a hull, in batches. The last come first, since they cover most of the others: the farthest are
-// among those that a level keeps and no lower one.
+// Adds the points at the places to a hull, in batches. The last come first, since they cover most of the others: the
+// farthest are among those that a level keeps and no lower one.
 pub(crate) fn add_points<A: Allocator + Copy, B: Allocator>(
     alloc: A,
     hull: &mut OnlineHull<A>,
