@@ -1,10 +1,8 @@
 // The table of incremental area analysis, which grows by a fix at a time.
 
-ghost use Rattle.std.specs.Prelude.{◌≡◌, ◌+◌, ◌<◌, ◌≤◌, ◌∷◌, ◌++◌, [], List, true, IfOk, IfSome, IsTrue, OnOk, count_by, if◌then◌else◌, length, map, not};
+ghost use Rattle.std.specs.Prelude.{◌≡◌, ◌+◌, ◌<◌, ◌≤◌, ◌∷◌, ◌++◌, [], true, IfOk, IfSome, IsTrue, OnOk, count_by, if◌then◌else◌, length, map, not};
 ghost use Rattle.range_plane.specs.Covering.{is_covered};
 ghost use Rattle.range_plane.specs.Fix.{fix_limit};
-ghost use Rattle.range_plane.specs.Plane.{Position};
-ghost use Rattle.range_plane.specs.Polygon.{IsPolygon};
 ghost use Rattle.range_plane.specs.Row.{points_of};
 ghost use Rattle.range_estimator.specs.Estimation.{IsEstimate};
 
@@ -18,8 +16,8 @@ use range_plane::{
 use std::alloc::Allocator;
 use std::marker::Model;
 
-// The fixes of a file, the table of them, and the hull of their points. `reserve` and `polygon` alone take
-// memory.
+// The fixes of a file, the table of them, and the hull of their points. `reserve`, `mark` and `polygon` alone take
+// memory, `mark` for what is given to it.
 #[derive(Drop)]
 pub(crate) struct Table<A: Allocator> {
     columns: Columns<A>,

@@ -157,7 +157,7 @@ min_fits x y f g = either_fits (lt_z y x) y x g f
 pub max_fits : (x y : ℤ) → FitsSigned w64 x → FitsSigned w64 y → FitsSigned w64 (int_max x y)
 max_fits x y f g = either_fits (lt_z y x) x y f g
 
--- ---- a bitwise or
+-- a bitwise or
 pub or_fits : (x y : ℤ) → FitsSigned w64 x → FitsSigned w64 y → FitsSigned w64 (int_bit_or w64 x y)
 or_fits x y f g = sfits_to_z (Fits-or (Fits-of_z f) (Fits-of_z g))
 

@@ -7,12 +7,12 @@ use Rattle.range_plane.specs.Laws.{CoveringMembersAreCorners, SetsCoverTheirMemb
 use Rattle.range_plane.specs.Plane.{IsAtMost, Position}
 use Rattle.range_plane.specs.Polygon.{BeginsWithLeast, IsPolygon, TurnsLeft}
 use Rattle.range_lanes.specs.InnerPlaces.{place_of}
+use Rattle.range_lanes.specs.declared.inner.TheConstants.{INNER_CORNERS}
 
--- ---- places
-next_place : (n i : ℕ) → 12 ≤ n → place_of i n < place_of (suc i) n
+next_place : (n i : ℕ) → INNER_CORNERS ≤ n → place_of i n < place_of (suc i) n
 next_place n i many = omega (arith, suc-mul i n)
 
-places_rise : (n i j : ℕ) → 12 ≤ n → i < j → place_of i n < place_of j n
+places_rise : (n i j : ℕ) → INNER_CORNERS ≤ n → i < j → place_of i n < place_of j n
 places_rise n i zero many less = absurd (omega (arith, less))
 places_rise n i (suc j) many less =
     elim (cases_eq i j) [
@@ -20,16 +20,16 @@ places_rise n i (suc j) many less =
       | inr other ↦ omega (arith, places_rise n i j many (omega (arith, less, other)), next_place n j many)
     ]
 
-pub place_within : (n i : ℕ) → 12 ≤ n → i < 12 → place_of i n < n
+place_within : (n i : ℕ) → INNER_CORNERS ≤ n → i < INNER_CORNERS → place_of i n < n
 place_within n i many few =
-    let first : i ≤ 11 = omega (arith, few) in
-    omega (arith, mul-le-mul_right n first)
+    let first : suc i ≤ INNER_CORNERS = omega (arith, few) in
+    omega (arith, suc-mul i n, mul-le-mul_right n first)
 
--- ---- corners at these places
+-- the corners at these places
 pub record AreTaken (L inner : List Position) : Type 0 where
-  pub many : 12 ≤ length L
-  pub count : length inner ≡ 12
-  pub each : (i : ℕ) (d : Position) → i < 12 → get_or inner i d ≡ get_or L (place_of i (length L)) d
+  pub many : INNER_CORNERS ≤ length L
+  pub count : length inner ≡ INNER_CORNERS
+  pub each : (i : ℕ) (d : Position) → i < INNER_CORNERS → get_or inner i d ≡ get_or L (place_of i (length L)) d
 
 module _ (L inner : List Position) (taken : AreTaken L inner) where
   abbrev place : ℕ → ℕ
@@ -38,7 +38,7 @@ module _ (L inner : List Position) (taken : AreTaken L inner) where
   rise : (i j : ℕ) → i < j → place i < place j
   rise i j less = places_rise (length L) i j taken.many less
 
-  inside : (i : ℕ) → i < length inner → i < 12
+  inside : (i : ℕ) → i < length inner → i < INNER_CORNERS
   inside i within = omega (arith, taken.count, within)
 
   pub taken_members : (x : Position) → Contains inner x → Contains L x

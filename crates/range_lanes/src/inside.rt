@@ -15,12 +15,12 @@ use range_plane::{Columns, Point, Polygon, covered_is_decided, larger_sets_cover
 use std::alloc::Allocator;
 
 // The most corners of a polygon all of whose edges are tried where points are counted, for eight at once. In a polygon
-// of more the edges that matter are searched for, a point at a time. docs/PERFORMANCE.md has what marks cost.
+// of more the edges that matter are searched for, a point at a time.
 const LANE_CORNERS: usize = 36;
 
 /// Marks at the place of each point whether the polygon covers it. Each edge costs a few steps for eight points.
 /// Where there are more than twelve corners, a polygon of twelve of them is tried, and each point that it does not
-/// cover costs a binary search.
+/// cover costs a binary search. So does each of the up to seven points behind the last eight.
 pub fn mark_inside<A: Allocator, B: Allocator>(
     corners: &Polygon<A>,
     cols: &Columns<B>,
@@ -35,7 +35,8 @@ pub fn mark_inside<A: Allocator, B: Allocator>(
     }
 }
 
-/// How many of the points the polygon covers, in about as many steps as `mark_inside`.
+/// How many of the points the polygon covers, repeats counted. Each edge costs a few steps for eight points; where
+/// there are more than 36 corners, each point costs a binary search.
 pub fn count_inside<A: Allocator, B: Allocator>(corners: &Polygon<A>, cols: &Columns<B>) -> u64
     ensures { result ≡ count_by (is_covered corners.now) cols.now.points }
 {
@@ -46,7 +47,7 @@ pub fn count_inside<A: Allocator, B: Allocator>(corners: &Polygon<A>, cols: &Col
     count
 }
 
-// How many groups of eight points go through the lanes: all whole ones, where the corners are few.
+// How many groups of eight points are held against all edges: all whole ones, where the corners are few.
 fn groups_for_lanes(corners: &[Point], points: usize) -> usize
     ensures within { LANE_COUNT * result ≤ points }
     ensures some { 0 < result → 0 < length corners.now }
@@ -76,7 +77,7 @@ fn mark_groups<A: Allocator, B: Allocator>(
     }
 }
 
-// Marks the points of the groups that go through the lanes, and says how many points these are.
+// Marks the points of the groups that are held against all edges, and says how many points these are.
 fn mark_by_edges<A: Allocator>(corners: &[Point], cols: &Columns<A>, out: &mut [bool]) -> usize
     requires polygon { IsPolygon corners.now corners.now }
     requires places { length out.old ≡ length cols.now.points }
@@ -170,7 +171,7 @@ fn is_known_or_covered<A: Allocator>(polygon: &Polygon<A>, number: i64, p: Point
     number >= 0 || polygon.covers(p)
 }
 
-// How many points the corners cover of the groups that go through the lanes, and how many these have.
+// How many points the corners cover of the groups that are held against all edges, and how many these have.
 fn count_groups<A: Allocator>(corners: &[Point], cols: &Columns<A>) -> (u64, usize)
     requires { IsPolygon corners.now corners.now }
     ensures within { result.1 ≤ length cols.now.points }

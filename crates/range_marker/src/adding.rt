@@ -10,7 +10,8 @@ use range_hull::OnlineHull;
 use range_plane::Point;
 use std::alloc::Allocator;
 
-/// Adds a point to a hull that has room for it; where it is covered, by counting it alone.
+/// Adds a point to a hull that has room for it; where it is known to be covered, by counting it alone. Where it is not
+/// known, `covered` is false, and the point is tested.
 pub fn add_point<A: Allocator>(hull: &mut OnlineHull<A>, p: Point, covered: bool)
     requires room { 0 < hull.old.spare }
     requires few { hull.old.inserted + hull.old.skipped < fix_limit }

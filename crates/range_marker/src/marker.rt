@@ -14,7 +14,7 @@ use std::marker::Model;
 // Where there are more, the copy costs more than a search in the hull for each point.
 const CORNERS_A_POINT: usize = 4;
 
-/// Marks points by a copy of a hull's polygon, which is kept as long as it holds, or by the hull itself where a copy
+/// Marks points by a copy of a hull's polygon, which is kept until it is forgotten, or by the hull itself where a copy
 /// would be dear.
 #[derive(Drop)]
 pub struct Marker<A: Allocator> {
@@ -41,12 +41,12 @@ impl<A: Allocator + Copy> Marker<A> {
         }
     }
 
-    /// Marks which of the points the hull's polygon covers. The polygon is copied where there is no copy yet, and
-    /// where it has few corners.
+    /// Marks which of the points the hull's polygon covers. The polygon is copied where there is no copy yet and it
+    /// has few corners, for so many points.
     ///
     /// # Errors
     ///
-    /// Where memory runs out for the marks or for the copy.
+    /// Where memory runs out for the marks or for the copy. The marks then say nothing.
     pub fn mark<B: Allocator, C: Allocator>(
         &mut self,
         hull: &OnlineHull<B>,

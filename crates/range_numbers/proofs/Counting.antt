@@ -1,26 +1,19 @@
 -- What digits count in their places, and that it fits 32 bits.
-use Rattle.std.proofs.Common.{◌≡◌, ◌+◌, ◌-◌, ◌*◌, ◌<◌, ◌≤◌, ◌&&◌, ◌^◌, ◌∙◌, ℕ, Bool, false, true, List, [], ◌∷◌, length, nat_lt, refl, sym, zero, suc, Fits, w32, arith, tests, rules}
+use Rattle.std.proofs.Common.{◌≡◌, ◌+◌, ◌-◌, ◌*◌, ◌<◌, ◌≤◌, ◌^◌, ◌∙◌, ℕ, true, List, [], ◌∷◌, length, nat_lt, refl, sym, zero, suc, Fits, w32, arith, tests, rules}
 use lib.Lanes.{zip2, sum_l, fold_l, products, Each1, Each2, Steps}
 use Rattle.std.proofs.lemmas.Simd.{sum_bound, adds_fit, sum_fits, sum-zip2, fold-sum, length-zip2}
+use Rattle.std.proofs.lemmas.Bool.{and_parts}
 use Rattle.std.proofs.lemmas.Nat.{mul-le}
-use Rattle.range_numbers.specs.Groups.{are_small, counted, places_before}
-
-pub and_left : (a b : Bool) → (a && b) ≡ true → a ≡ true
-and_left true b e = refl
-and_left false b e = cc e
-
-pub and_right : (a b : Bool) → (a && b) ≡ true → b ≡ true
-and_right true b e = e
-and_right false b e = cc e
+use Rattle.range_numbers.specs.Groups.{are_small, counted, last_places, places_before}
 
 pub head_small : (x : ℕ) (xs : List ℕ) → are_small (x ∷ xs) ≡ true → x ≤ 9
 head_small x xs e =
-    let small : nat_lt x 10 ≡ true = and_left (nat_lt x 10) (are_small xs) e in
+    let small : nat_lt x 10 ≡ true = (and_parts (nat_lt x 10) (are_small xs) e).0 in
     let less : x < 10 = search (rules, tests) in
     omega (arith, less)
 
 pub tail_small : (x : ℕ) (xs : List ℕ) → are_small (x ∷ xs) ≡ true → are_small xs ≡ true
-tail_small x xs e = and_right (nat_lt x 10) (are_small xs) e
+tail_small x xs e = (and_parts (nat_lt x 10) (are_small xs) e).1
 
 -- a digit in a place
 product : (x p k : ℕ) → x ≤ 9 → p ≤ k → x * p ≤ 9 * k
@@ -43,34 +36,31 @@ sum_small k xs ps four four_too e h =
     let many : length (products xs ps) ≡ 4 = length-zip2 (λ x p. x * p) xs ps (four ∙ sym four_too) ∙ four in
     rw many at (sum_bound (9 * k) (products xs ps) (products_small k xs ps e h))
 
--- places of which none counts more than the greatest, and those of the last four
+-- places of which none counts more than the greatest
 abbrev pub AreBefore : List ℕ → Type 0
 AreBefore ps = (length ps ≡ 4) × Each1 (λ p. p ≤ 10000000) ps
 
-abbrev pub ones : List ℕ
-ones = 1000 ∷ 100 ∷ 10 ∷ 1 ∷ []
+pub last_places_small : Each1 (λ p. p ≤ 1000) last_places
+last_places_small = (omega arith, (omega arith, (omega arith, (omega arith, tt))))
 
-pub ones_small : Each1 (λ p. p ≤ 1000) ones
-ones_small = (omega arith, (omega arith, (omega arith, (omega arith, tt))))
-
-pub both_sums : (xs ys ps : List ℕ) → length xs ≡ 4 → length ys ≡ 4 → are_small xs ≡ true → are_small ys ≡ true → AreBefore ps
-    → sum_l (products xs ps) + sum_l (products ys ones) < 2 ^ 32
+both_sums : (xs ys ps : List ℕ) → length xs ≡ 4 → length ys ≡ 4 → are_small xs ≡ true → are_small ys ≡ true → AreBefore ps
+    → sum_l (products xs ps) + sum_l (products ys last_places) < 2 ^ 32
 both_sums xs ys ps four four_too e f before =
-    omega (arith, sum_small 10000000 xs ps four before.0 e before.1, sum_small 1000 ys ones four_too refl f ones_small)
+    omega (arith, sum_small 10000000 xs ps four before.0 e before.1, sum_small 1000 ys last_places four_too refl f last_places_small)
 
 pub before_and_ending_fit : (xs ys ps : List ℕ) → length xs ≡ 4 → length ys ≡ 4 → are_small xs ≡ true → are_small ys ≡ true → AreBefore ps
-    → Each2 (λ a b. Fits w32 (a + b)) (products xs ps) (products ys ones)
+    → Each2 (λ a b. Fits w32 (a + b)) (products xs ps) (products ys last_places)
 before_and_ending_fit xs ys ps four four_too e f before =
-    adds_fit w32 (products xs ps) (products ys ones) (both_sums xs ys ps four four_too e f before)
+    adds_fit w32 (products xs ps) (products ys last_places) (both_sums xs ys ps four four_too e f before)
 
 abbrev pub all_products : List ℕ → List ℕ → List ℕ → List ℕ
-all_products xs ys ps = zip2 (λ a b. a + b) (products xs ps) (products ys ones)
+all_products xs ys ps = zip2 (λ a b. a + b) (products xs ps) (products ys last_places)
 
-pub sum_of_all : (xs ys ps : List ℕ) → length xs ≡ 4 → length ys ≡ 4 → length ps ≡ 4
-    → sum_l (all_products xs ys ps) ≡ sum_l (products xs ps) + sum_l (products ys ones)
+sum_of_all : (xs ys ps : List ℕ) → length xs ≡ 4 → length ys ≡ 4 → length ps ≡ 4
+    → sum_l (all_products xs ys ps) ≡ sum_l (products xs ps) + sum_l (products ys last_places)
 sum_of_all xs ys ps four four_too few =
-    sum-zip2 (products xs ps) (products ys ones)
-    (length-zip2 (λ x p. x * p) xs ps (four ∙ sym few) ∙ four ∙ sym (length-zip2 (λ x p. x * p) ys ones four_too ∙ four_too))
+    sum-zip2 (products xs ps) (products ys last_places)
+    (length-zip2 (λ x p. x * p) xs ps (four ∙ sym few) ∙ four ∙ sym (length-zip2 (λ x p. x * p) ys last_places four_too ∙ four_too))
 
 pub sums_fit : (xs ys ps : List ℕ) → length xs ≡ 4 → length ys ≡ 4 → are_small xs ≡ true → are_small ys ≡ true → AreBefore ps
     → Steps (λ s x. Fits w32 (s + x)) (λ s x. s + x) 0 (all_products xs ys ps)
@@ -84,12 +74,12 @@ counted_is_sum (x ∷ xs) [] = refl
 counted_is_sum (x ∷ xs) (p ∷ ps) = let rest = counted_is_sum xs ps in let turned : x * p ≡ p * x = omega arith in rw (turned, rest) refl
 
 pub sum_is_counted : (xs ys ps : List ℕ) → length xs ≡ 4 → length ys ≡ 4 → length ps ≡ 4
-    → fold_l (λ s x. s + x) 0 (all_products xs ys ps) ≡ counted ps xs + counted ones ys
+    → fold_l (λ s x. s + x) 0 (all_products xs ys ps) ≡ counted ps xs + counted last_places ys
 sum_is_counted xs ys ps four four_too few =
-    omega (arith, fold-sum 0 (all_products xs ys ps), sum_of_all xs ys ps four four_too few, counted_is_sum xs ps, counted_is_sum ys ones)
+    omega (arith, fold-sum 0 (all_products xs ys ps), sum_of_all xs ys ps four four_too few, counted_is_sum xs ps, counted_is_sum ys last_places)
 
 -- what holds for each number of digits from 4 to 8
-pub by_length : (P : ℕ → Type 0) → P 4 → P 5 → P 6 → P 7 → P 8 → (n : ℕ) → 4 ≤ n → n ≤ 8 → P n
+by_length : (P : ℕ → Type 0) → P 4 → P 5 → P 6 → P 7 → P 8 → (n : ℕ) → 4 ≤ n → n ≤ 8 → P n
 by_length P four five six seven eight n least most =
     let same : n - 4 + 4 ≡ n = omega (arith, least) in
     rw same at (from_four (n - 4) (omega (arith, most)))

@@ -29,7 +29,7 @@ each_byte [] h = tt
 each_byte (x ∷ xs) h = (h 0, each_byte xs (λ i. h (suc i)))
 
 -- operations on each byte that give the number of a digit, done on many
-pub digit_numbers : (f : ℕ → ℕ) (g : ℕ → ℕ → ℕ) → ((x : ℕ) → Fits w8 x → IsDigit x (g (f x) 48)) → (xs : List ℕ) → Each1 (Fits w8) xs
+digit_numbers : (f : ℕ → ℕ) (g : ℕ → ℕ → ℕ) → ((x : ℕ) → Fits w8 x → IsDigit x (g (f x) 48)) → (xs : List ℕ) → Each1 (Fits w8) xs
     → AreDigits xs (zip2 g (map f xs) (replicate (length xs) 48))
 digit_numbers f g s [] h = tt
 digit_numbers f g s (x ∷ xs) h = (s x h.0, digit_numbers f g s xs h.1)

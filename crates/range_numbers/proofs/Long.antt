@@ -1,28 +1,28 @@
--- Numbers whose last eight digits are taken apart.
+-- Numbers whose last eight digits are read by themselves.
 use Rattle.std.proofs.Common.{◌≡◌, ◌+◌, ◌*◌, ◌^◌, ◌<◌, ◌≤◌, ◌++◌, ◌∙◌, ℕ, true, List, [], ◌∷◌, length, nat_lt, refl, arith, tests, rules}
 use Rattle.std.specs.Char.{digit_value, is_ascii_digit}
 use Rattle.std.specs.Int.{IsInRange}
 use Rattle.std.specs.List.{list_all}
 use Rattle.std.specs.Str.Parse.{AllDigits, digits_value, digits_value_after}
 use Rattle.std.proofs.Math.Nat.{pow-le-pow_right}
+use Rattle.std.proofs.lemmas.Bool.{and_parts}
 use Rattle.std.proofs.lemmas.Int.Digits.{digits_value-lt}
 use Rattle.std.proofs.lemmas.List.{length-append}
 use Rattle.std.proofs.lemmas.List.Folds.{list_all-append}
 use Rattle.std.proofs.lemmas.Str.{digit_value_digit}
 use Rattle.range_numbers.specs.Number.{is_number}
-use Rattle.range_numbers.proofs.Counting.{and_left, and_right}
 
 all_digits : (bytes : List ℕ) → list_all is_ascii_digit bytes ≡ true → AllDigits 10 bytes
 all_digits [] e = tt
 all_digits (b ∷ bytes) e =
-    let first : is_ascii_digit b ≡ true = and_left (is_ascii_digit b) (list_all is_ascii_digit bytes) e in
+    let first : is_ascii_digit b ≡ true = (and_parts (is_ascii_digit b) (list_all is_ascii_digit bytes) e).0 in
     let range : IsInRange 48 57 b = search (rules, tests) in
-    (omega (arith, digit_value_digit b range, range), all_digits bytes (and_right (is_ascii_digit b) (list_all is_ascii_digit bytes) e))
+    (omega (arith, digit_value_digit b range, range), all_digits bytes ((and_parts (is_ascii_digit b) (list_all is_ascii_digit bytes) e).1))
 
 -- at most eight digits
 pub value_of_few : (bytes : List ℕ) → is_number bytes ≡ true → length bytes ≤ 8 → digits_value 10 bytes < 100000000
 value_of_few bytes e few =
-    let less = digits_value-lt 10 bytes (all_digits bytes (and_right (nat_lt 0 (length bytes)) (list_all is_ascii_digit bytes) e)) in
+    let less = digits_value-lt 10 bytes (all_digits bytes ((and_parts (nat_lt 0 (length bytes)) (list_all is_ascii_digit bytes) e).1)) in
     let most : 10 ^ length bytes ≤ 10 ^ 8 = pow-le-pow_right {n = 10} (omega arith) {i = length bytes} {j = 8} few in
     omega (arith, less, most)
 
@@ -48,13 +48,13 @@ value_of_both xs ys eight =
 
 pub number_of_both : (xs ys : List ℕ) → is_number xs ≡ true → is_number ys ≡ true → is_number (xs ++ ys) ≡ true
 number_of_both xs ys e f =
-    let left = and_left (nat_lt 0 (length xs)) (list_all is_ascii_digit xs) e in
+    let left = (and_parts (nat_lt 0 (length xs)) (list_all is_ascii_digit xs) e).0 in
     let some : 0 < length xs = search (rules, tests) in
     let more : 0 < length (xs ++ ys) = omega (arith, some, length-append xs ys) in
     let long : nat_lt 0 (length (xs ++ ys)) ≡ true = search (rules, tests) in
     rw (
       long,
       list_all-append is_ascii_digit xs ys,
-      and_right (nat_lt 0 (length xs)) (list_all is_ascii_digit xs) e,
-      and_right (nat_lt 0 (length ys)) (list_all is_ascii_digit ys) f,
+      (and_parts (nat_lt 0 (length xs)) (list_all is_ascii_digit xs) e).1,
+      (and_parts (nat_lt 0 (length ys)) (list_all is_ascii_digit ys) f).1,
     ) refl

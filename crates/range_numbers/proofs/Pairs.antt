@@ -5,11 +5,12 @@ use Rattle.std.specs.Char.{digit_value, is_ascii_digit}
 use Rattle.std.specs.Int.{IsInRange}
 use Rattle.std.specs.List.{list_all}
 use Rattle.std.specs.Str.Parse.{digits_value}
+use Rattle.std.proofs.lemmas.Bool.{and_parts}
 use Rattle.std.proofs.lemmas.Simd.{Each1-chunk}
 use Rattle.std.proofs.lemmas.Str.{digit_value_digit}
-use Rattle.range_numbers.specs.Groups.{AreDigits, IsDigit, are_small, counted, places_before}
+use Rattle.range_numbers.specs.Groups.{AreDigits, IsDigit, are_small, counted, last_places, places_before}
 use Rattle.range_numbers.specs.Number.{is_number}
-use Rattle.range_numbers.proofs.Counting.{and_left, and_right, ones, head_small, tail_small}
+use Rattle.range_numbers.proofs.Counting.{head_small, tail_small}
 
 -- each byte is a digit
 abbrev AllAre : List ℕ → Type 0
@@ -17,7 +18,7 @@ AllAre bytes = Each1 (λ byte. is_ascii_digit byte ≡ true) bytes
 
 all_are : (bytes : List ℕ) → list_all is_ascii_digit bytes ≡ true → AllAre bytes
 all_are [] e = tt
-all_are (b ∷ bytes) e = (and_left (is_ascii_digit b) (list_all is_ascii_digit bytes) e, all_are bytes (and_right (is_ascii_digit b) (list_all is_ascii_digit bytes) e))
+all_are (b ∷ bytes) e = ((and_parts (is_ascii_digit b) (list_all is_ascii_digit bytes) e).0, all_are bytes ((and_parts (is_ascii_digit b) (list_all is_ascii_digit bytes) e).1))
 
 list_of_all : (bytes : List ℕ) → AllAre bytes → list_all is_ascii_digit bytes ≡ true
 list_of_all [] h = refl
@@ -76,7 +77,7 @@ all_of_parts P (a ∷ b ∷ c ∷ d ∷ e ∷ f ∷ g ∷ i ∷ j ∷ rest) leas
 
 -- the value by the parts
 value_of_parts : (bytes : List ℕ) → 4 ≤ length bytes → length bytes ≤ 8
-    → counted (places_before (length bytes)) (map digit_value (chunk 0 4 bytes)) + counted ones (map digit_value (chunk (length bytes - 4) 4 bytes))
+    → counted (places_before (length bytes)) (map digit_value (chunk 0 4 bytes)) + counted last_places (map digit_value (chunk (length bytes - 4) 4 bytes))
     ≡ digits_value 10 bytes
 value_of_parts (a ∷ b ∷ c ∷ d ∷ []) least most = omega arith
 value_of_parts (a ∷ b ∷ c ∷ d ∷ e ∷ []) least most = omega arith
@@ -92,7 +93,7 @@ value_of_parts (a ∷ b ∷ c ∷ d ∷ e ∷ f ∷ g ∷ i ∷ j ∷ rest) leas
 -- where all numbers are small the bytes are a number, of the value that is counted
 pub number_of_parts : (bytes first last : List ℕ) → 4 ≤ length bytes → length bytes ≤ 8 → AreDigits (chunk 0 4 bytes) first
     → AreDigits (chunk (length bytes - 4) 4 bytes) last → are_small first ≡ true → are_small last ≡ true
-    → (is_number bytes ≡ true) × (counted (places_before (length bytes)) first + counted ones last ≡ digits_value 10 bytes)
+    → (is_number bytes ≡ true) × (counted (places_before (length bytes)) first + counted last_places last ≡ digits_value 10 bytes)
 number_of_parts bytes first last least most h k e f =
     let a = digits_of_small (chunk 0 4 bytes) first h e in
     let b = digits_of_small (chunk (length bytes - 4) 4 bytes) last k f in
@@ -109,7 +110,7 @@ no_number_of_parts bytes first last h k e = by_number (is_number bytes) refl
     by_number : (b : Bool) → is_number bytes ≡ b → is_number bytes ≡ false
     by_number false n = n
     by_number true n =
-        let all = all_are bytes (and_right (nat_lt 0 (length bytes)) (list_all is_ascii_digit bytes) n) in
+        let all = all_are bytes ((and_parts (nat_lt 0 (length bytes)) (list_all is_ascii_digit bytes) n).1) in
         let small = small_of_digits (chunk 0 4 bytes) first h (Each1-chunk _ 0 4 bytes all) in
         let small_too = small_of_digits (chunk (length bytes - 4) 4 bytes) last k (Each1-chunk _ (length bytes - 4) 4 bytes all) in
         cc (e, small, small_too)

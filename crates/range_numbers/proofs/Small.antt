@@ -24,7 +24,7 @@ both_pairs true false false d = refl
 both_pairs false b c d = refl
 
 -- no bit of the mask is set exactly where all are small
-pub small_by_mask : (xs ys : List ℕ) → length xs ≡ length ys
+small_by_mask : (xs ys : List ℕ) → length xs ≡ length ys
     → nat_eq (mask_l (zip2 ltb (replicate (length xs) 9) (sel_l (zip2 ltb xs ys) ys xs))) 0 ≡ (are_small xs && are_small ys)
 small_by_mask [] [] e = refl
 small_by_mask [] (y ∷ ys) e = cc e

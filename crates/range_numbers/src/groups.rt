@@ -1,9 +1,9 @@
 // Digits of a number, four at once.
 
-ghost use Rattle.std.specs.Prelude.{◌≡◌, ◌+◌, ◌<◌, ◌≤◌, ◌&&◌, ◌∷◌, [], MatchOption, false, length, true};
+ghost use Rattle.std.specs.Prelude.{◌≡◌, ◌+◌, ◌≤◌, ◌&&◌, MatchOption, false, length, true};
 ghost use Rattle.std.specs.Simd.Lanes.{chunk};
 ghost use Rattle.std.specs.Str.Parse.{digits_value};
-ghost use Rattle.range_numbers.specs.Groups.{AreDigits, are_small, counted, places_before};
+ghost use Rattle.range_numbers.specs.Groups.{AreDigits, are_small, counted, last_places, places_before};
 ghost use Rattle.range_numbers.specs.Number.{is_number};
 
 use std::simd::prelude::*;
@@ -12,12 +12,12 @@ use std::simd::prelude::*;
 pub(crate) const GROUP: usize = 4;
 
 // The most digits that two groups have.
-pub(crate) const PAIR: usize = 8;
+pub(crate) const PAIR: usize = 2 * GROUP;
 
 // What a one counts in each of the first four places of eight digits; what follows are places that another group has.
 static PLACES: [u32; 8] = [10_000_000, 1_000_000, 100_000, 10_000, 0, 0, 0, 0];
 
-// The numbers of the four digits from `at` on.
+// The numbers of the four bytes from `at` on, each above 9 where its byte is no digit.
 #[inline(always)]
 fn group_at(bytes: &[u8], at: usize) -> u32x4
     requires { at + GROUP ≤ length bytes.now }
@@ -52,7 +52,7 @@ fn counted(first: u32x4, last: u32x4, digits: usize) -> u32
     requires most { digits ≤ PAIR }
     requires first { are_small first ≡ true }
     requires last { are_small last ≡ true }
-    ensures { result ≡ counted (places_before digits) first + counted (1000 ∷ 100 ∷ 10 ∷ 1 ∷ []) last }
+    ensures { result ≡ counted (places_before digits) first + counted last_places last }
 {
     let before = first.strict_mul(places_before(digits));
     let ending = last.strict_mul(u32x4::from_array([1000, 100, 10, 1]));

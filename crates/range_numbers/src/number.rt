@@ -6,7 +6,7 @@ ghost use Rattle.range_numbers.specs.Number.{is_number};
 
 use crate::groups::{GROUP, PAIR, pair_value};
 
-// What a one counts before so many digits.
+// What a one counts before as many digits as two groups have: 10 to the power of `PAIR`.
 const PAIR_PLACE: u64 = 100_000_000;
 
 /// A limit to which a value is held is less.
@@ -62,8 +62,8 @@ fn short_value(bytes: &[u8]) -> Option<u64>
     }
 }
 
-// The value of at most as many digits more, of which the last ones are taken apart; `None` where the bytes are no
-// number.
+// The value of more digits than two groups have, and of at most twice as many, of which the last two groups are read
+// by themselves; `None` where the bytes are no number.
 fn long_value(bytes: &[u8]) -> Option<u64>
     requires more { PAIR < length bytes.now }
     requires long { length bytes.now ≤ 2 * PAIR }

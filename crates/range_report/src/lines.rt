@@ -3,7 +3,7 @@
 ghost use Rattle.std.specs.Prelude.{◌≡◌, ◌+◌, ◌-◌, ◌++◌, ◌<◌, ◌^◌, All, IfOk, IfSome, OnOk, codes, decimal, length, map};
 ghost use Rattle.std.specs.List.{flat_map};
 ghost use Rattle.range_tables.specs.Names.{name_at};
-ghost use Rattle.range_report.specs.Report.{animal_line, box_line, corner_line, end_line, field, lines_from, overlap_line, percent_line, point_text, row_head, row_line, row_tail};
+ghost use Rattle.range_report.specs.Report.{animal_line, box_line, corner_line, end_line, lines_from, overlap_line, percent_line, point_text, row_head, row_line, row_tail};
 
 use itoa::{Buffer, Integer};
 use range_estimator::Row;

@@ -14,13 +14,13 @@ distance_limit = 2 * (fix_limit * coordinate_limit * (fix_limit * coordinate_lim
 abbrev pub key : ℕ × ℕ → ℕ
 key entry = entry.0 * fix_limit + entry.1
 
--- the distance and the place in a key
-abbrev pub entry_in : ℕ → ℕ × ℕ
-entry_in key = (key / fix_limit, key % fix_limit)
-
 -- the place in a key
 abbrev pub place_in : ℕ → ℕ
 place_in key = key % fix_limit
+
+-- the distance and the place in a key
+abbrev pub entry_in : ℕ → ℕ × ℕ
+entry_in key = (key / fix_limit, place_in key)
 
 -- the points at places
 abbrev pub points_at : List Position → List ℕ → List Position

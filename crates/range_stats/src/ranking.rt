@@ -1,6 +1,6 @@
 // Points by their distance from the mean of all.
 
-ghost use Rattle.std.specs.Prelude.{◌≡◌, ◌+◌, ◌++◌, ◌≤◌, ℕ, All, Contains, IfOk, List, length, take};
+ghost use Rattle.std.specs.Prelude.{◌≡◌, ◌≤◌, ℕ, All, Contains, IfOk, List, length, take};
 ghost use Rattle.std.specs.List.{AllZip};
 ghost use Rattle.range_plane.specs.Fix.{fix_limit};
 ghost use Rattle.range_plane.specs.Plane.{Position};
@@ -61,7 +61,7 @@ impl<'a, A: Allocator, B: Allocator> Ranking<'a, A, B> {
     }
 
     /// The percent polygon at a level, which is one of those that the points were ranked for. The hull that it
-    /// is made with takes memory from `alloc`.
+    /// is made with, and points that are added to it at once, take memory from `alloc`.
     pub fn row<C: Allocator>(&self, alloc: C, level: u8) -> Result<PercentRow, OutOfMemory>
     where
         C: Copy,
@@ -79,8 +79,8 @@ impl<'a, A: Allocator, B: Allocator> Ranking<'a, A, B> {
     }
 
     /// The percent polygons at the levels that the points were ranked for, in their order. Levels that rise share
-    /// one hull, to which each adds the points that the one before it does not keep; it takes memory from `alloc`,
-    /// as the rows do.
+    /// one hull, to which each adds the points that the one before it does not keep. The hull, points that are added
+    /// to it at once, and the rows take memory from `alloc`.
     pub fn rows<C: Allocator>(
         &self,
         alloc: C,

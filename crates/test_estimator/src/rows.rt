@@ -166,3 +166,26 @@ fn lists(rt: HostRuntime) -> Result<(), AllocError> {
     assert!(rt; rows.as_slice() == [row].as_slice());
     Ok(())
 }
+
+#[test]
+fn rows_and_points_without_a_copy(rt: HostRuntime) {
+    let alloc = rt.alloc();
+    let fixes = fixes_of(&rt, alloc, &SQUARE);
+    let (rows, points) = estimator_of(&rt, alloc, &fixes, 2).into_parts();
+    let areas = [0, 0, 100, 200, 200];
+    assert_eq!(rt; rows.len(), areas.len());
+    assert!(rt;
+        rows.iter()
+            .zip(&areas)
+            .all(|(row, &area2)| row.area2 == area2),
+        "rows"
+    );
+    assert!(rt;
+        points.eastings() == [0, 10, 10, 0, 5].as_slice(),
+        "eastings"
+    );
+    assert!(rt;
+        points.northings() == [0, 0, 10, 10, 5].as_slice(),
+        "northings"
+    );
+}

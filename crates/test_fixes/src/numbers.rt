@@ -30,9 +30,9 @@ fn values_past_a_limit(rt: HostRuntime) {
     }
 }
 
-// The digits are taken in groups, which share some: so each place has another digit.
+// The digits are taken in groups, which share some: so digits that stand side by side differ.
 #[test]
-fn values_of_each_length(rt: HostRuntime) {
+fn values_of_rising_digits(rt: HostRuntime) {
     for (bytes, value) in [
         (b"1".as_slice(), 1),
         (b"12", 12),
@@ -52,7 +52,18 @@ fn values_of_each_length(rt: HostRuntime) {
         (b"1234567890123456", 1_234_567_890_123_456),
         (b"12345678901234567", 12_345_678_901_234_567),
         (b"123456789012345678", 123_456_789_012_345_678),
-        (b"9", 9),
+    ] {
+        assert!(rt;
+            value_of(bytes, VALUE_LIMIT - 1) == Some(value),
+            "{bytes:?}"
+        );
+    }
+}
+
+#[test]
+fn values_of_falling_digits(rt: HostRuntime) {
+    for (bytes, value) in [
+        (b"9".as_slice(), 9),
         (b"98", 98),
         (b"987", 987),
         (b"9876", 9876),
@@ -78,7 +89,8 @@ fn values_of_each_length(rt: HostRuntime) {
     }
 }
 
-// Whether any of the first bytes, up to each length, are a number with another byte at one place, and whether all are.
+// Digits of each length, in which this byte stands at one place: whether any of these texts is a number, and whether all
+// are.
 fn numbers_with(byte: u8) -> (bool, bool) {
     let mut any = false;
     let mut all = true;
@@ -95,7 +107,7 @@ fn numbers_with(byte: u8) -> (bool, bool) {
 }
 
 #[test]
-fn no_digit_at_each_place(rt: HostRuntime) {
+fn each_byte_at_each_place(rt: HostRuntime) {
     for byte in [0, b' ', b'/', b':', b'a', 0x7F, 0x80, 0xB0, 0xFF] {
         assert!(rt; !numbers_with(byte).0, "{byte}");
     }

@@ -22,7 +22,7 @@ fn has_row(found: PercentRow, (level, kept, corners, area2): Row) -> bool {
 
 // Checks rows, each by itself, and all and each read off one ranking.
 fn expect_rows(rt: &impl Abort, alloc: Global, fixes: &Columns, rows: &[Row]) {
-    assert!(rt; fixes.len() <= 1300);
+    assert!(rt; fixes.len() <= FIX_LIMIT as usize, "few fixes");
     let levels = rows
         .iter()
         .map(|row| row.0)

@@ -1,5 +1,5 @@
 use Rattle.std.proofs.Common.{◌≡◌, ◌∙◌, ◌&&◌, true, sym}
-use Rattle.range_numbers.proofs.Counting.{and_left, and_right}
+use Rattle.std.proofs.lemmas.Bool.{and_parts}
 use Rattle.range_numbers.proofs.Pairs.{no_number_of_parts, number_of_parts}
 use Rattle.range_numbers.specs.Groups.{are_small}
 use Rattle.range_numbers.proofs.groups.pair_value.Goals as goal
@@ -10,7 +10,7 @@ returns-then-are_small c =
     let last = c.group_at-last.result in
     let small : (are_small first && are_small last) ≡ true = sym c.are_small.ensures ∙ c.if-are_small.true in
     let parts = number_of_parts c.args.bytes.now first last c.requires.least c.requires.most c.group_at-first.ensures c.group_at-last.ensures
-    (and_left (are_small first) (are_small last) small) (and_right (are_small first) (are_small last) small) in
+    ((and_parts (are_small first) (are_small last) small).0) ((and_parts (are_small first) (are_small last) small).1) in
     (parts.0, c.from.ensures ∙ c.counted.ensures ∙ parts.1)
 
 pub returns-else-are_small : goal.returns-else-are_small

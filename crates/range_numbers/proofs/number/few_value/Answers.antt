@@ -5,10 +5,11 @@ use Rattle.std.proofs.Math.Nat.{pow-le-pow_right, pow-suc}
 use Rattle.std.proofs.lemmas.Int.Digits.{digits_value_more}
 use Rattle.std.proofs.lemmas.List.Folds.{list_all_more}
 use Rattle.std.proofs.lemmas.Str.{digit_value_digit}
+use Rattle.range_numbers.specs.declared.groups.TheConstants.{GROUP}
 use Rattle.range_numbers.proofs.number.few_value.Goals as goal
 
-ten_to_the_most : (i : ℕ) → i ≤ 18 → 10 ^ i ≤ 10 ^ 18
-ten_to_the_most i few = pow-le-pow_right {n = 10} (omega arith) {i = i} {j = 18} few
+ten_to_the_most : (i : ℕ) → i ≤ GROUP → 10 ^ i ≤ 10 ^ GROUP
+ten_to_the_most i few = pow-le-pow_right {n = 10} (omega arith) {i = i} {j = GROUP} few
 
 times_ten : (i : ℕ) → 10 ^ (i + 1) ≡ 10 ^ i * 10
 times_ten i = let next : i + 1 ≡ suc i = omega arith in ap (λ (k : ℕ). 10 ^ k) next ∙ pow-suc 10 i
