@@ -6,8 +6,8 @@ the run ends. Then the programs take turns, and a row has the medians: seconds f
 the ratio to homerange's time, and the most MB held, of which nothing is known below what this script holds. A program
 that takes long is run only that first time. homerange makes its whole report in each case, a peer only what is named.
 
-The folder has the files that `program_files tracks FOLDER` makes; if one is missing, all are made there. Needs Debian's
-packages r-base-core, r-cran-sf, python3-numpy, python3-scipy and python3-shapely.
+The folder has the files that `program_files tracks FOLDER` makes; if one is missing, all are made there, for which
+`rustc` is needed. Needs Debian's packages r-base-core, r-cran-sf, python3-numpy, python3-scipy and python3-shapely.
 """
 
 import argparse
@@ -15,6 +15,8 @@ import itertools
 import pathlib
 import random
 import resource
+import shutil
+import subprocess
 import tempfile
 from dataclasses import dataclass
 
@@ -25,6 +27,8 @@ import timing
 SCRIPTS = programs.TOP / "bench" / "field"
 # Debian's own Python, which its packages are for.
 INTERPRETERS = {".R": "Rscript", ".py": "/usr/bin/python3"}
+# What has to succeed where the packages are there.
+LOADS = (("Rscript", "-e", "library(sf)"), ("/usr/bin/python3", "-c", "import numpy, scipy, shapely"))
 # What takes more milliseconds is run once.
 LONG = 15000
 HEAD = "| Case | Fixes | Program | s | processor, s | times homerange | MB |\n|---|---|---|---|---|---|---|"
@@ -71,9 +75,18 @@ CASES = (
 def read_options():
     parser = argparse.ArgumentParser(description=__doc__, formatter_class=argparse.RawDescriptionHelpFormatter)
     parser.add_argument("--homerange", type=pathlib.Path, required=True, metavar="PROG", help="the built program")
-    parser.add_argument("--files", type=pathlib.Path, required=True, metavar="FOLDER", help="where the files are")
-    parser.add_argument("--turns", type=int, default=5, metavar="N", help="how often each program is timed (5)")
+    parser.add_argument("--files", type=pathlib.Path, required=True, metavar="FOLDER", help="where the files are, or are made")
+    parser.add_argument("--turns", type=timing.one_or_more, default=5, metavar="N", help="how often each program is timed (5)")
     return parser.parse_args()
+
+
+def check_programs(homerange):
+    """Ends the run where a program that is timed is not there."""
+    if not shutil.which(homerange):
+        raise SystemExit(f"{homerange} is no program")
+    for command in LOADS:
+        if not shutil.which(command[0]) or subprocess.run(command, capture_output=True).returncode:
+            raise SystemExit(f"`{' '.join(command)}` fails: install Debian's packages, which --help lists")
 
 
 def path_of(folder, name):
@@ -117,7 +130,7 @@ def differences(report, result, word):
     found = {}
     for ours, theirs in itertools.zip_longest(lines_of(report, word), lines_of(result, word), fillvalue=()):
         if len(ours) != len(theirs):
-            raise SystemExit(f"{result.name}: {','.join(theirs)} for {','.join(ours)}")
+            raise SystemExit(f"{result.name}: {','.join(theirs) or 'no line'} for {','.join(ours) or 'no line'}")
         for column, our, their in zip(COLUMNS[word], ours, theirs):
             if our != their:
                 found[column] = (found.get(column, (0,))[0] + 1, their, our)
@@ -170,6 +183,7 @@ def row(names, took, ours):
 
 def main():
     options = read_options()
+    check_programs(options.homerange.resolve())
     make_files(options.files)
     began, notes = timing.now(), []
     print(HEAD, flush=True)

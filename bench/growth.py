@@ -38,7 +38,7 @@ class Line:
 def read_options():
     parser = argparse.ArgumentParser(description=__doc__)
     parser.add_argument("picture", type=pathlib.Path, help="where the picture goes, as SVG")
-    parser.add_argument("--turns", type=int, default=3, metavar="N", help="how often each program is run (3)")
+    parser.add_argument("--turns", type=timing.one_or_more, default=3, metavar="N", help="how often each program is run (3)")
     parser.add_argument("--homerange", type=pathlib.Path, metavar="FILE", help="the program, where it is built already")
     return parser.parse_args()
 

@@ -1,4 +1,4 @@
-// Makes the files that bench/table.py times programs with. With `tracks FOLDER`: walk, scattered and growing, the
+// Makes the files that the scripts of bench time programs with. With `tracks FOLDER`: walk, scattered and growing, the
 // walk cut into eight parts, and into a herd of 64. With `curve FOLDER NAME`: the curve whose corners are on standard
 // input, counterclockwise, the same shuffled, and falling, from the greatest corner in order to the least.
 mod chains;

@@ -5,9 +5,9 @@ stops where they differ. Then they are run in turns, since a machine's pace wand
 
 Of a part a time is the least of all runs, each of which makes several passes over marks and percent polygons. Of the
 whole program it is the median of the turns, from start to end, with the report sent to /dev/null; beside it stand the
-medians of the processor's time, its own and the system's, and of the most memory that a run held. The ratios are those
-of the time and of the processor's time to the plain way that took the least time, which is named. Behind the table
-stands the share of the processors' time that other machines took meanwhile.
+medians of the processor's time, its own and the system's, and, of homerange, of the most memory that a run held. The
+ratios are those of the time and of the processor's time to the plain way that took the least time, which is named.
+Behind the table stands the share of the processors' time that other machines took meanwhile, builds included.
 """
 
 import argparse
@@ -61,7 +61,7 @@ def read_options():
         description=__doc__, epilog=f"Cases: {', '.join(CASES)}", formatter_class=argparse.RawDescriptionHelpFormatter
     )
     parser.add_argument("cases", nargs="*", type=named_case, metavar="CASE", help="a row of the table")
-    parser.add_argument("--runs", type=int, metavar="N", help="how often each way is run (parts 5, the program 3 to 9)")
+    parser.add_argument("--runs", type=timing.one_or_more, metavar="N", help="how often each way is run (parts 5, the program 3 to 9)")
     parser.add_argument("--homerange", metavar="FILE", help="the program, where it is built already")
     parser.add_argument("--benches", metavar="FILE", help="that of crates/benches, where it is built already")
     parser.add_argument("--compare", action="store_true", help="compare what all come to, and time nothing")

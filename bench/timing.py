@@ -1,5 +1,6 @@
 """What the benches share: files that are made, and programs that are timed in turns."""
 
+import argparse
 import multiprocessing
 import os
 import pathlib
@@ -13,6 +14,13 @@ import programs
 # The limits of coordinates in metres and in decimetres.
 METRES = 1 << 24
 DECIMETRES = 1 << 27
+
+
+def one_or_more(text):
+    """How often something is run, from a word of the command line."""
+    if not text.isdecimal() or int(text) < 1:
+        raise argparse.ArgumentTypeError(f"{text} is not 1 or more")
+    return int(text)
 
 
 def make_curves(maker, name, count, limit, folder):
@@ -37,7 +45,8 @@ def measured(command, folder, out=subprocess.DEVNULL):
     _, status, usage = os.wait4(running.pid, 0)
     took = time.perf_counter() - start
     if status:
-        raise SystemExit(f"{command} ended with {status}")
+        words = " ".join(map(str, command))
+        raise SystemExit(f"{words} ended with {os.waitstatus_to_exitcode(status)}")
     return took * 1000, usage.ru_utime * 1000, usage.ru_stime * 1000, usage.ru_maxrss / 1024
 
 

@@ -3,15 +3,12 @@ fix, of a hull to which the fixes are added one by one. The first three must not
 longer, being in line with it, `volume` leaves out that edge, and the area is too small. Each addition copies all fixes
 so far."""
 
-import pathlib
 import sys
 
-import numpy
+from fixes import read_fixes
 from scipy.spatial import ConvexHull
 
-path = pathlib.Path(sys.argv[1])
-fixes = numpy.loadtxt(path, delimiter=",", skiprows=1, usecols=(1, 2, 3))
-xy = fixes[:, 1:]
+animal, seconds, xy = read_fixes(sys.argv[1])
 
 hull = ConvexHull(xy[:3], incremental=True)
 rows = [(1, 0), (2, 0), (len(hull.vertices), 2 * hull.volume)]
@@ -19,4 +16,4 @@ for point in xy[3:]:
     hull.add_points([point])
     rows.append((len(hull.vertices), 2 * hull.volume))
 for n, (corners, area2) in enumerate(rows):
-    print(f"row,{path.stem},{n + 1},{fixes[n, 0]:.0f},{corners},{area2:.0f}")
+    print(f"row,{animal},{n + 1},{seconds[n]:.0f},{corners},{area2:.0f}")

@@ -1,14 +1,12 @@
 """How many fixes of each animal lie in the convex polygon of each other one, by SciPy's hulls: a fix is in the polygon
 where it is at no edge's outer side, by more than what rounding comes to."""
 
-import pathlib
 import sys
 
-import numpy
+from fixes import read_animals
 from scipy.spatial import ConvexHull
 
-paths = [pathlib.Path(name) for name in sys.argv[1:]]
-animals = {path.stem: numpy.loadtxt(path, delimiter=",", skiprows=1, usecols=(2, 3)) for path in paths}
+animals = read_animals(sys.argv[1:])
 hulls = {name: ConvexHull(xy).equations for name, xy in animals.items()}
 
 for name, xy in animals.items():

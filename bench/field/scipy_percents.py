@@ -3,7 +3,7 @@ level."""
 
 import sys
 
-from kept import kept_fixes
+from fixes import kept_fixes
 from scipy.spatial import ConvexHull
 
 animal, levels = kept_fixes(sys.argv[1])

@@ -2,15 +2,13 @@
 fix. A fix that is at no edge's outer side, by more than what rounding comes to, leaves it; else it is made anew, of its
 corners and the fix. The first three fixes must not be in line."""
 
-import pathlib
 import sys
 
 import numpy
+from fixes import read_fixes
 from scipy.spatial import ConvexHull
 
-path = pathlib.Path(sys.argv[1])
-fixes = numpy.loadtxt(path, delimiter=",", skiprows=1, usecols=(1, 2, 3))
-xy = fixes[:, 1:]
+animal, seconds, xy = read_fixes(sys.argv[1])
 
 hull = ConvexHull(xy[:3])
 rows = [(1, 0), (2, 0)]
@@ -19,4 +17,4 @@ for point in xy[2:]:
         hull = ConvexHull(numpy.vstack([hull.points[hull.vertices], point]))
     rows.append((len(hull.vertices), 2 * hull.volume))
 for n, (corners, area2) in enumerate(rows):
-    print(f"row,{path.stem},{n + 1},{fixes[n, 0]:.0f},{corners},{area2:.0f}")
+    print(f"row,{animal},{n + 1},{seconds[n]:.0f},{corners},{area2:.0f}")

@@ -1,14 +1,12 @@
 """How many fixes of each animal lie in the convex polygon of each other one, by Shapely."""
 
-import pathlib
 import sys
 
-import numpy
+from fixes import read_animals
 from shapely import vectorized
 from shapely.geometry import MultiPoint
 
-paths = [pathlib.Path(name) for name in sys.argv[1:]]
-animals = {path.stem: numpy.loadtxt(path, delimiter=",", skiprows=1, usecols=(2, 3)) for path in paths}
+animals = read_animals(sys.argv[1:])
 polygons = {name: MultiPoint(xy).convex_hull for name, xy in animals.items()}
 
 for name, xy in animals.items():

@@ -2,7 +2,7 @@
 
 import sys
 
-from kept import kept_fixes
+from fixes import kept_fixes
 from shapely.geometry import MultiPoint
 
 animal, levels = kept_fixes(sys.argv[1])
