@@ -1,6 +1,6 @@
 // Many points that are added to a hull.
 
-ghost use Rattle.std.specs.Prelude.{◌≡◌, ◌+◌, ◌++◌, ◌≤◌, IfOk, List, OnOk, length, map};
+ghost use Rattle.std.specs.Prelude.{◌≡◌, ◌+◌, ◌++◌, ◌≤◌, ℕ, IfOk, List, OnOk, Some, false, get_or, length, slice_get, true};
 ghost use Rattle.range_plane.specs.Covering.{is_covered};
 ghost use Rattle.range_plane.specs.Fix.{fix_limit};
 ghost use Rattle.range_plane.specs.Plane.{Position};
@@ -15,6 +15,10 @@ use std::alloc::Allocator;
 
 // How many points are marked at once. docs/PERFORMANCE.md has what other numbers cost.
 const BATCH: usize = 512;
+
+// The most corners of a hull for which a batch is marked. Where there are more, marks cost more than the tests that they
+// spare.
+const MARKED_CORNERS: u32 = 2048;
 
 // Adds the points at the places to a hull, in batches. The last come first, since they cover most of the others: the
 // farthest are among those that a level keeps and no lower one.
@@ -57,7 +61,8 @@ fn columns_of<A: Allocator + Copy, B: Allocator>(
     Ok(cols)
 }
 
-// Adds a batch of points, those at the places. Those that the polygon covers before it are counted alone.
+// Adds a batch of points, those at the places. Where the polygon has few corners, those that it covers before the batch
+// are counted alone.
 fn add_batch<A: Allocator + Copy, B: Allocator>(
     alloc: A,
     hull: &mut OnlineHull<A>,
@@ -73,14 +78,19 @@ fn add_batch<A: Allocator + Copy, B: Allocator>(
         → IsPolygon (points_at fixes.now.points places.now ++ S) hull.new.corners) }
 {
     let batch = columns_of(alloc, fixes, places)?;
+    hull.reserve(batch.len())?;
+    if hull.corner_count() > MARKED_CORNERS {
+        add_marked(hull, &batch, &[]);
+        return Ok(());
+    }
     let mut marker = Marker::new(alloc);
     marker.mark(hull, &batch)?;
-    hull.reserve(batch.len())?;
     add_marked(hull, &batch, marker.marks());
     Ok(())
 }
 
-// Adds points, the last of them first, of which the marks say which ones the polygon covers as it stands.
+// Adds points, the last of them first. One whose mark is true is known to be covered by the polygon as it stands, and is
+// counted alone; the others, and those that have no mark, are tested.
 fn add_marked<A: Allocator, B: Allocator>(
     hull: &mut OnlineHull<A>,
     batch: &Columns<B>,
@@ -89,7 +99,8 @@ fn add_marked<A: Allocator, B: Allocator>(
     requires polygon { IsPolygon hull.old.corners hull.old.corners }
     requires few { hull.old.inserted + hull.old.skipped + length batch.now.points ≤ fix_limit }
     requires room { length batch.now.points ≤ hull.old.spare }
-    requires marks { marks.now ≡ map (is_covered hull.old.corners) batch.now.points }
+    requires marks { (i : ℕ) (p : Position) → get_or marks.now i false ≡ true
+        → slice_get batch.now.points i ≡ Some p → is_covered hull.old.corners p ≡ true }
     ensures counted { hull.new.inserted + hull.new.skipped
         ≡ hull.old.inserted + hull.old.skipped + length batch.now.points }
     ensures set { (S : List Position) → IsPolygon S hull.old.corners
@@ -99,6 +110,7 @@ fn add_marked<A: Allocator, B: Allocator>(
     let mut left = batch.len();
     while left > 0 {
         left -= 1;
-        add_point(hull, batch.at(left), marks[left]);
+        let known = left < marks.len() && marks[left];
+        add_point(hull, batch.at(left), known);
     }
 }

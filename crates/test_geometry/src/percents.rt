@@ -1,7 +1,7 @@
 // Tests of percent polygons. The values of scattered points are those of a program that takes the mean as a
 // fraction and wraps the kept points (Jarvis 1973).
 
-use crate::points::{RING, SEGMENT, SQUARE, columns_of, scattered};
+use crate::points::{RING, SEGMENT, SQUARE, columns_of, parabola, point, scattered};
 use range_plane::{COORDINATE_LIMIT, Columns, FIX_LIMIT, Point};
 use range_stats::{PercentRow, Ranking, percent};
 use std::alloc::Global;
@@ -197,6 +197,29 @@ fn many_scattered(rt: HostRuntime) {
             (50, 650, 23, 4_189),
             (95, 1235, 18, 7_526),
             (100, 1300, 8, 7_926),
+        ],
+    );
+}
+
+// More corners than those of a hull for which points are marked, and points that it covers.
+#[test]
+fn many_corners(rt: HostRuntime) {
+    let mut fixes = Columns::new(rt.alloc());
+    for corner in parabola(&rt, rt.alloc(), 3000) {
+        fixes.push(corner).expect(&rt, "memory");
+    }
+    for i in 0..600 {
+        let within = point(&rt, (1500, i64::wrapping_add(3_000_000, i)));
+        fixes.push(within).expect(&rt, "memory");
+    }
+    expect_rows(
+        &rt,
+        rt.alloc(),
+        &fixes,
+        &[
+            (50, 1800, 1201, 1_062_192_901),
+            (95, 3420, 2820, 7_467_305_480),
+            (100, 3600, 3000, 8_991_002_000),
         ],
     );
 }

@@ -1,11 +1,10 @@
-use Rattle.std.proofs.Common.{◌≡◌, suc, ◌-◌, ◌<◌, ◌++◌, ◌∷◌, List, false, length, drop, get_or, sym, ap, subst, ◌∙◌, arith}
+use Rattle.std.proofs.Common.{◌≡◌, suc, ◌-◌, ◌<◌, ◌++◌, ◌∷◌, List, false, true, length, drop, get_or, sym, ap, subst, ◌∙◌, arith, tests}
 use Rattle.std.proofs.Math.Seq.{drop-cons}
 use Rattle.std.proofs.lemmas.Option.{get_or_from_slice_get}
-use Rattle.std.proofs.lemmas.List.{get_or-map}
 use Rattle.std.proofs.lemmas.List.Elements.{Contains-append_right}
-use Rattle.range_plane.specs.Covering.{is_covered}
 use Rattle.range_plane.specs.Plane.{Position}
 use Rattle.range_plane.specs.Polygon.{IsPolygon}
+use Rattle.range_stats.proofs.adding.add_marked.Goals.{then-left-marks, else-left-marks}
 use Rattle.range_stats.proofs.adding.add_marked.Goals as goal
 
 pub add_point-requires-clause-covered : goal.add_point-requires-clause-covered
@@ -14,13 +13,14 @@ add_point-requires-clause-covered g c = λ marked.
     let corners = c.args.hull.now.corners in
     let p = c.at.result in
     let place = c.loop-left.left - 1 in
-    let here : p ≡ get_or points place p = sym (get_or_from_slice_get points place p p c.at.ensures) in
-    let within : place < length points = omega (arith, c.loop-left.invariant.within, c.loop-left-test.true) in
-    let mark : get_or c.args.marks.now place false ≡ is_covered corners p = ap (λ l. get_or l place false) c.requires.marks
-    ∙ get_or-map (is_covered corners) points place p false within ∙ ap (is_covered corners) (sym here) in
     let taken = drop c.loop-left.left points in
+    let mark : get_or c.args.marks.now place false ≡ true = elim c.if-left-marks.branch [
+      | then-left-marks w ↦ sym w.known-is ∙ marked
+      | else-left-marks w ↦ absurd (grind (arith, tests, sym w.known-is ∙ marked, w.if-left-marks.false))
+    ] in
     c.covered_points_stay_covered.ensures corners (taken ++ corners) corners c.loop-left.hull.corners p c.requires.polygon
-    (c.loop-left.invariant.set corners c.requires.polygon) (λ s. Contains-append_right taken corners s) (sym mark ∙ marked)
+    (c.loop-left.invariant.set corners c.requires.polygon) (λ s. Contains-append_right taken corners s)
+    (c.requires.marks place p mark c.at.ensures)
 
 pub loop-left-preserved : goal.loop-left-preserved
 loop-left-preserved g c =
