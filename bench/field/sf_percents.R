@@ -1,5 +1,5 @@
 # The convex polygons of the fixes nearest to their mean, by sf: kept fixes, corners and doubled area of each level. The
-# fixes are points of a data frame; `st_multipoint` of a matrix, with no points before, took a third of the time.
+# fixes are points of a data frame; `st_multipoint` of a matrix, with no points before, took two fifths of the time.
 suppressPackageStartupMessages(library(sf))
 fixes <- read.csv(commandArgs(TRUE), colClasses = c("character", rep("numeric", 3)))
 points <- st_geometry(st_as_sf(fixes, coords = c("easting", "northing")))
