@@ -1,54 +1,100 @@
 // From the words of the command line to the status with which the program ends.
 
-ghost use Rattle.std.specs.Prelude.{◌≡◌, ◌≢◌, ◌≤◌, List, OnOk, true};
+ghost use Rattle.std.specs.Prelude.{◌≡◌, ◌≢◌, ◌⊎◌, List, None, false, map, string_bytes, true};
 ghost use Rattle.clap.specs.Words.{Text};
-ghost use Rattle.range_fixes.specs.Reading.{reading_from};
-ghost use Rattle.range_command.specs.Obeying.{IsObeyed};
-ghost use Rattle.range_command.specs.Status.{outcome_status};
+ghost use Rattle.range_command.specs.Answering.{IsSaid, SaysOneLine};
+ghost use Rattle.range_command.specs.Obeying.{IsObeyed, IsOfSystem, IsTold, world};
+ghost use Rattle.range_command.specs.Status.{refusal_status};
+ghost use Rattle.range_command.specs.Telling.{IsTelling};
+ghost use Rattle.range_command.specs.declared.refusal.Refusal.{Refusal};
 
-use crate::obeying::program;
+use crate::obeying::obey;
+use crate::opener::Opener;
 use crate::output::Output;
 use crate::refusal::Refusal;
+use crate::telling::refusals_are_one_line;
+use crate::words::command_words;
+use std::alloc::Global;
 use std::env::Env;
-use std::fs::File;
 use std::io::{Read, Write};
-use std::rt::Files;
 use std::sync::Wait;
 use std::thread::Threads;
 
-/// Does what the words of the environment's command line ask for, as [`program`] says, and gives the status with
-/// which the program ends. Where it is refused, one line on `errors` says why, unless the output is a pipe whose
-/// reader has gone: who closed it has seen enough of it.
+/// Does what the words of the environment's command line ask for, as [`answer_to`] says, or refuses words that are
+/// not UTF-8.
 pub fn answer<
-    R: Wait + Threads + Sync + Files<File = File> + AllocGlobal,
+    R: Wait + Threads + Sync + AllocGlobal,
     E: Env,
+    O: Opener,
     S: Read + Send + Drop,
     W: Write,
     X: Write,
->(rt: &R, environment: &E, input: S, out: &mut Output<W>, errors: &mut X) -> u8
+>(rt: &R, environment: &E, opener: &O, input: S, out: &mut Output<W>, errors: &mut Output<X>) -> u8
     ensures done { result ≡ 0 → (said : List Text)
-        × IsObeyed said
-        (λ unit. reading_from S.remaining unit input) (W.contents out.old.writer)
-        (W.contents out.new.writer) }
+        × IsObeyed said (world (S.remaining input) (O.finds opener.now))
+        (W.contents out.old.writer) (W.contents out.new.writer) }
     ensures unwritten { result ≢ 0 → result ≢ 4 → out.new ≡ out.old }
     ensures quiet { result ≡ 0 → errors.new ≡ errors.old }
-    ensures limit { result ≤ 5 }
+    ensures refused { result ≢ 0 → (refusal : Refusal) × (result ≡ refusal_status refusal)
+        × (IsOfSystem refusal ⊎ ((said : List Text) × IsTold said (world (S.remaining input) (O.finds opener.now)) refusal))
+        × IsSaid out.new.failure refusal X.contents errors.old errors.new }
+    ensures one_line { result ≢ 0 → SaysOneLine out.new.failure X.contents errors.old errors.new }
 {
-    let outcome = program(rt, environment, input, out);
-    tell(&outcome, out.is_closed(), errors)
+    refusals_are_one_line();
+    match command_words(environment, rt.alloc()) {
+        Ok(words) => answer_to(rt, opener, words.as_slice(), input, out, errors),
+        Err(refusal) => tell(rt.alloc(), &refusal, out.is_closed(), errors),
+    }
+}
+
+/// Does what the words ask for, of which the first is the program's name, and gives the status with which the
+/// program ends: 0 after a report, the help or the version, and else that of the [`Refusal`]. Where it is refused,
+/// one line on `errors` says why, in one write where that is taken, unless the output is a pipe whose reader has
+/// gone: who closed it has seen enough of it.
+pub fn answer_to<
+    R: Wait + Threads + Sync + AllocGlobal,
+    O: Opener,
+    S: Read + Send + Drop,
+    W: Write,
+    X: Write,
+>(rt: &R, opener: &O, words: &[String], input: S, out: &mut Output<W>, errors: &mut Output<X>) -> u8
+    ensures done { result ≡ 0
+        → IsObeyed (map string_bytes words.now) (world (S.remaining input) (O.finds opener.now))
+        (W.contents out.old.writer) (W.contents out.new.writer) }
+    ensures unwritten { result ≢ 0 → result ≢ 4 → out.new ≡ out.old }
+    ensures quiet { result ≡ 0 → errors.new ≡ errors.old }
+    ensures refused { result ≢ 0 → (refusal : Refusal) × (result ≡ refusal_status refusal)
+        × IsTold (map string_bytes words.now) (world (S.remaining input) (O.finds opener.now)) refusal
+        × IsSaid out.new.failure refusal X.contents errors.old errors.new }
+    ensures one_line { result ≢ 0 → SaysOneLine out.new.failure X.contents errors.old errors.new }
+{
+    refusals_are_one_line();
+    match obey(rt, opener, words, input, out) {
+        Ok(()) => 0,
+        Err(refusal) => tell(rt.alloc(), &refusal, out.is_closed(), errors),
+    }
 }
 
 // Says in one line why there is no report, but to nobody where the output was closed, and gives the status.
-fn tell<X: Write>(outcome: &Result<(), Refusal>, is_closed: bool, errors: &mut X) -> u8
-    ensures status { result ≡ outcome_status outcome.now }
-    ensures quiet { OnOk outcome.now (errors.new ≡ errors.old) }
+fn tell<X: Write>(alloc: Global, refusal: &Refusal, is_closed: bool, errors: &mut Output<X>) -> u8
+    ensures status { result ≡ refusal_status refusal.now }
     ensures closed { is_closed ≡ true → errors.new ≡ errors.old }
+    ensures line { is_closed ≡ false → errors.new.failure ≡ None
+        → IsTelling refusal.now (X.contents errors.old.writer) (X.contents errors.new.writer) }
 {
-    let Err(refusal) = outcome else {
-        return 0;
-    };
     if !is_closed {
-        let _ = writeln!(errors, "homerange: {refusal}");
+        say(alloc, refusal, errors);
     }
     refusal.status()
+}
+
+// Says in one line why there is no report, in fewer words where there is no memory for all.
+fn say<X: Write>(alloc: Global, refusal: &Refusal, errors: &mut Output<X>)
+    ensures { errors.new.failure ≡ None
+        → IsTelling refusal.now (X.contents errors.old.writer) (X.contents errors.new.writer) }
+{
+    match format!(in alloc; "homerange: {refusal}\n") {
+        Ok(line) => errors.write_whole(line.as_bytes()),
+        Err(_) => errors.write_whole(refusal.short_line().as_bytes()),
+    }
 }

@@ -2,8 +2,8 @@
 
 ghost use Rattle.range_command.specs.Obeying.{IsOfBadWords};
 
-use crate::one_line::escaped;
 use crate::refusal::Refusal;
+use range_texts::OneLine;
 use range_words::{WordFault, read_words};
 use std::alloc::{AllocError, Global};
 
@@ -44,4 +44,10 @@ fn first_line(text: &str) -> &str {
         Some((first, _)) => first,
         None => text,
     }
+}
+
+// The text as it is shown in one line.
+fn escaped(alloc: Global, text: &str) -> Result<String, AllocError> {
+    let text = OneLine::new(text);
+    format!(in alloc; "{text}")
 }

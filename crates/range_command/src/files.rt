@@ -1,39 +1,36 @@
 // Files that are opened to be read.
 
-ghost use Rattle.std.specs.Prelude.{◌≡◌, IfOk, IfErr, length, vec_len};
-ghost use Rattle.range_command.specs.Obeying.{IsOfFiles};
+ghost use Rattle.std.specs.Prelude.{◌≡◌, IfErr, IfOk, length, map, string_bytes};
+ghost use Rattle.range_command.specs.Obeying.{IsOfFiles, IsUnopened};
+ghost use Rattle.range_command.specs.Opening.{Found, IsNotOpened, bytes_in};
 
+use crate::opener::{OpenFault, Opener};
 use crate::refusal::Refusal;
 use crate::source::Source;
 use std::alloc::Global;
-use std::fs::{File, OpenFile};
-use std::io;
-use std::rt::Files;
 use std::sync::atomic::AtomicI32;
-
-// The number that Linux gives to an operation on a folder that only files have.
-const IS_A_DIRECTORY: i32 = 21;
 
 /// The files, opened in the order of their paths. The place of each is for the reason of a read that fails.
 ///
 /// # Errors
 ///
 /// The first file that cannot be opened to be read, such as a folder; or that memory ran out.
-pub(crate) fn open_all<'a, R: Files>(
-    rt: &R,
+pub(crate) fn open_all<'a, O: Opener>(
+    opener: &O,
     alloc: Global,
     paths: &[String],
     places: &'a [AtomicI32],
-) -> Result<Vec<Source<'a, R::File>>, Refusal>
+) -> Result<Vec<Source<'a, O::File>>, Refusal>
     requires { length places.now ≡ length paths.now }
-    ensures files { IfOk result (λ sources. vec_len sources ≡ length paths.now) }
-    ensures refusal { IfErr result (IsOfFiles paths.now) }
+    ensures files { IfOk result (λ sources. map (λ source. O.File.remaining source.source) sources.items
+        ≡ map (λ path. bytes_in (O.finds opener.now (string_bytes path))) paths.now) }
+    ensures refusal { IfErr result (IsOfFiles (O.finds opener.now) paths.now) }
 {
     let mut sources = Vec::new(alloc);
     for path in paths {
-        let file = match open(rt, path.as_str()) {
+        let file = match opener.open(alloc, path.as_str()) {
             Ok(file) => file,
-            Err(error) => return Err(Refusal::unopened(alloc, path.as_str(), &error)),
+            Err(fault) => return Err(unopened(alloc, path.as_str(), fault)),
         };
         let source = Source::new(file, &places[sources.len()]);
         if sources.push(source).is_err() {
@@ -43,11 +40,15 @@ pub(crate) fn open_all<'a, R: Files>(
     Ok(sources)
 }
 
-// The file, opened. A folder can be opened too, but not read.
-fn open<R: Files>(rt: &R, path: &str) -> io::Result<R::File> {
-    let file = File::open(rt, path)?;
-    if file.metadata()?.is_dir() {
-        return Err(io::Error::from_raw_os_error(IS_A_DIRECTORY));
+// The refusal of a file that is not opened.
+fn unopened(alloc: Global, path: &str, fault: OpenFault) -> Refusal
+    ensures { (found : Found) → IsNotOpened found fault → IsUnopened found path.now result }
+{
+    let OpenFault::Refused(reason) = fault else {
+        return Refusal::OutOfMemory;
+    };
+    match String::from_str(alloc, path) {
+        Ok(path) => Refusal::Unopened { path, reason },
+        Err(_) => Refusal::OutOfMemory,
     }
-    Ok(file)
 }

@@ -4,17 +4,23 @@
 
 mod answering;
 mod bad_words;
+mod confirmed;
 mod files;
 mod obeying;
-mod one_line;
+mod opener;
 mod output;
+mod reason;
 mod refusal;
 mod retry;
 mod running;
 mod source;
+mod telling;
 mod words;
 
-pub use answering::answer;
-pub use obeying::{obey, obey_with_gate, program};
+pub use answering::{answer, answer_to};
+pub use confirmed::Confirmed;
+pub use obeying::{obey, obey_with_gate};
+pub use opener::{OpenFault, Opener, SystemFiles};
 pub use output::Output;
 pub use refusal::Refusal;
+pub use telling::refusals_are_one_line;

@@ -1,6 +1,9 @@
 // Where the program writes, and why a write failed.
 
-ghost use Rattle.std.specs.Prelude.{◌≡◌, None};
+ghost use Rattle.std.specs.Prelude.{◌≡◌, ◌↔◌, IfErr, IsTrue, None, OnOk, Some};
+ghost use Rattle.std.specs.Io.{WritesAtMost};
+ghost use Rattle.std.specs.Io.KnownBytes.{Appends, WriteAppends};
+ghost use Rattle.range_command.specs.Answering.{HasLeft};
 
 use crate::retry::write_again;
 use std::io;
@@ -49,15 +52,42 @@ impl<W> Output<W> {
     }
 
     /// Whether the last failure was a pipe's whose reader has gone.
-    pub fn is_closed(&self) -> bool {
+    pub fn is_closed(&self) -> bool
+        ensures { IsTrue result ↔ HasLeft self.now.failure }
+    {
         matches!(&self.failure, Some(error) if error.kind() == ErrorKind::BrokenPipe)
+    }
+}
+
+impl<W: Write> Output<W> {
+    /// Writes a text whole, in one write where the writer takes it. The reason of a failure is kept.
+    pub(crate) fn write_whole(&mut self, text: &[u8])
+        ensures whole { self.new.failure ≡ None
+            → Appends (W.contents self.old.writer) (W.contents self.new.writer) text.now }
+    {
+        let mut at = 0;
+        while at < text.len() {
+            match self.write(&text[at..]) {
+                Ok(0) => {
+                    self.failure = Some(io::Error::from(ErrorKind::WriteZero));
+                    return;
+                }
+                Ok(n) => at += n,
+                Err(_) => return,
+            }
+        }
     }
 }
 
 impl<W: Write> Write for Output<W> {
     ghost contents = { λ output. W.contents output.writer };
 
-    fn write(&mut self, buf: &[u8]) -> io::Result<usize> {
+    fn write(&mut self, buf: &[u8]) -> io::Result<usize>
+        ensures bound { WritesAtMost result buf.now }
+        ensures bytes { WriteAppends (W.contents self.old.writer) (W.contents self.new.writer) result buf.now }
+        ensures failed { IfErr result (λ error. self.new.failure ≡ Some error) }
+        ensures kept { OnOk result (self.new.failure ≡ self.old.failure) }
+    {
         let written = write_again(&mut self.writer, buf);
         if let Err(error) = &written {
             self.failure = Some(*error);

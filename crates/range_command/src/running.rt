@@ -1,14 +1,15 @@
 // A run over the files of the words, or over the input where they name none.
 
 ghost use Rattle.std.specs.Prelude.{◌≡◌, ◌≢◌, ◌≤◌, ◌∷◌, [], IfErr, IfOk, OnOk, vec_len};
-ghost use Rattle.range_fixes.specs.Reading.{reading_from};
 ghost use Rattle.range_options.specs.Limits.{file_limit};
-ghost use Rattle.range_command.specs.Obeying.{IsOfRun, Reports};
+ghost use Rattle.range_command.specs.Obeying.{IsOfRun, Reports, world};
 ghost use Rattle.range_command.specs.Status.{refusal_status};
 
 use crate::files::open_all;
+use crate::opener::Opener;
 use crate::output::Output;
-use crate::refusal::{Refusal, known_reason};
+use crate::reason::known_reason;
+use crate::refusal::Refusal;
 use crate::source::Source;
 use range_analysis::AnalyseFault;
 use range_fixes::ReadFault;
@@ -16,27 +17,25 @@ use range_pump::Gate;
 use range_run::{RunFault, run_with_gate};
 use range_words::Words;
 use std::alloc::{AllocError, Global};
-use std::fs::File;
 use std::io;
 use std::io::{Read, Write};
-use std::rt::Files;
 use std::sync::Wait;
 use std::sync::atomic::{AtomicI32, Ordering};
 use std::thread::Threads;
 
 /// Runs over the files of the words, or over the input where they name none, through a gate.
 pub(crate) fn run_over<
-    R: Wait + Threads + Sync + Files<File = File> + AllocGlobal,
+    R: Wait + Threads + Sync + AllocGlobal,
+    O: Opener,
     S: Read + Send + Drop,
     W: Write,
     G: Gate,
->(rt: &R, words: Words, input: S, gate: &G, out: &mut Output<W>) -> Result<(), Refusal>
+>(rt: &R, opener: &O, words: Words, input: S, gate: &G, out: &mut Output<W>) -> Result<(), Refusal>
     requires files { vec_len words.files ≤ file_limit }
     ensures done { OnOk result
-        (Reports words
-        (λ unit. reading_from S.remaining unit input) (W.contents out.old.writer)
-        (W.contents out.new.writer)) }
-    ensures told { IfErr result (IsOfRun words (λ unit. reading_from S.remaining unit input)) }
+        (Reports words (world (S.remaining input) (O.finds opener.now))
+        (W.contents out.old.writer) (W.contents out.new.writer)) }
+    ensures told { IfErr result (IsOfRun words (world (S.remaining input) (O.finds opener.now))) }
     ensures unwritten { IfErr result (λ refusal. refusal_status refusal ≢ 4 → out.new ≡ out.old) }
 {
     let Words { files, options } = words;
@@ -46,7 +45,7 @@ pub(crate) fn run_over<
         let sources = alone(alloc, Source::new(input, &places[0]))?;
         run_with_gate(rt, alloc, sources, gate, &options, out)
     } else {
-        let sources = open_all(rt, alloc, files.as_slice(), places.as_slice())?;
+        let sources = open_all(opener, alloc, files.as_slice(), places.as_slice())?;
         run_with_gate(rt, alloc, sources, gate, &options, out)
     };
     match outcome {

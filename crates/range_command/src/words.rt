@@ -1,5 +1,8 @@
 // The words of the command line, as the system gives them.
 
+ghost use Rattle.std.specs.Prelude.{IfErr};
+ghost use Rattle.range_command.specs.Obeying.{IsOfSystem};
+
 use crate::refusal::Refusal;
 use std::alloc::Global;
 use std::env::{Env, FillError};
@@ -15,7 +18,9 @@ const FIRST_ROOM: usize = 256;
 /// # Errors
 ///
 /// The first word that is not UTF-8; or that memory ran out.
-pub(crate) fn command_words<E: Env>(env: &E, alloc: Global) -> Result<Vec<String>, Refusal> {
+pub(crate) fn command_words<E: Env>(env: &E, alloc: Global) -> Result<Vec<String>, Refusal>
+    ensures { IfErr result IsOfSystem }
+{
     let Ok(mut words) = vec![in alloc; String::from_str(alloc, PROGRAM)?] else {
         return Err(Refusal::OutOfMemory);
     };
@@ -34,7 +39,9 @@ pub(crate) fn command_words<E: Env>(env: &E, alloc: Global) -> Result<Vec<String
 }
 
 // The bytes of a word; `None` where there are fewer words. The room is doubled until they fit.
-fn word<E: Env>(env: &E, alloc: Global, at: usize) -> Result<Option<Vec<u8>>, Refusal> {
+fn word<E: Env>(env: &E, alloc: Global, at: usize) -> Result<Option<Vec<u8>>, Refusal>
+    ensures { IfErr result IsOfSystem }
+{
     let mut room = FIRST_ROOM;
     for _ in 0..usize::BITS {
         let mut bytes = Vec::new(alloc);

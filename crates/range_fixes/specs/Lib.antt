@@ -1,4 +1,5 @@
 pub mod Check
+pub mod FaultText
 pub mod Field
 pub mod Law
 pub mod Previous

@@ -17,8 +17,8 @@ pub(crate) const FIELD_COUNT: usize = 4;
 
 pub(crate) const FIELD_COUNT_WITH_USE: usize = 5;
 
-// The most bytes of a name.
-const NAME_LIMIT: usize = 32;
+/// The most bytes of a name.
+pub(crate) const NAME_LIMIT: usize = 32;
 
 // A record that passed all checks: its fix, and whether that is used.
 #[derive(Clone, Copy)]

@@ -1,5 +1,10 @@
 // Why a file cannot be read to its end.
 
+ghost use Rattle.std.specs.Prelude.{◌≡◌, ◌++◌, Some, codes};
+ghost use Rattle.std.specs.Fmt.{WritesOnOk};
+ghost use Rattle.range_fixes.specs.FaultText.{count_text, fault_text, field_name, fields_word, limit_text, place_text, record_of, wrong_text};
+
+use crate::checks::NAME_LIMIT;
 use range_plane::{FIX_LIMIT, SECOND_LIMIT, Scale};
 use std::error::Error;
 use std::fmt;
@@ -38,22 +43,10 @@ pub enum ReadFault {
     BadUse { rec: u32 },
 }
 
-// How the header is written, and what is often wrong with it.
-const HEADER: &str = "animal,second,easting,northing";
-
-const HEADER_RULE: &str = "commas, small letters, this order; plain UTF-8 text";
-
-// What a name is.
-const NAME_RULE: &str = "1 to 32 bytes with no comma, double quote or control character";
-
-// What a number is not written with.
-const NUMBER_RULE: &str = "no point, sign, space or exponent";
-
-// What is wrong with a second that falls, and what helps.
-const FALL: &str = "second is less than in the record before: sort the file by time";
-
 // What a field is called.
-fn field_name(field: u32) -> &'static str {
+fn field_name(field: u32) -> &'static str
+    ensures { result.now ≡ field_name field }
+{
     match field {
         0 => "animal",
         1 => "second",
@@ -64,7 +57,9 @@ fn field_name(field: u32) -> &'static str {
 
 impl ReadFault {
     // The number of the record that is at fault, if one is.
-    fn record(self) -> Option<u32> {
+    fn record(self) -> Option<u32>
+        ensures { result ≡ record_of self }
+    {
         match self {
             ReadFault::WrongFieldCount { rec, .. }
             | ReadFault::BadName { rec }
@@ -84,20 +79,53 @@ impl ReadFault {
     }
 }
 
+// The record that is at fault, with which a text begins, if one is.
+#[derive(Clone, Copy)]
+struct Place(Option<u32>);
+
+impl fmt::Display for Place {
+    ghost output = { λ place. Some (place_text place.0) };
+
+    fn fmt<W: fmt::Write>(&self, f: &mut fmt::Formatter<W>) -> fmt::Result {
+        match self.0 {
+            Some(rec) => write!(f, "record {rec}: "),
+            None => Ok(()),
+        }
+    }
+}
+
+// The word for so many fields.
+fn fields_word(count: u64) -> &'static str
+    ensures { result.now ≡ fields_word count }
+{
+    if count == 1 { "field" } else { "fields" }
+}
+
 // How many fields there are, and how many are wanted.
-fn write_count<W: fmt::Write>(f: &mut fmt::Formatter<W>, found: u64, wanted: u32) -> fmt::Result {
-    let fields = if found == 1 { "field" } else { "fields" };
+fn write_count<W: fmt::Write>(f: &mut fmt::Formatter<W>, found: u64, wanted: u32) -> fmt::Result
+    ensures { WritesOnOk W.write_str_gives f.old result (count_text found wanted) f.new }
+{
+    let fields = fields_word(found);
     write!(f, "{found} {fields} where {wanted} are wanted")
 }
 
 // Which field is no number.
-fn write_no_number<W: fmt::Write>(f: &mut fmt::Formatter<W>, field: u32) -> fmt::Result {
+fn write_no_number<W: fmt::Write>(f: &mut fmt::Formatter<W>, field: u32) -> fmt::Result
+    ensures { WritesOnOk W.write_str_gives f.old result
+        (field_name field ++ codes " is not a whole number: no point, sign, space or exponent")
+        f.new }
+{
     let name = field_name(field);
-    write!(f, "{name} is not a whole number: {NUMBER_RULE}")
+    write!(
+        f,
+        "{name} is not a whole number: no point, sign, space or exponent"
+    )
 }
 
 // Which limit the number of a field is past.
-fn write_limit<W: fmt::Write>(f: &mut fmt::Formatter<W>, field: u32, unit: Scale) -> fmt::Result {
+fn write_limit<W: fmt::Write>(f: &mut fmt::Formatter<W>, field: u32, unit: Scale) -> fmt::Result
+    ensures { WritesOnOk W.write_str_gives f.old result (limit_text field unit) f.new }
+{
     let name = field_name(field);
     if field == 1 {
         return write!(f, "{name} is past its limit of {SECOND_LIMIT}");
@@ -106,30 +134,50 @@ fn write_limit<W: fmt::Write>(f: &mut fmt::Formatter<W>, field: u32, unit: Scale
     write!(f, "{name} is past its limit of {limit} {unit}")
 }
 
-impl fmt::Display for ReadFault {
+// What is wrong, without the place.
+#[derive(Clone, Copy)]
+struct Wrong(ReadFault);
+
+impl fmt::Display for Wrong {
+    ghost output = { λ wrong. Some (wrong_text wrong.0) };
+
     fn fmt<W: fmt::Write>(&self, f: &mut fmt::Formatter<W>) -> fmt::Result {
-        if let Some(rec) = self.record() {
-            write!(f, "record {rec}: ")?;
-        }
-        match *self {
+        match self.0 {
             ReadFault::OutOfMemory => write!(f, "out of memory"),
             ReadFault::Read => write!(f, "a read failed"),
-            ReadFault::NoHeader => write!(f, "empty where {HEADER} is wanted"),
+            ReadFault::NoHeader => write!(
+                f,
+                "empty where animal,second,easting,northing is wanted"
+            ),
             ReadFault::BadHeader => write!(
                 f,
-                "the first line is not {HEADER} ({HEADER_RULE}), nor that with ,use behind it"
+                "the first line is not animal,second,easting,northing (commas, small letters, this order; plain UTF-8 text), nor that with ,use behind it"
             ),
             ReadFault::WrongFieldCount { found, wanted, .. } => write_count(f, found, wanted),
-            ReadFault::BadName { .. } => write!(f, "animal is not a name of {NAME_RULE}"),
+            ReadFault::BadName { .. } => write!(
+                f,
+                "animal is not a name of 1 to {NAME_LIMIT} bytes with no comma, double quote or control character"
+            ),
             ReadFault::OtherAnimal { .. } => write!(f, "animal is another than in record 1"),
             ReadFault::NotNumber { field, .. } => write_no_number(f, field),
             ReadFault::TooLarge { field, unit, .. } => write_limit(f, field, unit),
-            ReadFault::SecondFalls { .. } => write!(f, "{FALL}"),
+            ReadFault::SecondFalls { .. } => write!(
+                f,
+                "second is less than in the record before: sort the file by time"
+            ),
             ReadFault::TooManyFixes => write!(f, "more than {FIX_LIMIT} records after the header"),
             ReadFault::NoFixes => write!(f, "no record after the header, or none that is used"),
             ReadFault::Gone => write!(f, "the fixes could not be handed on"),
             ReadFault::BadUse { .. } => write!(f, "use is neither 0 nor 1"),
         }
+    }
+}
+
+impl fmt::Display for ReadFault {
+    ghost output = { λ fault. Some (fault_text fault) };
+
+    fn fmt<W: fmt::Write>(&self, f: &mut fmt::Formatter<W>) -> fmt::Result {
+        write!(f, "{}{}", Place(self.record()), Wrong(*self))
     }
 }
 

@@ -15,6 +15,6 @@ mod reader;
 mod records;
 
 pub use fault::ReadFault;
-pub use law::reads_exactly;
+pub use law::{limits_are_these, reads_exactly};
 pub use name::Name;
 pub use reader::FixReader;

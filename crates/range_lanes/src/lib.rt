@@ -6,9 +6,11 @@ mod extent;
 mod inner;
 mod inside;
 mod lanes;
+mod laws;
 mod marking;
 mod totals;
 
 pub use extent::{Extent, extremes};
 pub use inside::{count_inside, mark_inside};
+pub use laws::sizes_are_these;
 pub use totals::sums;

@@ -2,11 +2,13 @@
 //! plan and levels within them, and the options of an analysis.
 #![tactic(auto)]
 
+mod laws;
 mod levels;
 mod limits;
 mod options;
 mod plan;
 
+pub use laws::limits_are_these;
 pub use levels::Levels;
 pub use limits::{
     BLOCK_LIMIT, DEPTH_LIMIT, FILE_LIMIT, LEVEL_COUNT_LIMIT, LEVEL_LIMIT, WORKER_LIMIT,

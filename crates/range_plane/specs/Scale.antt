@@ -1,5 +1,5 @@
 -- The units in which coordinates are counted.
-use Rattle.std.specs.Prelude.{ℕ}
+use Rattle.std.specs.Prelude.{ℕ, List, codes}
 use Rattle.range_plane.specs.Plane.{coordinate_limit}
 use Rattle.range_plane.specs.declared.scale.Scale.{Scale}
 use Rattle.range_plane.specs.declared.scale.TheConstants.{METRE_LIMIT}
@@ -9,3 +9,8 @@ use Rattle.range_plane.specs.declared.scale.Scale.TheVariants.{Metre, Decimetre}
 abbrev pub limit : Scale → ℕ
 limit Metre = METRE_LIMIT
 limit Decimetre = coordinate_limit
+
+-- what a unit is called
+abbrev pub unit_name : Scale → List ℕ
+unit_name Metre = codes "metres"
+unit_name Decimetre = codes "decimetres"

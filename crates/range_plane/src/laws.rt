@@ -1,7 +1,20 @@
-// Laws of what sets cover and of polygons. Each is a function that does nothing and promises
-// the law, for the proofs of the crates above.
+// Laws of what sets cover and of polygons, and the limits as numbers. Each is a function that does nothing and
+// promises the law, for the proofs of the crates above and for who reads what is promised.
 
+ghost use Rattle.std.specs.Prelude.{◌≡◌, pos};
 ghost use Rattle.range_plane.specs.Laws.{AreasAreNotNegative, CornersCoverTheSet, CornersStandForTheSet, CoveredIsDecided, CoveredPointsChangeNothing, CoveringIsReaching, CoveringIsTransitive, CoveringMembersAreCorners, EverySetHasAPolygon, LargerSetsCoverMore, ManyCoverTheLeftOfTheirEdges, NoneCoversNothing, OnSegmentIsDecided, OneCoversItself, OnePolygon, PolygonOfItsCorners, SetsCoverTheirMembers, TwoCoverTheirSegment};
+
+use crate::fix::{FIX_LIMIT, SECOND_LIMIT};
+use crate::point::COORDINATE_LIMIT;
+use crate::scale::METRE_LIMIT;
+
+/// The limits of points and of files, as numbers: definitions take them from the code.
+pub fn limits_are_these()
+    ensures coordinate { COORDINATE_LIMIT ≡ pos 134217728 }
+    ensures metres { METRE_LIMIT ≡ 16777216 }
+    ensures seconds { SECOND_LIMIT ≡ 1099511627776 }
+    ensures fixes { FIX_LIMIT ≡ 1048576 }
+{}
 
 /// A larger set covers all that a smaller one covers.
 pub fn larger_sets_cover_more()

@@ -1,14 +1,14 @@
 // The units in which coordinates are counted.
 
-ghost use Rattle.std.specs.Prelude.{◌≡◌, pos};
+ghost use Rattle.std.specs.Prelude.{◌≡◌, Some, pos};
 ghost use Rattle.range_plane.specs.Plane.{IsCoordinate};
-ghost use Rattle.range_plane.specs.Scale.{limit};
+ghost use Rattle.range_plane.specs.Scale.{limit, unit_name};
 
 use crate::point::COORDINATE_LIMIT;
 use std::fmt;
 
-// The greatest easting and northing of a file in metres.
-const METRE_LIMIT: u32 = 16_777_216;
+/// The greatest easting and northing of a file in metres: 2^24.
+pub(crate) const METRE_LIMIT: u32 = 16_777_216;
 
 /// The unit in which the eastings and northings of a run are counted.
 #[derive(Clone, Copy, PartialEq, Eq, Debug)]
@@ -32,6 +32,8 @@ impl Scale {
 }
 
 impl fmt::Display for Scale {
+    ghost output = { λ unit. Some (unit_name unit) };
+
     fn fmt<W: fmt::Write>(&self, f: &mut fmt::Formatter<W>) -> fmt::Result {
         match *self {
             Scale::Metre => write!(f, "metres"),

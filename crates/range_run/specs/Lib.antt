@@ -1,3 +1,4 @@
+pub mod FaultText
 pub mod Output
 pub mod Run
 pub mod Status

@@ -1,23 +1,34 @@
 // Why a run ends without its report.
 
-ghost use Rattle.std.specs.Prelude.{◌≡◌};
+ghost use Rattle.std.specs.Prelude.{◌≡◌, Some};
+ghost use Rattle.range_run.specs.FaultText.{run_text};
 ghost use Rattle.range_run.specs.Status.{fault_status, status_of};
 
 use range_analysis::AnalyseFault;
+use std::fmt;
 use thiserror::Error;
 
 /// Why a run ends without its report.
 #[derive(PartialEq, Eq, Debug, Drop, Error)]
 pub enum RunFault {
     /// The files have no analysis.
-    #[error(transparent)]
     Analyse(AnalyseFault),
     /// An allocation for the report failed.
-    #[error("out of memory")]
     OutOfMemory,
     /// A write failed or took no byte, or the flush failed.
-    #[error("the report could not be written")]
     Write,
+}
+
+impl fmt::Display for RunFault {
+    ghost output = { λ fault. Some (run_text fault) };
+
+    fn fmt<W: fmt::Write>(&self, f: &mut fmt::Formatter<W>) -> fmt::Result {
+        match self {
+            RunFault::Analyse(fault) => write!(f, "{fault}"),
+            RunFault::OutOfMemory => write!(f, "out of memory"),
+            RunFault::Write => write!(f, "the report could not be written"),
+        }
+    }
 }
 
 impl RunFault {

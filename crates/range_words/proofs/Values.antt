@@ -55,10 +55,10 @@ some_texts o s x e is = ap (λ (y : Option (List (List ℕ))). unwrap_or y []) (
 pub refusal_is : (k : ErrorKind) (kinds : Kinds) (rows : List Row) (fault : WordFault) → (k ≡ kind.OutOfMemory) ⊎ IsAmong k kinds → SpeaksFor k fault
     → IsRefusal kinds rows fault
 refusal_is k kinds rows OutOfMemory among speaks = tt
-refusal_is k kinds rows (Help text) (inl e) speaks = cc
-refusal_is k kinds rows (Help text) (inr among) speaks = subst (λ (x : ErrorKind). IsAmong x kinds) speaks among
-refusal_is k kinds rows (Version text) (inl e) speaks = cc
-refusal_is k kinds rows (Version text) (inr among) speaks = subst (λ (x : ErrorKind). IsAmong x kinds) speaks among
+refusal_is k kinds rows (Help text) (inl e) speaks = let named : k ≡ kind.DisplayHelp = speaks.0 in cc
+refusal_is k kinds rows (Help text) (inr among) speaks = (subst (λ (x : ErrorKind). IsAmong x kinds) speaks.0 among, speaks.1)
+refusal_is k kinds rows (Version text) (inl e) speaks = let named : k ≡ kind.DisplayVersion = speaks.0 in cc
+refusal_is k kinds rows (Version text) (inr among) speaks = (subst (λ (x : ErrorKind). IsAmong x kinds) speaks.0 among, speaks.1)
 refusal_is k kinds rows (BadWords text) (inl e) speaks = absurd (speaks.1 e)
 refusal_is k kinds rows (BadWords text) (inr among) speaks = inl (k, among, speaks.0)
 refusal_is k kinds rows TooManyFiles among speaks = absurd speaks

@@ -6,6 +6,7 @@ use Rattle.clap.specs.declared.error.ErrorKind.TheVariants as kind
 use Rattle.range_options.specs.Limits.{file_limit, level_count_limit}
 use Rattle.range_words.specs.declared.level.LevelFault.TheVariants as level_fault
 use Rattle.range_words.specs.CommandLine.{files_in, found_in, homerange, levels_in, option_number, unit_in}
+use Rattle.range_words.specs.Help.{help_text, version_text}
 use Rattle.range_words.specs.LevelList.{IsRefusedFor, level_in, parts}
 use Rattle.range_words.specs.declared.words.Words.{Words}
 use Rattle.range_words.specs.declared.words.WordFault.{WordFault}
@@ -41,8 +42,8 @@ IsNoWish k = (k ≢ kind.DisplayHelp) × (k ≢ kind.DisplayVersion)
 -- the unit, then for the files, and last for the levels
 abbrev pub IsRefusal : Kinds → List Row → WordFault → Type 0
 IsRefusal kinds rows OutOfMemory = ⊤
-IsRefusal kinds rows (Help text) = IsAmong kind.DisplayHelp kinds
-IsRefusal kinds rows (Version text) = IsAmong kind.DisplayVersion kinds
+IsRefusal kinds rows (Help text) = IsAmong kind.DisplayHelp kinds × (string_bytes text ≡ help_text)
+IsRefusal kinds rows (Version text) = IsAmong kind.DisplayVersion kinds × (string_bytes text ≡ version_text)
 IsRefusal kinds rows (BadWords text) = ((k : ErrorKind) × IsAmong k kinds × IsNoWish k) ⊎ ((kinds ≡ []) × (unit_in rows ≡ None))
 IsRefusal kinds rows TooManyFiles = (kinds ≡ []) × IsSome (unit_in rows) × (file_limit < length (files_in rows))
 IsRefusal kinds rows (BadLevels fault) =
@@ -55,7 +56,7 @@ IsRefusalOf words fault = IsRefusal (fault_of homerange words) (found_in words) 
 -- the fault says what a refusal of this kind by `clap` says
 abbrev pub SpeaksFor : ErrorKind → WordFault → Type 0
 SpeaksFor k OutOfMemory = ⊤
-SpeaksFor k (Help text) = k ≡ kind.DisplayHelp
-SpeaksFor k (Version text) = k ≡ kind.DisplayVersion
+SpeaksFor k (Help text) = (k ≡ kind.DisplayHelp) × (string_bytes text ≡ help_text)
+SpeaksFor k (Version text) = (k ≡ kind.DisplayVersion) × (string_bytes text ≡ version_text)
 SpeaksFor k (BadWords text) = IsNoWish k × (k ≢ kind.OutOfMemory)
 SpeaksFor k fault = ⊥

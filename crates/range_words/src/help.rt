@@ -1,111 +1,174 @@
-// The texts of the program's help. Limits and defaults stand in them by their names.
+// The text of the program's help. Limits and defaults stand in it by their names.
+
+ghost use Rattle.std.specs.Prelude.{◌≡◌, IfOk, Some, string_bytes};
+ghost use Rattle.std.specs.Fmt.{WritesOnOk, decimal};
+ghost use Rattle.range_plane.specs.Scale.{limit as limit_in};
+ghost use Rattle.range_words.specs.Help.{arguments_text, coordinates_text, files_text, help_text, levels_text, limits_text, number_text, options_text, speed_text, version_text};
 
 use crate::defaults::{
     DEFAULT_BLOCK, DEFAULT_DEPTH, DEFAULT_LEVELS, DEFAULT_UNIT, DEFAULT_WORKERS,
 };
+use crate::version::VERSION;
 use range_options::{
     BLOCK_LIMIT, DEPTH_LIMIT, FILE_LIMIT, LEVEL_COUNT_LIMIT, LEVEL_LIMIT, WORKER_LIMIT,
 };
 use range_plane::{FIX_LIMIT, SECOND_LIMIT, Scale};
 use std::alloc::{AllocError, Global};
+use std::fmt;
 
-pub(crate) const ABOUT: &str =
-    "Home ranges of tagged animals by the minimum convex polygon, from files of
-location fixes. The report goes to standard output.";
-
-pub(crate) const USAGE: &str = "homerange [--percent LIST] [--unit UNIT] [--block N] [--depth N]
-                 [--workers N] [FILE ...]";
-
-/// What the options that change the time alone stand under.
-pub(crate) const SPEED: &str = "Speed";
-
-/// The texts that tell limits or defaults.
-#[derive(Drop)]
-pub(crate) struct HelpTexts {
-    pub(crate) percent: String,
-    pub(crate) block: String,
-    pub(crate) depth: String,
-    pub(crate) workers: String,
-    pub(crate) unit: String,
-    pub(crate) files: String,
-    pub(crate) after: String,
+/// The help, in lines of 80 columns at most.
+pub(crate) fn make_help(alloc: Global) -> Result<String, AllocError>
+    ensures { IfOk result (λ text. string_bytes text ≡ help_text) }
+{
+    format!(in alloc; "{}", Help)
 }
 
-/// The texts, made for one help.
-pub(crate) fn help_texts(alloc: Global) -> Result<HelpTexts, AllocError> {
-    let percent = format!(in alloc;
-        "Levels of the percent polygons: 1 to {LEVEL_COUNT_LIMIT} whole numbers\nfrom 1 to {LEVEL_LIMIT}, separated by commas [default: {DEFAULT_LEVELS}]"
-    )?;
-    let block = number_help(
-        alloc,
-        "Fixes that are handed on together",
-        BLOCK_LIMIT,
-        DEFAULT_BLOCK,
-    )?;
-    let depth = number_help(
-        alloc,
-        "Blocks that may wait for each worker",
-        DEPTH_LIMIT,
-        DEFAULT_DEPTH,
-    )?;
-    let workers = number_help(
-        alloc,
-        "Workers that estimate ranges",
-        WORKER_LIMIT,
-        DEFAULT_WORKERS,
-    )?;
-    let unit = format!(in alloc;
-        "Unit of all coordinates: m for metres, dm for decimetres\n[default: {DEFAULT_UNIT}]"
-    )?;
-    let files = format!(in alloc;
-        "Files to read, {FILE_LIMIT} at most, one animal in each; with none,\nstandard input"
-    )?;
-    let after = after_help(alloc)?;
-    Ok(HelpTexts {
-        percent,
-        block,
-        depth,
-        workers,
-        unit,
-        files,
-        after,
-    })
+/// The version, in one line.
+pub(crate) fn make_version(alloc: Global) -> Result<String, AllocError>
+    ensures { IfOk result (λ text. string_bytes text ≡ version_text) }
+{
+    format!(in alloc; "homerange {VERSION}\n")
 }
 
-// The help of an option that is a number.
-fn number_help(alloc: Global, what: &str, limit: u32, default: u32) -> Result<String, AllocError> {
-    format!(in alloc; "{what}, 1 to {limit} [default: {default}]")
+#[derive(Clone, Copy)]
+struct Help;
+
+impl fmt::Display for Help {
+    ghost output = { λ _. Some help_text };
+
+    fn fmt<W: fmt::Write>(&self, f: &mut fmt::Formatter<W>) -> fmt::Result {
+        f.write_str(ABOUT)?;
+        write_arguments(f)?;
+        write_options(f)?;
+        write_speed(f)?;
+        write_files(f)?;
+        f.write_str(END)
+    }
 }
 
-// What stands behind the options.
-fn after_help(alloc: Global) -> Result<String, AllocError> {
-    let (metres, decimetres) = (Scale::Metre.limit(), Scale::Decimetre.limit());
-    format!(in alloc;
-        "Block, depth and workers change the time taken, and not the report.
+const ABOUT: &str = "Home ranges of tagged animals by the minimum convex polygon, from files of
+location fixes. The report goes to standard output.
 
-Files:
-  A file is comma-separated text. Its first line is
-  animal,second,easting,northing and each line after it is one fix; there are 1
-  to {FIX_LIMIT} such lines. With the first line
-  animal,second,easting,northing,use each line says at its end whether its fix
-  is used.
-    animal    the animal's name, the same in the whole file and in no other file
-              of the run: 1 to 32 bytes, with no comma, double quote or control
-              character
-    second    when it was there: a whole second from 0 to {SECOND_LIMIT},
-              which never falls
-    easting   where it was, such as a UTM easting: whole metres from 0 to
-              {metres}, or with --unit dm whole decimetres from 0 to
-              {decimetres}
-    northing  likewise; the fixes of a run have to be of one zone
-    use       1, or 0 for a fix that is left out; at least one has to be used
-  Faults count records from the line below the first, blank lines left out.
+Usage: homerange [--percent LIST] [--unit UNIT] [--block N] [--depth N]
+                 [--workers N] [FILE ...]
 
-{REPORT_HELP}"
+";
+
+// The files.
+fn write_arguments<W: fmt::Write>(f: &mut fmt::Formatter<W>) -> fmt::Result
+    ensures { WritesOnOk W.write_str_gives f.old result arguments_text f.new }
+{
+    write!(
+        f,
+        "Arguments:
+  [FILE]...  Files to read, {FILE_LIMIT} at most, one animal in each; with none,
+             standard input
+
+"
     )
 }
 
-const REPORT_HELP: &str = "Report:
+// The options that change the report, and the two that ask.
+fn write_options<W: fmt::Write>(f: &mut fmt::Formatter<W>) -> fmt::Result
+    ensures { WritesOnOk W.write_str_gives f.old result options_text f.new }
+{
+    write_levels(f)?;
+    write!(
+        f,
+        "      --unit <UNIT>     Unit of all coordinates: m for metres, dm for decimetres\n                        [default: {DEFAULT_UNIT}]\n  -h, --help            Print help\n  -V, --version         Print version\n\n"
+    )
+}
+
+// The option of the levels.
+fn write_levels<W: fmt::Write>(f: &mut fmt::Formatter<W>) -> fmt::Result
+    ensures { WritesOnOk W.write_str_gives f.old result levels_text f.new }
+{
+    write!(
+        f,
+        "Options:\n      --percent <LIST>  Levels of the percent polygons: 1 to {LEVEL_COUNT_LIMIT} whole numbers\n                        from 1 to {LEVEL_LIMIT}, separated by commas [default: {DEFAULT_LEVELS}]\n"
+    )
+}
+
+// The options that change the time alone.
+fn write_speed<W: fmt::Write>(f: &mut fmt::Formatter<W>) -> fmt::Result
+    ensures { WritesOnOk W.write_str_gives f.old result speed_text f.new }
+{
+    f.write_str("Speed:\n")?;
+    let block = "block <N>    Fixes that are handed on together";
+    write_number(f, block, BLOCK_LIMIT, DEFAULT_BLOCK)?;
+    let depth = "depth <N>    Blocks that may wait for each worker";
+    write_number(f, depth, DEPTH_LIMIT, DEFAULT_DEPTH)?;
+    let workers = "workers <N>  Workers that estimate ranges";
+    write_number(f, workers, WORKER_LIMIT, DEFAULT_WORKERS)?;
+    f.write_str("\nBlock, depth and workers change the time taken, and not the report.\n\n")
+}
+
+// An option that is a number.
+fn write_number<W: fmt::Write>(
+    f: &mut fmt::Formatter<W>,
+    what: &str,
+    limit: u32,
+    default: u32,
+) -> fmt::Result
+    ensures { WritesOnOk W.write_str_gives f.old result (number_text what.now limit default) f.new }
+{
+    write!(f, "      --{what}, 1 to {limit} [default: {default}]\n")
+}
+
+// What a file is.
+fn write_files<W: fmt::Write>(f: &mut fmt::Formatter<W>) -> fmt::Result
+    ensures { WritesOnOk W.write_str_gives f.old result files_text f.new }
+{
+    write!(
+        f,
+        "Files:\n  A file is comma-separated text. Its first line is\n  animal,second,easting,northing and each line after it is one fix; there are 1\n  to {FIX_LIMIT} such lines. With the first line\n  animal,second,easting,northing,use each line says at its end whether its fix\n  is used.\n"
+    )?;
+    write!(
+        f,
+        "    animal    the animal's name, the same in the whole file and in no other file\n              of the run: 1 to 32 bytes, with no comma, double quote or control\n              character\n    second    when it was there: a whole second from 0 to {SECOND_LIMIT},\n              which never falls\n"
+    )?;
+    write_coordinates(f)
+}
+
+// The fields of coordinates and of use.
+fn write_coordinates<W: fmt::Write>(f: &mut fmt::Formatter<W>) -> fmt::Result
+    ensures { WritesOnOk W.write_str_gives f.old result coordinates_text f.new }
+{
+    f.write_str(
+        "    easting   where it was, such as a UTM easting: whole metres from 0 to\n              ",
+    )?;
+    write_limits(f)?;
+    f.write_str(
+        "    northing  likewise; the fixes of a run have to be of one zone\n    use       1, or 0 for a fix that is left out; at least one has to be used\n  Faults count records from the line below the first, blank lines left out.\n\n",
+    )
+}
+
+// The limit of coordinates in a unit.
+#[derive(Clone, Copy)]
+struct Limit(Scale);
+
+impl fmt::Display for Limit {
+    ghost output = { λ limit. Some (decimal (limit_in limit.0)) };
+
+    fn fmt<W: fmt::Write>(&self, f: &mut fmt::Formatter<W>) -> fmt::Result {
+        let limit = self.0.limit();
+        write!(f, "{limit}")
+    }
+}
+
+// The limits of coordinates.
+fn write_limits<W: fmt::Write>(f: &mut fmt::Formatter<W>) -> fmt::Result
+    ensures { WritesOnOk W.write_str_gives f.old result limits_text f.new }
+{
+    let (metres, decimetres) = (Limit(Scale::Metre), Limit(Scale::Decimetre));
+    write!(
+        f,
+        "{metres}, or with --unit dm whole decimetres from 0 to\n              {decimetres}\n"
+    )
+}
+
+// What the report is, and the status.
+const END: &str = "Report:
   unit,dm
       the first line, with --unit dm alone
   animal,NAME,fixes,N
@@ -146,4 +209,5 @@ Exit status:
   3  there is not enough memory
   4  the output cannot be written
   5  the fixes of a file were not all handed on from its reader to its worker
-With a status from 1 to 5, one line on standard error says why.";
+With a status from 1 to 5, one line on standard error says why.
+";

@@ -3,24 +3,41 @@
 ghost use Rattle.std.specs.Prelude.{◌≡◌, ◌≤◌, Some, map, take, length, IfOk, IfErr};
 ghost use Rattle.range_options.specs.Levels.{AreLevels};
 ghost use Rattle.range_options.specs.Limits.{level_count_limit};
+ghost use Rattle.range_words.specs.FaultText.{level_text};
 ghost use Rattle.range_words.specs.LevelList.{IsRefusedFor, level_in, parts};
 
 use range_numbers::value_of;
 use range_options::{LEVEL_COUNT_LIMIT, LEVEL_LIMIT};
 use std::alloc::Allocator;
+use std::fmt;
 use thiserror::Error;
 
 /// Why a text is no list of levels. Its text counts the levels from 1.
 #[derive(Clone, Copy, PartialEq, Eq, Debug, Error)]
 pub enum LevelFault {
-    #[error("out of memory")]
     OutOfMemory,
     /// The part at this place, counted from 0, is no number from 1 to 100.
-    #[error("level {part} is not a whole number from 1 to {LEVEL_LIMIT}", part = u64::from(*index) + 1)]
     BadLevel { index: u32 },
     /// There are more than eight parts, and the first eight are good.
-    #[error("more than {LEVEL_COUNT_LIMIT} levels")]
     TooMany,
+}
+
+impl fmt::Display for LevelFault {
+    ghost output = { λ fault. Some (level_text fault) };
+
+    fn fmt<W: fmt::Write>(&self, f: &mut fmt::Formatter<W>) -> fmt::Result {
+        match *self {
+            LevelFault::OutOfMemory => write!(f, "out of memory"),
+            LevelFault::BadLevel { index } => {
+                let part = u64::from(index) + 1;
+                write!(
+                    f,
+                    "level {part} is not a whole number from 1 to {LEVEL_LIMIT}"
+                )
+            }
+            LevelFault::TooMany => write!(f, "more than {LEVEL_COUNT_LIMIT} levels"),
+        }
+    }
 }
 
 /// The levels in a text, in its order: 1 to 8 numbers from 1 to 100, separated by commas. A number is

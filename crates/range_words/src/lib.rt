@@ -4,9 +4,11 @@
 mod command;
 mod defaults;
 mod help;
+mod laws;
 mod level;
 mod version;
 mod words;
 
+pub use laws::defaults_are_these;
 pub use level::{LevelFault, levels};
 pub use words::{WordFault, Words, read_words};

@@ -3,6 +3,7 @@
 ghost use Rattle.std.specs.Prelude.{◌≡◌, ◌≤◌, [], IfErr, IfOk, Some, codes, length, map, string_bytes, unwrap_or};
 ghost use Rattle.clap.specs.Words.{first_of, found_of, kind_of, rows_of};
 ghost use Rattle.range_options.specs.Limits.{block_limit, depth_limit, file_limit, worker_limit};
+ghost use Rattle.range_words.specs.FaultText.{word_text};
 ghost use Rattle.range_words.specs.CommandLine.{HasNumber, files_in, option_number, unit_in};
 ghost use Rattle.range_words.specs.WordList.{AreFrom, AreWordsOf, IsFilesRefusal, IsRefusal, IsRefusalOf, SpeaksFor};
 
@@ -10,13 +11,14 @@ use crate::command::found;
 use crate::defaults::{
     DEFAULT_BLOCK, DEFAULT_DEPTH, DEFAULT_LEVELS, DEFAULT_UNIT, DEFAULT_WORKERS,
 };
-use crate::help::{HelpTexts, help_texts};
+use crate::help::{make_help, make_version};
 use crate::level::{LevelFault, levels};
 use clap::error::ErrorKind;
 use clap::{ArgMatches, Error};
 use range_options::{BLOCK_LIMIT, DEPTH_LIMIT, FILE_LIMIT, Levels, Options, Plan, WORKER_LIMIT};
 use range_plane::Scale;
 use std::alloc::{AllocError, Global};
+use std::fmt;
 use thiserror::Error as ErrorText;
 
 /// What the words of the command line say.
@@ -31,24 +33,36 @@ pub struct Words {
 #[derive(Debug, Drop, ErrorText)]
 pub enum WordFault {
     /// An allocation failed.
-    #[error("out of memory")]
     OutOfMemory,
     /// Help was asked for. This is its text.
-    #[error("{0}")]
     Help(String),
     /// The version was asked for. This is its text.
-    #[error("{0}")]
     Version(String),
     /// The words are not the program's: an option that it does not have, or has not in this form, a number
     /// outside its range, or another unit than `m` and `dm`. This says so in several lines, as `clap` does.
-    #[error("{0}")]
     BadWords(String),
     /// There are more files than [`FILE_LIMIT`].
-    #[error("more than {FILE_LIMIT} files; MORE FILES in the manual page says how to run more")]
     TooManyFiles,
     /// The levels are no list of levels.
-    #[error("--percent: {0}")]
     BadLevels(LevelFault),
+}
+
+impl fmt::Display for WordFault {
+    ghost output = { λ fault. Some (word_text fault) };
+
+    fn fmt<W: fmt::Write>(&self, f: &mut fmt::Formatter<W>) -> fmt::Result {
+        match self {
+            WordFault::OutOfMemory => write!(f, "out of memory"),
+            WordFault::Help(text) | WordFault::Version(text) | WordFault::BadWords(text) => {
+                f.write_str(text.as_str())
+            }
+            WordFault::TooManyFiles => write!(
+                f,
+                "more than {FILE_LIMIT} files; MORE FILES in the manual page says how to run more"
+            ),
+            WordFault::BadLevels(fault) => write!(f, "--percent: {fault}"),
+        }
+    }
 }
 
 /// Reads the words of the command line, of which the first is the program's name: options, and at most
@@ -57,18 +71,7 @@ pub fn read_words(alloc: Global, words: &[String]) -> Result<Words, WordFault>
     ensures ok { IfOk result (AreWordsOf (map string_bytes words.now)) }
     ensures err { IfErr result (IsRefusalOf (map string_bytes words.now)) }
 {
-    match help_texts(alloc) {
-        Ok(texts) => words_or_help(alloc, &texts, words),
-        Err(_) => Err(WordFault::OutOfMemory),
-    }
-}
-
-// What the words say, by a command that has these texts for its help.
-fn words_or_help(alloc: Global, texts: &HelpTexts, words: &[String]) -> Result<Words, WordFault>
-    ensures ok { IfOk result (AreWordsOf (map string_bytes words.now)) }
-    ensures err { IfErr result (IsRefusalOf (map string_bytes words.now)) }
-{
-    match found(alloc, texts, words) {
+    match found(alloc, words) {
         Ok(matches) => words_in(alloc, &matches),
         Err(error) => Err(refusal(alloc, &error)),
     }
@@ -107,15 +110,13 @@ fn words_in(alloc: Global, matches: &ArgMatches) -> Result<Words, WordFault>
 fn refusal(alloc: Global, error: &Error) -> WordFault
     ensures { SpeaksFor (kind_of error.now) result }
 {
-    let Ok(text) = format!(in alloc; "{error}") else {
-        return WordFault::OutOfMemory;
+    let told = match error.kind() {
+        ErrorKind::OutOfMemory => Err(AllocError),
+        ErrorKind::DisplayHelp => make_help(alloc).map(WordFault::Help),
+        ErrorKind::DisplayVersion => make_version(alloc).map(WordFault::Version),
+        _ => error.to_string(alloc).map(WordFault::BadWords),
     };
-    match error.kind() {
-        ErrorKind::OutOfMemory => WordFault::OutOfMemory,
-        ErrorKind::DisplayHelp => WordFault::Help(text),
-        ErrorKind::DisplayVersion => WordFault::Version(text),
-        _ => WordFault::BadWords(text),
-    }
+    told.unwrap_or(WordFault::OutOfMemory)
 }
 
 // The paths of the files.

@@ -3,7 +3,7 @@
 use crate::failing::{Failures, Output};
 use crate::runs::{FILE_A, REPORT_A};
 use crate::started::Line;
-use range_command::answer;
+use range_command::{SystemFiles, answer};
 use std::fs::File;
 use std::process::Abort;
 use std::rt::Files;
@@ -20,10 +20,11 @@ fn expect<R: Wait + Threads + Sync + Files<File = File> + AllocGlobal + Abort>(
 ) {
     let alloc = rt.alloc();
     let mut out = range_command::Output::new(Vec::new(alloc));
-    let mut errors = Vec::new(alloc);
-    let answered = answer(rt, &Line(words), input, &mut out, &mut errors);
+    let mut errors = range_command::Output::new(Vec::new(alloc));
+    let files = SystemFiles::new(rt);
+    let answered = answer(rt, &Line(words), &files, input, &mut out, &mut errors);
     assert!(rt; answered == status, "{answered}");
-    assert!(rt; errors.as_slice() == line.as_bytes());
+    assert!(rt; errors.writer().as_slice() == line.as_bytes());
     let report = if status == 0 { REPORT_A } else { b"" };
     assert!(rt; out.writer().as_slice() == report);
 }
@@ -95,9 +96,10 @@ fn refusing_outputs(rt: HostRuntime) {
         ] {
             let failures = Failures::one_after(1, number);
             let mut out = range_command::Output::new(Output::new(Vec::new(alloc), 8, failures));
-            let mut errors = Vec::new(alloc);
-            let status = answer(&rt, &Line(words), FILE_A, &mut out, &mut errors);
-            assert!(rt; status == 4 && errors.as_slice() == line.as_bytes());
+            let mut errors = range_command::Output::new(Vec::new(alloc));
+            let files = SystemFiles::new(&rt);
+            let status = answer(&rt, &Line(words), &files, FILE_A, &mut out, &mut errors);
+            assert!(rt; status == 4 && errors.writer().as_slice() == line.as_bytes());
         }
     }
 }

@@ -3,7 +3,7 @@
 use crate::line::line;
 use crate::runs::run_in;
 use range_analysis::AnalyseFault;
-use range_command::{Output, obey};
+use range_command::{Output, SystemFiles, obey};
 use range_plane::Scale;
 use range_run::{RunFault, status};
 use std::fs::File;
@@ -28,7 +28,13 @@ fn expect_refused<R: Wait + Threads + Sync + Files<File = File> + AllocGlobal + 
     assert!(rt; outcome == Err(expected), "{fault}");
     let words = line(rt, alloc, &["--unit", "dm"]);
     let mut out = Output::new(Vec::new(alloc));
-    let refused = obey(rt, words.as_slice(), bad.source(), &mut out);
+    let refused = obey(
+        rt,
+        &SystemFiles::new(rt),
+        words.as_slice(),
+        bad.source(),
+        &mut out,
+    );
     let refusal = refused.err().expect(rt, "a refusal");
     assert!(rt; out.writer().is_empty() && refusal.status() == 1, "{fault}");
     let told = format!(in alloc; "{refusal}").expect(rt, "memory");

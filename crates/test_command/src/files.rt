@@ -2,7 +2,7 @@
 
 use crate::line::line;
 use crate::runs::FILE_A;
-use range_command::{Output, obey};
+use range_command::{Output, SystemFiles, obey};
 use std::fs;
 use std::fs::File;
 use std::process::Abort;
@@ -32,7 +32,13 @@ fn expect<R: Wait + Threads + Sync + Files<File = File> + AllocGlobal + Abort>(
     }
     let words = line(rt, alloc, words);
     let mut out = Output::new(Vec::new(alloc));
-    let told = match obey(rt, words.as_slice(), b"".as_slice(), &mut out) {
+    let told = match obey(
+        rt,
+        &SystemFiles::new(rt),
+        words.as_slice(),
+        b"".as_slice(),
+        &mut out,
+    ) {
         Ok(()) => String::new(alloc),
         Err(refusal) => {
             assert!(rt; refusal.status() == 1);

@@ -1,6 +1,6 @@
 //! Tests of command lines: what words say, and which are refused; the reports of runs, byte for byte and in
 //! every plan, files with each fault, sources and outputs that fail at each call; the words that the system gives;
-//! the line and the status of each refusal; and what the program answers to whole command lines.
+//! the line and the status of each refusal, and which characters stand in it as they are; and what the program answers to whole command lines.
 #![tactic(auto)]
 
 #[cfg(test)]
@@ -14,11 +14,15 @@ mod failing_runs;
 #[cfg(test)]
 mod files;
 #[cfg(test)]
+mod folder;
+#[cfg(test)]
 mod herd;
 #[cfg(test)]
 mod levels;
 #[cfg(test)]
 mod line;
+#[cfg(test)]
+mod lines;
 #[cfg(test)]
 mod options;
 #[cfg(test)]
@@ -29,6 +33,8 @@ mod reasons;
 mod refusals;
 #[cfg(test)]
 mod runs;
+#[cfg(test)]
+mod seen;
 #[cfg(test)]
 mod started;
 #[cfg(test)]

@@ -3,7 +3,7 @@
 
 use crate::line::line;
 use crate::options::options;
-use range_command::{Output, obey_with_gate};
+use range_command::{Output, SystemFiles, obey_with_gate};
 use range_plane::Scale;
 use range_pump::Gate;
 use range_run::run_with_gate;
@@ -97,7 +97,17 @@ fn expect_obeyed<R: Wait + Threads + Sync + Files<File = File> + AllocGlobal + A
     let gate = Holding::new(held, 0);
     let words = line(rt, alloc, words);
     let mut out = Output::new(Vec::new(alloc));
-    assert!(rt; obey_with_gate(rt, words.as_slice(), NINE, &gate, &mut out).is_ok());
+    assert!(rt;
+        obey_with_gate(
+            rt,
+            &SystemFiles::new(rt),
+            words.as_slice(),
+            NINE,
+            &gate,
+            &mut out
+        )
+        .is_ok()
+    );
     let (now, all) = (
         gate.held.load(Ordering::SeqCst),
         gate.sent.load(Ordering::SeqCst),

@@ -3,7 +3,7 @@
 use crate::failing::{Failures, Output, Source};
 use crate::line::line;
 use crate::runs::{FILE_A, REPORT_A};
-use range_command::{Refusal, obey};
+use range_command::{Refusal, SystemFiles, obey};
 use std::alloc::Global;
 use std::fs::File;
 use std::process::Abort;
@@ -36,7 +36,13 @@ fn outcome_of<R: Wait + Threads + Sync + Files<File = File> + AllocGlobal + Abor
     };
     let mut out = range_command::Output::new(Output::new(Vec::new(alloc), 8, writes));
     let words = line(rt, alloc, words);
-    let told = match obey(rt, words.as_slice(), source, &mut out) {
+    let told = match obey(
+        rt,
+        &SystemFiles::new(rt),
+        words.as_slice(),
+        source,
+        &mut out,
+    ) {
         Ok(()) => None,
         Err(refusal) => Some((refusal.status(), text_of(rt, alloc, &refusal))),
     };
@@ -96,7 +102,14 @@ fn flush(rt: HostRuntime) {
     full.can_flush = false;
     let mut out = range_command::Output::new(full);
     let words = line(&rt, alloc, &[]);
-    let refusal = obey(&rt, words.as_slice(), FILE_A, &mut out).err();
+    let refusal = obey(
+        &rt,
+        &SystemFiles::new(&rt),
+        words.as_slice(),
+        FILE_A,
+        &mut out,
+    )
+    .err();
     let refusal = refusal.expect(&rt, "a refusal");
     assert!(rt; refusal.status() == 4);
     let text = text_of(&rt, alloc, &refusal);

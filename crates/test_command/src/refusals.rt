@@ -2,7 +2,7 @@
 
 use crate::line::{line, texts};
 use range_analysis::AnalyseFault;
-use range_command::{Output, Refusal, obey};
+use range_command::{Output, Refusal, SystemFiles, obey};
 use range_fixes::{Name, ReadFault};
 use range_run::RunFault;
 use std::alloc::Global;
@@ -29,7 +29,13 @@ fn expect_refused<R: Wait + Threads + Sync + Files<File = File> + AllocGlobal + 
     let alloc = rt.alloc();
     let words = line(rt, alloc, words);
     let mut out = Output::new(Vec::new(alloc));
-    let refused = obey(rt, words.as_slice(), b"".as_slice(), &mut out);
+    let refused = obey(
+        rt,
+        &SystemFiles::new(rt),
+        words.as_slice(),
+        b"".as_slice(),
+        &mut out,
+    );
     expect_told(
         rt,
         alloc,
@@ -87,6 +93,10 @@ fn unseen_characters(rt: HostRuntime) {
             "invalid value 'k\\\\m\\r\\nm' for '--unit <UNIT>': k\\\\m\\r\\nm is neither m nor dm",
         ),
         (
+            &["--\u{80}\u{9b}\u{9f}"],
+            "unexpected argument '--\\u{80}\\u{9b}\\u{9f}' found",
+        ),
+        (
             &["--\u{2028}\u{202e}\u{2066}"],
             "unexpected argument '--\\u{2028}\\u{202e}\\u{2066}' found",
         ),
@@ -112,6 +122,10 @@ fn files(rt: HostRuntime) {
             &["/no/\\n\u{2029}\u{200f}\u{61c}.csv"],
             "/no/\\\\n\\u{2029}\\u{200f}\\u{61c}.csv: No such file or directory",
         ),
+        (
+            &["/no/\u{85}\u{9b}31m\u{200b}\u{feff}.csv"],
+            "/no/\\u{85}\\u{9b}31m\\u{200b}\\u{feff}.csv: No such file or directory",
+        ),
         (&["/", "/no/such.csv"], "/: Is a directory"),
     ];
     for (words, text) in cases {
@@ -131,7 +145,16 @@ fn help_is_written(rt: HostRuntime) {
     let alloc = rt.alloc();
     let words = line(&rt, alloc, &["--help"]);
     let mut out = Output::new(Vec::new(alloc));
-    assert!(rt; obey(&rt, words.as_slice(), b"".as_slice(), &mut out).is_ok());
+    assert!(rt;
+        obey(
+            &rt,
+            &SystemFiles::new(&rt),
+            words.as_slice(),
+            b"".as_slice(),
+            &mut out
+        )
+        .is_ok()
+    );
     let help = out.writer().as_slice();
     assert!(rt; help.starts_with(b"Home ranges of tagged animals"));
     assert!(rt; help.ends_with(b"says why.\n"));
@@ -142,7 +165,16 @@ fn version_is_written(rt: HostRuntime) {
     let alloc = rt.alloc();
     let words = line(&rt, alloc, &["--version", "/no/such.csv"]);
     let mut out = Output::new(Vec::new(alloc));
-    assert!(rt; obey(&rt, words.as_slice(), b"".as_slice(), &mut out).is_ok());
+    assert!(rt;
+        obey(
+            &rt,
+            &SystemFiles::new(&rt),
+            words.as_slice(),
+            b"".as_slice(),
+            &mut out
+        )
+        .is_ok()
+    );
     assert!(rt; out.writer().as_slice().starts_with(b"homerange 1.0.0 ("));
 }
 
@@ -184,8 +216,8 @@ fn same_animals(rt: HostRuntime) {
             "b.csv and a\\tb.csv have the same animal, Jörð\\\\",
         ),
         (
-            "\u{202e}fox".as_bytes(),
-            "b.csv and a\\tb.csv have the same animal, \\u{202e}fox",
+            "\u{202e}f\u{9b}ox".as_bytes(),
+            "b.csv and a\\tb.csv have the same animal, \\u{202e}f\\u{9b}ox",
         ),
         (
             b"fox\xFF",
@@ -248,7 +280,13 @@ fn longest_name(rt: HostRuntime) {
     ];
     for (text, is_read) in cases {
         let mut out = Output::new(Vec::new(alloc));
-        let outcome = obey(&rt, words.as_slice(), text, &mut out);
+        let outcome = obey(
+            &rt,
+            &SystemFiles::new(&rt),
+            words.as_slice(),
+            text,
+            &mut out,
+        );
         assert!(rt; outcome.is_ok() == is_read && out.writer().is_empty() != is_read);
     }
 }

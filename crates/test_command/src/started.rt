@@ -1,7 +1,7 @@
 // The program, with the words that the system gives it.
 
 use crate::runs::{FILE_A, REPORT_A};
-use range_command::{Output, Refusal, program};
+use range_command::{Output, SystemFiles, answer};
 use std::env::{Env, FillError};
 use std::fs::File;
 use std::process::Abort;
@@ -34,26 +34,30 @@ impl Env for Line<'_> {
     }
 }
 
-// What the program writes with these words and file A as its input, and its refusal.
+// What the program writes with these words and file A as its input, its status, and the line that it says.
 fn started<R: Wait + Threads + Sync + Files<File = File> + AllocGlobal + Abort>(
     rt: &R,
     words: &[&[u8]],
-) -> (Vec<u8>, Result<(), Refusal>) {
-    let mut out = Output::new(Vec::new(rt.alloc()));
-    let outcome = program(rt, &Line(words), FILE_A, &mut out);
-    let held = Vec::from_slice(rt.alloc(), out.writer().as_slice()).expect(rt, "memory");
-    (held, outcome)
+) -> (Vec<u8>, u8, Vec<u8>) {
+    let alloc = rt.alloc();
+    let mut out = Output::new(Vec::new(alloc));
+    let mut errors = Output::new(Vec::new(alloc));
+    let files = SystemFiles::new(rt);
+    let status = answer(rt, &Line(words), &files, FILE_A, &mut out, &mut errors);
+    let held = Vec::from_slice(alloc, out.writer().as_slice()).expect(rt, "memory");
+    let said = Vec::from_slice(alloc, errors.writer().as_slice()).expect(rt, "memory");
+    (held, status, said)
 }
 
 // The program's own name is not read.
 #[test]
 fn names_of_the_program(rt: HostRuntime) {
     for name in [b"".as_slice(), b"\xFF/homerange", b"--help"] {
-        let (held, outcome) = started(&rt, &[name]);
-        assert!(rt; outcome.is_ok() && held.as_slice() == REPORT_A);
+        let (held, status, said) = started(&rt, &[name]);
+        assert!(rt; status == 0 && said.is_empty() && held.as_slice() == REPORT_A);
     }
-    let (held, outcome) = started(&rt, &[]);
-    assert!(rt; outcome.is_ok() && held.as_slice() == REPORT_A);
+    let (held, status, said) = started(&rt, &[]);
+    assert!(rt; status == 0 && said.is_empty() && held.as_slice() == REPORT_A);
 }
 
 // The first word that is not UTF-8 is told by its number, and nothing is read or written.
@@ -64,13 +68,12 @@ fn words_that_are_no_text(rt: HostRuntime) {
         ([b"\xFF".as_slice(), b"--help", b"\xC3"], 2),
     ];
     for (words, number) in cases {
-        let (held, outcome) = started(&rt, words.as_slice());
-        assert!(rt; held.is_empty());
-        let refusal = outcome.err().expect(&rt, "a refusal");
-        assert!(rt; refusal.status() == 2);
-        let text = format!(in rt.alloc(); "{refusal}").expect(&rt, "memory");
-        let wanted = format!(in rt.alloc(); "word {number} of the command line is not UTF-8");
-        assert!(rt; text.as_str() == wanted.expect(&rt, "memory").as_str());
+        let (held, status, said) = started(&rt, words.as_slice());
+        assert!(rt; held.is_empty() && status == 2);
+        let line = format!(in rt.alloc();
+            "homerange: word {number} of the command line is not UTF-8\n"
+        );
+        assert!(rt; said.as_slice() == line.expect(&rt, "memory").as_bytes());
     }
 }
 
@@ -81,11 +84,12 @@ fn long_words(rt: HostRuntime) {
     for length in [255, 256, 257, 511, 512, 513, 4097] {
         let mut path = Vec::from_slice(alloc, b"/no/such/").expect(&rt, "memory");
         path.resize(length, b'/').expect(&rt, "memory");
-        let (held, outcome) = started(&rt, &[b"homerange".as_slice(), path.as_slice()]);
-        assert!(rt; held.is_empty());
-        let refusal = outcome.err();
+        let (held, status, said) = started(&rt, &[b"homerange".as_slice(), path.as_slice()]);
+        assert!(rt; held.is_empty() && status == 1);
+        let rest = said.as_slice().strip_prefix(b"homerange: ");
         assert!(rt;
-            matches!(&refusal, Some(Refusal::Unopened { path: told, .. }) if told.as_str().as_bytes() == path.as_slice())
+            rest.is_some_and(|rest| rest.starts_with(path.as_slice())
+                && rest[length..].starts_with(b": "))
         );
     }
 }

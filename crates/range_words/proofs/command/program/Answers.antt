@@ -5,5 +5,4 @@ use Rattle.range_words.proofs.command.program.Goals as goal
 
 pub returns : goal.returns
 returns c =
-    let version = ap app_of_fields c.version.ensures ∙ ap (on_top (λ top. record top { has_version = true })) c.new.ensures.app in
-    ap app_of_fields c.after_help.ensures ∙ ap app_of_fields c.override_usage.ensures ∙ ap app_of_fields c.about.ensures ∙ version
+    ap app_of_fields c.version.ensures ∙ ap (on_top (λ top. record top { has_version = true })) c.new.ensures.app

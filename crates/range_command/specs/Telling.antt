@@ -1,0 +1,105 @@
+-- What is said of a refusal, in one line.
+use Rattle.std.specs.Prelude.{◌≡◌, ◌⊎◌, ⊤, ℕ, Bool, true, false, List, [], ◌++◌, Option, None, Some, String, codes, string_bytes, slice_get}
+use Rattle.std.specs.Fmt.{decimal}
+use Rattle.std.specs.Global.{Global}
+use Rattle.std.specs.Io.KnownBytes.{Appends}
+use Rattle.std.specs.declared.io.Error.{Error}
+use Rattle.range_texts.specs.Seen.{IsOneLine, shown, shown_name}
+use Rattle.range_fixes.specs.FaultText.{fault_text}
+use Rattle.range_fixes.specs.declared.fault.ReadFault.{ReadFault}
+use Rattle.range_fixes.specs.declared.fault.ReadFault.TheVariants as faults
+use Rattle.range_analysis.specs.FaultText.{analyse_text}
+use Rattle.range_analysis.specs.declared.fault.AnalyseFault.{AnalyseFault}
+use Rattle.range_analysis.specs.declared.fault.AnalyseFault.TheVariants as analyses
+use Rattle.range_run.specs.FaultText.{run_text}
+use Rattle.range_run.specs.declared.fault.RunFault.{RunFault}
+use Rattle.range_run.specs.declared.fault.RunFault.TheVariants as runs
+use Rattle.range_words.specs.FaultText.{word_text}
+use Rattle.range_words.specs.declared.words.WordFault.TheVariants as words
+use Rattle.range_command.specs.Obeying.{IsToldAlone}
+use Rattle.range_command.specs.declared.refusal.Refusal.{Refusal}
+use Rattle.range_command.specs.declared.refusal.Refusal.TheVariants as refusals
+
+-- what a source is called, of the files or of the input
+abbrev pub called : Option (String Global) → List ℕ
+called (Some path) = shown true (string_bytes path)
+called None = shown true (codes "standard input")
+
+abbrev pub name_of : List (String Global) → ℕ → List ℕ
+name_of files i = called (slice_get files i)
+
+-- why a file cannot be read, for the system's reason where it gave one
+abbrev pub unread_text : ReadFault → Option (String Global) → List ℕ
+unread_text faults.Read (Some reason) = shown false (string_bytes reason)
+unread_text fault reason = fault_text fault
+
+-- why the files have no analysis
+abbrev pub files_text : List (String Global) → AnalyseFault → Option (String Global) → List ℕ
+files_text files analyses.OutOfMemory reason = analyse_text analyses.OutOfMemory
+files_text files (analyses.LineCut file) reason = name_of files file ++ (codes ": " ++ analyse_text (analyses.LineCut file))
+files_text files (analyses.File file fault) reason = name_of files file ++ (codes ": " ++ unread_text fault reason)
+files_text files (analyses.SameAnimal first second animal) reason =
+    name_of files first ++ (codes " and " ++ (name_of files second ++ (codes " " ++ (analyse_text (analyses.SameAnimal first second animal) ++ (codes ", " ++ shown_name animal)))))
+
+-- what standard output answered
+abbrev pub output_text : List ℕ → Option (String Global) → List ℕ
+output_text failed (Some reason) = codes "standard output: " ++ shown false (string_bytes reason)
+output_text failed None = failed
+
+-- why a run has no report
+abbrev pub report_text : List (String Global) → RunFault → Option (String Global) → List ℕ
+report_text files (runs.Analyse fault) reason = files_text files fault reason
+report_text files runs.OutOfMemory reason = run_text runs.OutOfMemory
+report_text files runs.Write reason = output_text (run_text runs.Write) reason
+
+-- the text of a refusal
+abbrev pub refusal_text : Refusal → List ℕ
+refusal_text refusals.OutOfMemory = codes "out of memory"
+refusal_text (refusals.NotText word) = codes "word " ++ (decimal word ++ codes " of the command line is not UTF-8")
+refusal_text (refusals.BadWords line) = shown false (string_bytes line)
+refusal_text (refusals.Words fault) = word_text fault
+refusal_text (refusals.Unopened path reason) = shown true (string_bytes path) ++ (codes ": " ++ shown false (string_bytes reason))
+refusal_text (refusals.Unwritten reason) = output_text (codes "the help or the version could not be written") reason
+refusal_text (refusals.Run files fault reason) = report_text files.items fault reason
+
+-- the line of a text
+abbrev pub line_of : List ℕ → List ℕ
+line_of text = codes "homerange: " ++ (text ++ codes "\n")
+
+-- the line where there is no memory for that: of files that have no analysis, of a run, and of a refusal
+abbrev pub short_files_line : AnalyseFault → List ℕ
+short_files_line analyses.OutOfMemory = codes "homerange: out of memory\n"
+short_files_line (analyses.LineCut file) = codes "homerange: the fixes of a file were not all handed on, and there is no memory to say which\n"
+short_files_line (analyses.File file fault) = codes "homerange: a file cannot be read, and there is no memory to say which\n"
+short_files_line (analyses.SameAnimal first second animal) = codes "homerange: two files have the same animal, and there is no memory to say which\n"
+
+abbrev pub short_run_line : RunFault → List ℕ
+short_run_line (runs.Analyse fault) = short_files_line fault
+short_run_line runs.OutOfMemory = codes "homerange: out of memory\n"
+short_run_line runs.Write = codes "homerange: the report could not be written\n"
+
+abbrev pub short_line : Refusal → List ℕ
+short_line refusals.OutOfMemory = codes "homerange: out of memory\n"
+short_line (refusals.NotText word) = codes "homerange: a word of the command line is not UTF-8\n"
+short_line (refusals.BadWords line) = codes "homerange: the words of the command line are refused\n"
+short_line (refusals.Words fault) = codes "homerange: the words of the command line are refused\n"
+short_line (refusals.Unopened path reason) = codes "homerange: a file cannot be opened, and there is no memory to say which\n"
+short_line (refusals.Unwritten reason) = codes "homerange: the help or the version could not be written\n"
+short_line (refusals.Run files fault reason) = short_run_line fault
+
+-- the line with the text of the refusal was written, or the shorter one, and nothing else
+abbrev pub IsTelling : Refusal → Option (List ℕ) → Option (List ℕ) → Type 0
+IsTelling refusal old new = Appends old new (line_of (refusal_text refusal)) ⊎ Appends old new (short_line refusal)
+
+-- a fault of words that is no text of many lines
+abbrev pub IsOfOneLine : Refusal → Type 0
+IsOfOneLine (refusals.Words fault) = IsToldAlone fault
+IsOfOneLine refusal = ⊤
+
+-- each refusal is one line, whatever the names of files and animals are
+abbrev pub RefusalsAreOneLine : Type 0
+RefusalsAreOneLine = (refusal : Refusal) → IsOfOneLine refusal → IsOneLine (refusal_text refusal)
+
+-- and so is what stands for it where there is no memory
+abbrev pub ShortLinesAreOneLine : Type 0
+ShortLinesAreOneLine = (refusal : Refusal) → (text : List ℕ) × IsOneLine text × (short_line refusal ≡ line_of text)

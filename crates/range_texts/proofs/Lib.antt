@@ -1,0 +1,2 @@
+mod OneLines
+mod Printable

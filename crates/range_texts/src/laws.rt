@@ -1,0 +1,29 @@
+// Laws of texts of one line. Each is a function that does nothing and promises the law, for the proofs of the
+// crates above.
+
+ghost use Rattle.range_texts.specs.Laws.{JoinedLinesAreOneLine, NumbersAreOneLine, PrintableTextsAreOneLine, ShownNamesAreOneLine, ShownTextsAreOneLine};
+
+/// Two texts of one line, one after the other, are one line.
+pub fn joined_lines_are_one_line()
+    ensures { JoinedLinesAreOneLine }
+{}
+
+/// What ASCII prints is one line.
+pub fn printable_texts_are_one_line()
+    ensures { PrintableTextsAreOneLine }
+{}
+
+/// A number is one line.
+pub fn numbers_are_one_line()
+    ensures { NumbersAreOneLine }
+{}
+
+/// A text as [`OneLine`](crate::OneLine) shows it is one line, whatever stands in it.
+pub fn shown_texts_are_one_line()
+    ensures { ShownTextsAreOneLine }
+{}
+
+/// A name as [`Name`](crate::Name) shows it is one line, whatever its bytes are.
+pub fn shown_names_are_one_line()
+    ensures { ShownNamesAreOneLine }
+{}
