@@ -1,0 +1,124 @@
+"""Tests that what by_definition.py comes to are the numbers that the tests of crates expect, as they stand in their
+sources, and that its ways to a polygon come to the same.
+
+    python3 crate_numbers.py CRATES
+
+CRATES is the folder of the crates. Prints what was compared; the status is 0 where all agree."""
+
+import ast
+import itertools
+import pathlib
+import random
+import re
+import sys
+import tempfile
+
+import by_definition
+
+ROW = re.compile(r"\((\d+), (\d+), (\d+), (\d+)\)")
+LIMIT, FIXES = 1 << 27, 1 << 20
+
+
+def scattered(count, mask):
+    """Points of Knuth's generator for MMIX, as the tests of crates draw them."""
+    numbers, seed = [], 1
+    for _ in range(2 * count):
+        seed = (seed * 6364136223846793005 + 1442695040888963407) % (1 << 64)
+        numbers.append(seed >> 33 & mask)
+    return list(zip(numbers[::2], numbers[1::2]))
+
+
+FAR = scattered(250, 0xFF_FFFF)
+# The lists of points of each test of percent polygons, in its order.
+TESTS = {
+    "square": [[(0, 0), (10, 0), (10, 10), (0, 10), (5, 5)]],
+    "segment": [[(5, 5), (10, 5), (20, 5)]],
+    "one_place": [[(7, 7)] * 3],
+    "one_fix": [[(3, 4)]],
+    "no_fix": [[]],
+    "ties": [[(10, 5), (0, 5), (8, 9), (2, 1), (9, 2), (1, 8)]],
+    "line": [[(i, 0) for i in range(250)]],
+    "scattered_far": [FAR],
+    "levels_in_any_order": [FAR],
+    "scattered_near": [scattered(250, 0xF)],
+    "many_scattered": [scattered(1300, 0xFF_FFFF), scattered(1300, 0x3F)],
+    "many_corners": [[(i, i * i) for i in range(3000)] + [(1500, 3_000_000 + i) for i in range(600)]],
+    "at_the_limits": [[(LIMIT, LIMIT)] + [(0, 0)] * (FIXES - 1)],
+}
+
+
+def tests_in(text):
+    """The name of each test of a source, and the rows that it expects of each list of points."""
+    for name, body in re.findall(r"#\[test\]\nfn (\w+)(.*?)\n}", text, re.DOTALL):
+        rows = [[*map(int, row)] for row in ROW.findall(re.sub(r"(?<=\d)_(?=\d)", "", body))]
+        yield name, rows
+
+
+def parted(rows, lists):
+    """The rows for each list: the levels of a list rise, but for one test's of a single list."""
+    if lists == 1:
+        return [rows]
+    ends = [i for i in range(1, len(rows)) if rows[i][0] < rows[i - 1][0]]
+    return [rows[begin:end] for begin, end in itertools.pairwise([0, *ends, len(rows)])]
+
+
+def wrong_percents(text):
+    """Each row of a test of percent polygons that is not by the definition; and how many were compared."""
+    found, compared = dict(tests_in(text)), 0
+    assert found.keys() == TESTS.keys(), found.keys() ^ TESTS.keys()
+    wrong = []
+    for name, lists in TESTS.items():
+        expected = parted(found[name], len(lists))
+        assert len(expected) == len(lists) and all(expected), name
+        for points, rows in zip(lists, expected):
+            known = {level: by_definition.percent_row(points, level) for level in {row[0] for row in rows}}
+            wrong += [(name, row, known[row[0]]) for row in rows if (*row[1:],) != known[row[0]]]
+            compared += len(rows)
+    return wrong, compared
+
+
+def texts_in(text, name):
+    """The texts of bytes of a constant of a source."""
+    value = re.search(rf"^const {name}: .*?=\s*(.*?);$", text, re.DOTALL | re.MULTILINE)[1]
+    return [ast.literal_eval(literal).decode() for literal in re.findall(r'b"(?:[^"\\]|\\.)*"', value)]
+
+
+def herd_of(text):
+    """The report of the herd's files, and the one that stands in its source."""
+    with tempfile.TemporaryDirectory() as folder:
+        files = [pathlib.Path(folder, f"{i}.csv") for i in range(5)]
+        for file, track in zip(files, texts_in(text, "FILES"), strict=True):
+            file.write_text(track)
+        tracks = [by_definition.read(file) for file in files]
+    return by_definition.report(tracks, [50, 95, 100], "m"), *texts_in(text, "REPORT")
+
+
+def are_one(points):
+    """Whether the ways to the polygons of the first point, the first two, and so on, and to what they cover, agree."""
+    corners = points[:1]
+    for n, point in enumerate(points, 1):
+        corners = by_definition.grown(corners, point)
+        places = itertools.product(range(4), repeat=2)
+        is_same = by_definition.tried(points[:n]) == by_definition.wrap(points[:n]) == corners
+        if not is_same or any(
+            by_definition.covers(points[:n], place) != by_definition.polygon_covers(corners, place) for place in places
+        ):
+            return False
+    return True
+
+
+def main():
+    crates = pathlib.Path(sys.argv[1])
+    wrong, compared = wrong_percents((crates / "test_geometry/src/percents.rt").read_text())
+    print(f"{compared - len(wrong)} of {compared} rows of percent polygons agree", *wrong, sep="\n")
+    made, kept = herd_of((crates / "test_command/src/herd.rt").read_text())
+    print(f"the herd's report is {'' if made == kept else 'not '}by the definitions")
+    draw = random.Random(1)
+    clouds = [[(draw.randrange(4), draw.randrange(4)) for _ in range(7)] for _ in range(60)]
+    differing = [points for points in clouds if not are_one(points)]
+    print(f"{len(clouds) - len(differing)} of {len(clouds)} clouds have one polygon", *differing, sep="\n")
+    sys.exit(bool(wrong or made != kept or differing))
+
+
+if __name__ == "__main__":
+    main()
