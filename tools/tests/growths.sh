@@ -1,0 +1,35 @@
+# Tests that hostile/growths.py finds programs that answer wrongly: one that always says that it has no memory, and one
+# that writes half a report where it has none.
+# shellcheck shell=sh disable=SC2154
+
+# Whether each sweep of this program fails, the first in a line that has this text.
+fails_each_sweep() {
+    ! python3 "$top/hostile/growths.py" "$1" >swept || return
+    head -n 1 swept
+    tail -n 1 swept
+    head -n 1 swept | grep -qF -- "$2" && tail -n 1 swept | grep -qx '0 passed, [1-9][0-9]* failed, 1 skipped'
+}
+
+if is_here cc 'hostile/growths.py'; then
+    rm -rf growths
+    mkdir growths
+    cd growths || exit 1
+    export PYTHONDONTWRITEBYTECODE=1
+    printf '#!/bin/sh\necho "homerange: out of memory" >&2\nexit 3\n' >always
+    chmod +x always
+    holds 'always out of memory is found' fails_each_sweep ./always "with ample memory it is (3, ''"
+    cat >half.c <<END
+#include <stdio.h>
+#include <stdlib.h>
+#include <unistd.h>
+
+int main(int count, char **words) {
+    if (count && !malloc(1)) return puts("animal,A,fixes,5") < 0;
+    unsetenv("LD_PRELOAD");
+    return execv("$HOMERANGE", words);
+}
+END
+    cc half.c -o half
+    holds 'half a report is found' fails_each_sweep ./half "call 1 failed alone: (0, 'animal,A,fixes,5"
+    cd "$work" || exit 1
+fi
