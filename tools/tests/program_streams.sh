@@ -25,6 +25,23 @@ ended=$(cat status)
 holds 'a pipe that closes' told 4 ''
 holds 'a pipe that closes: what was read' grep -qx animal,B,fixes,9999 written
 
+# A pipe that is read to its end, the null device, and a terminal, which ends lines with CR LF and gets the line of a
+# refusal too.
+echo "$alone" >wanted
+status_of "$HOMERANGE" a.csv | cat >written
+ended=$(cat status)
+holds 'a pipe' told 0 ''
+holds 'a pipe: the report' cmp wanted written
+"$HOMERANGE" a.csv >/dev/null 2>told
+ended=$?
+holds 'the null device' told 0 ''
+if is_here script 'a terminal'; then
+    script -qec "'$HOMERANGE' a.csv" /dev/null </dev/null >typed
+    holds 'a terminal' [ $? -eq 0 ]
+    tr -d '\r' <typed >written
+    holds 'a terminal: the report, and nothing else' cmp wanted written
+fi
+
 # No standard input.
 "$HOMERANGE" <&- >written 2>told
 ended=$?
