@@ -99,6 +99,18 @@ holds 'standard input: the report' cmp wanted written
 mkfifo pipe
 cat a.csv >pipe &
 echo "$alone" | reports 'a pipe that has a name' pipe
+# Two of them with more than a pipe holds, each with a writer of its own.
+mkfifo second
+for name in C D; do
+    awk -v name=$name 'BEGIN { print "animal,second,easting,northing"; for (i = 0; i < 9999; i++) print name "," i ",5,5" }' \
+        >$name.csv
+done
+cat D.csv >second &
+cat C.csv >pipe &
+run pipe second
+holds 'two pipes' told 0 ''
+PYTHONDONTWRITEBYTECODE=1 "$tools/tests/by_definition.py" C.csv D.csv >wanted
+holds 'two pipes: the report' cmp wanted written
 {
     printf '\357\273\277'
     sed 's/^\([^,]*\),/"\1",/; s/$/\r/' a.csv

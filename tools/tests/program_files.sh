@@ -45,6 +45,11 @@ mkdir folder
 refuses 1 'a.csv and copy.csv have the same animal, A' a.csv b.csv copy.csv
 refuses 1 'none.csv: No such file or directory' a.csv none.csv
 refuses 1 'folder: Is a directory' folder a.csv
+# All files are opened before the first is read.
+echo "$header,used" >bad.csv
+refuses 1 'none.csv: No such file or directory' bad.csv none.csv
+refuses 1 'bad.csv: the first line is not animal,second,easting,northing' bad.csv a.csv
+rm bad.csv
 refuses 1 ': No such file or directory' ''
 # Root may read each file, so root tries it as nobody, with a copy of the program that nobody can reach.
 chmod 000 closed.csv
