@@ -298,7 +298,7 @@ def homerange_sweeps(runs):
     for case in (*report_cases(), *other_cases()):
         yield f"homerange {case.words}", sweep_homerange, runs, case, sys.maxsize
     for case in report_cases():
-        yield f"homerange {case.words}, and a disk fails", sweep_failing, runs, case
+        yield f"homerange {case.words}, a disk fails, {SAMPLED} calls at most in turn", sweep_failing, runs, case
 
 
 def read_options():
