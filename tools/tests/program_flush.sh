@@ -37,7 +37,7 @@ END
     ended=$?
     holds 'without a report nothing is said of the output' told 1 'none.csv: No such file or directory'
 else
-    skip "a file system whose files fail when they are closed: $(tail -n 1 errors)"
+    skip "a file system whose files fail when they are closed: $(sed -n '/^fuse/p; $p' errors | head -n 1)"
 fi
 kill $mounting 2>/dev/null
 wait $mounting 2>/dev/null
