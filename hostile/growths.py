@@ -3,23 +3,24 @@
     python3 growths.py HOMERANGE [GROWTHS] [--sweeps N]
 
 HOMERANGE and GROWTHS are the built programs (`rt ci` leaves both in `crates/NAME/out/NAME`). `refuse.c`, which is
-preloaded, makes a call fail. Each run has to end within a minute: one whose threads wait for each other would not.
+preloaded, makes calls fail. Each run has to end within a minute: one whose threads wait for each other would not.
 
 `homerange` first runs with ample memory, and has to come to what is written down: the report in `reports`, which the
-program did not make, or the refusal here. Where it makes N calls, it is then run N times, the k-th with a failure of its
-k-th call alone, and N times more with a failure of that call and of all behind it. Each run has to end with status 3 and
-its one line, nothing written, which has to come at least once; or as with ample memory; or, where that is a refusal, with
-its status and another line, since the line takes memory. Reports are swept once more with a disk that fails beside it:
-the first, the middle or the last read of a run (status 1), or such a write (status 4, and a beginning of the report).
-Of more than `SAMPLED` calls these sweeps take as many, the first, the last and others as far apart.
+program did not make, or the refusal here. Where it makes N calls, it is then run N times, the k-th with a failure of
+its k-th call alone, and N times more with a failure of that call and of all behind it. Each run has to end with status
+3 and its one line, nothing written, which has to come at least once; or as with ample memory; or, where that is a
+refusal, with its status and another line, since a line takes memory. Reports are swept once more with a disk that fails
+beside it: at the first, the middle or the last read of a run (status 1), or at such a write (status 4, and a beginning
+of the report). Of more than `SAMPLED` calls these sweeps take as many: the first, the last and others between them, as
+far apart.
 
 How threads meet decides which call is the k-th. So `growths`, in which they meet in more ways, is swept several times
-(`--sweeps`; all that was ever looked at were 50), each time up to a k that no call of its run reaches. Each of its lines
-has to be as with ample memory, or to say that its call ran out of memory and what that may leave, and each call has to
-say so in some run.
+(`--sweeps`; all that was ever looked at were 50), each time up to a k that no call of its run reaches. Each of its
+lines has to be as with ample memory, or to say that its call ran out of memory and what that may leave, and each call
+has to say so in some run.
 
-Prints what was swept and how often each answer came; the last line is 'N passed, M failed', of commands that were swept,
-with ', 1 skipped' where GROWTHS is left out. Needs `cc`.
+Prints what was swept and how often each answer came; the last line is 'N passed, M failed', of commands that were
+swept, with ', 1 skipped' where GROWTHS is left out. Needs `cc`.
 """
 
 import argparse
@@ -51,7 +52,9 @@ WANTED = "out of memory"
 CALLS = ("next", "open_line", "pump", "follow", "judge", "report", "analyse")
 MET = {STOPPED, UNREAD, *(f"{call} ran out of memory" for call in CALLS)}
 FOLLOWED = re.compile("follow (whole|memory) ")
-WANTS = re.compile("next (0 memory true false|[1-5] memory true true)|(pump|follow|judge|report|analyse) memory|pump memory [0-5] true")
+WANTS = re.compile(
+    "next (0 memory true false|[1-5] memory true true)|(pump|follow|judge|report|analyse) memory|pump memory [0-5] true"
+)
 # Plans, and the reports that they are to come to.
 REPORTS = (
     ("", "one"),
@@ -304,7 +307,7 @@ def homerange_sweeps(runs):
 def read_options():
     parser = argparse.ArgumentParser(description=__doc__.split("\n\n")[0])
     parser.add_argument("homerange", type=pathlib.Path, help="the built program")
-    parser.add_argument("growths", nargs="?", type=pathlib.Path, help="the built program growths, left out if not given")
+    parser.add_argument("growths", nargs="?", type=pathlib.Path, help="the built program growths [default: none]")
     parser.add_argument("--sweeps", type=int, default=10, help="how often growths is swept, 10 times if left out")
     return parser.parse_args()
 

@@ -2,9 +2,10 @@
 
     python3 tracks.py FOLDER
 
-writes the tracks into the folder, and prints NAME and WORDS of each run whose report is kept. `reports/NAME.txt` is that
-report, made of these tracks by `tools/tests/by_definition.py WORDS`, and never by the program; tools/tests/by_definition.sh
-makes each again. A block has 256 fixes, a piece of a hull up to 256 corners, a part of a report up to 8,192 rows:
+writes the tracks into the folder, and prints NAME and WORDS of each run whose report is kept. `reports/NAME.txt` is
+that report, made of these tracks by `tools/tests/by_definition.py WORDS`, and never by the program;
+`tools/tests/by_definition.sh` makes each again. A block has 256 fixes, a piece of a hull up to 256 corners, a part of a
+report up to 8,192 rows:
 
     a, b      a square and its middle, and a line through it
     blocks    700 fixes of a walk, in three blocks
@@ -32,8 +33,8 @@ REPORTS = {
 
 
 def walk(seed, count, stride, side):
-    """Places of a walk within a square, each at most a stride from the one before along each axis. The numbers are those
-    of random() alone, which every version of Python draws alike."""
+    """Places of a walk within a square, each at most a stride from the one before along each axis. Its numbers are
+    those of random() alone, which every version of Python draws alike."""
     draw, at = random.Random(seed).random, [side // 2, side // 2]
     for _ in range(count):
         yield at
