@@ -1,5 +1,5 @@
-# Tests that hostile/growths.py finds programs that answer wrongly: one that always says that it has no memory, and one
-# that writes half a report where it has none.
+# Tests that hostile/growths.py finds programs that answer wrongly: one that always says that it has no memory, one that
+# writes half a report where it has none, and one that says so twice where it has none for good.
 # shellcheck shell=sh disable=SC2154
 
 # Whether each sweep of this program fails, the first in a line that has this text.
@@ -18,18 +18,24 @@ if is_here cc 'hostile/growths.py'; then
     printf '#!/bin/sh\necho "homerange: out of memory" >&2\nexit 3\n' >always
     chmod +x always
     holds 'always out of memory is found' fails_each_sweep ./always "with ample memory it is (3, ''"
-    cat >half.c <<END
+    cat >stub.c <<END
 #include <stdio.h>
 #include <stdlib.h>
 #include <unistd.h>
 
 int main(int count, char **words) {
-    if (count && !malloc(1)) return puts("animal,A,fixes,5") < 0;
+    if (count && !malloc(1)) {
+        if (HALF) return puts("animal,A,fixes,5") < 0;
+        fputs(malloc(1) ? "homerange: out of memory\\n" : "homerange: homerange: out of memory\\n", stderr);
+        return 3;
+    }
     unsetenv("LD_PRELOAD");
     return execv("$HOMERANGE", words);
 }
 END
-    cc half.c -o half
+    cc -D HALF=1 stub.c -o half
+    cc -D HALF=0 stub.c -o twice
     holds 'half a report is found' fails_each_sweep ./half "call 1 failed alone: (0, 'animal,A,fixes,5"
+    holds 'two lines in one are found' fails_each_sweep ./twice "call 1 failed for good: (3, '', 'homerange: homerange"
     cd "$work" || exit 1
 fi

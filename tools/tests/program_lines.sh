@@ -1,10 +1,38 @@
-# Many runs at once whose lines go to one standard error: each comes out whole, and once. The functions are those of
-# program.sh.
+# The line of a refusal is one write, so that those of many runs at once come out whole on one standard error.
 # shellcheck shell=sh disable=SC2154
 
 rm -rf "$work/lines"
 mkdir "$work/lines"
 cd "$work/lines" || exit 1
+
+# Whether a run of this program with these words writes its line at once.
+writes_once() {
+    python3 "$tools/tests/one_write.py" "$@"
+}
+
+# The same of a path with a line end and with characters that a line does not show, and of one of 100,000 bytes.
+writes_odd_path_once() {
+    writes_once "$HOMERANGE" "$(printf 'none\n\033[31m\302\205\342\200\256.csv')"
+}
+writes_long_path_once() {
+    writes_once "$HOMERANGE" "$(seq -s / 20000 | cut -c -100000)"
+}
+
+printf '%s\n' animal,second,easting,northing fox,0,1,1 >fox.csv
+printf '%s\n' animal,second,easting,northing fox,0,1,east >bad.csv
+for words in none.csv 'bad.csv fox.csv' 'fox.csv ./fox.csv' '--block 0' '--percent 50,,x fox.csv' --bogus; do
+    # shellcheck disable=SC2086
+    holds "one write: $words" writes_once "$HOMERANGE" $words
+done
+holds 'one write: an odd path' writes_odd_path_once
+holds 'one write: a long path' writes_long_path_once
+printf '#!/bin/sh\nexec "%s" "$@" >/dev/full\n' "$HOMERANGE" >full
+chmod +x full
+holds 'one write: a full disk' writes_once ./full fox.csv
+printf '#!/bin/sh\nulimit -v 40000 && exec "%s" "$@"\n' "$HOMERANGE" >little
+chmod +x little
+awk 'BEGIN { print "animal,second,easting,northing"; for (i = 0; i < 1048576; i++) print "fox," i ",0,0" }' >long.csv
+holds 'one write: memory runs out' writes_once ./little long.csv
 
 # Runs over 400 paths that are not there, eight at once.
 seq -f 'tracks of the year before last/deer %g of 400, which nobody has ever followed.csv' 400 >paths
