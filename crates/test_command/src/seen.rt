@@ -1,6 +1,7 @@
 // Which characters are seen, held to lists of Unicode's own data.
 
 use range_texts::{Name, OneLine, is_unseen};
+use std::alloc::Global;
 use std::process::Abort;
 
 // The format characters (general category Cf) of Unicode 14.0.0, as Python's `unicodedata` has them.
@@ -73,34 +74,33 @@ fn seen(rt: HostRuntime) {
     }
 }
 
+// A text is shown so where it is to be told, and so where a backslash stays; and as a name as where it is told.
+fn expect_shown<R: Abort>(rt: &R, alloc: Global, text: &str, told: &str, plain: &str) {
+    let shown = format!(in alloc; "{}", OneLine::new(text)).expect(rt, "memory");
+    assert!(rt; shown.as_str() == told, "{shown}");
+    let shown = format!(in alloc; "{}", OneLine::plain(text)).expect(rt, "memory");
+    assert!(rt; shown.as_str() == plain, "{shown}");
+    expect_name(rt, alloc, text.as_bytes(), told);
+}
+
+// The name of an animal is shown so.
+fn expect_name<R: Abort>(rt: &R, alloc: Global, bytes: &[u8], told: &str) {
+    let name = Name { bytes };
+    let shown = format!(in alloc; "{name}").expect(rt, "memory");
+    assert!(rt; shown.as_str() == told, "{shown}");
+}
+
 // How texts and names are shown, and that they can be told from it.
 #[test]
 fn shown(rt: HostRuntime) {
     let alloc = rt.alloc();
-    let cases = [
-        ("fox.csv", "fox.csv", "fox.csv"),
-        ("fo\u{200b}x", "fo\\u{200b}x", "fo\\u{200b}x"),
-        ("fo\\u{200b}x", "fo\\\\u{200b}x", "fo\\u{200b}x"),
-        ("\u{9b}31m\u{85}", "\\u{9b}31m\\u{85}", "\\u{9b}31m\\u{85}"),
-        ("a\tb\r\n", "a\\tb\\r\\n", "a\\tb\\r\\n"),
-        ("Jörð 🦊", "Jörð 🦊", "Jörð 🦊"),
-    ];
-    for (text, told, plain) in cases {
-        let shown = format!(in alloc; "{}|{}", OneLine::new(text), OneLine::plain(text));
-        let wanted = format!(in alloc; "{told}|{plain}").expect(&rt, "memory");
-        assert!(rt;
-            shown.expect(&rt, "memory").as_str() == wanted.as_str(),
-            "{wanted}"
-        );
-        let name = Name {
-            bytes: text.as_bytes(),
-        };
-        let shown = format!(in alloc; "{name}").expect(&rt, "memory");
-        assert!(rt; shown.as_str() == told);
-    }
-    let name = Name {
-        bytes: b"f\xFFo\x9bx\\",
-    };
-    let shown = format!(in alloc; "{name}").expect(&rt, "memory");
-    assert!(rt; shown.as_str() == "f\\xffo\\x9bx\\\\");
+    expect_shown(&rt, alloc, "fox.csv", "fox.csv", "fox.csv");
+    expect_shown(&rt, alloc, "Jörð 🦊", "Jörð 🦊", "Jörð 🦊");
+    let (unseen, written) = ("fo\u{200b}x", "fo\\u{200b}x");
+    expect_shown(&rt, alloc, unseen, written, written);
+    expect_shown(&rt, alloc, written, "fo\\\\u{200b}x", written);
+    let (unseen, written) = ("\u{9b}31m\u{85}", "\\u{9b}31m\\u{85}");
+    expect_shown(&rt, alloc, unseen, written, written);
+    expect_shown(&rt, alloc, "a\tb\r\n", "a\\tb\\r\\n", "a\\tb\\r\\n");
+    expect_name(&rt, alloc, b"f\xFFo\x9bx\\", "f\\xffo\\x9bx\\\\");
 }
