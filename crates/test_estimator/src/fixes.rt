@@ -1,7 +1,7 @@
 // Fixes, and estimators that take them, for the tests.
 
 use range_estimator::Estimator;
-use range_plane::{FIX_LIMIT, Fix, Point, Polygon};
+use range_plane::{Fix, Point, Polygon};
 use std::alloc::{Allocator, Global};
 use std::process::Abort;
 
@@ -13,6 +13,9 @@ pub(crate) const SQUARE: [(u64, i64, i64); 5] = [
     (180, 0, 10),
     (240, 5, 5),
 ];
+
+// The corners and the doubled area of each of its rows.
+pub(crate) const SQUARE_ROWS: [(u32, u128); 5] = [(1, 0), (2, 0), (3, 100), (4, 200), (4, 200)];
 
 pub(crate) fn fixes_of(rt: &impl Abort, alloc: Global, places: &[(u64, i64, i64)]) -> Vec<Fix> {
     let mut fixes = Vec::new(alloc);
@@ -31,8 +34,8 @@ pub(crate) fn takes<A: Allocator + Copy>(
 ) -> bool {
     assert!(rt; !estimator.stopped(), "running");
     let taken = estimator.rows().len();
-    assert!(rt; taken <= FIX_LIMIT as usize, "few fixes");
-    assert!(rt; block.len() <= FIX_LIMIT as usize - taken, "room");
+    assert!(rt; taken <= 1_048_576, "few fixes");
+    assert!(rt; block.len() <= 1_048_576 - taken, "room");
     estimator.take_block(block).is_ok()
 }
 
@@ -49,6 +52,17 @@ pub(crate) fn estimator_of(
         assert!(rt; takes(rt, &mut estimator, block), "memory");
     }
     estimator
+}
+
+// Whether these are the corners and the doubled areas of the estimator's rows.
+pub(crate) fn has_rows<A: Allocator + Copy>(
+    estimator: &Estimator<A>,
+    rows: &[(u32, u128)],
+) -> bool {
+    let found = estimator.rows();
+    found.len() == rows.len()
+        && found.iter().zip(rows).all(|(row, &(corners, area2))| row.corners == corners
+            && row.area2 == area2)
 }
 
 // Whether these are the corners of the estimator's polygon, in this order.

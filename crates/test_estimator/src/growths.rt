@@ -1,6 +1,6 @@
 // Tests of failed allocations.
 
-use crate::fixes::{SQUARE, fixes_of, has_corners, holds, takes};
+use crate::fixes::{SQUARE, SQUARE_ROWS, fixes_of, has_corners, has_rows, holds, takes};
 use range_estimator::Estimator;
 use range_plane::Fix;
 use std::alloc::Global;
@@ -21,8 +21,8 @@ enum Outcome {
     Taken,
 }
 
-// Checks that the estimator of these fixes is stopped, and as it was before it was refused memory: each of
-// the fixes was tested.
+// Checks that the estimator of these fixes of the square is stopped, and as it was before it was refused memory:
+// each of the fixes was tested, and has its row.
 fn expect_stopped(
     rt: &impl Abort,
     alloc: Global,
@@ -32,12 +32,14 @@ fn expect_stopped(
 ) {
     assert!(rt; estimator.stopped(), "stopped");
     assert!(rt; holds(estimator, fixes), "fixes");
+    assert!(rt; fixes.len() <= 5, "of the square");
+    assert!(rt; has_rows(estimator, &SQUARE_ROWS[..fixes.len()]), "rows");
     assert!(rt; estimator.tested() as usize == fixes.len(), "tested");
     assert!(rt; has_corners(rt, alloc, estimator, corners), "corners");
 }
 
-// Gives an estimator the fixes before a place, whose polygon has these corners, and then the others as a
-// block, while the growth of this number is refused.
+// Gives an estimator the fixes of the square before a place, whose polygon has these corners, and then the others
+// as a block, while the growth of this number is refused.
 fn refuse_growth(
     rt: &impl Abort,
     alloc: Global,
@@ -59,6 +61,11 @@ fn refuse_growth(
         assert!(rt;
             !estimator.stopped() && holds(&estimator, fixes),
             "in the end"
+        );
+        assert!(rt; fixes.len() <= 5, "of the square");
+        assert!(rt;
+            has_rows(&estimator, &SQUARE_ROWS[..fixes.len()]),
+            "rows in the end"
         );
         return Outcome::Taken;
     }

@@ -1,18 +1,12 @@
 // Tests of worked lists of fixes, whose rows and polygons were made by hand.
 
-use crate::fixes::{SQUARE, estimator_of, fixes_of, has_corners, holds, takes};
+use crate::fixes::{
+    SQUARE, SQUARE_ROWS, estimator_of, fixes_of, has_corners, has_rows, holds, takes,
+};
 use range_estimator::{Estimator, Row, Rows};
-use range_plane::{FIX_LIMIT, Fix, Point};
+use range_plane::{Fix, Point};
 use std::alloc::{AllocError, Global};
 use std::process::Abort;
-
-// Whether these are the corners and the doubled areas of the estimator's rows.
-fn has_rows(estimator: &Estimator, rows: &[(u32, u128)]) -> bool {
-    let found = estimator.rows();
-    found.len() == rows.len()
-        && found.iter().zip(rows).all(|(row, &(corners, area2))| row.corners == corners
-            && row.area2 == area2)
-}
 
 // Checks the corners and the doubled area of each row, and the corners in the end, in blocks of each size.
 fn expect_rows(
@@ -37,9 +31,8 @@ fn expect_rows(
 
 #[test]
 fn square(rt: HostRuntime) {
-    let rows = [(1, 0), (2, 0), (3, 100), (4, 200), (4, 200)];
     let corners = [(0, 0), (10, 0), (10, 10), (0, 10)];
-    expect_rows(&rt, rt.alloc(), &SQUARE, &rows, &corners);
+    expect_rows(&rt, rt.alloc(), &SQUARE, &SQUARE_ROWS, &corners);
 }
 
 #[test]
@@ -144,7 +137,7 @@ fn most_fixes(rt: HostRuntime) {
     for i in 0..1024 {
         assert!(rt; takes(&rt, &mut estimator, &block), "block {i}");
     }
-    assert!(rt; estimator.rows().len() == FIX_LIMIT as usize, "rows");
+    assert!(rt; estimator.rows().len() == 1_048_576, "rows");
     assert!(rt; estimator.tested() == 1024, "tested");
 }
 
