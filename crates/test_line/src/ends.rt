@@ -5,7 +5,6 @@ ghost use Rattle.range_line.specs.Lines.{AreForFiles, AreOfLine};
 
 use crate::messages::{are_fixes, fixes, is_block, is_mark};
 use range_line::{Feeder, Settled, Taker, open_line, settle};
-use range_options::BLOCK_LIMIT;
 use range_plane::OutOfMemory;
 use std::alloc::Global;
 use std::process::Abort;
@@ -204,7 +203,7 @@ fn three_feeders(rt: HostRuntime) -> Result<(), Fail> {
 // A mark is sent behind a block of each number of fixes, up to the most, and taken.
 #[test]
 fn a_mark_behind_each_number_of_fixes(rt: HostRuntime) -> Result<(), Fail> {
-    for count in 1..=BLOCK_LIMIT as usize {
+    for count in 1..=1024 {
         let (mut feeders, mut taker) = open_line(rt.alloc(), 3, 1, 1, 2)?;
         let mut feeder = feeders.pop().ok_or("no feeder")?;
         let block = fixes(rt.alloc(), 60, count)?;
