@@ -4,7 +4,7 @@ use crate::files::Case;
 use range_collect::{Followed, follow};
 use range_estimator::Row;
 use range_fixes::{Name, ReadFault};
-use range_options::{FILE_LIMIT, Plan};
+use range_options::Plan;
 use range_plane::{Point, Polygon, Scale};
 use range_pump::Gate;
 use std::alloc::Global;
@@ -26,7 +26,7 @@ pub(crate) fn follow_all<R: Wait + Threads + Sync + Abort, S: Read + Send + Drop
     plan: Plan,
 ) -> Vec<Followed> {
     let count = sources.len();
-    assert!(rt; count > 0 && count <= FILE_LIMIT as usize, "sources");
+    assert!(rt; count > 0 && count <= 64, "sources");
     let all = follow(rt, alloc, alloc, sources, gate, plan).expect(rt, "memory");
     assert!(rt; all.len() == count, "results");
     all
@@ -41,7 +41,7 @@ pub(crate) fn begin_with(rows: &[(u64, u32, u128)], found: &[Row]) -> bool {
 }
 
 // Whether the corners that were found are these.
-fn are_corners(found: &[Point], corners: &[(i64, i64)]) -> bool {
+pub(crate) fn are_corners(found: &[Point], corners: &[(i64, i64)]) -> bool {
     found.len() == corners.len()
         && found
             .iter()

@@ -1,12 +1,12 @@
 // Tests of faults: files with each fault of their reader beside others, and sources that fail.
 
-use crate::checks::{begin_with, expect_whole, follow_all, is_cut, is_name};
-use crate::files::{LINE, SQUARE};
+use crate::checks::{are_corners, begin_with, expect_whole, follow_all, is_cut, is_name, plan};
+use crate::files::{CUT, LINE, SQUARE};
 use crate::plans::follow_one;
 use range_collect::Followed;
 use range_fixes::ReadFault;
 use range_options::Plan;
-use range_plane::Scale;
+use range_plane::{Polygon, Scale};
 use range_pump::FreeGate;
 use std::alloc::Global;
 use std::process::Abort;
@@ -91,6 +91,28 @@ fn two_bad_files(rt: HostRuntime) {
         let following = lasts.iter().skip(1).chain(lasts.iter().take(1));
         for (&first, &last) in firsts.iter().zip(following) {
             expect_around(&rt, rt.alloc(), first, last, plan);
+        }
+    }
+}
+
+// A file whose fifth record lacks its northing: its first four fixes are sent and taken, and the mark.
+#[test]
+fn a_record_that_is_cut(rt: HostRuntime) {
+    let alloc = rt.alloc();
+    let (rec, found, wanted) = (5, 3, 4);
+    let fault = ReadFault::WrongFieldCount { rec, found, wanted };
+    for (block, depth, workers) in [(1, 1, 1), (2, 4, 1), (4, 1, 2), (1024, 64, 8)] {
+        for most in [1, 3, 8192] {
+            let source = ScriptedSource::new(CUT, most);
+            let followed = follow_one(&rt, alloc, source, plan(&rt, block, depth, workers));
+            assert!(rt; is_cut(&followed, fault, 4), "in blocks of {block}");
+            let estimator = &followed.estimator;
+            assert!(rt; begin_with(SQUARE.rows, estimator.rows()), "the rows");
+            let polygon: Polygon = estimator.polygon(alloc).expect(&rt, "memory");
+            assert!(rt;
+                are_corners(polygon.corners(), SQUARE.corners),
+                "the corners"
+            );
         }
     }
 }

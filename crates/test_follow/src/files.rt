@@ -28,6 +28,20 @@ pub(crate) const SQUARE: Case = Case {
     corners: &[(0, 0), (10, 0), (10, 10), (0, 10)],
 };
 
+// The square behind a byte order mark, within quotes, and both.
+pub(crate) const MARKED: &[u8] =
+    b"\xEF\xBB\xBFanimal,second,easting,northing\nA,0,0,0\nA,60,10,0\nA,120,10,10\nA,180,0,10\nA,240,5,5\n";
+
+pub(crate) const QUOTED: &[u8] =
+    b"\"animal\",\"second\",\"easting\",\"northing\"\r\n\"A\",0,0,0\r\n\"A\",60,10,0\r\n\"A\",120,10,10\r\n\"A\",180,0,10\r\n\"A\",240,5,5\r\n";
+
+pub(crate) const MARKED_AND_QUOTED: &[u8] =
+    b"\xEF\xBB\xBF\"animal\",\"second\",\"easting\",\"northing\"\r\n\"A\",0,0,0\r\n\"A\",60,10,0\r\n\"A\",120,10,10\r\n\"A\",180,0,10\r\n\"A\",240,5,5\r\n";
+
+// The square without its last field.
+pub(crate) const CUT: &[u8] =
+    b"animal,second,easting,northing\nA,0,0,0\nA,60,10,0\nA,120,10,10\nA,180,0,10\nA,240,5\n";
+
 // Fixes in a line.
 pub(crate) const LINE: Case = Case {
     text: b"animal,second,easting,northing\nB,0,5,5\nB,60,10,5\nB,120,20,5\n",

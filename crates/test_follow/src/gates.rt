@@ -4,7 +4,6 @@
 use crate::checks::{expect_whole, follow_all, is_whole, plan};
 use crate::files::{Case, LINE, SQUARE, sources_of};
 use range_options::Plan;
-use range_plane::FIX_LIMIT;
 use range_pump::Gate;
 use std::alloc::Global;
 use std::io::Read;
@@ -282,16 +281,15 @@ fn a_worker_while_its_source_is_read(rt: HostRuntime) {
     };
     let mut sources = Vec::new(alloc);
     let header = b"animal,second,easting,northing\n".as_slice();
-    let times = u64::from(FIX_LIMIT);
     let held = Held {
-        source: ScriptedSource::repeated(header, b"A,0,0,0\n", times, b"", 8192),
+        source: ScriptedSource::repeated(header, b"A,0,0,0\n", 1_048_576, b"", 8192),
         free: 65_536,
         gate: &gate,
     };
     assert!(rt; sources.push(held).is_ok(), "memory");
     let all = follow_all(&rt, alloc, sources, &gate, plan(&rt, 256, 4, 1));
     for followed in &all {
-        assert!(rt; is_whole(followed, FIX_LIMIT as usize), "the end");
+        assert!(rt; is_whole(followed, 1_048_576), "the end");
     }
     assert!(rt; gate.turns.load(Ordering::SeqCst) < MOST_TURNS, "at once");
 }

@@ -1,4 +1,4 @@
-//! Tests of files that are followed side by side: worked rows and polygons in every plan, threads that meet
+//! Tests of files that are followed side by side: worked rows and polygons in many plans, threads that meet
 //! at gates and each call of a gate, files with each fault beside others, or with more fixes than are taken,
 //! sources that fail, and growths refused in turn.
 #![tactic(auto)]

@@ -1,11 +1,14 @@
 // Tests of plans, each of which gives the same rows, and of files that are not followed to their end.
 
 use crate::checks::{expect_whole, follow_all, is_cut, is_whole, plan};
-use crate::files::{Case, EAST, LIMITS, LINE, OUTWARD, PLACE, SLOPE, SQUARE, WEST, sources_of};
+use crate::files::{
+    Case, EAST, LIMITS, LINE, MARKED, MARKED_AND_QUOTED, OUTWARD, PLACE, QUOTED, SLOPE, SQUARE,
+    WEST, sources_of,
+};
 use range_collect::Followed;
 use range_fixes::ReadFault;
 use range_options::Plan;
-use range_plane::{FIX_LIMIT, Scale};
+use range_plane::Scale;
 use range_pump::FreeGate;
 use std::alloc::Global;
 use std::process::Abort;
@@ -38,9 +41,11 @@ fn expect_all<R: Wait + Threads + Sync + Abort>(rt: &R, alloc: Global, cases: &[
 #[test]
 fn one_file(rt: HostRuntime) {
     for case in [SQUARE, LINE, PLACE, SLOPE, WEST, EAST, LIMITS, OUTWARD] {
-        for (block, depth) in [(1, 1), (1, 64), (2, 1), (2, 64), (1024, 1), (1024, 64)] {
-            let plan = plan(&rt, block, depth, 1);
-            expect_all(&rt, rt.alloc(), &[case], plan);
+        for workers in [1, 8] {
+            for (block, depth) in [(1, 1), (1, 64), (2, 1), (2, 64), (1024, 1), (1024, 64)] {
+                let plan = plan(&rt, block, depth, workers);
+                expect_all(&rt, rt.alloc(), &[case], plan);
+            }
         }
     }
 }
@@ -61,6 +66,17 @@ fn five_files(rt: HostRuntime) {
         for (block, depth) in [(1, 1), (256, 4)] {
             let plan = plan(&rt, block, depth, workers);
             expect_all(&rt, rt.alloc(), &[SQUARE, LINE, PLACE, SLOPE, WEST], plan);
+        }
+    }
+}
+
+// A byte order mark, quotes and ends of lines by two bytes change nothing.
+#[test]
+fn other_ways_to_write_a_file(rt: HostRuntime) {
+    for text in [MARKED, QUOTED, MARKED_AND_QUOTED] {
+        for workers in [1, 8] {
+            let cases = [Case { text, ..SQUARE }, LINE];
+            expect_all(&rt, rt.alloc(), &cases, plan(&rt, 2, 4, workers));
         }
     }
 }
@@ -96,24 +112,23 @@ fn repeated(times: u64, rest: &'static [u8]) -> ScriptedSource<'static> {
 
 #[test]
 fn most_fixes(rt: HostRuntime) {
-    let source = repeated(u64::from(FIX_LIMIT), b"");
+    let source = repeated(1_048_576, b"");
     let followed = follow_one(&rt, rt.alloc(), source, plan(&rt, 256, 4, 1));
-    assert!(rt; is_whole(&followed, FIX_LIMIT as usize), "the end");
+    assert!(rt; is_whole(&followed, 1_048_576), "the end");
     assert!(rt; followed.estimator.tested() == 256, "tested");
 }
 
 #[test]
 fn too_many_fixes(rt: HostRuntime) {
-    let limit = u64::from(FIX_LIMIT);
     for (times, rest) in [
-        (limit, b"A,0,0,0\n".as_slice()),
-        (limit, b"A,0,x"),
+        (1_048_576, b"A,0,0,0\n".as_slice()),
+        (1_048_576, b"A,0,x"),
         (u64::MAX, b""),
     ] {
         let source = repeated(times, rest);
         let followed = follow_one(&rt, rt.alloc(), source, plan(&rt, 1024, 4, 1));
         let fault = ReadFault::TooManyFixes;
-        assert!(rt; is_cut(&followed, fault, FIX_LIMIT as usize), "the fault");
+        assert!(rt; is_cut(&followed, fault, 1_048_576), "the fault");
     }
 }
 
