@@ -10,12 +10,16 @@ use std::io::{Read, Write};
 use std::process::Abort;
 use std::sync::Wait;
 use std::thread::Threads;
+use test_doubles::ScriptedSource;
 
 pub(crate) const FILE_A: &[u8] =
     b"animal,second,easting,northing\nA,0,0,0\nA,60,10,0\nA,120,10,10\nA,180,0,10\nA,240,5,5\n";
 
 pub(crate) const REPORT_A: &[u8] =
     b"animal,A,fixes,5\nbox,A,0,0,10,10\nrow,A,1,0,1,0\nrow,A,2,60,2,0\nrow,A,3,120,3,100\nrow,A,4,180,4,200\nrow,A,5,240,4,200\ncorner,A,1,0,0\ncorner,A,2,10,0\ncorner,A,3,10,10\ncorner,A,4,0,10\npercent,A,50,3,3,50\npercent,A,95,5,4,200\npercent,A,100,5,4,200\nend,1\n";
+
+// How many bytes a read gives: a few, or all of a file.
+const READS: [usize; 3] = [1, 3, 8192];
 
 /// Runs over one source with the options that are there where words give none.
 pub(crate) fn run_over<R: Wait + Threads + Sync + Abort, S: Read + Send + Drop, W: Write>(
@@ -43,7 +47,7 @@ pub(crate) fn run_in<R: Wait + Threads + Sync + Abort, S: Read + Send + Drop, W:
     run(rt, alloc, sources, &options, out)
 }
 
-// Runs over a text, and over it behind a byte order mark.
+// Runs over a text, and over it behind a byte order mark, by a few bytes a read and by all.
 fn expect_report<R: Wait + Threads + Sync + Abort>(
     rt: &R,
     alloc: Global,
@@ -52,11 +56,14 @@ fn expect_report<R: Wait + Threads + Sync + Abort>(
 ) {
     let mut marked = Vec::from_slice(alloc, b"\xEF\xBB\xBF").expect(rt, "memory");
     marked.extend_from_slice(text).expect(rt, "memory");
-    for source in [text, marked.as_slice()] {
-        let mut out = Vec::new(alloc);
-        let outcome = run_over(rt, alloc, source, &mut out);
-        assert!(rt; outcome == Ok(()) && status(&outcome) == 0);
-        assert!(rt; out.as_slice() == report);
+    for text in [text, marked.as_slice()] {
+        for most in READS {
+            let mut out = Vec::new(alloc);
+            let source = ScriptedSource::new(text, most);
+            let outcome = run_over(rt, alloc, source, &mut out);
+            assert!(rt; outcome == Ok(()) && status(&outcome) == 0);
+            assert!(rt; out.as_slice() == report, "by {most} bytes");
+        }
     }
 }
 
@@ -130,6 +137,10 @@ fn rows_and_corners(rt: HostRuntime) {
             b"animal,second,easting,northing\nG,0,0,0\nG,1,10,0\nG,2,10,10\nG,3,0,10\nG,4,15,5\nG,5,20,5\nG,6,5,5\n".as_slice(),
             b"animal,G,fixes,7\nbox,G,0,0,20,10\nrow,G,1,0,1,0\nrow,G,2,1,2,0\nrow,G,3,2,3,100\nrow,G,4,3,4,200\nrow,G,5,4,5,250\nrow,G,6,5,5,300\nrow,G,7,6,5,300\ncorner,G,1,0,0\ncorner,G,2,10,0\ncorner,G,3,20,5\ncorner,G,4,10,10\ncorner,G,5,0,10\npercent,G,50,4,4,100\npercent,G,95,7,5,300\npercent,G,100,7,5,300\nend,1\n".as_slice(),
         ),
+        (
+            b"animal,second,easting,northing\nH,0,0,0\nH,1,4,0\nH,2,5,2\nH,3,4,4\nH,4,0,4\nH,5,10,2\n".as_slice(),
+            b"animal,H,fixes,6\nbox,H,0,0,10,4\nrow,H,1,0,1,0\nrow,H,2,1,2,0\nrow,H,3,2,3,8\nrow,H,4,3,4,20\nrow,H,5,4,5,36\nrow,H,6,5,5,56\ncorner,H,1,0,0\ncorner,H,2,4,0\ncorner,H,3,10,2\ncorner,H,4,4,4\ncorner,H,5,0,4\npercent,H,50,3,3,4\npercent,H,95,6,5,56\npercent,H,100,6,5,56\nend,1\n".as_slice(),
+        ),
     ];
     for (text, report) in cases {
         expect_report(&rt, alloc, text, report);
@@ -152,9 +163,12 @@ fn decimetres(rt: HostRuntime) {
         ),
     ];
     for (text, report) in cases {
-        let mut out = Vec::new(alloc);
-        assert!(rt; run_in(&rt, alloc, text, Scale::Decimetre, &mut out) == Ok(()));
-        assert!(rt; out.as_slice() == report);
+        for most in READS {
+            let source = ScriptedSource::new(text, most);
+            let mut out = Vec::new(alloc);
+            assert!(rt; run_in(&rt, alloc, source, Scale::Decimetre, &mut out) == Ok(()));
+            assert!(rt; out.as_slice() == report, "by {most} bytes");
+        }
     }
 }
 
@@ -246,10 +260,14 @@ fn refused_files(rt: HostRuntime) {
         ),
     ];
     for (text, fault) in cases {
-        let mut out = Vec::new(alloc);
-        let outcome = run_over(&rt, alloc, text, &mut out);
-        assert!(rt; status(&outcome) == 1 && out.is_empty());
-        assert!(rt; outcome == Err(RunFault::Analyse(AnalyseFault::File { file: 0, fault })));
+        for most in READS {
+            let mut out = Vec::new(alloc);
+            let source = ScriptedSource::new(text, most);
+            let outcome = run_over(&rt, alloc, source, &mut out);
+            assert!(rt; status(&outcome) == 1 && out.is_empty());
+            let refusal = RunFault::Analyse(AnalyseFault::File { file: 0, fault });
+            assert!(rt; outcome == Err(refusal), "by {most} bytes");
+        }
     }
 }
 
