@@ -43,7 +43,7 @@ fn expect_refused<R: Wait + Threads + Sync + Files<File = File> + AllocGlobal + 
 }
 
 #[test]
-fn each_fault(rt: HostRuntime) {
+fn each_fault_but_too_many_records(rt: HostRuntime) {
     for file in bad_records(3, Scale::Decimetre) {
         expect_refused(&rt, file);
     }
