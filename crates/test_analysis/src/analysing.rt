@@ -1,10 +1,10 @@
-// Tests of sources that are analysed: in every plan, with names of every length, and with faults.
+// Tests of sources that are analysed: in several plans, with names of every length, and with faults.
 
 use crate::files::{levels_of, same_animal};
 use crate::tables::{FOX_TABLES, HARE_TABLES, expect_animals, overlap};
 use range_analysis::{AnalyseFault, analyse};
 use range_fixes::ReadFault;
-use range_options::{FILE_LIMIT, Plan};
+use range_options::Plan;
 use range_plane::Scale;
 use range_pump::Gate;
 use range_tables::Analysis;
@@ -84,24 +84,21 @@ impl Gate for Counting {
 }
 
 // What these sources come to by this plan, at three levels.
-fn analysed<R: Wait + Threads + Sync + Abort, G: Gate>(
+pub(crate) fn analysed<R: Wait + Threads + Sync + Abort, G: Gate>(
     rt: &R,
     alloc: Global,
     sources: Vec<ScriptedSource<'_>>,
     gate: &G,
     plan: Plan,
 ) -> Result<Analysis, AnalyseFault> {
-    assert!(rt;
-        !sources.is_empty() && sources.len() <= FILE_LIMIT as usize,
-        "sources"
-    );
+    assert!(rt; !sources.is_empty() && sources.len() <= 64, "sources");
     let levels = levels_of(rt, alloc, &[50, 95, 100]);
     analyse(rt, alloc, sources, gate, plan, &levels)
 }
 
 // Each plan comes to the same, and its blocks are those that are sent: a mark a file besides.
 #[test]
-fn every_plan(rt: HostRuntime) -> Result<(), Fail> {
+fn several_plans(rt: HostRuntime) -> Result<(), Fail> {
     for (block, depth, workers, messages) in [
         (1, 1, 1, 10),
         (2, 4, 2, 7),

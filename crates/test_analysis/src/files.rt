@@ -8,7 +8,7 @@ use range_collect::Followed;
 use range_estimator::Estimator;
 use range_fixes::{Name, ReadFault};
 use range_line::{Feeder, open_line};
-use range_options::{FILE_LIMIT, Levels};
+use range_options::Levels;
 use range_plane::{Fix, Point, Scale};
 use range_tables::Analysis;
 use std::alloc::Global;
@@ -113,10 +113,7 @@ pub(crate) fn judged<R: Wait + Threads + Sync + Abort>(
     for file in files {
         all.push(followed(rt, alloc, *file)?)?;
     }
-    assert!(rt;
-        !all.is_empty() && all.len() <= FILE_LIMIT as usize,
-        "files"
-    );
+    assert!(rt; !all.is_empty() && all.len() <= 64, "files");
     let levels = levels_of(rt, alloc, levels);
     Ok(judge(rt, alloc, all, &levels, Scale::Metre))
 }

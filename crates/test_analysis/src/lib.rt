@@ -1,5 +1,5 @@
 //! Tests of judging, over results that no run of threads gives at will; of the tables that it makes; of
-//! sources that are analysed in every plan, and with each fault; and of reports, over analyses that are made
+//! sources that are analysed in several plans, and with each fault; and of reports, over analyses that are made
 //! by hand, each growth refused in turn.
 #![tactic(auto)]
 
@@ -15,3 +15,5 @@ mod report_growths;
 mod reports;
 #[cfg(test)]
 mod tables;
+#[cfg(test)]
+mod worked_files;

@@ -78,6 +78,12 @@ pub(crate) const FOX_TABLES: Expected = Expected {
     percents: [(50, 3, 3, 50), (95, 5, 4, 200), (100, 5, 4, 200)],
 };
 
+// The same of an animal `A`.
+pub(crate) const A_TABLES: Expected = Expected {
+    name: b"A",
+    ..FOX_TABLES
+};
+
 pub(crate) const HARE_TABLES: Expected = Expected {
     name: b"hare",
     extent: [5, 5, 20, 5],
