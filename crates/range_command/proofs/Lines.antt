@@ -1,5 +1,5 @@
 -- Each refusal is told in one line.
-use Rattle.std.proofs.Common.{◌≡◌, ℕ, ◌+◌, Bool, true, false, ◌==◌, List, [], ◌∷◌, ◌++◌, Option, None, Some, String, Global, codes, string_bytes, slice_get, refl, if◌then◌else◌}
+use Rattle.std.proofs.Common.{◌≡◌, ℕ, ◌+◌, Bool, true, false, ◌==◌, List, [], ◌++◌, Option, None, Some, String, Global, codes, string_bytes, slice_get, refl, if◌then◌else◌}
 use Rattle.std.specs.Fmt.{decimal}
 use Rattle.std.specs.List.{list_all}
 use Rattle.range_texts.specs.Laws.{JoinedLinesAreOneLine, NumbersAreOneLine, PrintableTextsAreOneLine, ShownNamesAreOneLine, ShownTextsAreOneLine}
@@ -22,8 +22,7 @@ use Rattle.range_words.specs.declared.level.LevelFault.TheVariants as levels
 use Rattle.range_words.specs.declared.words.WordFault.{WordFault}
 use Rattle.range_words.specs.declared.words.WordFault.TheVariants as words
 use Rattle.range_command.specs.Obeying.{IsToldAlone}
-use Rattle.range_command.specs.Telling.{IsOfOneLine, RefusalsAreOneLine, ShortLinesAreOneLine, called, files_text, line_of, name_of, output_text, refusal_text, report_text, short_files_line, short_line, short_run_line, unread_text}
-use Rattle.range_command.specs.declared.refusal.Refusal.{Refusal}
+use Rattle.range_command.specs.Telling.{RefusalsAreOneLine, ShortLinesAreOneLine, called, files_text, line_of, name_of, output_text, report_text, short_files_line, short_run_line, unread_text}
 use Rattle.range_command.specs.declared.refusal.Refusal.TheVariants as refusals
 
 -- the laws of texts that make one line

@@ -1,5 +1,5 @@
 -- From what a run over sources comes to, to what its words ask for.
-use Rattle.std.proofs.Common.{◌≡◌, ℕ, ◌+◌, ◌<◌, ◌==◌, zero, suc, true, false, inl, inr, List, [], ◌∷◌, ◌++◌, length, map, take, slice_index_or, Option, None, Some, Result, Ok, Err, String, Global}
+use Rattle.std.proofs.Common.{◌≡◌, ℕ, ◌+◌, ◌<◌, ◌==◌, zero, suc, true, false, inl, inr, List, [], ◌∷◌, ◌++◌, length, map, take, slice_index_or, Option, Result, Ok, Err, String, Global}
 use Rattle.std.proofs.Common.{string_bytes, ap, ap₂, ◌∙◌, sym, subst, refl, rules, arith}
 use Rattle.std.proofs.lemmas.List.{map-append, take_more}
 use Rattle.std.specs.Prelude.{⊤, IfErr, OnOk}

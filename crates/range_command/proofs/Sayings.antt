@@ -1,9 +1,9 @@
 -- From what is said of a refusal to one line.
-use Rattle.std.proofs.Common.{◌≡◌, Bool, true, false, inl, inr, ◌↔◌, List, ℕ, Option, None, refl, subst}
+use Rattle.std.proofs.Common.{inl, inr, List, ℕ, Option, subst}
 use Rattle.std.specs.declared.io.Error.{Error}
 use Rattle.std.specs.Io.KnownBytes.{Appends}
 use Rattle.range_texts.specs.Seen.{IsOneLine}
-use Rattle.range_command.specs.Answering.{HasLeft, IsSaid, SaysOneLine}
+use Rattle.range_command.specs.Answering.{IsSaid, SaysOneLine}
 use Rattle.range_command.specs.Obeying.{IsOfSystem, IsTold, World}
 use Rattle.range_command.specs.Output.{Outlet}
 use Rattle.range_command.specs.Telling.{IsOfOneLine, IsTelling, RefusalsAreOneLine, ShortLinesAreOneLine, line_of, refusal_text}

@@ -1,9 +1,8 @@
 -- What is said of a refusal, in one line.
-use Rattle.std.specs.Prelude.{◌≡◌, ◌⊎◌, ⊤, ℕ, Bool, true, false, List, [], ◌++◌, Option, None, Some, String, codes, string_bytes, slice_get}
+use Rattle.std.specs.Prelude.{◌≡◌, ◌⊎◌, ⊤, ℕ, true, false, List, ◌++◌, Option, None, Some, String, codes, string_bytes, slice_get}
 use Rattle.std.specs.Fmt.{decimal}
 use Rattle.std.specs.Global.{Global}
 use Rattle.std.specs.Io.KnownBytes.{Appends}
-use Rattle.std.specs.declared.io.Error.{Error}
 use Rattle.range_texts.specs.Seen.{IsOneLine, shown, shown_name}
 use Rattle.range_fixes.specs.FaultText.{fault_text}
 use Rattle.range_fixes.specs.declared.fault.ReadFault.{ReadFault}
@@ -15,7 +14,6 @@ use Rattle.range_run.specs.FaultText.{run_text}
 use Rattle.range_run.specs.declared.fault.RunFault.{RunFault}
 use Rattle.range_run.specs.declared.fault.RunFault.TheVariants as runs
 use Rattle.range_words.specs.FaultText.{word_text}
-use Rattle.range_words.specs.declared.words.WordFault.TheVariants as words
 use Rattle.range_command.specs.Obeying.{IsToldAlone}
 use Rattle.range_command.specs.declared.refusal.Refusal.{Refusal}
 use Rattle.range_command.specs.declared.refusal.Refusal.TheVariants as refusals

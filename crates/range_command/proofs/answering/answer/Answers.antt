@@ -1,4 +1,4 @@
-use Rattle.std.proofs.Common.{inl, inr, map, string_bytes, rules}
+use Rattle.std.proofs.Common.{inr, map, string_bytes, rules}
 use Rattle.range_command.proofs.Sayings.{said_in_one, system_in_one}
 use Rattle.range_command.proofs.answering.answer.Goals as goal
 

@@ -1,4 +1,4 @@
-use Rattle.std.proofs.Common.{◌≡◌, ◌++◌, ◌∷◌, [], ◌+◌, ℕ, List, String, Global, length, take, string_bytes, subst, sym, ap, ◌∙◌, rules, arith}
+use Rattle.std.proofs.Common.{◌≡◌, ◌++◌, ◌∷◌, [], ℕ, List, String, Global, string_bytes, subst, ap, ◌∙◌, rules, arith}
 use Rattle.range_command.specs.Opening.{Found, MayOpen, bytes_in}
 use Rattle.range_command.specs.Obeying.{IsUnopened}
 use Rattle.range_command.proofs.RunSources.{may_open_of, told_more, unopened_of_files}

@@ -1,4 +1,4 @@
-use Rattle.std.proofs.Common.{◌≡◌, List, ℕ, ◌++◌, codes, ap, ap₂, sym, ◌∙◌}
+use Rattle.std.proofs.Common.{List, ℕ, ◌++◌, codes, ap, ap₂, sym, ◌∙◌}
 use Rattle.std.proofs.Output.{has_written_of_eq}
 use Rattle.range_analysis.specs.FaultText.{analyse_text}
 use Rattle.range_texts.specs.Seen.{shown, shown_name}
