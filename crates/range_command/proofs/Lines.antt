@@ -209,7 +209,12 @@ module _ (laws : Laws) where
   short_is_one_line refusals.OutOfMemory = short_of (codes "out of memory") refl _ refl
   short_is_one_line (refusals.NotText word) = short_of (codes "a word of the command line is not UTF-8") refl _ refl
   short_is_one_line (refusals.BadWords line) = short_of (codes "the words of the command line are refused") refl _ refl
-  short_is_one_line (refusals.Words fault) = short_of (codes "the words of the command line are refused") refl _ refl
+  short_is_one_line (refusals.Words words.OutOfMemory) = short_of (codes "out of memory") refl _ refl
+  short_is_one_line (refusals.Words (words.Help text)) = short_of (codes "the words of the command line are refused") refl _ refl
+  short_is_one_line (refusals.Words (words.Version text)) = short_of (codes "the words of the command line are refused") refl _ refl
+  short_is_one_line (refusals.Words (words.BadWords text)) = short_of (codes "the words of the command line are refused") refl _ refl
+  short_is_one_line (refusals.Words words.TooManyFiles) = short_of (codes "the words of the command line are refused") refl _ refl
+  short_is_one_line (refusals.Words (words.BadLevels fault)) = short_of (codes "the words of the command line are refused") refl _ refl
   short_is_one_line (refusals.Unopened path reason) = short_of (codes "a file cannot be opened, and there is no memory to say which") refl _ refl
   short_is_one_line (refusals.Unwritten reason) = short_of (codes "the help or the version could not be written") refl _ refl
   short_is_one_line (refusals.Run files fault reason) = short_run fault

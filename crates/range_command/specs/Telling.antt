@@ -14,6 +14,7 @@ use Rattle.range_run.specs.FaultText.{run_text}
 use Rattle.range_run.specs.declared.fault.RunFault.{RunFault}
 use Rattle.range_run.specs.declared.fault.RunFault.TheVariants as runs
 use Rattle.range_words.specs.FaultText.{word_text}
+use Rattle.range_words.specs.declared.words.WordFault.TheVariants as words
 use Rattle.range_command.specs.Obeying.{IsToldAlone}
 use Rattle.range_command.specs.declared.refusal.Refusal.{Refusal}
 use Rattle.range_command.specs.declared.refusal.Refusal.TheVariants as refusals
@@ -80,6 +81,7 @@ abbrev pub short_line : Refusal → List ℕ
 short_line refusals.OutOfMemory = codes "homerange: out of memory\n"
 short_line (refusals.NotText word) = codes "homerange: a word of the command line is not UTF-8\n"
 short_line (refusals.BadWords line) = codes "homerange: the words of the command line are refused\n"
+short_line (refusals.Words words.OutOfMemory) = codes "homerange: out of memory\n"
 short_line (refusals.Words fault) = codes "homerange: the words of the command line are refused\n"
 short_line (refusals.Unopened path reason) = codes "homerange: a file cannot be opened, and there is no memory to say which\n"
 short_line (refusals.Unwritten reason) = codes "homerange: the help or the version could not be written\n"

@@ -13,6 +13,7 @@ use range_texts::{
     Name, OneLine, joined_lines_are_one_line, numbers_are_one_line, printable_texts_are_one_line,
     shown_names_are_one_line, shown_texts_are_one_line,
 };
+use range_words::WordFault;
 use std::fmt;
 
 /// Each refusal is told in one line, whatever the names of files and animals are.
@@ -60,6 +61,7 @@ impl Refusal {
             Refusal::OutOfMemory => OUT_OF_MEMORY,
             Refusal::NotText { .. } => "homerange: a word of the command line is not UTF-8\n",
             Refusal::BadWords { .. } => REFUSED_WORDS,
+            Refusal::Words(WordFault::OutOfMemory) => OUT_OF_MEMORY,
             Refusal::Words(_) => REFUSED_WORDS,
             Refusal::Unopened { .. } => {
                 "homerange: a file cannot be opened, and there is no memory to say which\n"
