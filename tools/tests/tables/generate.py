@@ -1,0 +1,111 @@
+"""Tables that are made and not written: each knows the tracks that it was made of, before it was a table.
+
+A track is whole units and seconds. Its table has them with decimals that round to them, in one of the usual forms, with
+rows in disorder, failed fixes and marked outliers among them."""
+import random
+from datetime import datetime, timedelta, timezone
+
+EPOCH = datetime(1970, 1, 1, tzinfo=timezone.utc)
+FAMILIES = {
+    "movebank": ("individual-local-identifier", "timestamp", "utm-easting", "utm-northing"),
+    "move2": ("individual_local_identifier", "timestamp", "utm_easting", "utm_northing"),
+    "homerange": ("animal", "second", "easting", "northing"),
+    "amt": ("id", "t_", "x_", "y_"),
+    "adehabitat": ("id", "date", "x", "y"),
+}
+TRUTHS = (("true", "false"), ("TRUE", "FALSE"), ("True", "False"), ("1", "0"))
+
+
+def clock(draw, second, fraction):
+    """A time as text, in one of the forms of ISO, with so many thousandths."""
+    moment = EPOCH + timedelta(seconds=second)
+    offset = draw.choice((0, 0, 0, 120, -330))
+    local = (moment + timedelta(minutes=offset)).strftime(draw.choice(("%Y-%m-%d %H:%M:%S", "%Y-%m-%dT%H:%M:%S")))
+    sign = "Z" if draw.random() < 0.5 else ""
+    if offset:
+        sign = f"{'-' if offset < 0 else '+'}{abs(offset) // 60:02}:{abs(offset) % 60:02}"
+    return f"{local}.{fraction:03}{sign}" if fraction else local + sign
+
+
+def metres(draw, whole, units):
+    """A coordinate as text, which rounds to so many whole units."""
+    thousandths = 1000 * whole + draw.randrange(-500, 500)
+    below, rest = divmod(thousandths, 1000 * units)
+    return f"{below}.{rest * 10 // units:04}"
+
+
+class Table:
+    """A table of some animals, drawn with this seed."""
+
+    def __init__(self, seed):
+        self.draw = random.Random(seed)
+        self.family = self.draw.choice(sorted(FAMILIES))
+        self.units = self.draw.choice((1, 1, 10))
+        self.truths = self.draw.choice(TRUTHS)
+        self.is_marked = self.family.startswith("move") or self.draw.random() < 0.3
+        self.fixes, self.rows = [], []
+        for number in range(self.draw.randrange(1, 6)):
+            self.add(f"animal {number}", self.draw.randrange(2, 12))
+        self.draw.shuffle(self.rows)
+
+    def row(self, animal, time, east, north, is_outlier):
+        cells = [animal, time, east, north]
+        cells += ["33N"] if self.family.startswith("move") else []
+        cells += [self.truths[is_outlier], self.truths[1 - is_outlier]] if self.is_marked else []
+        return cells
+
+    def add(self, animal, count):
+        """Draws the fixes of an animal, no two of one stamp, and what stands among them in the table."""
+        seconds = self.draw.sample(range(1_700_000_000, 1_700_400_000), count)
+        for second in sorted(seconds):
+            east, north = (self.units * (base + self.draw.randrange(-4000, 4000)) for base in (562000, 5134000))
+            self.fixes.append(f"{animal},{second},{east},{north}")
+            texts = [metres(self.draw, whole, self.units) for whole in (east, north)]
+            fraction = self.draw.choice((0, 0, 250, 999))
+            time = f"{second}.{fraction:03}" if self.family == "homerange" else clock(self.draw, second, fraction)
+            self.rows.append(self.row(animal, time, *texts, False))
+            if self.draw.random() < 0.2:
+                self.rows.append(self.row(animal, time, "", self.draw.choice(("", "NA")), False))
+            if self.is_marked and self.draw.random() < 0.2:
+                self.rows.append(self.row(animal, time, "990000.5", texts[1], True))
+
+    def text(self):
+        """The table, its columns in some order."""
+        titles = [*FAMILIES[self.family]]
+        titles += ["utm-zone"] if self.family.startswith("move") else []
+        titles += ["visible", "manually-marked-outlier"] if self.is_marked else []
+        order = self.draw.sample(range(len(titles)), len(titles))
+        if self.family.startswith("adehabitat") and self.draw.random() < 0.5:
+            lines = [["X", *titles], *([str(at), *row] for at, row in enumerate(self.rows, 1))]
+            order = [0, *(at + 1 for at in order)]
+        else:
+            lines = [titles, *self.rows]
+        return "".join(",".join(line[at] for at in order) + "\n" for line in lines)
+
+
+def drawn(seed):
+    """A table that is drawn."""
+    table = Table(seed)
+    call = ["unit dm"] if table.units == 10 else []
+    return f"drawn_{seed:02}_of_{table.family}", table.text().encode(), call, table.fixes, None
+
+
+def wide():
+    """A field longer than csv modules take by themselves."""
+    rows = "".join(f"a,{second},56200{second},5134000,{'x' * 140_000}\n" for second in range(2))
+    tracks = [f"a,{second},56200{second},5134000" for second in range(2)]
+    return "a_field_of_140000_letters", f"animal,second,easting,northing,note\n{rows}".encode(), [], tracks, None
+
+
+def herd():
+    """More animals than a run takes, three fixes each, the rows of all in turns."""
+    fixes = [[f"deer {number:02}", 60 * at, 500000 + 37 * number + at * at, 5100000 + 53 * at + number]
+             for at in range(3) for number in range(70)]
+    lines = [",".join(map(str, fix)) for fix in fixes]
+    text = "animal,second,easting,northing\n" + "\n".join(lines) + "\n"
+    return "a_herd_of_70", text.encode(), [], sorted(lines, key=lambda line: line.split(",")[0]), None
+
+
+def generated():
+    """All these tables: the name, the bytes, the call, the tracks' lines, and None where there is no refusal."""
+    return [*map(drawn, range(50)), wide(), herd()]
