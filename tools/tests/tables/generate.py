@@ -29,7 +29,7 @@ def clock(draw, second, fraction):
 
 def metres(draw, whole, units):
     """A coordinate as text, which rounds to so many whole units."""
-    thousandths = 1000 * whole + draw.randrange(-500, 500)
+    thousandths = 1000 * whole + draw.randrange(-490, 490)
     below, rest = divmod(thousandths, 1000 * units)
     return f"{below}.{rest * 10 // units:04}"
 

@@ -52,7 +52,7 @@ def bytes_of(text):
 def take(case, kind, text, known):
     """Takes a line of a case that has this kind."""
     if kind in ENDS:
-        text = re.sub(r"^\$(\w+)", lambda found: known[found[1]], text)
+        text = re.sub(r"^\$(\w+)", lambda found: known.get(found[1], found[0]), text)
         case.table += bytes_of(text) + ENDS[kind]
     elif kind == ">":
         case.track(text)
