@@ -1,0 +1,310 @@
+"""What one cell of a table says: a number, a truth, a time. docs/TABLES.md, Coordinates, Marks, Times.
+
+A cell is text, a number, a truth, a moment, None where it is missing, or what cannot be read, as Bad. A function here
+raises Unread, which has the kind and the text of the refusal."""
+
+from __future__ import annotations
+
+import math
+import re
+import zoneinfo
+from datetime import date, datetime, timedelta
+from decimal import Decimal
+from functools import lru_cache
+from typing import Any, Callable, NamedTuple, Optional, Sequence
+
+from .errors import refuse
+
+LAST_SECOND = 1_099_511_627_776
+DAYS_TO_1970 = date(1970, 1, 1).toordinal()
+EPOCH = datetime(1970, 1, 1)
+LAST_OF_CALENDAR = 253_402_300_799  # of the year 9999
+TRUTHS = {**dict.fromkeys(("true", "TRUE", "True", "1", "1.0"), True),
+          **dict.fromkeys(("false", "FALSE", "False", "0", "0.0"), False)}
+ISO = re.compile(
+    r"([0-9]{4}-[0-9]{2}-[0-9]{2})(?:[ T]([0-9]{2}):([0-9]{2})(?::([0-9]{2})([.][0-9]+)?)?"
+    r"(Z|[+-][0-9]{2}(?::?[0-9]{2})?)?)?")
+DATE = re.compile("[0-9]{4}-[0-9]{2}-[0-9]{2}")
+SECONDS = re.compile("[0-9]+([.][0-9]*)?|-[0-9.]+")
+THOUSANDS = re.compile("-?[0-9]{1,3}([.][0-9]{3})+")
+NAMES_OF_MONTHS = ("jan", "feb", "mar", "apr", "may", "jun", "jul", "aug", "sep", "oct", "nov", "dec")
+FORMS = {
+    "Y": "(?P<Y>[0-9]{4})", "y": "(?P<y>[0-9]{2})", "m": "(?P<m>[0-9]{1,2})", "d": "(?P<d>[0-9]{1,2})",
+    "j": "(?P<j>[0-9]{1,3})", "b": f"(?P<b>{'|'.join(NAMES_OF_MONTHS)})", "H": "(?P<H>[0-9]{1,2})",
+    "I": "(?P<I>[0-9]{1,2})", "M": "(?P<M>[0-9]{1,2})", "S": "(?P<S>[0-9]{1,2}([.][0-9]+)?)", "p": "(?P<p>am|pm)",
+}
+WANTED_TIME = "a time such as 2024-05-01 00:30:04"
+
+
+class Bad(NamedTuple):
+    """A cell that cannot be read."""
+
+    text: str
+    kind: str
+
+
+class Moment(NamedTuple):
+    """A time of its own kind: whole seconds since 1970 in UTC, and the fraction of a second."""
+
+    second: int
+    part: float
+
+
+class Unread(Exception):
+    """Why a cell cannot be read."""
+
+    def __init__(self, text: str, kind: str) -> None:
+        super().__init__(text)
+        self.kind = kind
+
+
+def shown(cell: object) -> str:
+    """A cell as a refusal has it."""
+    text = cell if isinstance(cell, str) else repr(cell)
+    return f"'{text if len(text) <= 60 else text[:57] + '...'}'"
+
+
+class Numbers:
+    """Reads numbers of a column. Where semicolons separate, decimals may stand behind a comma."""
+
+    def __init__(self, title: str, semicolons: bool, is_metres: bool, missing: frozenset[str]) -> None:
+        point = "[.,]" if semicolons else "[.]"
+        digits = f"-?0*[0-9]{{1,12}}(?:{point}[0-9]+)?"
+        self.form, self.title, self.missing = re.compile(digits), title, missing
+        self.semicolons, self.is_grouped = semicolons, semicolons and is_metres
+        self.column = re.compile(f"(?:(?:{digits})?\n)*+")
+
+    def read(self, cell: Any) -> float:
+        """The number of a cell; NaN where it is missing."""
+        if cell is None or (isinstance(cell, str) and cell in self.missing):
+            return math.nan
+        if isinstance(cell, str):
+            return self.parse(cell)
+        if isinstance(cell, Bad):
+            raise Unread(f"{self.title} is {cell.text}", cell.kind)
+        if isinstance(cell, (int, float, Decimal)) and not isinstance(cell, bool):
+            number = float(cell) if abs(cell) < 1e300 else math.inf
+            if math.isinf(number):
+                raise Unread(f"{self.title} is not finite", "number")
+            return number
+        raise Unread(f"{self.title} is {shown(cell)} and not a number", "number")
+
+    def parse(self, text: str) -> float:
+        """The number of a text."""
+        if not self.form.fullmatch(text):
+            raise Unread(f"{self.title} is {shown(text)} and not a number of up to 12 digits", "number")
+        if self.is_grouped and THOUSANDS.fullmatch(text):
+            raise Unread(f"{self.title} is '{text}', whose point may stand before thousands: export without it", "number")
+        return float(text.replace(",", "."))
+
+    def whole_column(self, cells: Sequence[Any]) -> list[float] | None:
+        """The numbers of a column of text, where all of them are plain; None where they have to be read one by one."""
+        try:
+            text = "\n".join([*cells, ""])
+        except TypeError:
+            return None
+        if self.semicolons or text.count("\n") != len(cells) or not self.column.fullmatch(text):
+            return None
+        return [float(cell) if cell else math.nan for cell in cells]
+
+
+def truth(cell: Any, title: str, missing: frozenset[str]) -> bool | None:
+    """The truth of a cell, None where it is missing."""
+    if cell is None or (isinstance(cell, str) and cell in missing):
+        return None
+    found = TRUTHS.get(cell if isinstance(cell, str) else str(cell))
+    if found is None:
+        raise Unread(f"{title} is {shown(cell)} and not true or false (or 1 or 0)", "mark")
+    return found
+
+
+@lru_cache(maxsize=100_000)
+def day_of(text: str) -> int | None:
+    """The second at which a day begins, by its date; None where there is no such day."""
+    if not DATE.fullmatch(text):
+        return None
+    try:
+        year, month, day = map(int, text.split("-"))
+        return 86400 * (date(year, month, day).toordinal() - DAYS_TO_1970)
+    except ValueError:
+        return None
+
+
+@lru_cache(maxsize=100_000)
+def time_of_day(rest: str) -> Optional[tuple[int, float, Optional[int]]]:
+    """The seconds since midnight, the fraction and the offset from UTC of what stands behind a date; None where it is no
+    time."""
+    found = ISO.fullmatch("1970-01-01" + rest)
+    if found is None:
+        return None
+    _, hour, minute, second, part, zone = found.groups()
+    if int(hour or 0) > 23 or int(minute or 0) > 59 or int(second or 0) > 59:
+        return None
+    offset = None
+    if zone:
+        sign, digits = (-1 if zone[0] == "-" else 1), zone[1:].replace(":", "")
+        offset = sign * (3600 * int(digits[:2] or 0) + 60 * int(digits[2:] or 0))
+        if abs(offset) > 86400 or int(digits[2:] or 0) > 59:
+            return None
+    return 3600 * int(hour or 0) + 60 * int(minute or 0) + int(second or 0), float(part or 0), offset
+
+
+Stamp = tuple[int, float, bool]  # the second and its fraction, and whether the second is that of a local clock
+
+
+def iso_time(text: str) -> Stamp | None:
+    """The stamp of a time as ISO writes it; None where it is none."""
+    day, rest = day_of(text[:10]), time_of_day(text[10:])
+    if day is None or rest is None:
+        return None
+    second, part, offset = rest
+    return day + second - (offset or 0), part, offset is None
+
+
+class Form:
+    """A form of times, as strptime has it."""
+
+    def __init__(self, form: str) -> None:
+        pieces = re.split("(%.)", form)
+        signs = [piece[1] for piece in pieces[1::2]]
+        unknown = [sign for sign in signs if sign not in FORMS]
+        if unknown or len({*signs}) < len(signs) or not ("Y" in signs or "y" in signs):
+            refuse(f"time-format is '{form}', which is no form of a date with %Y %m %d, or %H %M %S, %I %p, %y %b %j")
+        body = "".join(FORMS[piece[1]] if at % 2 else re.escape(piece) for at, piece in enumerate(pieces))
+        self.form = re.compile(body, re.IGNORECASE | re.ASCII)
+
+    def read(self, text: str) -> Stamp | None:
+        """The stamp of a text; None where it has another form, or is no time."""
+        found = self.form.fullmatch(text)
+        if found is None:
+            return None
+        has = found.groupdict()
+        try:
+            day = self.day(has)
+        except ValueError:
+            return None
+        hour, second = int(has.get("H") or 0), has.get("S") or "0"
+        if has.get("I"):
+            if not 1 <= int(has["I"]) <= 12:
+                return None
+            hour = int(has["I"]) % 12 + 12 * ((has.get("p") or "am").lower() == "pm")
+        minute, whole = int(has.get("M") or 0), int(second.partition(".")[0])
+        if hour > 23 or minute > 59 or whole > 59:
+            return None
+        return day + 3600 * hour + 60 * minute + whole, float("0." + (second.partition(".")[2] or "0")), True
+
+    @staticmethod
+    def day(has: dict[str, str]) -> int:
+        """The second at which the day begins."""
+        short = int(has.get("y") or 0)
+        year = int(has["Y"]) if has.get("Y") else short + (2000 if short < 69 else 1900)
+        month = NAMES_OF_MONTHS.index(has["b"].lower()) + 1 if has.get("b") else int(has.get("m") or 1)
+        ordinal = date(year, month, int(has.get("d") or 1)).toordinal()
+        if has.get("j"):
+            ordinal = date(year, 1, 1).toordinal() + int(has["j"]) - 1
+        return 86400 * (ordinal - DAYS_TO_1970)
+
+
+class Times:
+    """Reads times of a column."""
+
+    def __init__(
+        self, title: str, is_second: bool, forms: Sequence[Form], is_zoned: bool, missing: frozenset[str],
+    ) -> None:
+        self.title, self.is_second, self.forms, self.missing = title, is_second, forms, missing
+        self.slack = 86400 if is_zoned else 0  # how far a local clock may be before that of UTC
+
+    def read(self, cell: Any) -> Stamp:
+        """The stamp of a cell."""
+        if isinstance(cell, Moment):
+            return self.within((cell.second, cell.part, False), cell)
+        if cell is None or (isinstance(cell, str) and cell.strip(" ") in self.missing):
+            raise Unread(f"there is no {self.title}", "time")
+        if isinstance(cell, Bad):
+            raise Unread(f"{self.title} is {cell.text}", cell.kind)
+        if isinstance(cell, str):
+            return self.within(self.parse(cell), cell)
+        if isinstance(cell, (int, float)) and not isinstance(cell, bool):
+            return self.within(self.number(cell, repr(cell)), cell)
+        raise Unread(f"{self.title} is {shown(cell)} and not {WANTED_TIME}", "time")
+
+    def parse(self, text: str) -> Stamp:
+        """The stamp of a text."""
+        if self.forms:
+            found = next((stamp for form in self.forms if (stamp := form.read(text))), None)
+        elif SECONDS.fullmatch(text) and text.isascii():
+            found = self.number(float(text) if len(text) < 300 else math.inf, text) if text.count(".") < 2 else None
+        else:
+            found = iso_time(text)
+        if found is None:
+            why = ", which is no time" if not self.forms and ISO.fullmatch(text) else f" and not {WANTED_TIME}"
+            raise Unread(f"{self.title} is {shown(text)}{why}", "time")
+        return found
+
+    def number(self, value: float, text: str) -> Stamp:
+        """The stamp of a number of seconds."""
+        if not math.isfinite(value):
+            raise Unread(f"{self.title} is {shown(text)} and not {WANTED_TIME}", "time")
+        digits = len(str(int(value)))
+        if not self.is_second and not (value > 0 and 9 <= digits <= 10):
+            raise Unread(f"{self.title} is {shown(text)}, which {looks_like(value)}: write {WANTED_TIME}, or seconds since "
+                         "1970, or seconds since another start in a column 'second'", "time")
+        second = math.floor(value)
+        return second, value - second, False
+
+    def within(self, stamp: Stamp, cell: object) -> Stamp:
+        """The stamp, if it is within what a track takes."""
+        if not -self.slack * stamp[2] <= stamp[0] <= LAST_SECOND:
+            raise Unread(f"{self.title} is {shown(cell)}, which is no time since 1970, and not within 0 to {LAST_SECOND} "
+                         "seconds", "time")
+        return stamp
+
+
+def looks_like(value: float) -> str:
+    """What a number that is no second may be."""
+    if value < 0:
+        return "is less than 0"
+    if 15_000 <= value < 80_000:
+        return "looks like days of Excel"
+    if 2_400_000 <= value < 2_500_000:
+        return "looks like Julian days"
+    if value == int(value) and re.fullmatch("(19|20)?[0-9]{2}(0[1-9]|1[0-2])[0-3][0-9]", str(int(value))):
+        return "looks like a date without hyphens"
+    if 1e11 <= value < 1e14:
+        return "looks like milliseconds, or a date without signs between"
+    return "is no second since 1970 (1973 to 2286)"
+
+
+def moments_of(second: int, zone: zoneinfo.ZoneInfo) -> tuple[int, ...]:
+    """The seconds in UTC of a second of a local clock: one, or two where it comes twice, or none where it was passed
+    over."""
+    local = EPOCH + timedelta(seconds=second)
+    offsets = [local.replace(tzinfo=zone, fold=fold).utcoffset() for fold in (0, 1)]
+    before, after = (int((offset or timedelta()).total_seconds()) for offset in offsets)
+    if before == after:
+        return (second - before,)
+    return () if before < after else (second - before, second - after)
+
+
+def day_begins(day: int, zone: zoneinfo.ZoneInfo) -> int:
+    """The first moment of a day of the zone, whose midnight may be none."""
+    local = (EPOCH + timedelta(seconds=day)).replace(tzinfo=zone)
+    return day - int((local.utcoffset() or timedelta()).total_seconds())
+
+
+class Offsets:
+    """How far the clock of a zone is before UTC, by the second."""
+
+    def __init__(self, zone: zoneinfo.ZoneInfo) -> None:
+        self.zone, self.is_utc = zone, zone.key == "UTC"
+        self.at: Callable[[int], int] = lru_cache(maxsize=200_000)(self.compute)
+
+    def compute(self, quarter: int) -> int:
+        """The offset in a quarter of an hour since 1970; clocks are moved at none within."""
+        second = min(900 * quarter, LAST_OF_CALENDAR - 2 * 86400)
+        offset = datetime.fromtimestamp(second, self.zone).utcoffset()
+        return int((offset or timedelta()).total_seconds())
+
+    def local(self, second: int) -> int:
+        """The second as the clock of the zone has it."""
+        return second if self.is_utc else second + self.at(second // 900)

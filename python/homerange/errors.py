@@ -1,0 +1,87 @@
+"""What is raised and said: errors of this package, notes, and text in which each thing said is one line."""
+
+from __future__ import annotations
+
+import re
+from typing import NoReturn
+
+UNPRINTABLE = re.compile("[\x00-\x1f\x7f-\x9f\u2028\u2029]")
+
+
+class HomeRangeInfo(UserWarning):
+    """Says what was taken: the columns, how many animals, and the box of the fixes."""
+
+
+class HomeRangeNote(UserWarning):
+    """Says which fixes were left out, or what was changed in them."""
+
+
+class HomeRangeError(Exception):
+    """What all errors of this package are. ``status`` is that of the program, None where it was not the program's."""
+
+    status: int | None = None
+
+
+class FrameError(HomeRangeError, ValueError):
+    """Fixes or an argument cannot be right. ``kind`` is the word that docs/TABLES.md has for it, and ``record`` the number
+    of the row, counted from 1, where one row has the fault."""
+
+    def __init__(self, text: str, kind: str = "option", record: int | None = None) -> None:
+        super().__init__(text)
+        self.kind, self.record = kind, record
+
+
+class ReportError(HomeRangeError, ValueError):
+    """A report is cut off, or its lines do not fit each other."""
+
+
+class ProgramError(HomeRangeError):
+    """The program is not there, does not run, or was ended."""
+
+
+class FileError(HomeRangeError):
+    """The program could not read a file, or found what cannot be right in it."""
+
+    status = 1
+
+
+class OptionError(HomeRangeError):
+    """The program refused the levels or the unit."""
+
+    status = 2
+
+
+class OutOfMemoryError(HomeRangeError):
+    """The program had not enough memory."""
+
+    status = 3
+
+
+class OutputError(HomeRangeError):
+    """The program could not write its report."""
+
+    status = 4
+
+
+class CutError(HomeRangeError):
+    """The program found that the fixes of a file were not all handed on."""
+
+    status = 5
+
+
+FAULTS: dict[int | None, type[HomeRangeError]] = {
+    fault.status: fault for fault in (FileError, OptionError, OutOfMemoryError, OutputError, CutError)}
+
+
+def one_line(text: str) -> str:
+    """The text with its control characters and separators of lines escaped."""
+    def escaped(found: re.Match[str]) -> str:
+        code = ord(found[0])
+        return f"\\x{code:02x}" if code < 256 else f"\\u{code:04x}"
+
+    return UNPRINTABLE.sub(escaped, text)
+
+
+def refuse(text: str, kind: str = "option", record: int | None = None) -> NoReturn:
+    """Refuses a table or an option. The text says neither the record nor which front end it is."""
+    raise FrameError(one_line(text), kind, record)

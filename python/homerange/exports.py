@@ -1,0 +1,284 @@
+"""Reads tables of fixes that are text, of Movebank, of collars or of one's own, and writes them as files for homerange.
+docs/TABLES.md has the rules. Needs Python's own library alone; to project longitude and latitude pyproj."""
+
+from __future__ import annotations
+
+import codecs
+import csv
+import hashlib
+import io
+import os
+import re
+import sys
+from functools import lru_cache
+from itertools import chain, islice
+from pathlib import Path
+from typing import Any, Callable, Iterable, Iterator, NamedTuple, Optional
+from xml.etree import ElementTree
+
+from .asked import Asked
+from .errors import FrameError, one_line, refuse
+from .tables import Said, Table
+from .tracks import Track, Tracks, make_tracks
+
+PIECE = 20_000  # rows that are read at once
+NAME_BYTES = 32
+LISTS = ("animal", "time", "na", "sensor", "argos-class", "fix-type")  # options that are several words between commas
+REASONS = ("animal", "coordinates", "zero", "sensor", "outlier", "class", "no dop", "dop", "type", "before", "after",
+           "grid", "speed", "months", "hours", "every")
+
+
+class Text(NamedTuple):
+    """What was read: the lines, and the checksum of the bytes."""
+
+    lines: Iterator[str]
+    checksum: str
+
+
+@lru_cache(maxsize=None)
+def presets() -> dict[str, dict[str, str]]:
+    """The options of each maker."""
+    found: dict[str, dict[str, str]] = {}
+    with open(Path(__file__).with_name("collars.csv"), encoding="utf-8", newline="") as file:
+        for row in csv.DictReader(file):
+            found.setdefault(row["maker"], {})[row["option"]] = row["value"]
+    return found
+
+
+def with_preset(options: dict[str, Any]) -> dict[str, Any]:
+    """The options, where a maker is named with those of its preset that are not named themselves."""
+    maker = options.pop("from", None)
+    if maker is None:
+        return options
+    if maker not in presets():
+        refuse(f"from: {maker} is none of {', '.join(presets())}")
+    preset: dict[str, Any] = {**presets()[maker]}
+    named = {name for name, value in options.items() if value is not None}
+    for option, rest in (("easting", ("lon", "lat")), ("lon", ("easting", "northing")), ("time", ("time-format",))):
+        if option in named:
+            for name in rest:
+                preset.pop(name, None)
+    return {**options, **{name: value for name, value in preset.items() if name not in named}}
+
+
+def asked_of(options: dict[str, Any], is_frame: bool = False) -> Asked:
+    """What is asked by options, whose names are those of the commands."""
+    words: dict[str, Any] = {}
+    for option, value in with_preset(dict(options)).items():
+        if value is not None:
+            several = option in LISTS and isinstance(value, str)
+            words[option.replace("-", "_")] = value.split(",") if several else value
+    return Asked(is_frame=is_frame, **words)
+
+
+def read_bytes(path: str) -> bytes:
+    try:
+        return Path(path).read_bytes()
+    except OSError:
+        refuse(f"{path} cannot be read", "text")
+
+
+def decode(content: bytes, path: str, encoding: str) -> Iterator[str]:
+    """The lines of a text, whose ends become line feeds. Looks at all of it before the first is given."""
+    try:
+        codec = codecs.lookup(encoding).name
+    except LookupError:
+        refuse(f"encoding: there is no coding {encoding}")
+    codec = "utf-8-sig" if codec == "utf-8" else codec
+    decoder = codecs.getincrementaldecoder(codec)()
+    try:
+        for start in range(0, len(content), 1 << 20):
+            if "\0" in decoder.decode(content[start:start + (1 << 20)]):
+                refuse(f"{path} is no text: it has a byte 0", "text")
+        decoder.decode(b"", True)
+    except UnicodeDecodeError:
+        name = "UTF-8" if codec == "utf-8-sig" else encoding
+        refuse(f"{path} is no text in {name}: name its coding, such as --encoding latin-1", "text")
+    return io.TextIOWrapper(io.BytesIO(content), encoding=codec, newline=None)
+
+
+def gpx_lines(content: bytes, path: str) -> Iterator[str]:
+    """The track points of GPX as the lines of a table."""
+    try:
+        root = ElementTree.fromstring(content)
+    except (ElementTree.ParseError, ValueError):
+        refuse(f"{path} is no GPX", "text")
+    if not root.tag.endswith("gpx"):
+        refuse(f"{path} is no GPX", "text")
+    rows: list[list[Optional[str]]] = [["animal", "time", "lon", "lat"]]
+    for track in root.iterfind("{*}trk"):
+        name = track.findtext("{*}name") or "animal"
+        rows += [[name, point.findtext("{*}time"), point.get("lon"), point.get("lat")]
+                 for point in track.iterfind("{*}trkseg/{*}trkpt")]
+    text = io.StringIO(newline="")
+    csv.writer(text, lineterminator="\n").writerows(rows)
+    text.seek(0)
+    return text
+
+
+def open_text(path: str, asked: Asked, is_gpx: bool = False) -> Text:
+    """The text of a file, from its line of titles on."""
+    content = read_bytes(path)
+    lines = gpx_lines(content, path) if is_gpx else decode(content, path, asked.encoding)
+    for _ in islice(lines, asked.skip_lines):
+        pass
+    if asked.header:
+        wanted = asked.header
+        before = next((line for line in lines if line.lstrip('"').startswith(wanted)), None)
+        if before is None:
+            refuse(f"no line begins with '{wanted}', as that of titles does", "columns")
+        lines = chain([before], lines)
+    return Text(lines, hashlib.sha256(content).hexdigest())
+
+
+def separator_of(line: str) -> str:
+    """What stands between the fields of a table with these titles."""
+    if re.match("[^,\n]*;", line):
+        return ";"
+    return "\t" if "\t" in line and "," not in line else ","
+
+
+class Reader:
+    """The rows of a table of text."""
+
+    def __init__(self, lines: Iterator[str], path: str) -> None:
+        first = next((line for line in lines if line.strip("\n")), None)
+        if first is None:
+            refuse(f"{path} has no line of titles", "empty")
+        self.path, self.separator = path, separator_of(first)
+        csv.field_size_limit(sys.maxsize)
+        self.rows = csv.reader(chain([first], lines, ["end"]), delimiter=self.separator)
+        self.titles = next(self.rows)
+        if self.titles == ["end"] or not self.titles:
+            refuse(f"{path} has no line of titles", "empty")
+        self.has_end = False
+
+    def piece(self) -> list[list[str]]:
+        """The next rows; none where there are no more. Blank lines are none."""
+        if self.has_end:
+            return []
+        rows = list(islice(self.rows, PIECE))
+        if len(rows) < PIECE:
+            self.has_end = True
+            if not rows or rows.pop() != ["end"]:
+                refuse(f"{self.path}: a quote has no end", "text")
+        return list(filter(None, rows))
+
+    def check_end(self) -> None:
+        """Refuses a quote without an end in the rows that were not looked at."""
+        while not self.has_end:
+            self.piece()
+
+
+def check_fields(rows: list[list[str]], width: int, before: int) -> int:
+    """How many rows have the right number of fields, up to the first that has another."""
+    return next((at for at, row in enumerate(rows) if len(row) != width), len(rows))
+
+
+def read_table(lines: Iterator[str], path: str, asked: Asked) -> Table:
+    """The table of a text. The fault of the first record that has one is the one that is told."""
+    reader = Reader(lines, path)
+    try:
+        table = Table(reader.titles, asked, reader.separator == ";")
+        while rows := reader.piece():
+            whole = check_fields(rows, len(reader.titles), table.rows)
+            columns = list(zip(*rows[:whole]))
+            table.take({at: list(columns[at]) if columns else [] for at in table.wanted}, whole)
+            if whole < len(rows):
+                refuse(f"{len(rows[whole])} fields where {len(reader.titles)} are wanted", "fields", table.rows + 1)
+    except FrameError:
+        reader.check_end()
+        raise
+    return table
+
+
+def clean(name: str) -> str:
+    """The name with _ for what a name or a file's name may not have, cut to 32 bytes."""
+    name = re.sub(r'[\x00-\x1f\x7f/\\,"]|^[.]', "_", name)
+    return name.encode("utf-8", "surrogateescape")[:NAME_BYTES].decode("utf-8", errors="ignore")
+
+
+def with_record(fault: FrameError) -> FrameError:
+    """The refusal as a command says it, with its record."""
+    text = str(fault)
+    return FrameError(text if fault.record is None else f"record {fault.record}: {text}", fault.kind, fault.record)
+
+
+class Split(NamedTuple):
+    """What a text comes to, by the names that files have."""
+
+    tracks: Tracks
+    names: dict[str, str]  # the clean name of each animal
+    checksum: str
+
+
+def read_text(path: str, options: dict[str, Any], said: Said) -> Split:
+    """The tracks of a table of text."""
+    try:
+        asked = asked_of(options)
+        text = open_text(path, asked, options.get("from") == "gpx")
+        table = read_table(text.lines, path, asked)
+        tracks = make_tracks(table, said, clean)
+        names = {name: clean(name) for name in [*tracks.by_name, *table.rows_of]}
+        check_names(tracks, names)
+        for name in tracks.by_name:
+            if names[name] != name:
+                said.say(f"animal '{name}' is named {names[name]}")
+        return Split(tracks, names, text.checksum)
+    except FrameError as fault:
+        raise with_record(fault) from None
+
+
+def check_names(tracks: Tracks, names: dict[str, str]) -> None:
+    """Refuses two animals whose names come out the same."""
+    known: dict[str, str] = {}
+    for name in tracks.by_name:
+        other = known.setdefault(names[name], name)
+        if other != name:
+            refuse(f"animals '{other}' and '{name}' would both be named {names[name]}", "name")
+
+
+def write_track(path: Path, name: str, track: Track, mark: bool) -> None:
+    """Writes the file of an animal."""
+    with open(path, "x", encoding="utf-8", newline="\n") as file:
+        file.write("animal,second,easting,northing" + ",use" * mark + "\n")
+        if mark:
+            file.writelines(f"{name},{second},{east},{north},{used}\n" for second, east, north, used in zip(*track))
+        else:
+            file.writelines(f"{name},{second},{east},{north}\n" for second, east, north, _ in zip(*track))
+
+
+def record_lines(path: str, split: Split, unit: str, said: Said) -> Iterable[str]:
+    """The record of what was done: the export, the unit, the zone, what was said and what was left out."""
+    yield f"export,{path}"
+    yield f"sha256,{split.checksum}"
+    yield f"unit,{unit}"
+    yield f"zone,{split.tracks.zone or 'none'}"
+    if any(split.tracks.shift):
+        yield "shift,{},{}".format(*split.tracks.shift)
+    yield from (f"said,{line}" for line in said.lines)
+    left = [(split.names.get(name, clean(name)), REASONS.index(reason), count)
+            for (name, reason), count in said.left.items()]
+    yield from (f"left,{name},{count},{REASONS[reason]}" for name, reason, count in sorted(left))
+
+
+def split_text(path: str, into: str, options: dict[str, Any], tell: Callable[[str], None]) -> None:
+    """Makes the folder of tracks of a table of text."""
+    if not into:
+        refuse("into: the folder has no name")
+    if os.path.lexists(into):
+        refuse(f"{into} is there already: remove it, or name another by --into")
+    said = Said(tell)
+    split = read_text(path, options, said)
+    folder = Path(into)
+    unit, mark = options.get("unit") or "m", bool(options.get("mark"))
+    try:
+        folder.mkdir(parents=True)
+        for name, track in split.tracks.by_name.items():
+            write_track(folder / f"{split.names[name]}.csv", split.names[name], track, mark)
+        fixes = sum(len(track.seconds) for track in split.tracks.by_name.values())
+        said.say(f"{fixes} fixes of {len(split.tracks.by_name)} animals are in {into}, in {unit}")
+        lines = record_lines(path, split, unit, said)
+        (folder / "split.txt").write_text("".join(f"{one_line(line)}\n" for line in lines), encoding="utf-8")
+    except OSError as fault:
+        refuse(f"{fault.filename or into}: {fault.strerror}", "text")

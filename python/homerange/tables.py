@@ -1,0 +1,363 @@
+"""From the cells of a table to its records: which rows have coordinates and an animal, and what they say. The rules are
+those of docs/TABLES.md, of a text and of a data frame alike."""
+
+from __future__ import annotations
+
+import math
+from array import array
+from collections import Counter
+from itertools import compress
+from typing import Any, Callable, Iterable, Mapping, NoReturn, Optional, Sequence
+
+from .asked import Asked, zone_of_time
+from .cells import Bad, Form, Numbers, Stamp, Times, Unread, moments_of, shown, truth
+from .errors import FrameError, one_line, refuse
+from .titles import DOPS, FIX_TYPES, HOMERANGE, Titles, find_columns
+from .zones import zone_of
+
+SENSORS = {"397": "bird-ring", "653": "gps", "673": "radio-transmitter", "82798": "argos-doppler-shift",
+           "2365682": "natural-mark", "3886361": "solar-geolocator"}
+OWNERS_MARK, VALID = "manually-marked-outlier", "manually-marked-valid"
+OTHER_MARKS = ("algorithm-marked-outlier", "import-marked-outlier")
+ARGOS = "argos-doppler-shift"
+NUMBERS, ANIMAL, MARK, TIME, ZONE, DOP = range(6)  # the order in which the faults of a record are told
+
+Cells = Sequence[Any]
+
+
+class Said:
+    """What is said, and how many fixes of which animal were left out for which reason."""
+
+    def __init__(self, tell: Callable[[str], None]) -> None:
+        self.tell, self.lines = tell, list[str]()
+        self.left: Counter[tuple[str, str]] = Counter()
+
+    def say(self, text: str, count: int | None = None) -> None:
+        """Says the text, behind its count if it has one; what counts 0 is not said."""
+        if count != 0:
+            self.lines.append(one_line(f"{count} {text}" if count else text))
+            self.tell(self.lines[-1])
+
+
+class Records:
+    """The records of a table that have coordinates and an animal, by columns."""
+
+    def __init__(self) -> None:
+        self.number = array("l")  # that of the row below the titles is 1
+        self.animal: list[str] = []
+        self.second, self.part = array("q"), array("d")
+        self.used = bytearray()
+        self.east, self.north = array("d"), array("d")  # in metres; NaN where there are none
+        self.longitude, self.latitude = array("d"), array("d")
+        self.zone: list[str] = []
+        self.sensor: list[str] = []
+        self.argos: list[str] = []
+        self.fix: list[str] = []
+        self.dop = array("d")
+
+    def __len__(self) -> int:
+        return len(self.animal)
+
+    def extend(self, columns: Mapping[str, Iterable[Any]]) -> None:
+        """Adds records, by columns; those that are not there stay empty."""
+        for name, values in columns.items():
+            getattr(self, name).extend(values)
+
+    def keep(self, mask: Sequence[Any]) -> None:
+        """Keeps the records whose place in the mask is true."""
+        for name, column in vars(self).items():
+            if column:
+                kept = compress(column, mask)
+                setattr(self, name, array(column.typecode, kept) if isinstance(column, array) else type(column)(kept))
+
+
+class Faults:
+    """The first fault of the first row that has one."""
+
+    def __init__(self) -> None:
+        self.first: Optional[tuple[int, int, Unread]] = None
+
+    def note(self, row: int, order: int, fault: Unread) -> None:
+        if self.first is None or (row, order) < self.first[:2]:
+            self.first = (row, order, fault)
+
+    def each(self, read: Callable[[Any], Any], cells: Iterable[Any], rows: Sequence[int], order: int, bad: Any) -> list[Any]:
+        """What is read of each cell, or this where it can't be read."""
+        found = []
+        for row, cell in zip(rows, cells):
+            try:
+                found.append(read(cell))
+            except Unread as fault:
+                self.note(row, order, fault)
+                found.append(bad)
+        return found
+
+    def distinct(self, read: Callable[[Any], Any], cells: Cells, rows: Sequence[int], order: int, bad: Any) -> list[Any]:
+        """The same, where few cells differ."""
+        known: dict[Any, Any] = {}
+        for cell in {*cells}:
+            try:
+                known[cell] = read(cell)
+            except Unread as fault:
+                known[cell] = bad
+                self.note(rows[cells.index(cell)], order, fault)
+        return [known[cell] for cell in cells]
+
+
+class Table:
+    """A table that is read in pieces. Its columns are found by the titles."""
+
+    def __init__(self, titles: Sequence[str], asked: Asked, semicolons: bool = False, has_points: bool = False) -> None:
+        asked.check()
+        self.asked, self.titles = asked, Titles(titles, asked)
+        self.columns = find_columns(self.titles, has_points)
+        self.check_time()
+        self.records, self.said_by_row = Records(), Counter[str]()
+        self.rows, self.rows_of = 0, Counter[str]()
+        self.left: Counter[tuple[str, str]] = Counter()
+        self.missing = asked.missing
+        self.names_missing = frozenset({"", *asked.na})
+        self.marks = self.find_marks()
+        self.sensor = self.titles.usual("sensor-type")
+        if self.sensor is None:
+            self.sensor = self.titles.usual("sensor-type-id")
+        self.argos = self.optional("argos", asked.argos, ("argos-lc",))
+        self.dop = self.optional("dop", asked.dop, DOPS) if asked.max_dop is not None else None
+        self.fix = self.optional("fix", asked.fix, FIX_TYPES) if asked.fix_type is not None else None
+        self.require(asked.max_dop is not None and self.dop is None, "max-dop", "dop", DOPS)
+        self.require(asked.fix_type is not None and self.fix is None, "fix-type", "fix", FIX_TYPES)
+        self.zone = self.titles.usual("utm-zone") if self.columns.is_utm else None
+        self.readers = self.number_readers(semicolons)
+        self.times = self.time_reader()
+        self.clock = zone_of_time(asked.clock)
+        self.last: dict[str, tuple[int, float]] = {}
+        self.twice: list[int] = []
+
+    def check_time(self) -> None:
+        needs = self.asked.needs_time
+        if not self.columns.time and needs:
+            refuse(f"{needs}: no column has a usual title for the time: name it, as by {self.asked.word('time', 'COLUMN')}")
+
+    def require(self, fails: bool, option: str, column: str, usual: Sequence[str]) -> None:
+        if fails:
+            refuse(f"{option}: no column has a usual title for it ({', '.join(usual)}): name it, as by "
+                   f"{self.asked.word(column, 'COLUMN')}", "columns")
+
+    def optional(self, option: str, named: str | None, usual: Sequence[str]) -> int | None:
+        """A column that was named, or the first of usual titles."""
+        return self.titles.first(usual) if named is None else self.titles.named(named, option)
+
+    def find_marks(self) -> dict[str, int]:
+        """The columns of marks by their usual titles: use alone, where it is there."""
+        use = self.titles.usual("use")
+        if use is not None:
+            return {"use": use}
+        names = ("visible", OWNERS_MARK, *OTHER_MARKS, VALID)
+        return {name: at for name in names if (at := self.titles.usual(name)) is not None}
+
+    def title(self, at: int) -> str:
+        return self.titles.titles[at]
+
+    def number_readers(self, semicolons: bool) -> list[tuple[str, int, Numbers]]:
+        """What reads the coordinates: the column of the records, the place in a row, and the form of its numbers."""
+        pairs = (("east", "north", self.columns.grid), ("longitude", "latitude", self.columns.degrees))
+        return [(name, at, Numbers("place" if at < 0 else self.title(at), semicolons, pair is self.columns.grid,
+                                   self.missing))
+                for *names, pair in pairs if pair is not None for name, at in zip(names, pair)]
+
+    def time_reader(self) -> Times:
+        """What reads times."""
+        title = " ".join(map(self.title, self.columns.time))
+        form = self.asked.time_format
+        is_second = len(self.columns.time) == 1 and self.titles.plain[self.columns.time[0]] == HOMERANGE.time
+        forms = [Form(text) for text in form.split("|")] if form else []
+        return Times(title, is_second, forms, not self.asked.is_frame and self.asked.clock != "UTC", self.missing)
+
+    @property
+    def wanted(self) -> list[int]:
+        """The places in a row that are read."""
+        others = [self.sensor, self.argos, self.dop, self.fix, self.zone, *self.marks.values()]
+        places = [at for _, at, _ in self.readers if at >= 0]
+        return sorted({*self.columns.animal, *self.columns.time, *places, *(at for at in others if at is not None)})
+
+    def take(self, cells: Mapping[int, Cells], count: int) -> None:
+        """Takes the next rows, so many. Refuses the first that has a fault."""
+        faults, rows = Faults(), range(count)
+        places = {name: self.numbers(reader, cells[at], rows, faults) for name, at, reader in self.readers}
+        names = self.names(cells, rows, faults)
+        kept = self.with_place(places, names)
+        if len(kept) < count:
+            cells = {at: [column[row] for row in kept] for at, column in cells.items() if at >= 0}
+            places = {name: [values[row] for row in kept] for name, values in places.items()}
+            names = [names[row] for row in kept]
+        found = {**places, "animal": names, "number": [self.rows + row + 1 for row in kept],
+                 "used": self.used(cells, kept, faults), **self.words(cells, kept, faults)}
+        stamps = self.stamps(cells, kept, names, faults)
+        found["second"], found["part"] = ([stamp[0] for stamp in stamps], [stamp[1] for stamp in stamps])
+        if faults.first is not None:
+            row, _, fault = faults.first
+            raise FrameError(one_line(str(fault)), fault.kind, self.rows + row + 1)
+        self.rows += count
+        self.records.extend(found)
+
+    def numbers(self, reader: Numbers, cells: Cells, rows: Sequence[int], faults: Faults) -> list[float]:
+        whole = reader.whole_column(cells)
+        return faults.each(reader.read, cells, rows, NUMBERS, math.nan) if whole is None else whole
+
+    def names(self, cells: Mapping[int, Cells], rows: Sequence[int], faults: Faults) -> list[Any]:
+        """The animal of each row: "" where there is none, and a fault as it is, which counts where the row has a place."""
+        if not self.columns.animal:
+            return [self.asked.name] * len(rows)
+        columns = [["" if cell is None or cell in self.names_missing else cell for cell in cells[at]]
+                   for at in self.columns.animal]
+        names = columns[0] if len(columns) == 1 else [next(filter(None, row), "") for row in zip(*columns)]
+        self.rows_of.update(name for name in names if name and isinstance(name, str))
+        return names
+
+    def with_place(self, places: Mapping[str, Sequence[float]], names: list[Any]) -> Sequence[int]:
+        """The rows that have coordinates and an animal; counts the others."""
+        blank = [math.nan] * len(names)
+        columns = [places.get(name, blank) for name in ("east", "north", "longitude", "latitude")]
+        kept: list[int] = []
+        for row, (east, north, longitude, latitude) in enumerate(zip(*columns)):
+            is_zero = longitude == 0 and latitude == 0
+            has_grid = east == east and north == north and not (is_zero and east == 0 and north == 0)
+            if not has_grid and (is_zero or longitude != longitude or latitude != latitude):
+                self.leave(names[row], "zero" if is_zero else "coordinates")
+            elif names[row] == "" and self.asked.skip_unnamed:
+                self.leave("", "animal")
+            else:
+                kept.append(row)
+        return kept
+
+    def leave(self, name: Any, reason: str) -> None:
+        self.said_by_row[reason] += 1
+        self.left[name if isinstance(name, str) else "", reason] += 1
+
+    def used(self, cells: Mapping[int, Cells], rows: Sequence[int], faults: Faults) -> list[bool]:
+        """Which of these rows the marks have as used."""
+        truths = {}
+        for name, at in self.marks.items():
+            def read(cell: Any, title: str = self.title(at), must: bool = name == "use") -> bool | None:
+                found = truth(cell, title, self.missing)
+                if must and found is None:
+                    raise Unread(f"{title} is {shown(cell)} and neither true nor false: name another column of marks, "
+                                 "or rename this one", "mark")
+                return found
+            truths[name] = faults.distinct(read, cells[at], rows, MARK, None)
+        if "use" in truths:
+            return [mark is True for mark in truths["use"]]
+        blank = [None] * len(rows)
+        visible, owner, first, second, valid = (
+            truths.get(name, blank) for name in ("visible", OWNERS_MARK, *OTHER_MARKS, VALID))
+        return [seen is not False and not own and (ok is True or not (one or other))
+                for seen, own, one, other, ok in zip(visible, owner, first, second, valid)]
+
+    def words(self, cells: Mapping[int, Cells], rows: Sequence[int], faults: Faults) -> dict[str, list[Any]]:
+        """The zones, sensors, classes, types and DOPs of these rows, as far as they are wanted."""
+        readers: list[tuple[str, int | None, Callable[[Any], Any], int]] = [
+            ("zone", self.zone, self.zone_of_cell, ZONE), ("sensor", self.sensor, self.sensor_of_cell, ZONE),
+            ("argos", self.argos, self.word_of_cell, ZONE), ("fix", self.fix, self.word_of_cell, ZONE)]
+        if self.dop is not None:
+            readers.append(("dop", self.dop, Numbers(self.title(self.dop), True, False, self.missing).read, DOP))
+        return {name: faults.distinct(read, cells[at], rows, order, "") for name, at, read, order in readers
+                if at is not None}
+
+    def word_of_cell(self, cell: Any) -> str:
+        """What a cell says as a word, "" where it is missing."""
+        if cell is None or (isinstance(cell, str) and cell in self.missing):
+            return ""
+        if isinstance(cell, Bad):
+            raise Unread(cell.text, cell.kind)
+        return str(int(cell)) if isinstance(cell, float) and cell.is_integer() else str(cell)
+
+    def sensor_of_cell(self, cell: Any) -> str:
+        word = self.word_of_cell(cell)
+        return SENSORS.get(word, word)
+
+    def zone_of_cell(self, cell: Any) -> str:
+        word = self.word_of_cell(cell)
+        try:
+            return zone_of(word) if word else ""
+        except FrameError as fault:
+            raise Unread(f"{self.title(self.zone or 0)} is {fault}", "zone") from None
+
+    def stamps(self, cells: Mapping[int, Cells], rows: Sequence[int], names: list[Any], faults: Faults) -> list[Stamp]:
+        """The stamps of these rows; notes rows without an animal, which come before their time."""
+        for row, name in zip(rows, names):
+            if name == "":
+                faults.note(row, ANIMAL, Unread(self.unnamed(), "animal"))
+            elif not isinstance(name, str):
+                faults.note(row, ANIMAL, Unread(f"the animal is {name.text}", name.kind))
+        if not self.columns.time:
+            return [(self.rows + row, 0.0, False) for row in rows]
+        columns = [cells[at] for at in self.columns.time]
+        texts = columns[0] if len(columns) == 1 else [
+            None if None in row else " ".join(map(str, row)) for row in zip(*columns)]
+        stamps = faults.each(self.times.read, texts, rows, TIME, (0, 0.0, False))
+        if self.asked.is_frame or self.clock.key == "UTC":
+            return stamps
+        return [self.moment(stamp, row, name, faults) for stamp, row, name in zip(stamps, rows, names)]
+
+    def unnamed(self) -> str:
+        title = self.title(self.columns.animal[0])
+        how = "skip_unnamed=True" if self.asked.is_frame else "--skip-unnamed"
+        return f"there is no {title}, and {how} leaves such records out"
+
+    def moment(self, stamp: Stamp, row: int, name: str, faults: Faults) -> Stamp:
+        """A stamp of UTC of one of a local clock, which comes behind the last one of its animal if it comes twice."""
+        second, part, is_local = stamp
+        if is_local:
+            found = moments_of(second, self.clock)
+            if not found or found[-1] < 0:
+                text = f"{self.times.title}: the clocks of {self.clock.key} passed over that time"
+                faults.note(row, TIME, Unread(text, "time"))
+                return stamp
+            second = found[0]
+            if len(found) > 1:
+                self.twice.append(self.rows + row + 1)
+                if (second, part) < self.last.get(name, (second, part)):
+                    second = found[1]
+        self.last[name] = (second, part)
+        return second, part, False
+
+    def finish(self, said: Said) -> Records:
+        """The records, once it is said what was read as what, and which rows are none."""
+        if not self.rows:
+            refuse("there is no record below the titles", "empty")
+        self.check_animals(said)
+        said.left.update(self.left)
+        texts = {"animal": "records have no animal", "coordinates": "records have no coordinates",
+                 "zero": "records have longitude and latitude 0"}
+        for reason, text in texts.items():
+            said.say(f"{text}: left out", self.said_by_row[reason])
+        if not self.columns.animal:
+            said.say(f"no column has a usual title for the animal: all fixes are of one, named {self.asked.name}")
+        if not self.columns.time:
+            said.say("no column has a usual title for the time: fixes are in the order of rows, as seconds 0, 1, 2, ..")
+        if self.twice:
+            numbers = ", ".join(map(str, self.twice[:10])) + (", .." if len(self.twice) > 10 else "")
+            said.say(f"records lie in the hour that comes twice in {self.clock.key}: records {numbers}", len(self.twice))
+        return self.records
+
+    def check_animals(self, said: Said) -> None:
+        """Refuses a column of the animal that has another one in each row, and says where most have."""
+        animals, single = len(self.rows_of), sum(count == 1 for count in self.rows_of.values())
+        if not self.columns.animal or animals < 2:
+            return
+        title = self.title(self.columns.animal[0])
+        if single == animals:
+            refuse(f"every one of {animals} animals has one record: is {title} the animal? Name its column, as by "
+                   f"{self.asked.word('animal', 'COLUMN')}", "onefix")
+        if 2 * single > animals:
+            said.say(f"of {animals} animals have one record: is {title} the animal?", single)
+
+
+def ranked(words: Iterable[str]) -> tuple[str, str]:
+    """The most frequent word, and each word with its count, as text."""
+    order = sorted(Counter(words).items(), key=lambda item: (-item[1], item[0]))
+    return order[0][0], ", ".join(f"{word or 'none'} {count}" for word, count in order)
+
+
+def nothing_left() -> NoReturn:
+    refuse("no fix is left", "empty")

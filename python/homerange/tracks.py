@@ -1,0 +1,470 @@
+"""From the records of a table to the tracks of its animals: sensors, filters, places in whole units, the order of time.
+docs/TABLES.md has the rules."""
+
+from __future__ import annotations
+
+import operator
+from datetime import date, datetime, timedelta
+from itertools import compress
+from math import floor, hypot, isfinite
+from typing import Any, Callable, NamedTuple, Optional, Sequence
+
+from . import zones
+from .asked import UNITS, Asked, Unit, seconds_of, zone_of_time
+from .cells import EPOCH, LAST_OF_CALENDAR, Offsets, day_begins, iso_time, moments_of
+from .errors import refuse
+from .tables import ARGOS, Records, Said, Table, nothing_left, ranked
+
+MOST_FIXES = 1_048_576  # of one animal
+STEP = 1_000_000  # metres by which a local grid is shifted
+
+
+class Track(NamedTuple):
+    """The records of one animal in the order of time, in whole units."""
+
+    seconds: list[int]
+    eastings: list[int]
+    northings: list[int]
+    used: list[int]  # 1 or 0
+
+
+class Tracks(NamedTuple):
+    """What a table comes to."""
+
+    by_name: dict[str, Track]
+    zone: str | None
+    shift: tuple[int, int]  # metres that were added to all eastings and northings
+    table: Table
+
+
+class Choice:
+    """The records of a table that are chosen, and what is said of those that are left out."""
+
+    def __init__(self, table: Table, records: Records, said: Said) -> None:
+        self.table, self.asked, self.records, self.said = table, table.asked, records, said
+        self.offsets = Offsets(zone_of_time(self.asked.clock))
+
+    def keep(self, mask: Sequence[bool], reason: str, text: str) -> None:
+        """Leaves out the records whose place in the mask is false, counts and says them."""
+        if all(mask):
+            return
+        gone = list(compress(self.records.animal, map(operator.not_, mask)))
+        self.said.left.update((name, reason) for name in gone)
+        self.said.say(f"{text}: left out", len(gone))
+        self.records.keep(mask)
+
+    def sensors(self) -> None:
+        """Keeps the records of the wanted sensors; of all, where the used ones are of one."""
+        records, wanted = self.records, self.asked.sensor
+        of = records.sensor or [""] * len(records)
+        used = list(compress(of, records.used))
+        if wanted is None and len({*used}) > 1:
+            first, counts = ranked(used)
+            refuse(f"fixes are of several sensors ({counts}): name those to take, such as "
+                   f"{self.asked.word('sensor', first or 'none')}", "sensor")
+        if wanted is not None:
+            names = {"" if name == "none" else name for name in wanted}
+            for name in sorted(names.difference(of)):
+                refuse(f"sensor: no fix is of {name or 'none'}", "sensor")
+            self.keep([sensor in names for sensor in of], "sensor", "records of other sensors")
+        left = {*compress(records.sensor, records.used)}
+        if len(left) == 1 and not left <= {"gps", ""}:
+            self.said.say(f"all fixes are of the sensor {left.pop()}")
+
+    def outliers(self) -> None:
+        """Leaves outliers out, unless they are written with a mark."""
+        used = self.records.used
+        if self.asked.mark:
+            self.said.say("outliers: use 0", len(used) - sum(used))
+        else:
+            self.keep(used, "outlier", "outliers")
+
+    def classes(self) -> None:
+        """Keeps the Argos classes that are wanted, which have to be named where fixes are of Argos."""
+        records, wanted = self.records, self.asked.argos_class
+        argos = records.argos or [""] * len(records)
+        sensors = records.sensor or [""] * len(records)
+        if wanted is None:
+            if any(used and (of or sensor == ARGOS) for used, of, sensor in zip(records.used, argos, sensors)):
+                refuse("fixes are of Argos, most of whose classes are off by kilometres: name the classes to take, such as "
+                       f"{self.asked.word('argos-class', '3,2,1')} (none is a fix without a class)", "argos")
+            return
+        names = {"" if name == "none" else name for name in wanted}
+        self.keep([of in names for of in argos], "class", f"fixes are of other Argos classes than {','.join(wanted)}")
+
+    def quality(self) -> None:
+        """Keeps the fixes with a dilution of precision, and of the types, that are wanted."""
+        asked, records = self.asked, self.records
+        if asked.max_dop is not None:
+            self.keep([dop == dop for dop in records.dop], "no dop", "fixes have no DOP")
+            most = asked.max_dop
+            self.keep([dop <= most for dop in records.dop], "dop", f"fixes have a DOP above {most:g}")
+        if asked.fix_type is not None:
+            wanted = ",".join(asked.fix_type)
+            self.keep([fix in asked.fix_type for fix in records.fix], "type", f"fixes are of other fix types than {wanted}")
+
+    def period(self) -> None:
+        """Keeps the fixes from the first moment to the last that are wanted."""
+        asked, records = self.asked, self.records
+        if asked.since is not None:
+            first = bound(asked.since, asked, False)
+            self.keep([second >= first for second in records.second], "before", f"fixes are before {asked.since}")
+        if asked.until is not None:
+            last = bound(asked.until, asked, True)
+            self.keep([second <= last for second in records.second], "after", f"fixes are after {asked.until}")
+
+
+def month_of(second: int) -> int:
+    """The month of a second of a clock; 0 after the year 9999."""
+    return (EPOCH + timedelta(seconds=second)).month if second <= LAST_OF_CALENDAR else 0
+
+
+def bound(value: Any, asked: Asked, is_end: bool) -> int:
+    """The second of a bound. One without a zone is a time of the clock; a day is its first second, or its last."""
+    text = value if isinstance(value, str) else value.isoformat() if isinstance(value, (date, datetime)) else str(value)
+    stamp, zone = iso_time(text.strip()), zone_of_time(asked.clock)
+    if stamp is None:
+        refuse(f"{value!r} is no time in {asked.clock}, such as '2024-05-01' or '2024-05-01 00:30:04'")
+    second, part, is_local = stamp
+    if len(text) == len("2024-05-01"):
+        return day_begins(second + 86400, zone) - 1 if is_end else day_begins(second, zone)
+    if is_local:
+        found = moments_of(second, zone)
+        if not found:
+            refuse(f"{value!r} is no time in {asked.clock}, whose clocks passed it over")
+        second = found[-1] if is_end else found[0]
+    return second + (part > 0 and not is_end)
+
+
+class Places:
+    """The places of records in metres of one grid. A record that is not used may have none, as NaN."""
+
+    def __init__(self, table: Table, records: Records, said: Said) -> None:
+        self.table, self.asked, self.records, self.said = table, table.asked, records, said
+        self.wanted = None if self.asked.zone is None else zones.zone_of(self.asked.zone)
+        self.zone, self.is_shifted = self.wanted, False
+        self.east: Sequence[float] = records.east
+        self.north: Sequence[float] = records.north
+
+    def find(self) -> None:
+        """Takes the metres of the table, or projects longitude and latitude."""
+        records, used = self.records, self.records.used
+        if not any(used):
+            nothing_left()
+        self.check_degrees()
+        if self.table.columns.grid and not self.table.columns.is_utm:
+            self.is_shifted = True
+            if self.wanted or not self.asked.is_frame:
+                self.said.say(f"coordinates are those of the table; zone: {self.wanted or 'not known'}")
+            return
+        if not records.east or not any(east == east for east in compress(records.east, used)) or not self.take_grid():
+            self.project()
+
+    def check_degrees(self) -> None:
+        """Refuses degrees in the columns of metres."""
+        columns, records = self.table.columns, self.records
+        if columns.grid is None:
+            return
+        pairs = [(east, north) for east, north in zip(compress(records.east, records.used),
+                                                      compress(records.north, records.used)) if east == east]
+        is_small = bool(pairs) and all(abs(east) <= 180 and abs(north) <= 90 for east, north in pairs)
+        if not is_small or all(east == floor(east) and north == floor(north) for east, north in pairs):
+            return
+        if columns.is_own:
+            self.said.say("all fixes lie within 180 m by 90 m of the grid's corner: are they longitude and latitude?")
+            return
+        titles = [self.table.title(at) if at >= 0 else "points" for at in columns.grid]
+        zone = zones.zone_at(*pairs[0])
+        refuse(f"all of {titles[0]} and {titles[1]} lie within 180 by 90, as longitude and latitude do: say so by "
+               f"{self.asked.word('lon', titles[0])}{', ' if self.asked.is_frame else ' '}"
+               f"{self.asked.word('lat', titles[1])}{', ' if self.asked.is_frame else ' '}{self.asked.word('zone', zone)}; "
+               "or, if they are metres, add 1000 to all", "degrees")
+
+    def zone_of(self, at: int, wanted: Optional[str]) -> str:
+        """The zone of a record's UTM coordinates: as the table names it, or else as its longitude has it, or else the
+        wanted one."""
+        records = self.records
+        if records.zone and records.zone[at]:
+            return records.zone[at]
+        if records.longitude and records.longitude[at] == records.longitude[at]:
+            return zones.zone_at(records.longitude[at], records.latitude[at])
+        if wanted is None:
+            refuse(f"there is no utm-zone: name that of its coordinates, such as {self.asked.word('zone', '33N')}", "zone",
+                   records.number[at])
+        return wanted
+
+    def take_grid(self) -> bool:
+        """Takes the UTM coordinates of the table, where those of all used records are of one zone, the wanted one if
+        any."""
+        records, wanted = self.records, self.wanted
+        used = [at for at in range(len(records)) if records.used[at]]
+        has_grid = [east == east for east in records.east]
+        zone, counts = ranked(self.zone_of(at, wanted) for at in used if has_grid[at])
+        bare = next((at for at in used if not has_grid[at]), None)
+        remedy = f"name the zone of all, such as {self.asked.word('zone', zone)}"
+        if "," in counts and not wanted:
+            refuse(f"fixes lie in several zones ({counts}): {remedy}", "zone")
+        if bare is not None and not wanted:
+            refuse(f"there are no UTM coordinates: {remedy}", "zone", records.number[bare])
+        if "," in counts or bare is not None or wanted not in (None, zone):
+            return False
+        off = [at for at in range(len(records)) if not (has_grid[at] and self.zone_of(at, zone) == zone)]
+        for at in off:
+            records.east[at] = float("nan")
+        self.zone = zone
+        self.said.say(f"UTM coordinates are those of the export; zone: {counts}")
+        return True
+
+    def project(self) -> None:
+        """Projects longitude and latitude into the wanted zone, or else into that of most used records."""
+        records = self.records
+        bare = next((at for at in range(len(records))
+                     if not records.longitude or records.longitude[at] != records.longitude[at]), None)
+        if bare is not None:
+            refuse("there is no longitude and latitude to project", "zone", records.number[bare])
+        pairs = zip(compress(records.longitude, records.used), compress(records.latitude, records.used))
+        most, counts = ranked(zones.zone_at(*pair) if all(map(isfinite, pair)) else "none" for pair in pairs)
+        if self.wanted is None and self.asked.is_frame:
+            self.refuse_degrees(most)
+        if self.wanted is None and "N" in counts and "S" in counts:
+            refuse(f"fixes lie on both sides of the equator ({counts}): name the zone of all, such as "
+                   f"{self.asked.word('zone', most[:-1] + 'S')}", "zone")
+        self.zone = self.wanted or most
+        self.said.say(f"longitude and latitude are projected into zone {self.zone}; fixes by zone: {counts}")
+        self.east, self.north = zones.project(records.longitude, records.latitude, self.zone)
+
+    def refuse_degrees(self, zone: str) -> None:
+        longitude, latitude = (self.table.title(at) for at in self.table.columns.degrees or ())
+        refuse(f"the frame has longitude and latitude: name the UTM zone to project them into, zone={zone!r}; or make points "
+               "of them and project them, as by points = geopandas.GeoDataFrame(frame, geometry=geopandas.points_from_xy("
+               f"frame['{longitude}'], frame['{latitude}']), crs=4326) and points.to_crs(points.estimate_utm_crs())",
+               "degrees")
+
+    def shift(self, unit: Unit) -> tuple[int, int]:
+        """How many metres all eastings and northings are shifted by, so that those of the used are on the grid."""
+        if not self.is_shifted:
+            return (0, 0)
+        shifts = self.shift_of("eastings", self.east, unit), self.shift_of("northings", self.north, unit)
+        if any(shifts):
+            self.said.say(f"coordinates are shifted by {shifts[0]} m east and {shifts[1]} m north")
+        return shifts
+
+    def shift_of(self, side: str, metres: Sequence[float], unit: Unit) -> int:
+        """How many metres one side is shifted by. What is wider than the grid is refused."""
+        used = [value for value in compress(metres, self.records.used) if isfinite(value)]
+        least, most = min(used, default=0.0), max(used, default=0.0)
+        added = -STEP * floor(least / STEP)
+        for shift in (0, added):
+            ends = [floor(unit.per_metre * (end + shift) + 0.5) for end in (least, most)]
+            if 0 <= ends[0] and ends[1] <= unit.limit:
+                return shift
+        refuse(f"{side} go from {least:.2f} to {most:.2f}, which is wider than a grid of {unit.limit // unit.per_metre} "
+               "metres: is one of them wrong?", "grid")
+
+    def rounded(self, unit: Unit, shift: tuple[int, int]) -> tuple[list[int], list[int]]:
+        """The places in whole units, half a unit rounded up; -1 where a fix that is not used is off the grid."""
+        whole = []
+        for metres, added in zip((self.east, self.north), shift):
+            values = [value + added for value in metres] if added else metres
+            units = [floor(unit.per_metre * value + 0.5) if abs(value) < 1e9 else -1 for value in values]
+            whole.append(units)
+        limit = unit.limit
+        off = [at for at, (east, north) in enumerate(zip(*whole)) if not (0 <= east <= limit and 0 <= north <= limit)]
+        for at in off:
+            self.refuse_used(at, unit)
+            whole[0][at] = -1
+        return whole[0], whole[1]
+
+    def refuse_used(self, at: int, unit: Unit) -> None:
+        """Refuses a used record that is off the grid."""
+        if not self.records.used[at]:
+            return
+        east, north = self.east[at], self.north[at]
+        if not (isfinite(east) and isfinite(north)):
+            refuse("its longitude and latitude have no place in the zone", "grid", self.records.number[at])
+        refuse(f"{east:.2f} east and {north:.2f} north is off the grid, which goes from 0 to "
+               f"{unit.limit // unit.per_metre} metres", "grid", self.records.number[at])
+
+
+def check_scale(names: Sequence[str], places: Places, scale: zones.Scale, said: Said) -> None:
+    """Refuses a grid on which areas of an animal are wrong by more than 1 %, and says where by more than 0.1 %."""
+    sums: dict[str, list[float]] = {}
+    for name, east, north in compress(zip(names, places.east, places.north), places.records.used):
+        total = sums.setdefault(name, [0.0, 0.0, 0])
+        total[0] += east
+        total[1] += north
+        total[2] += 1
+    found = [(scale(east / count, north / count), name) for name, (east, north, count) in sums.items()
+             if isfinite(east) and isfinite(north)]
+    worst, name = max(found, key=lambda pair: abs(pair[0] - 1), default=(1.0, ""))
+    text = f"areas of {name} are {abs(worst - 1) * 100:.2f} % too {'great' if worst > 1 else 'small'} on this grid"
+    if abs(worst - 1) > zones.REFUSED:
+        refuse(f"{text}: take a zone or a reference system of the place", "scale")
+    if abs(worst - 1) > zones.TOLD:
+        said.say(text)
+
+
+def is_reached(most: float, unit: Unit, before: tuple[int, int, int], fix: tuple[int, int, int]) -> bool:
+    """Whether an animal of this speed comes from one fix to another: second, easting and northing."""
+    reach = most * unit.per_metre * (fix[0] - before[0])
+    east, north = float(fix[1] - before[1]), float(fix[2] - before[2])
+    return east * east + north * north <= reach * reach
+
+
+class Herd:
+    """The records of each animal in the order of time, as rows of their places."""
+
+    def __init__(self, choice: Choice, easting: list[int], northing: list[int]) -> None:
+        self.choice, self.said, self.records = choice, choice.said, choice.records
+        self.easting, self.northing = easting, northing
+        self.rows: dict[str, list[int]] = {}
+        for at, name in enumerate(self.records.animal):
+            if easting[at] >= 0:
+                self.rows.setdefault(name, []).append(at)
+
+    def sort(self, shown: Callable[[str], str]) -> None:
+        """Puts the records of each animal in the order of time, by the whole stamp, and says what was not."""
+        second, part = self.records.second, self.records.part
+        for name, rows in self.rows.items():
+            stamps = [(second[at], part[at]) for at in rows]
+            falls = sum(map(operator.lt, stamps[1:], stamps))
+            if falls:
+                self.said.say(f"records of {shown(name)} come before an earlier one: sorted by time", falls)
+                rows = [rows[place] for place in sorted(range(len(rows)), key=stamps.__getitem__)]
+                self.rows[name] = rows
+            self.tell_same(rows, shown(name))
+
+    def tell_same(self, rows: list[int], name: str) -> None:
+        """Says how many records have the second of the one before."""
+        second, east, north = self.records.second, self.easting, self.northing
+        same = [(former, later) for former, later in zip(rows, rows[1:]) if second[former] == second[later]]
+        places = sum(east[former] == east[later] and north[former] == north[later] for former, later in same)
+        text = f", and {places} its place: kept" if places else ": kept"
+        self.said.say(f"records of {name} have the second of the one before{text}", len(same))
+
+    def leave(self, reason: str, text: str, chosen: Callable[[list[int]], list[int]]) -> None:
+        """Keeps of each animal's used records those that are chosen."""
+        total, used = 0, self.records.used
+        for name, rows in self.rows.items():
+            kept = {*chosen([at for at in rows if used[at]])}
+            rest = [at for at in rows if at in kept or not used[at]]
+            gone = len(rows) - len(rest)
+            total += gone
+            self.rows[name] = rest
+            if gone:
+                self.said.left[name, reason] += gone
+        self.said.say(f"{text}: left out", total)
+
+    def fast(self, most: float, unit: Unit) -> None:
+        """Leaves out fixes that an animal of this speed does not come to from the last that is kept."""
+        def chosen(rows: list[int]) -> list[int]:
+            kept, before = rows[:1], None
+            for at in rows:
+                fix = self.records.second[at], self.easting[at], self.northing[at]
+                if before is None or is_reached(most, unit, before, fix):
+                    before = fix
+                    kept.append(at)
+            return kept
+
+        self.leave("speed", f"fixes are faster than {most:g} m/s", chosen)
+
+    def thin(self, length: int) -> None:
+        """Keeps the first fix of each piece of time, of so many seconds by the clock."""
+        local, second = self.choice.offsets.local, self.records.second
+
+        def chosen(rows: list[int]) -> list[int]:
+            firsts: dict[int, int] = {}
+            for at in rows:
+                firsts.setdefault(local(second[at]) // length, at)
+            return [*firsts.values()]
+
+        self.leave("every", f"fixes are not the first in {length / 3600:g} hours", chosen)
+
+    def calendar(self) -> None:
+        """Keeps the fixes of the months and hours that are wanted."""
+        for reason, text, passes in calendar_tests(self.choice):
+            self.leave(reason, text, lambda rows, passes=passes: [at for at in rows if passes(self.records.second[at])])
+
+
+def calendar_tests(choice: Choice) -> list[tuple[str, str, Callable[[int], bool]]]:
+    """The tests by month and hour that are wanted: the reason, what is said, and whether a second passes."""
+    asked, local, tests = choice.asked, choice.offsets.local, list[tuple[str, str, Callable[[int], bool]]]()
+    if asked.months is not None:
+        months, text = asked.months, ", ".join(map(str, asked.months))
+        tests.append(("months", f"fixes are in other months than {text}", lambda second: month_of(local(second)) in months))
+    if asked.hours is not None:
+        first, last = asked.hours
+        start, end = first * 3600, last * 3600
+
+        def passes(second: int) -> bool:
+            time = local(second) % 86400
+            return start <= time < end if start < end else time >= start or time < end
+
+        tests.append(("hours", f"fixes are at other hours than {first:g} to {last:g}", passes))
+    return tests
+
+
+def tell_moved(places: Places, whole: tuple[list[int], list[int]], shift: tuple[int, int], unit: Unit, said: Said) -> None:
+    """Says how far rounding moves fixes."""
+    scale, most = unit.per_metre, 0.0
+    if all(value.is_integer() for metres in (places.east, places.north) for value in metres):
+        return
+    for east, north, metres_east, metres_north in zip(*whole, places.east, places.north):
+        if east >= 0:
+            most = max(most, hypot(east / scale - shift[0] - metres_east, north / scale - shift[1] - metres_north))
+    if most > 1e-6:
+        said.say(f"coordinates are rounded to whole {unit.name}, which moves a fix by at most {most:.2g} m")
+
+
+def make_tracks(table: Table, said: Said, shown: Callable[[str], str] = str, scale: zones.Scale | None = None) -> Tracks:
+    """The tracks of a table that was read: of each animal the records that are chosen, in whole units, in the order of
+    time. ``shown`` is how an animal's name is said, and ``scale`` the areal scale of the reference system that is known
+    otherwise than by its zone."""
+    asked, unit = table.asked, UNITS[table.asked.unit]
+    records = table.finish(said)
+    animals = [name for name in table.rows_of] or [asked.name]
+    choice = Choice(table, records, said)
+    for choose in (choice.sensors, choice.outliers, choice.classes, choice.quality, choice.period):
+        choose()
+    places = Places(table, records, said)
+    places.find()
+    known_scale = scale or (zones.scale_of_zone if places.zone else None)
+    shift = places.shift(unit)
+    whole = places.rounded(unit, shift)
+    if known_scale:
+        check_scale(records.animal, places, known_scale, said)
+    said.left.update((name, "grid") for name, east in zip(records.animal, whole[0]) if east < 0)
+    said.say("outliers off the grid: left out", sum(east < 0 for east in whole[0]))
+    tell_moved(places, whole, shift, unit, said)
+    herd = Herd(choice, *whole)
+    herd.sort(shown)
+    if asked.max_speed is not None:
+        herd.fast(asked.max_speed, unit)
+    herd.calendar()
+    if asked.every is not None:
+        herd.thin(seconds_of(asked.every))
+    by_name = {name: track_of(records, whole, rows) for name, rows in herd.rows.items() if rows}
+    for name in sorted({*animals}.difference(by_name)):
+        said.say(f"no fix of '{name}' is left: no file")
+    if not any(any(track.used) for track in by_name.values()):
+        nothing_left()
+    tell_columns(table, by_name, unit, said)
+    return Tracks(by_name, places.zone, shift, table)
+
+
+def track_of(records: Records, whole: tuple[list[int], list[int]], rows: list[int]) -> Track:
+    """The track of these rows."""
+    columns = (records.second, whole[0], whole[1], records.used)
+    return Track(*([column[at] for at in rows] for column in columns))
+
+
+def tell_columns(table: Table, by_name: dict[str, Track], unit: Unit, said: Said) -> None:
+    """Says which columns were taken, the number of animals, and the extent of the used fixes."""
+    columns = table.columns
+    places = [*columns.animal, *columns.time, *(columns.grid or ()), *(columns.degrees or ())]
+    titles = ", ".join(table.title(at) if at >= 0 else "point" for at in dict.fromkeys(places))
+    box = []
+    for axis in (1, 2):
+        ends = [(min(used), max(used)) for track in by_name.values() if (used := [*compress(track[axis], track.used)])]
+        box.append((max(end for _, end in ends) - min(end for end, _ in ends)) / unit.per_metre / 1000)
+    said.say(f"columns: {titles}; {len(by_name)} animals, box {box[0]:.3f} by {box[1]:.3f} km")

@@ -1,0 +1,78 @@
+"""UTM zones: their one form, projecting into them, and how much greater areas are on a grid. docs/TABLES.md,
+Coordinates."""
+
+from __future__ import annotations
+
+import re
+from functools import lru_cache
+from math import cosh
+from typing import Any, Callable, Sequence
+
+from .errors import FrameError
+
+ZONE = re.compile("0?([1-9]|[1-5][0-9]|60) ?([NnSs])")
+BAND = re.compile("0?([1-9]|[1-5][0-9]|60) ?([C-HJ-MP-RT-Xc-hj-mp-rt-x])")
+SCALE_IN_THE_MIDDLE = 0.9996
+EARTH = 6_371_008.8  # the mean radius in metres
+TOLD, REFUSED = 0.001, 0.01  # how far an areal scale may be from 1 until it is said, and refused
+
+Scale = Callable[[float, float], float]  # the areal scale at an easting and a northing
+
+
+@lru_cache(maxsize=1000)
+def zone_of(text: str) -> str:
+    """A zone in its one form."""
+    found = ZONE.fullmatch(text.strip(" "))
+    if found:
+        return found[1] + found[2].upper()
+    band = BAND.fullmatch(text.strip(" "))
+    remedy = ""
+    if band:
+        remedy = f": {band[2]} is a band, and the zone is {band[1]}{'S' if band[2].upper() < 'N' else 'N'}"
+    raise FrameError(f"{text} is no zone as 33N{remedy}", "zone")
+
+
+def crs_of(zone: str) -> str:
+    """The reference system of a zone, on the ellipsoid of WGS 84."""
+    return f"EPSG:{326 if zone[-1] == 'N' else 327}{zone[:-1]:0>2}"
+
+
+def zone_at(longitude: float, latitude: float) -> str:
+    """The zone of a place, by its longitude alone."""
+    return f"{int((longitude + 180) // 6) % 60 + 1}{'N' if latitude >= 0 else 'S'}"
+
+
+def project(longitudes: Sequence[float], latitudes: Sequence[float], zone: str) -> tuple[list[float], list[float]]:
+    """Longitudes and latitudes projected into a zone, by pyproj; infinite where they have no place."""
+    try:
+        from pyproj import Transformer  # type: ignore[import]
+    except ImportError:
+        raise FrameError(
+            "there are no UTM coordinates of one zone, and longitude and latitude need pyproj: install python3-pyproj, "
+            "and call /usr/bin/python3") from None
+    transform = Transformer.from_crs("EPSG:4326", crs_of(zone), always_xy=True).transform
+    easting, northing = transform(list(longitudes), list(latitudes))
+    return list(easting), list(northing)
+
+
+def scale_of_zone(easting: float, _: float) -> float:
+    """The areal scale of UTM at an easting, on the sphere."""
+    return (SCALE_IN_THE_MIDDLE * cosh((easting - 500_000) / (SCALE_IN_THE_MIDDLE * EARTH))) ** 2
+
+
+def scale_of_crs(crs: Any) -> Scale | None:
+    """What tells the areal scale of a reference system; None where there is no pyproj."""
+    try:
+        from pyproj import CRS, Proj, Transformer
+    except ImportError:
+        return None
+    system = CRS.from_user_input(crs)
+    if len(system.sub_crs_list) > 0:
+        system = system.sub_crs_list[0]
+    degrees = Transformer.from_crs(system, system.geodetic_crs, always_xy=True)
+    factors = Proj(system).get_factors
+
+    def scale(easting: float, northing: float) -> float:
+        return float(factors(*degrees.transform(easting, northing)).areal_scale)
+
+    return scale
