@@ -1,0 +1,51 @@
+"""Home ranges of tagged animals in pandas, by the proved program homerange.
+
+    ranges = home_range(frame)
+    ranges.summary()
+
+``home_range`` takes a data frame of fixes (a location with its time) and has the program make the minimum convex polygon
+of each animal, its percent polygons, its table of incremental area analysis, and the overlaps. ``read_report`` reads a
+report that the program made elsewhere. Both answer with ``HomeRanges``; ``plot_curve`` and ``plot_ranges`` draw it, and
+``share_inside`` says how much of each range lies in a reserve. ``read_export`` makes a data frame of an export of Movebank
+or of a collar. docs/TABLES.md says how frames and exports are read.
+
+The numbers are those of the program. This package chooses, sorts and rounds the fixes, and says what it did in warnings
+of the class ``HomeRangeNote``; it is tested and not proved.
+
+Sources of the methods:
+Mohr, C. O. 1947. Table of equivalent populations of North American small mammals. American Midland Naturalist 37.
+Harris, S. et al. 1990. Home-range analysis using radio-tracking data. Mammal Review 20.
+"""
+
+from __future__ import annotations
+
+from typing import TYPE_CHECKING, Any
+
+from .errors import (
+    CutError, FileError, FrameError, HomeRangeError, HomeRangeInfo, HomeRangeNote, OptionError, OutOfMemoryError,
+    OutputError, ProgramError, ReportError,
+)
+
+if TYPE_CHECKING:
+    from .plot import plot_curve, plot_ranges
+    from .ranges import HomeRanges, home_range, read_export, read_report, share_inside
+
+__all__ = [
+    "CutError", "FileError", "FrameError", "HomeRangeError", "HomeRangeInfo", "HomeRangeNote", "HomeRanges", "OptionError",
+    "OutOfMemoryError", "OutputError", "ProgramError", "ReportError", "home_range", "plot_curve", "plot_ranges",
+    "read_export", "read_report", "share_inside",
+]
+DRAWN = ("plot_curve", "plot_ranges")
+
+
+def __getattr__(name: str) -> Any:
+    """What needs pandas is loaded when it is first asked for: tables of text are read without it."""
+    if name not in __all__:
+        raise AttributeError(f"module 'homerange' has no attribute {name!r}")
+    from . import plot, ranges
+
+    return getattr(plot if name in DRAWN else ranges, name)
+
+
+def __dir__() -> list[str]:
+    return __all__

@@ -31,6 +31,7 @@ class Asked:
     """Options. None is no wish."""
 
     is_frame: bool = False
+    all_used: bool = False  # an argument said which rows are used, so neither marks nor sensors are asked
     unit: str = "m"
     zone: str | None = None
     sensor: Sequence[str] | None = None
@@ -116,7 +117,7 @@ def positive(value: Any, option: str) -> float | None:
     return number
 
 
-def seconds_of(every: Any) -> int:
+def seconds_of(every: Any, name: str = "every") -> int:
     """The seconds of a length of time, which is text such as 2h or 30min, or a number of hours."""
     found = LENGTH.fullmatch(every) if isinstance(every, str) else None
     length = 0.0
@@ -128,5 +129,5 @@ def seconds_of(every: Any) -> int:
         except (TypeError, ValueError):
             length = 0.0
     if not 1 <= length < 2 ** 40:
-        refuse(f"every={every!r} is not a second or more, such as 2h or 30min")
+        refuse(f"{name}={every!r} is not a second or more, such as 2h or 30min")
     return round(length)

@@ -117,10 +117,8 @@ class Table:
         self.left: Counter[tuple[str, str]] = Counter()
         self.missing = asked.missing
         self.names_missing = frozenset({"", *asked.na})
-        self.marks = self.find_marks()
-        self.sensor = self.titles.usual("sensor-type")
-        if self.sensor is None:
-            self.sensor = self.titles.usual("sensor-type-id")
+        self.marks = {} if asked.all_used else self.find_marks()
+        self.sensor = None if asked.all_used and not asked.sensor else self.titles.first(("sensor-type", "sensor-type-id"))
         self.argos = self.optional("argos", asked.argos, ("argos-lc",))
         self.dop = self.optional("dop", asked.dop, DOPS) if asked.max_dop is not None else None
         self.fix = self.optional("fix", asked.fix, FIX_TYPES) if asked.fix_type is not None else None
@@ -156,12 +154,13 @@ class Table:
         return {name: at for name in names if (at := self.titles.usual(name)) is not None}
 
     def title(self, at: int) -> str:
-        return self.titles.titles[at]
+        """The title of a column; a point has none."""
+        return self.titles.titles[at] if at >= 0 else "point"
 
     def number_readers(self, semicolons: bool) -> list[tuple[str, int, Numbers]]:
         """What reads the coordinates: the column of the records, the place in a row, and the form of its numbers."""
         pairs = (("east", "north", self.columns.grid), ("longitude", "latitude", self.columns.degrees))
-        return [(name, at, Numbers("place" if at < 0 else self.title(at), semicolons, pair is self.columns.grid,
+        return [(name, at, Numbers(self.title(at), semicolons, pair is self.columns.grid,
                                    self.missing))
                 for *names, pair in pairs if pair is not None for name, at in zip(names, pair)]
 
@@ -187,7 +186,7 @@ class Table:
         names = self.names(cells, rows, faults)
         kept = self.with_place(places, names)
         if len(kept) < count:
-            cells = {at: [column[row] for row in kept] for at, column in cells.items() if at >= 0}
+            cells = {at: [column[row] for row in kept] for at, column in cells.items()}
             places = {name: [values[row] for row in kept] for name, values in places.items()}
             names = [names[row] for row in kept]
         found = {**places, "animal": names, "number": [self.rows + row + 1 for row in kept],

@@ -165,7 +165,7 @@ def find_columns(titles: Titles, has_points: bool = False) -> Columns:
     """The columns that are taken. Where there are points, the coordinates are theirs."""
     places, family = _named_places(titles), None
     if places is None and has_points:
-        places = Columns([], [], (-1, -1), None, False, False)
+        places = Columns([], [], (-1, -2), None, False, False)
     elif places is None:
         places, family = _usual_places(titles)
     elif places.is_utm:

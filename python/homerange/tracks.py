@@ -28,15 +28,6 @@ class Track(NamedTuple):
     used: list[int]  # 1 or 0
 
 
-class Tracks(NamedTuple):
-    """What a table comes to."""
-
-    by_name: dict[str, Track]
-    zone: str | None
-    shift: tuple[int, int]  # metres that were added to all eastings and northings
-    table: Table
-
-
 class Choice:
     """The records of a table that are chosen, and what is said of those that are left out."""
 
@@ -173,7 +164,7 @@ class Places:
         if columns.is_own:
             self.said.say("all fixes lie within 180 m by 90 m of the grid's corner: are they longitude and latitude?")
             return
-        titles = [self.table.title(at) if at >= 0 else "points" for at in columns.grid]
+        titles = [self.table.title(at) for at in columns.grid]
         zone = zones.zone_at(*pairs[0])
         refuse(f"all of {titles[0]} and {titles[1]} lie within 180 by 90, as longitude and latitude do: say so by "
                f"{self.asked.word('lon', titles[0])}{', ' if self.asked.is_frame else ' '}"
@@ -416,6 +407,17 @@ def tell_moved(places: Places, whole: tuple[list[int], list[int]], shift: tuple[
         said.say(f"coordinates are rounded to whole {unit.name}, which moves a fix by at most {most:.2g} m")
 
 
+class Tracks(NamedTuple):
+    """What a table comes to."""
+
+    by_name: dict[str, Track]
+    rows: dict[str, list[int]]  # which records each track has
+    places: Places
+    zone: str | None
+    shift: tuple[int, int]  # metres that were added to all eastings and northings
+    table: Table
+
+
 def make_tracks(table: Table, said: Said, shown: Callable[[str], str] = str, scale: zones.Scale | None = None) -> Tracks:
     """The tracks of a table that was read: of each animal the records that are chosen, in whole units, in the order of
     time. ``shown`` is how an animal's name is said, and ``scale`` the areal scale of the reference system that is known
@@ -449,7 +451,7 @@ def make_tracks(table: Table, said: Said, shown: Callable[[str], str] = str, sca
     if not any(any(track.used) for track in by_name.values()):
         nothing_left()
     tell_columns(table, by_name, unit, said)
-    return Tracks(by_name, places.zone, shift, table)
+    return Tracks(by_name, {name: herd.rows[name] for name in by_name}, places, places.zone, shift, table)
 
 
 def track_of(records: Records, whole: tuple[list[int], list[int]], rows: list[int]) -> Track:
@@ -462,7 +464,7 @@ def tell_columns(table: Table, by_name: dict[str, Track], unit: Unit, said: Said
     """Says which columns were taken, the number of animals, and the extent of the used fixes."""
     columns = table.columns
     places = [*columns.animal, *columns.time, *(columns.grid or ()), *(columns.degrees or ())]
-    titles = ", ".join(table.title(at) if at >= 0 else "point" for at in dict.fromkeys(places))
+    titles = ", ".join(dict.fromkeys(map(table.title, places)))
     box = []
     for axis in (1, 2):
         ends = [(min(used), max(used)) for track in by_name.values() if (used := [*compress(track[axis], track.used)])]

@@ -1,0 +1,368 @@
+"""Reads data frames of pandas and geopandas by the rules of docs/TABLES.md: makes cells of columns, which are then read as
+those of a text are."""
+
+from __future__ import annotations
+
+import datetime as clock
+import math
+import re
+import sys
+from collections import Counter
+from dataclasses import dataclass, field
+from decimal import Decimal
+from typing import Any, Callable, Iterable, NamedTuple, Sequence
+
+import numpy
+import pandas  # type: ignore[import]
+
+from .asked import UNITS, Asked
+from .cells import TRUTHS, Bad, Moment
+from .errors import FrameError, refuse
+from .tables import Said, Table
+from .titles import FAMILIES, OTHER_ANIMALS, OTHER_TIMES, Titles, find_columns, plain
+from .tracks import make_tracks
+from .zones import Scale, crs_of, scale_of_crs, zone_of
+
+BAD_NAME = re.compile("[\x00-\x1f\x7f\ud800-\udfff]")
+ANIMALS = {plain(title) for title in (*(family.animal for family in FAMILIES), *OTHER_ANIMALS)}
+TIMES = {plain(title) for title in (*(family.time for family in FAMILIES), *OTHER_TIMES)}
+MOST_EXACT = 2 ** 53
+POINT = (-1, -2)
+
+
+@dataclass
+class Tracks:
+    """The fixes of each animal in the order of time, and what became of the others."""
+
+    by_name: dict[str, Any]  # data frames of second, easting and northing in whole units
+    left_out: dict[str, int]
+    crs: Any = None
+    shift: tuple[int, int] = (0, 0)  # metres that were added to coordinates
+    tz: str = "UTC"
+    notes: list[str] = field(default_factory=list)
+
+
+class Columns(NamedTuple):
+    """The columns of a frame that may be taken, with those of its index that are wanted."""
+
+    titles: list[str]
+    series: list[Any]
+
+
+def is_missing(value: Any) -> bool:
+    return value is None or value is pandas.NA or value is pandas.NaT or (isinstance(value, float) and value != value)
+
+
+def plain_value(value: Any) -> Any:
+    """A value as one of Python's own."""
+    if is_missing(value):
+        return None
+    if isinstance(value, numpy.datetime64):
+        value = pandas.Timestamp(value)
+    elif isinstance(value, numpy.generic):
+        value = value.item()
+    elif isinstance(value, pandas.Period):
+        value = value.to_timestamp()
+    if isinstance(value, clock.datetime):
+        return moment_of(value)
+    if isinstance(value, clock.date):
+        return moment_of(clock.datetime(value.year, value.month, value.day))
+    return value
+
+
+def moment_of(value: clock.datetime) -> Any:
+    """The moment of a date-time; those without a zone are of UTC."""
+    aware = value if value.tzinfo else value.replace(tzinfo=clock.timezone.utc)
+    since = aware - clock.datetime(1970, 1, 1, tzinfo=clock.timezone.utc)
+    nanoseconds = getattr(value, "nanosecond", 0)
+    part = (since.microseconds * 1000 + nanoseconds) / 1e9
+    return Moment(86400 * since.days + since.seconds, part)
+
+
+def moments_of(series: Any) -> list[Any]:
+    """The moments of a column of date-times."""
+    times = series.dt.tz_convert("UTC").dt.tz_localize(None) if series.dt.tz is not None else series
+    whole = times.to_numpy(dtype="datetime64[ns]")
+    is_nat = numpy.isnat(whole)
+    seconds, rest = numpy.divmod(numpy.where(is_nat, 0, whole.astype("int64")), 1_000_000_000)
+    pairs = zip(seconds.tolist(), (rest / 1e9).tolist(), is_nat.tolist())
+    return [None if gone else Moment(second, part) for second, part, gone in pairs]
+
+
+def cells_of(series: Any) -> list[Any]:
+    """The cells of a column."""
+    kind = series.dtype
+    if isinstance(kind, pandas.CategoricalDtype):
+        series = series.astype(object)
+    elif isinstance(kind, pandas.PeriodDtype):
+        return moments_of(series.dt.to_timestamp())
+    elif pandas.api.types.is_datetime64_any_dtype(kind):
+        return moments_of(series)
+    elif isinstance(kind, pandas.SparseDtype):
+        series = series.sparse.to_dense()
+    if pandas.api.types.is_float_dtype(series.dtype) and isinstance(series.dtype, numpy.dtype):
+        return [None if value != value else value for value in series.tolist()]
+    if pandas.api.types.is_integer_dtype(series.dtype) and isinstance(series.dtype, numpy.dtype):
+        return list(series.tolist())
+    return list(map(plain_value, series.tolist()))
+
+
+def name_of(value: Any) -> Any:
+    """The name of an animal as text."""
+    if isinstance(value, float):
+        if not value.is_integer() or abs(value) > MOST_EXACT:
+            return Bad(f"{value!r}, a number that is not whole or has lost digits: read the column as text", "name")
+        value = int(value)
+    if isinstance(value, (bytes, Moment, complex)):
+        return Bad(f"{value!r}, which is no name", "name")
+    name = str(value)
+    return Bad(f"{name!r}, which has a control character or is no text", "name") if BAD_NAME.search(name) else name
+
+
+def names_of(cells: Sequence[Any]) -> list[Any]:
+    """The names of animals. A number and a text that look the same are refused."""
+    kinds: dict[str, type] = {}
+    found: list[Any] = []
+    known: dict[tuple[type, Any], Any] = {}
+    for cell in cells:
+        if cell is None:
+            found.append(None)
+            continue
+        key = (type(cell), cell)
+        if key not in known:
+            name = name_of(cell)
+            kind = str if isinstance(cell, str) else float
+            if isinstance(name, str) and kinds.setdefault(name, kind) is not kind:
+                name = Bad(f"{cell!r}, and another row has it as {'text' if kind is float else 'a number'}: make all text",
+                           "name")
+            known[key] = name
+        found.append(known[key])
+    return found
+
+
+def index_level(frame: Any, at: int) -> tuple[Any, Any]:
+    """A level of a frame's index: its name, and the values as a column."""
+    return frame.index.names[at], frame.index.get_level_values(at).to_series(index=pandas.RangeIndex(len(frame)))
+
+
+def columns_of(frame: Any, asked: Asked, has_points: bool) -> Columns:
+    """The columns of a frame, and the levels of its index that stand for what no column has."""
+    titles = [str(title) for title in frame.columns]
+    series = [frame.iloc[:, at].set_axis(pandas.RangeIndex(len(frame))) for at in range(len(titles))]
+    named = {*(asked.animal or ()), *(asked.time or ())}
+    levels = [index_level(frame, at) for at in range(frame.index.nlevels)]
+    for name, values in levels:
+        if name is not None and str(name) in named.difference(titles):
+            titles.append(str(name))
+            series.append(values)
+    found = find_columns(Titles(titles, asked), has_points)
+    for name, values in levels:
+        title = "index" if name is None else str(name)
+        is_time = pandas.api.types.is_datetime64_any_dtype(values.dtype)
+        if title in titles or isinstance(frame.index, pandas.RangeIndex):
+            continue
+        if not found.time and (is_time or plain(title) in TIMES) and asked.time is None:
+            asked.time = [title]
+        elif not found.animal and plain(title) in ANIMALS and asked.animal is None:
+            asked.animal = [title]
+        else:
+            continue
+        titles.append(title)
+        series.append(values)
+    return Columns(titles, series)
+
+
+def points_of(frame: Any, asked: Asked) -> Any:
+    """The points of a GeoDataFrame, whose reference system has to be a plane one in metres; None for another frame."""
+    geopandas = sys.modules.get("geopandas")
+    is_named = any((asked.easting, asked.northing, asked.lon, asked.lat))
+    if geopandas is None or is_named or not isinstance(frame, geopandas.GeoDataFrame):
+        return None
+    try:
+        points = frame.geometry
+    except AttributeError:
+        return None
+    check_crs(points.crs, "frame")
+    return points
+
+
+def check_crs(crs: Any, what: str) -> None:
+    """Refuses a reference system that is no plane in metres."""
+    if crs is None:
+        refuse(f"the {what} has no CRS: name the one that it is in, such as frame.set_crs('EPSG:32633')", "crs")
+    units = {axis.unit_name for axis in crs.axis_info[:2]}
+    helps = "project it first, as by frame.to_crs(frame.estimate_utm_crs())"
+    if not crs.is_projected:
+        refuse(f"the CRS {crs.name} is not a plane one in metres: {helps}", "crs")
+    if units - {"metre", "meter"}:
+        refuse(f"the CRS {crs.name} is in {', '.join(sorted(units))} and not in metres: {helps}", "crs")
+    if crs.to_epsg() == 3857:
+        refuse(f"areas in the CRS {crs.name} grow away from the equator: {helps}", "scale")
+
+
+def crs_named(crs: Any) -> Any:
+    """A reference system by what names it."""
+    try:
+        from pyproj import CRS  # type: ignore[import]
+    except ImportError:
+        return crs
+    try:
+        found = CRS.from_user_input(crs)
+    except Exception:
+        refuse(f"crs={crs!r} names no reference system", "crs")
+    check_crs(found, "table")
+    return found
+
+
+def place_cells(points: Any) -> tuple[list[Any], list[Any]]:
+    """The eastings and northings of points; missing where there is none, and Bad where there is another shape."""
+    kinds = points.geom_type.tolist()
+    empty = (points.isna() | points.is_empty).tolist()
+    good = [kind == "Point" and not gone for kind, gone in zip(kinds, empty)]
+    own = points[good]
+    pairs = iter(zip(own.x.tolist(), own.y.tolist()))
+    east: list[Any] = []
+    north: list[Any] = []
+    for kind, gone, is_point in zip(kinds, empty, good):
+        cell = next(pairs) if is_point else None
+        bad = None if gone or is_point else Bad(f"a {kind} and not a point", "number")
+        east.append(cell[0] if cell else bad)
+        north.append(cell[1] if cell else bad)
+    return east, north
+
+
+def truths_of(frame: Any, use: Any) -> list[bool] | None:
+    """Which rows an argument says to use: a column, truths for each row, or all; None where there is no argument."""
+    if use is None:
+        return None
+    if use is True:
+        return [True] * len(frame)
+    if isinstance(use, str):
+        if use not in frame.columns:
+            refuse(f"there is no column {use!r}", "columns")
+        use = frame[use].tolist()
+    elif isinstance(use, pandas.Series):
+        use = aligned(use, frame)
+    try:
+        marks = list(use)
+    except TypeError:
+        refuse(f"use={use!r} is neither a column nor a truth for each row")
+    if len(marks) != len(frame):
+        refuse(f"use has {len(marks)} marks for {len(frame)} rows")
+    return [row_truth(mark, at) for at, mark in enumerate(marks)]
+
+
+def aligned(use: Any, frame: Any) -> list[Any]:
+    """A series of truths in the order of the frame's rows, by its index."""
+    if use.index.equals(frame.index):
+        return list(use.tolist())
+    if len(use) == len(frame) and use.index.is_unique and frame.index.is_unique and not (
+            len(frame.index.difference(use.index))):
+        return list(use.reindex(frame.index).tolist())
+    refuse("use is a Series with another index than the frame: take use.to_numpy() to go by position, or "
+           "use.reindex(frame.index)")
+
+
+def row_truth(mark: Any, at: int) -> bool:
+    found = None if is_missing(mark) else TRUTHS.get(mark if isinstance(mark, str) else str(mark))
+    if found is None:
+        refuse(f"use is {mark!r} and neither true nor false", "mark", at + 1)
+    return found
+
+
+def own_zone(series: Any) -> str | None:
+    """The time zone of a column of times, where it has one that has a name."""
+    zone = getattr(series.dtype, "tz", None)
+    if zone is None and series.dtype == object:
+        zones = {str(value.tzinfo) for value in series if isinstance(value, clock.datetime) and value.tzinfo}
+        zone = zones.pop() if len(zones) == 1 else None
+    name = None if zone is None else str(getattr(zone, "key", None) or getattr(zone, "zone", None) or zone)
+    fixed = re.fullmatch(r"(?:UTC|pytz.FixedOffset\()([+-]?)0?([0-9]+)(?::00)?\)?", name or "")
+    if fixed and name != "UTC":
+        hours = int(fixed[2]) // (60 if "pytz" in str(name) else 1)
+        return f"Etc/GMT{'+' if fixed[1] == '-' else '-'}{hours}" if hours else "UTC"
+    return "UTC" if name in ("utc", "tzutc()") else name
+
+
+class Frame:
+    """A data frame that is read."""
+
+    def __init__(self, frame: Any, asked: Asked, use: Any, crs: Any) -> None:
+        if not isinstance(frame, pandas.DataFrame) or not len(frame):
+            refuse("frame is not a data frame with a row for each fix", "empty")
+        self.labels, self.asked = frame.index, asked
+        truths = truths_of(frame, use)
+        self.positions = range(len(frame)) if truths is None else [at for at, used in enumerate(truths) if used]
+        self.is_chosen = truths is not None
+        self.points = points_of(frame, asked)
+        self.columns = columns_of(frame, asked, self.points is not None)
+        self.crs = self.points.crs if self.points is not None else None if crs is None else crs_named(crs)
+        asked.all_used = self.is_chosen
+        self.table = Table(self.columns.titles, asked, has_points=self.points is not None)
+        if not self.positions:
+            refuse("no fix is left", "empty")
+        self.tell_zone = self.find_zone()
+
+    def find_zone(self) -> str | None:
+        """Takes the time zone of the column, where none is named; answers what is to be said of it."""
+        times = self.table.columns.time
+        if self.asked.tz is None and len(times) == 1:
+            zone = own_zone(self.columns.series[times[0]])
+            self.asked.tz = zone
+            self.asked.check()
+            if zone not in (None, "UTC"):
+                return f"days and hours are those of {zone}, the zone of {self.columns.titles[times[0]]}"
+        return None
+
+    def cells(self) -> dict[int, list[Any]]:
+        """The cells of the columns that are wanted, of the rows that are used."""
+        chosen = numpy.asarray(self.positions)
+        found = {at: cells_of(self.columns.series[at].iloc[chosen]) for at in self.table.wanted}
+        for at in self.table.columns.animal:
+            found[at] = names_of(found[at])
+        if self.points is not None:
+            found.update(zip(POINT, place_cells(self.points.iloc[chosen])))
+        return found
+
+    def where(self, fault: FrameError) -> FrameError:
+        """A refusal with its row, by the label of the frame."""
+        if fault.record is None:
+            return fault
+        at = self.positions[fault.record - 1]
+        label = self.labels[at]
+        where = f"row {at}" if isinstance(label, int) and label == at else f"row {label} (frame.iloc[{at}])"
+        return FrameError(f"{where}: {fault}", fault.kind, at + 1)
+
+    def scale(self) -> Scale | None:
+        """What tells how much greater areas are in the reference system that is known; None where a zone is."""
+        if self.crs is None or self.asked.zone is not None or self.table.columns.is_utm:
+            return None
+        return scale_of_crs(self.crs)
+
+    def read(self, said: Said) -> Tracks:
+        """The tracks of the frame."""
+        try:
+            self.table.take(self.cells(), len(self.positions))
+            tracks = make_tracks(self.table, said, scale=self.scale())
+        except FrameError as fault:
+            raise self.where(fault) from None
+        if self.tell_zone:
+            said.say(self.tell_zone)
+        counts = self.counts()
+        by_name = {name: pandas.DataFrame(dict(zip(("second", "easting", "northing"), track)), dtype="int64")
+                   for name, track in tracks.by_name.items()}
+        crs = self.crs if self.crs is not None else tracks.zone and crs_of(tracks.zone)
+        left_out = {name: counts[name] - len(track) for name, track in by_name.items()}
+        return Tracks(by_name, left_out, crs, tracks.shift, self.asked.clock, said.lines)
+
+    def counts(self) -> Counter[str]:
+        """How many rows of the whole frame each animal has."""
+        if not self.is_chosen or not self.table.columns.animal:
+            return Counter(self.table.rows_of) if self.table.columns.animal else Counter({self.asked.name: len(self.labels)})
+        at = self.table.columns.animal[0]
+        return Counter(name for name in names_of(cells_of(self.columns.series[at])) if isinstance(name, str))
+
+
+def read_frame(frame: Any, asked: Asked, tell: Callable[[str], None], use: Any = None, crs: Any = None) -> Tracks:
+    """The tracks of a data frame."""
+    return Frame(frame, asked, use, crs).read(Said(tell))

@@ -1,0 +1,437 @@
+"""Home ranges: home_range makes them of a data frame, read_report of a report, and HomeRanges answers what they are."""
+
+from __future__ import annotations
+
+import csv
+import itertools
+import math
+import operator
+import os
+import warnings
+from datetime import date, datetime
+from pathlib import Path
+from typing import Any, Callable, Iterable, Sequence, Union
+
+import pandas  # type: ignore[import]
+
+from .asked import UNITS, Asked, seconds_of
+from .errors import FrameError, HomeRangeInfo, HomeRangeNote, ReportError, refuse
+from .exports import LISTS, read_text
+from .frames import Tracks, read_frame
+from .program import MOST_ANIMALS, Runs, find_program
+from .report import Corners, Percent, Report, Table, kept_count, parse
+from .tables import Said
+
+Moment = Union[str, date, datetime]
+Words = Union[str, Iterable[Any]]
+
+
+def _clock(seconds: Any, tz: str) -> Any:
+    """The times by the clock of tz; NaT after the year 2262, where pandas' times end."""
+    return pandas.to_datetime(seconds, unit="s", utc=True, errors="coerce").dt.tz_convert(tz)
+
+
+def _kept(track: Any, level: int) -> Any:
+    """The fixes of a track that a level keeps: those nearest to the mean of all, of fixes as near the earlier. All is
+    multiplied by the number of fixes, so that the numbers are whole and exact."""
+    fixes, eastings, northings = len(track), track["easting"].tolist(), track["northing"].tolist()
+    east, north = sum(eastings), sum(northings)
+
+    def distance(at: int) -> int:
+        return int((fixes * eastings[at] - east) ** 2 + (fixes * northings[at] - north) ** 2)
+
+    near = sorted(range(fixes), key=distance)[:kept_count(fixes, level)]
+    return track.iloc[sorted(near)]
+
+
+def _growth(areas: Sequence[int]) -> float:
+    """The share of the area that the last tenth of the fixes, rounded up, added; NaN where there are less than ten
+    fixes, or no area."""
+    before = 9 * len(areas) // 10
+    return 1 - areas[before - 1] / areas[-1] if len(areas) >= 10 and areas[-1] else math.nan
+
+
+class HomeRanges:
+    """The home ranges of some animals: what the program reported, in hectares and metres.
+
+    ``animals`` has their names, ``levels`` the levels of the percent polygons, ``unit`` is 'm' or 'dm', that of the
+    program's coordinates, ``crs`` the reference system of the coordinates (None where it is not known), and ``notes``
+    are the texts of the warnings.
+    """
+
+    def __init__(
+        self, report: Report, tracks: Tracks | None, *, crs: Any = None, tz: str = "UTC",
+        program: str | os.PathLike[str] | None = None,
+    ) -> None:
+        self._report, self._tracks, self._program = report, tracks, program
+        self._corners: dict[int, dict[str, Corners]] = {}
+        self.crs, self.tz, self.unit = crs, tz, report.unit
+        self.notes = tracks.notes if tracks else []
+        self.shift = tracks.shift if tracks else (0, 0)
+        self.animals = list(report.tables)
+        self.levels = [percent.level for percent in report.tables[self.animals[0]].percents]
+
+    def __repr__(self) -> str:
+        fixes = sum(len(table.rows) for table in self._report.tables.values())
+        return f"<HomeRanges of {len(self.animals)} animals, {fixes} fixes; levels {', '.join(map(str, self.levels))}>"
+
+    def _hectares(self, area2: int) -> float:
+        return area2 / UNITS[self.unit].hectare
+
+    def _times(self, seconds: Sequence[int]) -> Any:
+        return _clock(pandas.Series(seconds, dtype="int64"), self.tz)
+
+    def _in_metres(self, points: Iterable[tuple[int, int]]) -> list[tuple[float, float]]:
+        scale, (east, north) = UNITS[self.unit].per_metre, self.shift
+        return [(easting / scale - east, northing / scale - north) for easting, northing in points]
+
+    def summary(self) -> Any:
+        """A row for each animal and level: ``animal``; ``first`` and ``last``, the times of its first and last fix;
+        ``fixes``, how many there are, and ``left_out``, how many rows of the frame are not among them (missing where it
+        is not known); ``level`` in per cent; ``kept``, how many fixes the level keeps; ``corners`` and ``hectares`` of
+        their polygon; and ``growth``, the share of the area of all fixes that the last tenth of them, rounded up, added
+        (0 to 1). It is NaN where there are less than ten fixes, or no area. A time after the year 2262 is NaT."""
+        left_out = self._tracks.left_out if self._tracks else {}
+        rows = []
+        for name, table in self._report.tables.items():
+            growth = _growth([area2 for _, _, area2 in table.rows])
+            for level, kept, corners, area2 in table.percents:
+                rows.append((
+                    name, table.rows[0][0], table.rows[-1][0], len(table.rows), left_out.get(name), level, kept,
+                    corners, self._hectares(area2), growth))
+        titles = ["animal", "first", "last", "fixes", "left_out", "level", "kept", "corners", "hectares", "growth"]
+        summary = pandas.DataFrame(rows, columns=titles)
+        times = {title: self._times(summary[title]) for title in ("first", "last")}
+        return summary.assign(**times, left_out=summary["left_out"].astype("Int64"))
+
+    def curve(self) -> Any:
+        """The table of incremental area analysis (Harris et al. 1990), a row for each fix: ``animal``; ``n``, the
+        number of the fix; its ``time``; and ``corners`` and ``hectares`` of the polygon of the first n fixes."""
+        tables = self._report.tables
+        rows = [(name, n, *row) for name, table in tables.items() for n, row in enumerate(table.rows, 1)]
+        curve = pandas.DataFrame(rows, columns=["animal", "n", "time", "corners", "area2"])
+        curve["time"] = self._times(curve["time"])
+        curve["hectares"] = curve.pop("area2") / UNITS[self.unit].hectare
+        return curve
+
+    def overlap(self, share: bool = False) -> Any:
+        """How many of the fixes of the row's animal lie in the polygon of the column's, its edges included; with
+        ``share`` which share of its fixes, 0 to 1. All fixes of an animal lie in its own polygon."""
+        fixes = {name: len(table.rows) for name, table in self._report.tables.items()}
+        counts = {**self._report.overlaps, **{(name, name): count for name, count in fixes.items()}}
+        matrix = pandas.DataFrame(
+            [[counts[name, other] for other in fixes] for name in fixes],
+            index=pandas.Index(fixes, name="fixes_of"), columns=pandas.Index(fixes, name="in_range_of"))
+        return matrix.div(pandas.Series(fixes), axis="index") if share else matrix
+
+    def corners(self, level: int = 100) -> dict[str, list[tuple[float, float]]]:
+        """The corners of each animal's polygon at a level, easting and northing in metres, counterclockwise from the
+        westernmost, the first not repeated. For a level below 100 the program is run again, on the fixes that the level
+        keeps, and what it finds is compared with the report (``ReportError`` where it is not the same)."""
+        level = self._level(level)
+        if level not in self._corners:
+            tables = self._report.tables if level == 100 else self._kept_tables(level)
+            self._corners[level] = {name: table.corners for name, table in tables.items()}
+        return {name: self._in_metres(points) for name, points in self._corners[level].items()}
+
+    def _level(self, level: Any) -> int:
+        """A level of these ranges."""
+        found = whole_number(level)
+        if found not in {100, *self.levels}:
+            refuse(f"level {level!r} is none of these ranges ({', '.join(map(str, self.levels))})")
+        return int(found)
+
+    def _kept_tables(self, level: int) -> dict[str, Table]:
+        """The tables of the fixes that a level keeps."""
+        if self._tracks is None:
+            refuse("polygons below 100 per cent need the fixes: read_report(path, files=..)")
+        kept = {name: _kept(track, level) for name, track in self._tracks.by_name.items()}
+        tables: dict[str, Table] = {}
+        for first in range(0, len(kept), MOST_ANIMALS):
+            part = dict(itertools.islice(kept.items(), first, first + MOST_ANIMALS))
+            tables.update(Runs(find_program(self._program), part, "100", self.unit).report().tables)
+        for name, table in tables.items():
+            if Percent(level, len(table.rows), *table.rows[-1][1:]) != self._percent(name, level):
+                raise ReportError(f"the {level} per cent polygon of {name} is not that of the report")
+        return tables
+
+    def _percent(self, animal: str, level: int) -> Percent:
+        """What the report says of an animal's polygon at a level."""
+        table = self._report.tables.get(animal)
+        if table is None:
+            refuse(f"there is no animal {animal!r}")
+        whole = Percent(100, len(table.rows), *table.rows[-1][1:])
+        return {100: whole, **{percent.level: percent for percent in table.percents}}[level]
+
+    def hectares(self, animal: str, level: int = 100) -> float:
+        """The area of an animal's polygon at a level."""
+        return self._hectares(self._percent(animal, self._level(level)).area2)
+
+    def fixes(self, animal: str) -> Any:
+        """The fixes of an animal in the order of time, an array of eastings and northings in metres; None where they
+        are not known."""
+        if self._tracks is None:
+            return None
+        return self._tracks.by_name[animal][["easting", "northing"]].to_numpy() / UNITS[self.unit].per_metre - self.shift
+
+    def polygons(self, level: int = 100) -> Any:
+        """The polygons at a level, as a GeoDataFrame in metres: ``animal``, ``level``, ``kept``, ``corners``,
+        ``hectares`` and ``geometry``, which of one corner is a point and of two a line. Where geopandas is not there,
+        what ``corners`` answers. See there for levels below 100."""
+        level = self._level(level)
+        corners = self.corners(level)
+        try:
+            import geopandas  # type: ignore[import]
+            from shapely import geometry  # type: ignore[import]
+        except ImportError:
+            return corners
+        shapes = {1: lambda points: geometry.Point(points[0]), 2: geometry.LineString}
+        rows = []
+        for name, points in corners.items():
+            _, kept, count, area2 = self._percent(name, level)
+            shape = shapes.get(len(points), geometry.Polygon)(points)
+            rows.append((name, level, kept, count, self._hectares(area2), shape))
+        titles = ["animal", "level", "kept", "corners", "hectares", "geometry"]
+        return geopandas.GeoDataFrame(pandas.DataFrame(rows, columns=titles), geometry="geometry", crs=self.crs)
+
+
+def whole_number(value: Any) -> int | None:
+    """A value as a whole number, None where it is none."""
+    try:
+        return None if isinstance(value, (bool, str)) or value != int(value) else int(value)
+    except (TypeError, ValueError, OverflowError):
+        return None
+
+
+def whole_numbers(values: Any, least: int, most: int, what: str) -> list[int]:
+    """One whole number, or several, within bounds; all else is refused."""
+    several = isinstance(values, Iterable) and not isinstance(values, str)
+    given = list(values) if several else [values]
+    found = [number for number in map(whole_number, given) if number is not None and least <= number <= most]
+    if not given or len(found) < len(given):
+        refuse(f"{what}={given if several or whole_number(values) is not None else values!r} are not {what} "
+               f"from {least} to {most}")
+    return found
+
+
+def levels_of(levels: Any) -> list[int]:
+    """The levels of percent polygons."""
+    found = whole_numbers(levels, 1, 100, "levels")
+    if len({*found}) < len(found):
+        refuse(f"levels={found} has a level twice")
+    return found
+
+
+def hours_of(hours: Any) -> tuple[float, float]:
+    """Two hours of the day."""
+    try:
+        first, last = (math.nan if isinstance(hour, (bool, str)) else float(hour) for hour in hours)
+    except (TypeError, ValueError):
+        first = last = math.nan
+    if not (0 <= first <= 24 and 0 <= last <= 24) or first == last:
+        refuse(f"hours={hours} are not two different hours from 0 to 24, such as (18, 6)")
+    return first, last
+
+
+def words_of(value: Any, option: str) -> list[str] | None:
+    """One word, several between commas, or a sequence of words."""
+    if value is None:
+        return None
+    if isinstance(value, str):
+        return value.split(",") if option in LISTS and option not in ("animal", "time") else [value]
+    if isinstance(value, pandas.Series) or not isinstance(value, Iterable):
+        refuse(f"{option}={type(value).__name__} is no name: a text, or several, is wanted")
+    return [str(word) for word in value]
+
+
+def either(new: Any, old: Any, name: str, old_name: str) -> Any:
+    """An argument that has two names."""
+    if new is not None and old is not None:
+        refuse(f"{name} and {old_name} are one argument: give one")
+    return old if new is None else new
+
+
+def home_range(
+    frame: Any, levels: int | Iterable[int] = (50, 95, 100), unit: str = "m", *, animal: Words | None = None,
+    time: Words | None = None, easting: str | None = None, northing: str | None = None, lon: str | None = None,
+    lat: str | None = None, name: str = "animal", zone: str | None = None, crs: Any = None,
+    use: str | Sequence[bool] | bool | None = None, skip_unnamed: bool = False, sensor: Words | None = None,
+    argos_class: Words | None = None, argos: str | None = None, max_dop: float | None = None, dop: str | None = None,
+    fix_type: Words | None = None, fix: str | None = None, since: Moment | None = None, until: Moment | None = None,
+    max_speed: float | None = None, months: int | Iterable[int] | None = None,
+    hours: tuple[float, float] | None = None, every: str | float | None = None, tz: str | None = None,
+    program: str | os.PathLike[str] | None = None, progress: Callable[[int, int], None] | None = None,
+    from_: Moment | None = None, to: Moment | None = None, every_hours: float | None = None,
+) -> HomeRanges:
+    """The home ranges of the animals of a data frame, by the minimum convex polygon (Mohr 1947).
+
+    How a frame is read, and what is refused, is said in docs/TABLES.md, once for all front ends: the usual titles of
+    columns, times, coordinates, marks of outliers, sensors and filters.
+
+    frame: a pandas DataFrame with a row for each fix, or a GeoDataFrame of points in a plane CRS in metres.
+    levels: 1 to 8 whole numbers from 1 to 100. Level p keeps, of n fixes, the (p * n + 99) // 100 nearest to the mean
+        of all, of fixes as near the earlier.
+    unit: 'm' or 'dm': coordinates are rounded to whole metres or decimetres.
+    animal, time, easting, northing, lon, lat: columns, where they have no usual titles; name: the one animal's name.
+    zone, crs: the UTM zone, or the reference system, of the coordinates; longitude and latitude are projected into zone.
+    use: which rows are used: a column, a truth for each row (a Series goes by its index), or True for all. Then neither
+        marks nor sensors are looked at.
+    skip_unnamed, sensor, argos_class, max_dop, fix_type, since, until, max_speed, every: as the options of split.py;
+        argos, dop and fix name their columns. from_, to and every_hours are other names of since, until and every.
+    months: the months that are wanted, 1 to 12.
+    hours: two hours of the day, the second not included; (18, 6) is the night.
+    tz: the time zone of since, until, months, hours and every and of the times in the answers; if left out, that of the
+        column of times, or UTC.
+    program: the program; if left out, that in the environment as HOMERANGE, release/homerange of the clone that this
+        package is in, or homerange on PATH.
+    progress: is called with how many of how many runs are done. More than 64 animals are several runs.
+
+    What is left out or changed is said in warnings (HomeRangeNote), and what was taken (HomeRangeInfo). Raises
+    FrameError where the fixes or an argument cannot be right, ProgramError where the program does not run, and the error
+    of the program's status where it refuses (FileError, OptionError, OutOfMemoryError, OutputError, CutError);
+    ReportError where a report is not whole.
+    """
+    wanted = levels_of(levels)
+    if every_hours is not None:
+        seconds_of(every_hours, "every_hours")
+    asked = Asked(
+        is_frame=True, unit=unit, zone=zone, skip_unnamed=skip_unnamed, animal=words_of(animal, "animal"),
+        time=words_of(time, "time"), easting=easting, northing=northing, lon=lon, lat=lat, name=name, argos=argos,
+        dop=dop, fix=fix, sensor=words_of(sensor, "sensor"), argos_class=words_of(argos_class, "argos-class"),
+        max_dop=max_dop, fix_type=words_of(fix_type, "fix-type"), since=either(since, from_, "since", "from_"),
+        until=either(until, to, "until", "to"), max_speed=max_speed, tz=tz,
+        months=None if months is None else sorted({*whole_numbers(months, 1, 12, "months")}),
+        hours=None if hours is None else hours_of(hours), every=either(every, every_hours, "every", "every_hours"))
+    asked.check()
+    found = find_program(program)
+    tracks = read_frame(frame, asked, lambda line: None, use, crs)
+    for note in tracks.notes:
+        warnings.warn(note, HomeRangeInfo if note.startswith("columns: ") else HomeRangeNote, stacklevel=2)
+    report = Runs(found, tracks.by_name, ",".join(map(str, wanted)), unit).report(progress)
+    return HomeRanges(report, tracks, crs=tracks.crs, tz=tracks.tz, program=program)
+
+
+def read_export(path: str | os.PathLike[str], **options: Any) -> Any:
+    """The fixes of a table of text, such as an export of Movebank or of a collar, as a data frame for ``home_range``.
+
+    path: the file.
+    options: those of tools/split.py, with _ for hyphens (``from_`` for from): zone, sensor, skip_unnamed, animal, time,
+        time_format, tz, lon, lat, easting, northing, na, skip_lines, encoding, argos_class, max_dop, fix_type, since,
+        until, max_speed, every. docs/TABLES.md says what each does, and how a table is read.
+
+    The frame has animals, times (whole seconds since 1970), coordinates in metres with their UTM zone, where it is
+    known, and ``use``, which is False for outliers. What was left out is said in warnings (HomeRangeNote), and what was
+    taken (HomeRangeInfo). What cannot be right is refused (FrameError), with the record's number.
+    """
+    words = {"from" if name == "from_" else name.replace("_", "-"): value for name, value in options.items()}
+    for option in LISTS:
+        if option in words and option not in ("animal", "time"):
+            words[option] = words_of(words[option], option)
+    said = Said(lambda line: None)
+    try:
+        split = read_text(str(path), {**words, "mark": True}, said)
+    except FrameError as fault:
+        raise FrameError(f"{path}: {fault}", fault.kind, fault.record) from None
+    for line in said.lines:
+        if line.startswith(("coordinates are rounded", "coordinates are shifted")):  # which the frame is not
+            continue
+        warnings.warn(line, HomeRangeInfo if line.startswith("columns: ") else HomeRangeNote, stacklevel=2)
+    tracks = split.tracks
+    places, records = tracks.places, tracks.places.records
+    order = sorted(itertools.chain.from_iterable(tracks.rows.values()), key=lambda at: (records.second[at], records.part[at]))
+    is_since_1970 = all(10 ** 8 <= records.second[at] < 10 ** 10 for at in order)
+    titles = ("utm-easting", "utm-northing") if tracks.zone else ("easting", "northing")
+    return pandas.DataFrame({
+        "individual-local-identifier": [records.animal[at] for at in order],
+        "timestamp" if is_since_1970 else "second": [records.second[at] for at in order],
+        titles[0]: [places.east[at] for at in order], titles[1]: [places.north[at] for at in order],
+        **({"utm-zone": tracks.zone} if tracks.zone else {}),
+        "use": [bool(records.used[at]) for at in order]})
+
+
+def _read_track(path: str | os.PathLike[str]) -> tuple[str, Any, int]:
+    """The animal of a file, its used fixes, and how many are not used."""
+    with open(path, encoding="utf-8-sig", newline="") as file:
+        rows = [row for row in csv.DictReader(file)]
+    used = [row for row in rows if row.get("use", "1") == "1"]
+    titles = ("second", "easting", "northing")
+    if not used or not {"animal", *titles} <= {*used[0]}:
+        raise FrameError(f"{path} has no fix with animal, second, easting and northing")
+    try:
+        numbers = {title: [int(row[title]) for row in used] for title in titles}
+    except (TypeError, ValueError) as fault:
+        raise FrameError(f"{path} has a fix whose second, easting or northing is no number") from fault
+    return used[0]["animal"], pandas.DataFrame(numbers), len(rows) - len(used)
+
+
+def _tracks_of(report: Report, files: Iterable[str | os.PathLike[str]]) -> Tracks | None:
+    """The fixes of the files of a report; None where there are no files."""
+    read = {name: (track, left_out) for name, track, left_out in map(_read_track, files)}
+    if not read:
+        return None
+    for name, table in report.tables.items():
+        if name not in read:
+            raise ReportError(f"no file has the animal {name} of the report")
+        if read[name][0]["second"].tolist() != [second for second, _, _ in table.rows]:
+            raise ReportError(f"the file of {name} has other fixes than the report")
+    return Tracks({name: read[name][0] for name in report.tables}, {name: read[name][1] for name in report.tables})
+
+
+def read_report(
+    path: str | os.PathLike[str], *, files: Iterable[str | os.PathLike[str]] = (), crs: Any = None, tz: str = "UTC",
+    shift: tuple[int, int] = (0, 0), program: str | os.PathLike[str] | None = None,
+) -> HomeRanges:
+    """The home ranges of a report that the program, or tools/herd of it, made elsewhere.
+
+    path: the report. One that is cut off, or whose lines are not those of a report, is refused (ReportError).
+    files: the files that it was made from, for polygons below 100 per cent and for pictures with fixes. Files with
+        other times of fixes than the report are refused (ReportError).
+    crs: the reference system of the coordinates in metres, such as 'EPSG:32633'.
+    shift: how many metres were added to eastings and northings, as the line shift of split.txt has it; they are taken off
+        in the answers.
+    tz: the time zone of the times in the answers, where the seconds of the files are those since 1970 in UTC.
+    program: as in home_range.
+    """
+    try:
+        text = Path(path).read_bytes().decode("utf-8")
+    except UnicodeDecodeError as fault:
+        raise ReportError(f"{path} is no text in UTF-8") from fault
+    report = parse(text, str(path))
+    ranges = HomeRanges(report, _tracks_of(report, files), crs=crs, tz=tz, program=program)
+    ranges.shift = shift
+    return ranges
+
+
+def _boundary(ranges: HomeRanges, reserve: Any) -> Any:
+    """The shape of a reserve, in the reference system of the ranges."""
+    own = getattr(reserve, "crs", None)
+    if hasattr(reserve, "geometry") or hasattr(reserve, "geom_type") and not isinstance(
+            getattr(reserve, "geom_type"), str):
+        if (own is None) != (ranges.crs is None):
+            refuse(f"the {'ranges' if ranges.crs is None else 'reserve'} has no CRS, and the other has: name it, as by "
+                   f"{'home_range(.., crs=..)' if ranges.crs is None else 'reserve.set_crs(..)'}", "crs")
+        shapes = reserve if own is None else reserve.to_crs(ranges.crs)
+        reserve = shapes.geometry.unary_union
+    if not hasattr(reserve, "intersection") or not hasattr(reserve, "is_valid"):
+        refuse("reserve is neither a GeoDataFrame, a GeoSeries nor a shape of shapely")
+    if not reserve.is_valid:
+        refuse("the boundary of the reserve crosses itself: mend it, as by reserve.buffer(0)")
+    if reserve.area == 0:
+        refuse("the reserve has no area")
+    return reserve
+
+
+def share_inside(ranges: HomeRanges, reserve: Any, level: int = 100) -> Any:
+    """How much of each animal's range lies in a reserve: a row for each animal with ``animal``, ``level``, ``hectares``,
+    ``inside`` (hectares in the reserve) and ``share`` (0 to 1; NaN for a range without an area).
+
+    reserve: a GeoDataFrame or a GeoSeries, whose shapes are taken together, in whatever reference system; or a shape of
+        shapely in that of the ranges.
+    """
+    boundary = _boundary(ranges, reserve)
+    polygons = ranges.polygons(level)
+    inside = [shape.intersection(boundary).area / 10_000 for shape in polygons.geometry]
+    whole = [shape.area / 10_000 for shape in polygons.geometry]
+    return pandas.DataFrame({
+        "animal": polygons["animal"], "level": polygons["level"], "hectares": polygons["hectares"], "inside": inside,
+        "share": [part / area if area else math.nan for part, area in zip(inside, whole)]})

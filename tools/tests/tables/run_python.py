@@ -1,0 +1,79 @@
+#!/usr/bin/env python3
+"""run_python.py CASES: whether the Python package makes of each table the tracks that are wanted, or refuses it with the
+kind and the record: as a text, as a frame with types, and as a frame of text. CASES is the folder that unpack.py wrote."""
+import sys
+import tempfile
+from pathlib import Path
+
+from cases import LISTS, cases, difference, report
+
+sys.path.insert(0, str(Path(__file__).resolve().parents[3] / "python"))
+
+import pandas
+from homerange import FrameError
+from homerange.asked import Asked
+from homerange.exports import split_text
+from homerange.frames import read_frame
+
+NUMBERS = {"max-dop": float, "max-speed": float}
+
+
+def compared(case, is_frame, make):
+    """How what is made of a case is not what is wanted; None where it is."""
+    refusal = case.refusal(is_frame)
+    try:
+        found = make(case)
+    except FrameError as fault:
+        told = ("-" if fault.record is None else str(fault.record), fault.kind)
+        return None if told == refusal else f"refused as {told} ({fault}), {refusal or 'tracks'} wanted"
+    return f"taken, and {refusal} is wanted: {found}" if refusal else difference(case.tracks, found)
+
+
+def as_text(case):
+    with tempfile.TemporaryDirectory() as folder:
+        options = {name: True if name in ("mark", "skip-unnamed") else int(value) if name == "skip-lines" else value
+                   for name, value in case.options.items()}
+        split_text(str(case.table), f"{folder}/tracks", options, lambda line: None)
+        return {path.name[:-4]: path.read_bytes() for path in Path(folder, "tracks").iterdir() if path.name != "split.txt"}
+
+
+def argument(name, value):
+    """An option as an argument."""
+    if name in LISTS:
+        return value.split(",")
+    return True if name == "skip-unnamed" else value
+
+
+def as_frame(case, **reading):
+    """The tracks of the table as a frame, as files would have them."""
+    frame = pandas.read_csv(case.table, **reading)
+    words = {name.replace("-", "_"): argument(name, value) for name, value in case.options.items()}
+    tracks = read_frame(frame, Asked(is_frame=True, **words), lambda line: None)
+    if tracks.shift != case.shift:
+        raise AssertionError(f"{case.name}: shifted by {tracks.shift}")
+    files = {name: file for file, name in case.names.items()}
+    found = {}
+    for name, track in tracks.by_name.items():
+        file = files.get(name, name)
+        rows = "".join(f"{file},{second},{east},{north}\n" for second, east, north in track.itertuples(index=False))
+        found[file] = f"animal,second,easting,northing\n{rows}".encode()
+    return found
+
+
+def typed_frame(case):
+    return as_frame(case, float_precision="round_trip")
+
+
+def text_frame(case):
+    return as_frame(case, dtype=str, keep_default_na=False)
+
+
+def main():
+    results = [(case.name + " as text", compared(case, False, as_text)) for case in cases(sys.argv[1], "text")]
+    for name, make in (("typed frame", typed_frame), ("frame of text", text_frame)):
+        results += [(f"{case.name} as a {name}", compared(case, True, make)) for case in cases(sys.argv[1], "frame")]
+    sys.exit(report(results))
+
+
+if __name__ == "__main__":
+    main()
