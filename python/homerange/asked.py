@@ -89,6 +89,10 @@ class Asked:
         """Refuses options that cannot be right."""
         if self.unit not in UNITS:
             refuse(f"unit={self.unit!r} is neither 'm' nor 'dm'")
+        texts = ("zone", "easting", "northing", "lon", "lat", "dop", "fix", "argos", "name")
+        for option in texts:
+            if not isinstance(value := getattr(self, option), (str, type(None))):
+                refuse(f"{option}={value!r} is no text")
         zone_of_time(self.clock)
         self.max_dop = positive(self.max_dop, "max-dop")
         self.max_speed = positive(self.max_speed, "max-speed")

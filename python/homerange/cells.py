@@ -60,8 +60,8 @@ class Unread(Exception):
 
 def shown(cell: object) -> str:
     """A cell as a refusal has it."""
-    text = cell if isinstance(cell, str) else repr(cell)
-    return f"'{text if len(text) <= 60 else text[:57] + '...'}'"
+    text = f"'{cell}'" if isinstance(cell, str) else repr(cell)
+    return text if len(text) <= 62 else f"{text[:58]}..."
 
 
 class Numbers:
@@ -83,7 +83,7 @@ class Numbers:
         if isinstance(cell, Bad):
             raise Unread(f"{self.title} is {cell.text}", cell.kind)
         if isinstance(cell, (int, float, Decimal)) and not isinstance(cell, bool):
-            number = float(cell) if abs(cell) < 1e300 else math.inf
+            number = float(cell) if -1e300 < cell < 1e300 else math.inf
             if math.isinf(number):
                 raise Unread(f"{self.title} is not finite", "number")
             return number

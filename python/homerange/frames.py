@@ -203,7 +203,7 @@ def check_crs(crs: Any, what: str) -> None:
 def crs_named(crs: Any) -> Any:
     """A reference system by what names it."""
     try:
-        from pyproj import CRS  # type: ignore[import]
+        from pyproj import CRS
     except ImportError:
         return crs
     try:
@@ -349,6 +349,8 @@ class Frame:
         if self.tell_zone:
             said.say(self.tell_zone)
         counts = self.counts()
+        for name in sorted({*counts}.difference(self.table.rows_of)) if self.table.columns.animal else ():
+            said.say(f"no fix of '{name}' is left: it has no range")
         by_name = {name: pandas.DataFrame(dict(zip(("second", "easting", "northing"), track)), dtype="int64")
                    for name, track in tracks.by_name.items()}
         crs = self.crs if self.crs is not None else tracks.zone and crs_of(tracks.zone)

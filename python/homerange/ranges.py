@@ -24,6 +24,8 @@ from .tables import Said
 
 Moment = Union[str, date, datetime]
 Words = Union[str, Iterable[Any]]
+# How lines begin that say what was taken, and nothing that was left out or changed.
+TAKEN = ("columns: ", "UTM coordinates are", "coordinates are those", "longitude and latitude are", "days and hours are")
 
 
 def _clock(seconds: Any, tz: str) -> Any:
@@ -244,6 +246,12 @@ def words_of(value: Any, option: str) -> list[str] | None:
     return [str(word) for word in value]
 
 
+def tell(lines: Iterable[str]) -> None:
+    """Says in warnings what was taken, left out or changed."""
+    for line in lines:
+        warnings.warn(line, HomeRangeInfo if line.startswith(TAKEN) else HomeRangeNote, stacklevel=3)
+
+
 def either(new: Any, old: Any, name: str, old_name: str) -> Any:
     """An argument that has two names."""
     if new is not None and old is not None:
@@ -305,8 +313,7 @@ def home_range(
     asked.check()
     found = find_program(program)
     tracks = read_frame(frame, asked, lambda line: None, use, crs)
-    for note in tracks.notes:
-        warnings.warn(note, HomeRangeInfo if note.startswith("columns: ") else HomeRangeNote, stacklevel=2)
+    tell(tracks.notes)
     report = Runs(found, tracks.by_name, ",".join(map(str, wanted)), unit).report(progress)
     return HomeRanges(report, tracks, crs=tracks.crs, tz=tracks.tz, program=program)
 
@@ -332,10 +339,8 @@ def read_export(path: str | os.PathLike[str], **options: Any) -> Any:
         split = read_text(str(path), {**words, "mark": True}, said)
     except FrameError as fault:
         raise FrameError(f"{path}: {fault}", fault.kind, fault.record) from None
-    for line in said.lines:
-        if line.startswith(("coordinates are rounded", "coordinates are shifted")):  # which the frame is not
-            continue
-        warnings.warn(line, HomeRangeInfo if line.startswith("columns: ") else HomeRangeNote, stacklevel=2)
+    # What the frame has is neither rounded nor shifted.
+    tell(line for line in said.lines if not line.startswith(("coordinates are rounded", "coordinates are shifted")))
     tracks = split.tracks
     places, records = tracks.places, tracks.places.records
     order = sorted(itertools.chain.from_iterable(tracks.rows.values()), key=lambda at: (records.second[at], records.part[at]))

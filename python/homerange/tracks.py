@@ -68,7 +68,7 @@ class Choice:
         if self.asked.mark:
             self.said.say("outliers: use 0", len(used) - sum(used))
         else:
-            self.keep(used, "outlier", "outliers")
+            self.keep([mark == 1 for mark in used], "outlier", "outliers")
 
     def classes(self) -> None:
         """Keeps the Argos classes that are wanted, which have to be named where fixes are of Argos."""
@@ -154,7 +154,7 @@ class Places:
     def check_degrees(self) -> None:
         """Refuses degrees in the columns of metres."""
         columns, records = self.table.columns, self.records
-        if columns.grid is None:
+        if columns.grid is None or columns.grid[0] < 0:
             return
         pairs = [(east, north) for east, north in zip(compress(records.east, records.used),
                                                       compress(records.north, records.used)) if east == east]
@@ -373,8 +373,12 @@ class Herd:
 
     def calendar(self) -> None:
         """Keeps the fixes of the months and hours that are wanted."""
+        second = self.records.second
         for reason, text, passes in calendar_tests(self.choice):
-            self.leave(reason, text, lambda rows, passes=passes: [at for at in rows if passes(self.records.second[at])])
+            def chosen(rows: list[int], test: Callable[[int], bool] = passes) -> list[int]:
+                return [at for at in rows if test(second[at])]
+
+            self.leave(reason, text, chosen)
 
 
 def calendar_tests(choice: Choice) -> list[tuple[str, str, Callable[[int], bool]]]:
@@ -447,7 +451,7 @@ def make_tracks(table: Table, said: Said, shown: Callable[[str], str] = str, sca
         herd.thin(seconds_of(asked.every))
     by_name = {name: track_of(records, whole, rows) for name, rows in herd.rows.items() if rows}
     for name in sorted({*animals}.difference(by_name)):
-        said.say(f"no fix of '{name}' is left: no file")
+        said.say(f"no fix of '{name}' is left: {'it has no range' if asked.is_frame else 'no file'}")
     if not any(any(track.used) for track in by_name.values()):
         nothing_left()
     tell_columns(table, by_name, unit, said)

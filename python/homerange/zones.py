@@ -45,7 +45,7 @@ def zone_at(longitude: float, latitude: float) -> str:
 def project(longitudes: Sequence[float], latitudes: Sequence[float], zone: str) -> tuple[list[float], list[float]]:
     """Longitudes and latitudes projected into a zone, by pyproj; infinite where they have no place."""
     try:
-        from pyproj import Transformer  # type: ignore[import]
+        from pyproj import Transformer
     except ImportError:
         raise FrameError(
             "there are no UTM coordinates of one zone, and longitude and latitude need pyproj: install python3-pyproj, "

@@ -1,4 +1,4 @@
-"""Finds the module, and makes notes faults, so that a test says which notes it expects."""
+"""Finds the package, and makes notes faults, so that a test says which notes it expects."""
 import sys
 import warnings
 from pathlib import Path
@@ -14,4 +14,5 @@ import homerange  # noqa: E402
 def no_unexpected_notes():
     with warnings.catch_warnings():
         warnings.simplefilter("error", homerange.HomeRangeNote)
+        warnings.simplefilter("ignore", homerange.HomeRangeInfo)
         yield

@@ -3,11 +3,12 @@ from datetime import date, datetime, timezone
 
 import pandas
 import pytest
-from frames import START, frame_of
+from frames import START, frame_of, noted
 
-from homerange import FrameError, HomeRangeNote, home_range
+from homerange import FrameError, HomeRangeInfo, HomeRangeNote, home_range
 
 SQUARE = [(0, 0), (200, 0), (200, 200), (0, 200)]
+PLACE = [(500_000 + east, 5_000_000 + north) for east, north in SQUARE]  # near the middle of a UTM zone
 
 
 def row_count(frame, **words):
@@ -28,14 +29,21 @@ def times_of(*times):
     ("Animal", " second", "Easting", "Northing"),
 ])
 def test_usual_titles_are_found(titles):
-    frame = frame_of(vixen=SQUARE).set_axis(titles, axis="columns")
-    assert home_range(frame).corners() == {"vixen": SQUARE}
+    frame = frame_of(vixen=PLACE).set_axis(titles, axis="columns")
+    assert home_range(frame, zone="33N").corners() == {"vixen": PLACE}
 
 
-def test_of_two_columns_with_one_title_the_first_counts():
+def test_two_columns_with_one_title_are_refused():
     frame = frame_of(vixen=SQUARE)
     frame = pandas.concat([frame, frame[["easting", "animal"]].assign(easting=7)], axis="columns")
-    assert home_range(frame).corners() == {"vixen": SQUARE}
+    with pytest.raises(FrameError, match="column 3 'easting' and column 5 'easting' both fit easting: rename one") as fault:
+        home_range(frame)
+    assert fault.value.kind == "ambiguous"
+
+
+def test_columns_are_said():
+    with pytest.warns(HomeRangeInfo, match="^columns: animal, timestamp, easting, northing; 1 animals, box 0.200 by 0.200 km"):
+        home_range(frame_of(vixen=SQUARE))
 
 
 def test_columns_may_be_named():
@@ -47,7 +55,9 @@ def test_columns_may_be_named():
 @pytest.mark.parametrize("given, name", [
     ("NA", "NA"), (17, "17"), (17.0, "17"), ("  a b ", "  a b "), ("ä" * 16, "ä" * 16), ("100%d", "100%d"),
     ("2.csv", "2.csv"),
-    (".*(a|b)[c]", ".*(a|b)[c]"), ("#\\1", "#\\1"), ("row", "row"),
+    (".*(a|b)[c]", ".*(a|b)[c]"), ("#\\1", "#\\1"), ("row", "row"), ("a,b", "a,b"), ('a"b', 'a"b'), (".a", ".a"),
+    ("Golden Eagle (Aquila chrysaetos) 2010", "Golden Eagle (Aquila chrysaetos) 2010"), ("ä" * 17, "ä" * 17), ("0", "0"),
+    (2 ** 53, "9007199254740992"),
 ])
 def test_names_are_kept(given, name):
     frame = frame_of(a=SQUARE, b=SQUARE)
@@ -81,7 +91,8 @@ def test_a_day_is_its_midnight():
 
 
 def test_times_after_2262_have_no_date():
-    assert home_range(times_of(1_099_511_627_776)).summary()["first"].isna().all()
+    frame = times_of(1_099_511_627_776).rename(columns={"timestamp": "second"})
+    assert home_range(frame).summary()["first"].isna().all()
 
 
 def test_fixes_are_sorted_by_time_and_equal_times_keep_their_order():
@@ -89,10 +100,9 @@ def test_fixes_are_sorted_by_time_and_equal_times_keep_their_order():
     frame.loc[6, "timestamp"] = frame.loc[5, "timestamp"]
     with pytest.warns(HomeRangeNote) as notes:
         found = home_range(frame)
-    said = [str(note.message) for note in notes]
-    assert said == found.notes == [
-        "1 fixes come before the one in the row before (of a): sorted by time",
-        "1 fixes have the second of the one before: kept"]
+    assert noted(notes) == found.notes[:2] == [
+        "1 records of a come before an earlier one: sorted by time",
+        "1 records of b have the second of the one before: kept"]
     assert found.fixes("a").tolist() == [[0, 0], [9, 0], [9, 9]]
     assert found.fixes("b").tolist() == [[0, 0], [200, 0], [0, 200], [200, 200]]
 
@@ -101,11 +111,14 @@ def test_fixes_are_sorted_by_time_and_equal_times_keep_their_order():
     [True, True, False, True], [1, 1, 0, 1], ["true", "TRUE", "False", "1"], [1.0, 1.0, 0.0, 1.0]])
 def test_rows_may_be_left_out(marks):
     frame = frame_of(a=SQUARE).assign(good=marks)
-    for use in ("good", marks, pandas.Series(marks, index=[7, 8, 9, 10])):
+    for use in ("good", marks, pandas.Series(marks), pandas.Series(marks).iloc[::-1]):
         found = home_range(frame, use=use)
         assert found.corners() == {"a": [(0, 0), (200, 0), (0, 200)]}
         assert found.summary()["left_out"].tolist() == [1, 1, 1]
-    assert row_count(frame.rename(columns={"good": "use"})) == 3
+    with pytest.warns(HomeRangeNote, match="^1 outliers: left out"):
+        assert row_count(frame.rename(columns={"good": "use"})) == 3
+    with pytest.raises(FrameError, match="use is a Series with another index than the frame"):
+        home_range(frame, use=pandas.Series(marks, index=[7, 8, 9, 10]))
 
 
 def test_rows_that_are_not_used_may_have_no_place():
@@ -121,7 +134,7 @@ def test_movebanks_outliers_are_left_out():
     frame.loc[2, "manually_marked_outlier"] = "true"
     frame.loc[4, "import-marked-outlier"] = True
     frame.loc[5, "manually_marked_outlier"] = False
-    with pytest.warns(HomeRangeNote, match="^3 fixes are not visible, or marked as outliers: left out"):
+    with pytest.warns(HomeRangeNote, match="^3 outliers: left out"):
         found = home_range(frame, 100)
     assert found.summary()[["fixes", "left_out"]].values.tolist() == [[2, 2], [3, 1]]
     assert row_count(frame, use=[True] * 8) == 8
@@ -129,15 +142,17 @@ def test_movebanks_outliers_are_left_out():
 
 def test_several_sensors_are_refused():
     frame = frame_of(a=SQUARE).assign(sensor_type=["gps", "gps", "argos-doppler-shift", "gps"])
-    with pytest.raises(FrameError, match=r"several types of sensors \(gps 3, argos-doppler-shift 1\): choose"):
+    with pytest.raises(FrameError, match=r"several sensors \(gps 3, argos-doppler-shift 1\): .* sensor='gps'"):
         home_range(frame)
     assert row_count(frame[frame["sensor_type"] == "gps"]) == 3
+    with pytest.warns(HomeRangeNote, match="1 records of other sensors: left out"):
+        assert row_count(frame, sensor="gps") == 3
     assert row_count(frame, use=[True] * 4) == 4
 
 
 def test_an_animal_without_a_fix_is_said():
     frame = frame_of(a=SQUARE, b=SQUARE)
-    with pytest.warns(HomeRangeNote, match="^no fix of b is left: it has no range"):
+    with pytest.warns(HomeRangeNote, match="^no fix of 'b' is left: it has no range"):
         assert home_range(frame, use=frame["animal"] == "a").animals == ["a"]
 
 
@@ -167,7 +182,7 @@ def year():
 def test_subsets_are_counted(year, words, kept, said):
     with pytest.warns(HomeRangeNote, match=said) as notes:
         assert row_count(year, **words) == kept
-    assert len(notes) == 1
+    assert len(noted(notes)) == 1
 
 
 def test_half_an_hour_is_a_piece():
@@ -186,33 +201,41 @@ def test_pieces_are_each_animals_own():
 def test_what_is_chosen_together_is_counted_one_after_the_other(year):
     with pytest.warns(HomeRangeNote) as notes:
         assert row_count(year, months=[1], hours=(0, 12), every_hours=24) == 31
-    assert [str(note.message).split(" fixes")[0] for note in notes] == [str(1464 - 124), "62", "31"]
+    assert [note.split(" fixes")[0] for note in noted(notes)] == [str(1464 - 124), "62", "31"]
 
 
 @pytest.mark.parametrize("change, said", [
-    ({"easting": None}, r"^row 2: there is no easting: leave such rows out .* frame.dropna\(subset=\['easting'\]\)"),
-    ({"northing": float("inf")}, "^row 2: the northing is not finite"),
-    ({"easting": "5,1"}, "^row 2: the easting '5,1' is not a number"),
-    ({"easting": -1}, "^row 2: the easting -1.00 is off the grid, which goes from 0 to 16777216 metres"),
-    ({"northing": 16777217}, "^row 2: the northing 16777217.00 is off the grid"),
+    ({"northing": float("inf")}, "^row 2: northing is not finite"),
+    ({"easting": "5,1"}, "^row 2: easting is '5,1' and not a number"),
+    ({"easting": True}, "^row 2: easting is True and not a number"),
+    ({"easting": 5 + 0j}, "^row 2: easting is .* and not a number"),
+    ({"easting": START}, "^row 2: easting is .* and not a number"),
     ({"timestamp": None}, "^row 2: there is no time"),
-    ({"timestamp": "01.05.2024 00:30"}, "^row 2: '01.05.2024 00:30' is no time such as 2024-05-01 00:30:04"),
-    ({"timestamp": "2024-02-30 00:30:00"}, "^row 2: '2024-02-30 00:30:00' is no time"),
-    ({"timestamp": True}, "^row 2: True is no time"),
-    ({"timestamp": -1}, "^row 2: -1 is not within 0 to 1099511627776 seconds since 1970"),
-    ({"timestamp": 1714523404000}, "^row 2: 1714523404000 is not within 0 to 1099511627776"),
+    ({"timestamp": "01.05.2024 00:30"}, "^row 2: timestamp is '01.05.2024 00:30' and not a time such as 2024-05-01 00:30:04"),
+    ({"timestamp": "2024-02-30 00:30:00"}, "^row 2: timestamp is '2024-02-30 00:30:00', which is no time"),
+    ({"timestamp": True}, "^row 2: timestamp is True and not a time"),
+    ({"timestamp": -1}, "^row 2: timestamp is '-1', which is less than 0"),
+    ({"timestamp": 45413.5}, "^row 2: timestamp is '45413.5', which looks like days of Excel"),
+    ({"timestamp": 2460431.5}, "^row 2: timestamp is '2460431.5', which looks like Julian days"),
+    ({"timestamp": 1714523404000}, "^row 2: timestamp is '1714523404000', which looks like milliseconds"),
+    ({"timestamp": "9" * 5000}, "^row 2: timestamp is '9+"),
     ({"animal": None}, "^row 2: there is no animal"),
-    ({"animal": ""}, "^row 2: the animal '' is no name of 1 to 32 bytes"),
-    ({"animal": "ä" * 17}, "^row 2: the animal 'ä+' is no name of 1 to 32 bytes"),
-    ({"animal": "a,b"}, "^row 2: the animal 'a,b' is no name"),
-    ({"animal": 'a"b'}, "^row 2: the animal 'a\"b' is no name"),
-    ({"animal": "a\nb"}, r"^row 2: the animal 'a\\nb' is no name"),
-    ({"animal": "a\ud800"}, "^row 2: the animal .* is no name"),
-    ({"use": "perhaps"}, "^row 2: use is 'perhaps' and neither true nor false"),
+    ({"animal": ""}, "^row 2: there is no animal"),
+    ({"animal": "a\nb"}, r"^row 2: the animal is 'a\\nb', which has a control character"),
+    ({"animal": "a\ud800"}, "^row 2: the animal is .* is no text"),
+    ({"animal": 4.9e-324}, "^row 2: the animal is 5e-324, a number that is not whole"),
+    ({"animal": 1e22}, "^row 2: the animal is 1e.22, a number that .* has lost digits"),
+    ({"use": "perhaps"}, "^row 2: use is 'perhaps' and"),
     ({"use": None}, "^row 2: use is None and neither true nor false"),
+    ({"visible": "no"}, "^row 2: visible is 'no' and not true or false"),
 ])
 def test_a_row_that_cannot_be_right_is_refused(change, said):
-    frame = frame_of(a=SQUARE).assign(use=True).astype(object)
+    frame = frame_of(a=SQUARE).astype(object)
+    if not {"use", "visible"} & {*change}:
+        frame["use"] = True
+    else:
+        frame[[*change][0]] = True
+        frame = frame.astype(object)
     for column, value in change.items():
         frame.at[2, column] = value
     with pytest.raises(FrameError, match=said):
@@ -225,7 +248,17 @@ def test_a_row_that_cannot_be_right_is_refused(change, said):
 @pytest.mark.parametrize("words, said", [
     ({"unit": "km"}, "unit='km' is neither 'm' nor 'dm'"),
     ({"levels": [50, 50]}, r"levels=\[50, 50\] has a level twice"),
-    ({"animal": "who"}, "there is no column 'who'; the frame has animal, timestamp, easting, northing"),
+    ({"animal": "who"}, "there is no column 'who'; the table has 'animal', 'timestamp', 'easting', 'northing'"),
+    ({"levels": "95"}, "levels='95' are not levels from 1 to 100"),
+    ({"levels": [95.5]}, r"levels=\[95.5\] are not levels"),
+    ({"levels": []}, r"levels=\[\] are not levels"),
+    ({"levels": True}, "are not levels"),
+    ({"levels": 0}, r"levels=0 are not levels|levels=\[0\] are not levels"),
+    ({"max_dop": "good"}, "max-dop is 'good' and not a number"),
+    ({"since": "2024", "from_": "2024"}, "since and from_ are one argument"),
+    ({"zone": "33U"}, "33U is no zone as 33N: U is a band, and the zone is 33N"),
+    ({"crs": "EPSG:4326"}, "the CRS WGS 84 is not a plane one"),
+    ({"crs": "nowhere"}, "crs='nowhere' names no reference system"),
     ({"use": "good"}, "there is no column 'good'"),
     ({"use": [True]}, "use has 1 marks for 4 rows"),
     ({"use": [False] * 4}, "no fix is left"),
@@ -249,8 +282,6 @@ def test_what_is_no_frame_of_fixes_is_refused():
     for frame in (None, [], pandas.DataFrame(), frame_of(a=SQUARE).head(0)):
         with pytest.raises(FrameError, match="frame is not a data frame with a row for each fix"):
             home_range(frame)
-    with pytest.raises(FrameError, match=r"for time \(timestamp, second, date, t-\): name it by time="):
-        home_range(frame_of(a=SQUARE).drop(columns="timestamp"))
 
 
 def test_longitude_and_latitude_are_refused_with_what_helps():
@@ -260,15 +291,19 @@ def test_longitude_and_latitude_are_refused_with_what_helps():
     degrees = frame_of(a=[(15.8, 46.3), (15.9, 46.4)])
     with pytest.warns(HomeRangeNote) as notes:
         home_range(degrees)
-    assert str(notes[1].message).endswith("of the grid's corner: are they longitude and latitude?")
+    assert noted(notes)[0].endswith("of the grid's corner: are they longitude and latitude?")
+    with pytest.raises(FrameError, match="lon='x', lat='y', zone='33N'"):
+        home_range(degrees.rename(columns={"easting": "x", "northing": "y"}))
 
 
 def test_the_zone_of_movebank_is_the_crs():
-    frame = frame_of(a=SQUARE).rename(columns={"easting": "utm-easting", "northing": "utm-northing"})
+    frame = frame_of(a=PLACE).rename(columns={"easting": "utm-easting", "northing": "utm-northing"})
     assert home_range(frame.assign(**{"utm-zone": "33N"})).crs == "EPSG:32633"
     assert home_range(frame.assign(**{"utm.zone": "7S"})).crs == "EPSG:32707"
-    assert home_range(frame).crs is None
-    with pytest.raises(FrameError, match=r"fixes lie in several UTM zones \(33N, 34N\)"):
+    assert home_range(frame, zone="33N").crs == "EPSG:32633"
+    with pytest.raises(FrameError, match="row 0: there is no utm-zone: name that of its coordinates, such as zone='33N'"):
+        home_range(frame)
+    with pytest.raises(FrameError, match=r"fixes lie in several zones \(33N 2, 34N 2\)"):
         home_range(frame.assign(**{"utm-zone": ["33N", "33N", "34N", "34N"]}))
 
 

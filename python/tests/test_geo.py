@@ -46,24 +46,34 @@ def test_the_call_that_helps_helps():
     degrees = geo().to_crs(4326)
     with pytest.raises(FrameError):
         home_range(degrees)
-    with pytest.warns(HomeRangeNote, match="rounded to whole metres"):
-        found = home_range(degrees.to_crs(degrees.estimate_utm_crs()))
+    found = home_range(degrees.to_crs(degrees.estimate_utm_crs()))
     assert found.corners() == {"vixen": hull(POINTS)}
 
 
-def test_rows_without_a_point_are_refused():
-    from shapely.geometry import LineString, Point
+def without_first(shape):
+    frame = geo()
+    frame.geometry = [shape, *frame.geometry[1:]]
+    return frame
 
-    for bad, said in [(None, "there is no point"), (Point(), "there is no point"),
-                      (LineString([(0, 0), (1, 1)]), "there is a LineString and not a point")]:
-        frame = geo()
-        frame.geometry = [bad, *frame.geometry[1:]]
-        with pytest.raises(FrameError, match=f"^row 0: {said}"):
-            home_range(frame)
-        assert home_range(frame, use=[False] + [True] * 29).summary()["fixes"].tolist() == [29] * 3
+
+def test_rows_without_a_point_are_left_out():
+    from shapely.geometry import Point
+
+    for shape in (None, Point()):
+        with pytest.warns(HomeRangeNote, match="^1 records have no coordinates: left out"):
+            assert home_range(without_first(shape)).summary()["fixes"].tolist() == [29] * 3
+
+
+def test_another_shape_than_a_point_is_refused():
+    from shapely.geometry import LineString
+
+    frame = without_first(LineString([(0, 0), (1, 1)]))
+    with pytest.raises(FrameError, match="^row 0: point is a LineString and not a point"):
+        home_range(frame)
+    assert home_range(frame, use=[False] + [True] * 29).summary()["fixes"].tolist() == [29] * 3
 
 
 def test_points_in_decimetres_come_back_in_metres():
-    points = [(10.2, 20.0), (30.0, 20.1), (30.0, 40.3)]
+    points = [(500010.2, 20.0), (500030.0, 20.1), (500030.0, 40.3)]
     found = home_range(geo(points=points), unit="dm")
     assert [*found.polygons().geometry[0].exterior.coords][:-1] == points

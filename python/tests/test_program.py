@@ -1,6 +1,5 @@
 """How the program is found, and which errors come of what it says."""
 import os
-import shutil
 import stat
 from pathlib import Path
 
@@ -10,9 +9,11 @@ from frames import frame_of
 
 import homerange
 from homerange import home_range
+from homerange import program as runs
+from homerange.program import find_program
 
 POINTS = cloud(6, 20)
-MODULE = Path(homerange.__file__)
+CLONE = Path(homerange.__file__).parents[2]
 
 
 @pytest.fixture
@@ -29,7 +30,7 @@ def stand_in(tmp_path):
 
 
 def real_program():
-    return homerange._find_program(None)
+    return find_program(None)
 
 
 @pytest.mark.parametrize("status, kind", [
@@ -54,8 +55,6 @@ def test_a_program_that_is_ended_is_no_fault_of_files(stand_in, line, said):
 
 
 def test_the_programs_own_refusals():
-    with pytest.raises(homerange.OptionError, match="^homerange: --percent: level 1 is not a whole number"):
-        home_range(frame_of(a=POINTS), [95.5])
     with pytest.raises(homerange.OptionError, match="more than 8 levels"):
         home_range(frame_of(a=POINTS), range(1, 10))
 
@@ -90,21 +89,18 @@ def test_where_the_program_is_looked_for(tmp_path, monkeypatch, stand_in):
     monkeypatch.chdir(tmp_path)
     assert calls()
     monkeypatch.delenv("HOMERANGE")
-    if os.access(MODULE.parents[1] / "release" / "homerange", os.X_OK):
-        assert homerange._find_program(None) == str(MODULE.parents[1] / "release" / "homerange")
-    alone = tmp_path / "elsewhere" / "homerange.py"
-    alone.parent.mkdir()
-    shutil.copy(MODULE, alone)
-    monkeypatch.setattr(homerange, "__file__", str(alone))
+    if os.access(CLONE / "release" / "homerange", os.X_OK):
+        assert find_program(None) == str(CLONE / "release" / "homerange")
+    monkeypatch.setattr(runs, "PACKAGE", tmp_path / "elsewhere" / "homerange")
     monkeypatch.setenv("PATH", str(tmp_path), prepend=os.pathsep)
     assert calls()
 
 
 @pytest.mark.parametrize("change, said", [
     ("s/^end,1$//", "is cut off"),
-    ("s/^row,a,7,/row,a,8,/", "line 9 is 'row,a,8,.*, which does not fit there"),
-    ("/^box/d", "line 2 is 'row,a,1,"),
-    ("s/,a,/,b,/", "reports another unit, other animals or fixes"),
+    ("s/^row,0,7,/row,0,8,/", "line 9 is 'row,0,8,.*, which does not fit there"),
+    ("/^box/d", "line 2 is 'row,0,1,"),
+    ("s/,0,/,b,/", "reports another unit, other animals or fixes"),
 ])
 def test_a_report_that_does_not_fit_is_refused(stand_in, change, said):
     with pytest.raises(homerange.ReportError, match=said):
@@ -113,15 +109,15 @@ def test_a_report_that_does_not_fit_is_refused(stand_in, change, said):
 
 def test_kept_fixes_that_are_not_those_of_the_report_are_refused(stand_in):
     """A program that reports the 95 per cent polygon of other fixes than the rule keeps."""
-    program = stand_in(f'"{real_program()}" "$@" | sed "s/^percent,a,95,19,\\([0-9]*\\),/percent,a,95,19,\\11,/"')
+    program = stand_in(f'"{real_program()}" "$@" | sed "s/^percent,0,95,19,\\([0-9]*\\),/percent,0,95,19,\\11,/"')
     found = home_range(frame_of(a=POINTS), program=program)
     with pytest.raises(homerange.ReportError, match="the 95 per cent polygon of a is not that of the report"):
         found.corners(95)
 
 
 def test_no_file_is_left(tmp_path, monkeypatch, stand_in):
-    monkeypatch.setattr(homerange.tempfile, "tempdir", str(tmp_path))
+    monkeypatch.setattr(runs.tempfile, "tempdir", str(tmp_path))
     home_range(frame_of(a=POINTS)).corners(50)
     with pytest.raises(homerange.OptionError):
-        home_range(frame_of(a=POINTS), 0)
+        home_range(frame_of(a=POINTS), range(1, 10))
     assert [*tmp_path.iterdir()] == []

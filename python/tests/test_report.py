@@ -8,6 +8,7 @@ from exact import cloud, hull, nearest
 
 import homerange
 from homerange import FrameError, ReportError, read_report
+from homerange.program import find_program
 
 TRACKS = {"vixen": cloud(7, 40), "old boar": cloud(8, 11)}
 
@@ -26,7 +27,7 @@ def files(tmp_path):
 def report_of(files, *options):
     path = Path(files[0]).with_name("report.txt")
     with open(path, "wb") as file:
-        subprocess.run([homerange._find_program(None), *options, *files], stdout=file, check=True)
+        subprocess.run([find_program(None), *options, *files], stdout=file, check=True)
     return path
 
 
@@ -140,7 +141,7 @@ def test_a_file_that_is_not_there_is_a_fault_of_the_system(tmp_path):
 
 def test_the_examples_in_the_repository():
     """The fox's area is that of the hull of its file."""
-    examples = Path(homerange.__file__).parents[1] / "examples"
+    examples = Path(__file__).parents[2] / "examples"
     if not examples.is_dir():
         pytest.skip("no examples")
     frame = pandas.read_csv(examples / "fox.csv")

@@ -1,0 +1,204 @@
+"""What data frames have and texts do not: indexes, types, reference systems, local grids; and all tables of the suite."""
+import subprocess
+import sys
+from datetime import timedelta, timezone
+from pathlib import Path
+
+import numpy
+import pandas
+import pytest
+from exact import cloud, hull
+from frames import START, frame_of, noted
+
+from homerange import FrameError, HomeRangeError, HomeRangeInfo, HomeRangeNote, home_range
+
+SUITE = Path(__file__).parents[2] / "tools" / "tests" / "tables"
+SQUARE = [(562_000, 5_134_000), (562_200, 5_134_000), (562_200, 5_134_200), (562_000, 5_134_200)]
+
+
+def test_all_tables_of_the_suite(tmp_path):
+    if not SUITE.is_dir():
+        pytest.skip("no suite of tables")
+    pytest.importorskip("pyproj")
+    run = [sys.executable, "-B", SUITE / "unpack.py", tmp_path / "cases"]
+    subprocess.run(run, check=True, capture_output=True)
+    run = [sys.executable, "-B", SUITE / "run_python.py", tmp_path / "cases"]
+    found = subprocess.run(run, capture_output=True, text=True)
+    assert found.returncode == 0, found.stdout + found.stderr
+    assert int(found.stdout.split()[-2]) > 600
+
+
+def test_time_in_the_index():
+    frame = frame_of(a=SQUARE).set_index("timestamp")
+    for name in ("timestamp", "t", None):
+        found = home_range(frame.rename_axis(name))
+        assert found.curve()["time"].tolist() == frame.index.tolist()
+
+
+def test_animal_and_time_in_the_index():
+    frame = frame_of(a=SQUARE, b=SQUARE)
+    found = home_range(frame.set_index(["animal", "timestamp"]))
+    assert found.corners() == {"a": SQUARE, "b": SQUARE}
+    assert found.curve()["time"].tolist() == frame["timestamp"].tolist()
+    named = frame.rename(columns={"animal": "Tier", "timestamp": "Zeit"}).set_index(["Tier", "Zeit"])
+    assert home_range(named, animal="Tier", time="Zeit").corners() == found.corners()
+
+
+def test_an_index_beside_columns_is_not_looked_at():
+    frame = frame_of(a=SQUARE, b=SQUARE)
+    frame.index = pandas.MultiIndex.from_arrays([range(8), frame["timestamp"]], names=["id", "time"])
+    assert home_range(frame).animals == ["a", "b"]
+
+
+def test_frames_of_other_packages():
+    frame = frame_of(a=SQUARE, b=SQUARE)
+    moving = frame.rename(columns={"animal": "traj_id"}).set_index("timestamp").rename_axis("t")
+    track = frame.rename(columns={"animal": "user_id", "timestamp": "tracked_at"}).rename_axis("id")
+    for other in (moving, track):
+        assert home_range(other).corners() == {"a": SQUARE, "b": SQUARE}
+
+
+def test_neither_animal_nor_time():
+    frame = frame_of(a=SQUARE)[["easting", "northing"]]
+    with pytest.warns(HomeRangeNote) as notes:
+        found = home_range(frame, name="fox")
+    assert noted(notes) == [
+        "no column has a usual title for the animal: all fixes are of one, named fox",
+        "no column has a usual title for the time: fixes are in the order of rows, as seconds 0, 1, 2, .."]
+    assert found.corners() == {"fox": SQUARE}
+    with pytest.raises(FrameError, match="hours: no column has a usual title for the time"):
+        home_range(frame, hours=(18, 6))
+
+
+def test_local_grids_come_back_where_they_were():
+    points = [(-2535.0, -202.5), (1005.0, -202.5), (1005.0, 3000.0)]
+    with pytest.warns(HomeRangeNote, match="coordinates are shifted by 1000000 m east and 1000000 m north"):
+        found = home_range(frame_of(a=points), 100, "dm")
+    assert found.corners() == {"a": points}
+    assert found.fixes("a").tolist() == [[*point] for point in points]
+    assert found.hectares("a") == 3540 * 3202.5 / 2 / 10_000
+
+
+def test_failed_fixes_are_left_out_and_counted():
+    frame = frame_of(a=SQUARE)
+    frame.loc[1, ["timestamp", "easting"]] = None
+    with pytest.warns(HomeRangeNote, match="^1 records have no coordinates: left out"):
+        assert home_range(frame, 100).summary()[["fixes", "left_out"]].values.tolist() == [[3, 1]]
+
+
+@pytest.mark.parametrize("zone, name", [
+    ("Europe/Berlin", "Europe/Berlin"), (timezone(timedelta(hours=2)), "Etc/GMT-2"), ("UTC", "UTC"), (None, "UTC")])
+def test_hours_are_those_of_the_columns_zone(zone, name):
+    frame = frame_of(a=SQUARE * 12).assign(timestamp=pandas.date_range("2024-05-01", periods=48, freq="H", tz=zone))
+    with pytest.warns(HomeRangeNote, match="24 fixes are at other hours than 18 to 6"):
+        found = home_range(frame, 100, hours=(18, 6))
+    assert found.tz == name
+    assert {time.hour for time in found.curve()["time"]} == {*range(6), *range(18, 24)}
+    assert any(note.startswith("days and hours are those of") for note in found.notes) is (name != "UTC")
+
+
+def test_hours_may_be_parts_and_numbers_of_numpy():
+    frame = frame_of(a=SQUARE * 12)
+    with pytest.warns(HomeRangeNote, match="at other hours than 18.5 to 6"):
+        found = home_range(frame, numpy.int64(95), hours=(18.5, numpy.float64(6)))
+    assert found.levels == [95]
+    assert len(found.curve()) == 12 + 11
+    assert home_range(frame, [50.0, numpy.float64(95)], months=numpy.int64(3)).levels == [50, 95]
+
+
+@pytest.mark.parametrize("words, kept", [
+    ({"since": "2018-11-04", "tz": "America/Sao_Paulo"}, 21), ({"until": "2018-11-03", "tz": "America/Sao_Paulo"}, 3),
+    ({"from_": numpy.datetime64("2018-11-04T12:00")}, 12), ({"since": pandas.Timestamp("2018-11-04 12:00")}, 12),
+    ({"every": "12h"}, 2), ({"every": 0.5}, 24), ({"every": "90min"}, 16),
+])
+def test_bounds(words, kept):
+    times = pandas.date_range("2018-11-04", periods=24, freq="H", tz="UTC")  # midnight is 03:00 UTC, and is passed over
+    frame = pandas.DataFrame({"animal": "a", "timestamp": times, "easting": range(1000, 1024), "northing": 1000})
+    if kept == 24:
+        assert len(home_range(frame, **words).curve()) == 24
+    else:
+        with pytest.warns(HomeRangeNote):
+            assert len(home_range(frame, **words).curve()) == kept
+
+
+def test_filters_are_arguments():
+    frame = frame_of(a=SQUARE).assign(hdop=[1, 2, 3, None], fixtype=["3D", "2D", "3D", "3D"])
+    with pytest.warns(HomeRangeNote) as notes:
+        found = home_range(frame, 100, max_dop=2, fix_type="3D")
+    assert noted(notes) == ["1 fixes have no DOP: left out", "1 fixes have a DOP above 2: left out",
+                            "1 fixes are of other fix types than 3D: left out"]
+    assert found.summary()["left_out"].tolist() == [3]
+    with pytest.warns(HomeRangeNote, match="1 fixes are faster than 0.12 m/s"):
+        home_range(frame.assign(easting=[562_000, 562_200, 562_400, 563_000], northing=0), 100, max_speed=0.12)
+    with pytest.raises(FrameError, match="argos_class='3,2,1'"):
+        home_range(frame.assign(argos_lc=["3", "2", "B", "Z"]))
+    with pytest.warns(HomeRangeNote, match="2 fixes are of other Argos classes than 3,2"):
+        home_range(frame.assign(argos_lc=["3", "2", "B", "Z"]), argos_class=(3, 2))
+
+
+def test_a_number_and_a_text_are_no_one_animal():
+    frame = frame_of(a=SQUARE, b=SQUARE).astype({"animal": object})
+    frame["animal"] = [7] * 4 + ["7"] * 4
+    with pytest.raises(FrameError, match="^row 4: the animal is '7', and another row has it as a number"):
+        home_range(frame)
+
+
+@pytest.mark.parametrize("words", [
+    {"use": True}, {"easting": "northing", "northing": "northing"}, {"animal": pandas.Series(["a"])}, {"tz": 5},
+    {"levels": numpy.nan}, {"every": "often"}, {"every_hours": float("inf")}, {"hours": 18}, {"hours": ("a", "b")},
+    {"months": "May"}, {"max_speed": -1}, {"unit": None}, {"zone": 33}, {"use": 5}, {"since": 5}, {"until": "2024-02-30"},
+    {"argos_class": 3.5}, {"crs": 5},
+])
+def test_arguments_are_taken_or_refused_as_one_error(words):
+    frame = frame_of(a=SQUARE)
+    try:
+        home_range(frame, **words)
+    except HomeRangeError as fault:
+        assert isinstance(fault, FrameError)
+        assert words != {"use": True}
+    else:
+        assert words == {"use": True}
+
+
+@pytest.mark.parametrize("code, scale", [
+    (3395, "109.[0-9]* % too great"), (4087, "44.[0-9]* % too great"), (3832, "109.[0-9]* % too great"),
+    (32661, "3[0-9].[0-9]* % too great"), (32630, "5.[0-9]* % too great"), (3034, "[0-9.]* % too small"),
+])
+def test_a_reference_system_of_wrong_areas_is_refused(code, scale):
+    geopandas = pytest.importorskip("geopandas")
+    frame = frame_of(a=cloud(3, 20))
+    points = geopandas.GeoDataFrame(frame[["animal", "timestamp"]], crs=32633, geometry=geopandas.points_from_xy(
+        frame["easting"], frame["northing"])).to_crs(code)
+    with pytest.raises(FrameError, match=f"areas of a are {scale} on this grid") as fault:
+        home_range(points)
+    assert fault.value.kind == "scale"
+    columns = frame.assign(easting=points.geometry.x, northing=points.geometry.y)
+    with pytest.raises(FrameError, match=f"areas of a are {scale} on this grid"):
+        home_range(columns, crs=code)
+
+
+def test_equal_areas_are_taken():
+    geopandas = pytest.importorskip("geopandas")
+    points = geopandas.GeoDataFrame(frame_of(a=SQUARE)[["animal", "timestamp"]], crs=32633, geometry=geopandas.points_from_xy(
+        *zip(*SQUARE))).to_crs(3035)
+    with pytest.warns(HomeRangeNote) as notes:
+        found = home_range(points)
+    assert all("rounded" in note for note in noted(notes))
+    assert found.hectares("a") == pytest.approx(4, rel=0.02)
+    assert found.crs.to_epsg() == 3035
+
+
+def test_a_crs_of_columns_is_that_of_the_answers():
+    pytest.importorskip("geopandas")
+    assert home_range(frame_of(a=SQUARE), crs=32633).polygons().crs.to_epsg() == 32633
+    with pytest.warns(HomeRangeInfo, match="coordinates are those of the table; zone: 33N"):
+        assert home_range(frame_of(a=SQUARE), zone="33 n").crs == "EPSG:32633"
+
+
+def test_longitude_and_latitude_are_projected_into_a_zone_that_is_named():
+    pytest.importorskip("pyproj")
+    frame = pandas.DataFrame({"id": "a", "date": START, "lon": [15.805899, 15.807277], "lat": [46.356742, 46.358710]})
+    with pytest.warns(HomeRangeNote):
+        found = home_range(frame, zone="33N")
+    assert found.fixes("a").tolist() == [[562000, 5134001], [562104, 5134221]]
+    assert found.crs == "EPSG:32633"
