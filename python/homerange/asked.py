@@ -73,6 +73,10 @@ class Asked:
             return f"{option.replace('-', '_')}={value!r}"
         return f"--{option} {value}" if " " not in value else f"--{option} '{value}'"
 
+    def title(self, option: str) -> str:
+        """An option's own name in this front end."""
+        return option.replace("-", "_") if self.is_frame else f"--{option}"
+
     @property
     def clock(self) -> str:
         """The zone by whose clock days and hours are counted."""

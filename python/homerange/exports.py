@@ -260,6 +260,8 @@ def record_lines(path: str, split: Split, unit: str, said: Said) -> Iterable[str
     left = [(split.names.get(name, clean(name)), REASONS.index(reason), count)
             for (name, reason), count in said.left.items()]
     yield from (f"left,{name},{count},{REASONS[reason]}" for name, reason, count in sorted(left))
+    for name, track in split.tracks.by_name.items():
+        yield f"track,{split.names[name]},{len(track.used)},{sum(track.used)}"
 
 
 def split_text(path: str, into: str, options: dict[str, Any], tell: Callable[[str], None]) -> None:

@@ -134,11 +134,11 @@ class Table:
     def check_time(self) -> None:
         needs = self.asked.needs_time
         if not self.columns.time and needs:
-            refuse(f"{needs}: no column has a usual title for the time: name it, as by {self.asked.word('time', 'COLUMN')}")
+            refuse(f"{self.asked.title(needs)}: no column has a usual title for the time: name it, as by {self.asked.word('time', 'COLUMN')}")
 
     def require(self, fails: bool, option: str, column: str, usual: Sequence[str]) -> None:
         if fails:
-            refuse(f"{option}: no column has a usual title for it ({', '.join(usual)}): name it, as by "
+            refuse(f"{self.asked.title(option)}: no column has a usual title for it ({', '.join(usual)}): name it, as by "
                    f"{self.asked.word(column, 'COLUMN')}", "columns")
 
     def optional(self, option: str, named: str | None, usual: Sequence[str]) -> int | None:

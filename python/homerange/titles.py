@@ -80,7 +80,7 @@ class Titles:
         found = [at for title in wanted for at, own in enumerate(self.titles) if own == title.strip(" \t")]
         if not found:
             has = ", ".join(f"'{title}'" for title in self.titles[:40])
-            refuse(f"{option}: there is no column '{' or '.join(wanted)}'; the table has {has}", "columns")
+            refuse(f"{self.asked.title(option)}: there is no column '{' or '.join(wanted)}'; the table has {has}", "columns")
         return found[0]
 
     def first(self, titles: Sequence[str]) -> int | None:

@@ -56,7 +56,7 @@ class Choice:
         if wanted is not None:
             names = {"" if name == "none" else name for name in wanted}
             for name in sorted(names.difference(of)):
-                refuse(f"sensor: no fix is of {name or 'none'}", "sensor")
+                refuse(f"{self.asked.title('sensor')}: no fix is of {name or 'none'}", "sensor")
             self.keep([sensor in names for sensor in of], "sensor", "records of other sensors")
         left = {*compress(records.sensor, records.used)}
         if len(left) == 1 and not left <= {"gps", ""}:

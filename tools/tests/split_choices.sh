@@ -15,7 +15,9 @@ sensors | split_to 0 --sensor gps
 printf '%s\n' animal,second,easting,northing "a,$first,1,2" "a,$((first + 600)),3,4" | makes a.csv
 says '3 records of other sensors: left out'
 says "no fix of 'c' is left: no file"
-sensors | split_to 0 --sensor=gps,argos-doppler-shift,none --mark
+sensors | split_to 1 --sensor=gps,argos-doppler-shift,none --mark
+says 'fixes are of Argos, most of whose classes are off by kilometres: name the classes to take, such as --argos-class 3,2,1'
+sensors | split_to 0 --sensor=gps,argos-doppler-shift,none --mark --argos-class none
 printf '%s\n' animal,second,easting,northing,use "b,$((first + 1200)),90,4,0" | makes b.csv
 sensors | split_to 1 --sensor gsm,gps
 says '--sensor: no fix is of gsm'
@@ -53,10 +55,10 @@ printf '%s\n' animal,second,easting,northing "a,$((first - 1800)),1,2" "a,$first
 # UTM coordinates without a zone: it is that of the longitude, or has to be named.
 zoneless=individual-local-identifier,timestamp,utm-easting,utm-northing
 printf '%s\n' "$zoneless,location-long,location-lat" 'a,2024-05-01 00:30:00,780000,5134000,17.9,46.3' \
-    'b,2024-05-01 00:30:00,230000,5134000,18.1,46.3' | split_to 1
+    'b,2024-05-01 00:30:00,230000,5134000,18.1,46.3' 'a,,,,,' | split_to 1
 says 'fixes lie in several zones (33N 1, 34N 1): name the zone of all, such as --zone 33N'
 printf '%s\n' "$zoneless" 'a,2024-05-01 00:30:00,780000,5134000' | split_to 1
-says 'record 1 has no utm-zone: name that of its coordinates, such as --zone 33N'
+says 'record 1: there is no utm-zone: name that of its coordinates, such as --zone 33N'
 printf '%s\n' "$zoneless" 'a,2024-05-01 00:30:00,780000,5134000' | split_to 0 --zone 33N
 printf '%s\n' animal,second,easting,northing "a,$first,780000,5134000" | makes a.csv
 
@@ -71,7 +73,7 @@ printf '%s\n' animal,second,easting,northing "a,$first,562000,5134001" | makes a
 printf '%s\n' "$head_line" 'a,2024-05-01 00:30:00,1,2,33N,maybe' 'a,2024-05-01 00:30:00,x,2,33N,' | split_to 1
 says "record 1: visible is 'maybe' and not true or false"
 printf '%s\n' "$head_line" 'a,never,1,2,33N,' ',2024-05-01 00:30:00,1,2,33N,' | split_to 1
-says "record 1: timestamp is 'never' and not a UTC time"
+says "record 1: timestamp is 'never' and not a time such as 2024-05-01 00:30:04"
 
 # No text: a byte 0, another coding, no file.
 printf '%s\na,2024-05-01 00:30:00,5620\00000,2,33N,\n' "$head_line" | split_to 1
@@ -84,7 +86,8 @@ echo "$head_line" | split_to 2 --bogus
 says 'unrecognized arguments: --bogus'
 
 # The record of a split: the export and its checksum, the unit, the zone, and what was said.
-printf '%s\n' "$head_line" 'a/b,2024-05-01 00:30:00,1,2,33N,' 'a/b,2024-05-01 00:40:00,,,,' | split_to 0 --unit dm
+printf '%s\n' "$head_line" 'a/b,2024-05-01 00:30:00,500001,2,33N,' 'a/b,2024-05-01 00:40:00,,,,' |
+    split_to 0 --unit dm
 makes split.txt <<END
 export,../export.csv
 sha256,$(sha256sum <"$work/export.csv" | cut -c -64)
@@ -92,6 +95,9 @@ unit,dm
 zone,33N
 said,1 records have no coordinates: left out
 said,UTM coordinates are those of the export; zone: 33N 1
+said,columns: individual-local-identifier, timestamp, utm-easting, utm-northing; 1 animals, box 0.000 by 0.000 km
 said,animal 'a/b' is named a_b
 said,1 fixes of 1 animals are in tracks, in dm
+left,a_b,1,coordinates
+track,a_b,1,1
 END

@@ -45,9 +45,13 @@ Jäger _Q_,$(stamp '2024-05-01 00:30:00'),562000,5134001
 Jäger _Q_,$(stamp '2024-05-01 01:00:00'),562001,5134003
 END
 
-# Titles with blanks beside them, a title twice, of which the first counts, and names with a line break and a quote.
+# Titles with blanks beside them, a title twice, and names with a line break and a quote.
 printf '%s\r\n' 'individual-local-identifier, timestamp,utm-easting,utm-northing,utm-zone,visible ,visible' \
-    '"a' 'b",2024-05-01 00:00:00,1,2,33N,true,false' 'c 5",2024-05-01 00:00:00,1,2,33N,true,false' | split_to 0
+    '"a' 'b",2024-05-01 00:00:00,1,2,33N,true,false' 'c 5",2024-05-01 00:00:00,1,2,33N,true,false' | split_to 1
+says "column 6 'visible' and column 7 'visible' both fit visible: rename one"
+printf '%s\r\n' 'individual-local-identifier, timestamp,utm-easting,utm-northing,utm-zone,visible ' \
+    '"a' 'b",2024-05-01 00:00:00,1,2,33N,true' 'c 5",2024-05-01 00:00:00,1,2,33N,true' \
+    'c 5",2024-05-01 00:00:00,1,2,33N,false' | split_to 0
 for name in a_b 'c 5_'; do
     printf '%s\n' animal,second,easting,northing "$name,$(stamp '2024-05-01 00:00:00'),1,2" | makes "$name.csv"
 done
@@ -55,13 +59,15 @@ done
 # Names: slash, comma, quote, apostrophe, NA, export, 34 bytes; T..Z; more than 32 bits of seconds.
 split_to 0 <<END
 $head_line
-a/b\\c,2024-05-01T00:00:00Z,1.4,2,33N,
+a/b\\c,2024-05-01T00:00:00Z,1,2,33N,
 "d,""e",2024-05-01T00:00:00Z,1,2,33N,
 o'hara,2024-05-01T00:00:00.250Z,1,2,33N,
 NA,2024-05-01T00:00:00Z,1,2,33N,
 export,2086-05-01T00:00:00Z,1,2,33N,
 ääääääääääääääääa,2024-05-01T00:00:00Z,1,2,33N,
 xääääääääääääääää,2024-05-01T00:00:00Z,1,2,33N,
+fox,2024-05-01T00:00:00Z,1,2,33N,
+fox,2024-05-01T00:00:00Z,1,2,33N,
 END
 for name in a_b_c d__e "o'hara" NA ääääääääääääääää xäääääääääääääää; do
     printf '%s\n' animal,second,easting,northing "$name,$(stamp '2024-05-01 00:00:00'),1,2" | makes "$name.csv"
@@ -72,9 +78,9 @@ says "animal 'ääääääääääääääääa' is named äääääääääää
 
 # Lines that end in CR alone, or each in another way; lines that are blank, also the first.
 printf '%s\r' "$head_line" 'a,2024-05-01 00:30:00,1,2,33N,' | split_to 0
-printf '%s\n\na,2024-05-01 00:30:00,1,2,33N,\r\n\r\nb,2024-05-01 00:30:00,1,2,33N,\rc,2024-05-01 00:30:00,1,2,33N,' \
+printf '%s\n\na,2024-05-01 00:30:00,1,2,33N,\r\n\r\nb,2024-05-01 00:30:00,1,2,33N,\rb,2024-05-01 00:30:00,1,2,33N,' \
     "$head_line" | split_to 0
-says '3 fixes of 3 animals are in tracks, in m'
+says '3 fixes of 2 animals are in tracks, in m'
 printf '\n%s\n' "$head_line" 'a,2024-05-01 00:30:00,1,2,33N,' | split_to 0
 says '1 fixes of 1 animals are in tracks, in m'
 
@@ -89,20 +95,21 @@ says '2 fixes of 1 animals are in tracks, in m'
 
 # A control character in a name, a name with blanks, and one that looks like a word of R or a number.
 printf '%s\n' "$head_line" "a$(printf '\001')b,2024-05-01 00:30:00,1,2,33N," ' x ,2024-05-01 00:30:00,1,2,33N,' \
-    'TRUE,2024-05-01 00:30:00,1,2,33N,' '1e5,2024-05-01 00:30:00,1,2,33N,' '007,2024-05-01 00:30:00,1,2,33N,' | split_to 0
+    'TRUE,2024-05-01 00:30:00,1,2,33N,' '1e5,2024-05-01 00:30:00,1,2,33N,' '007,2024-05-01 00:30:00,1,2,33N,' \
+    'fox,2024-05-01 00:30:00,1,2,33N,' 'fox,2024-05-01 00:30:00,1,2,33N,' | split_to 0
 for name in a_b ' x ' TRUE 1e5 007; do
     printf '%s\n' animal,second,easting,northing "$name,$(stamp '2024-05-01 00:30:00'),1,2" | makes "$name.csv"
 done
 
 # Metres just below and at a half, and with many decimals, in metres and in decimetres.
 halves() {
-    printf '%s\n' "$head_line" 'a,2024-05-01 00:30:00,10.4999999999,0.5,33N,' 'a,2024-05-01 00:30:00,-0.5,10.45,33N,' \
+    printf '%s\n' "$head_line" 'a,2024-05-01 00:30:00,10.4999999999,2000.5,33N,' 'a,2024-05-01 00:30:00,-0.5,10.45,33N,' \
         'a,2024-05-01 00:30:00,0000012.3456789012345678901234567890,16777216.49,33N,'
 }
 halves | split_to 0
 second=$(stamp '2024-05-01 00:30:00')
-printf '%s\n' animal,second,easting,northing "a,$second,10,1" "a,$second,0,10" "a,$second,12,16777216" | makes a.csv
+printf '%s\n' animal,second,easting,northing "a,$second,10,2001" "a,$second,0,10" "a,$second,12,16777216" | makes a.csv
 halves | sed '/16777216/d; s/-0.5,/-0.04,/' | split_to 0 --unit dm
-printf '%s\n' animal,second,easting,northing "a,$second,105,5" "a,$second,0,105" | makes a.csv
+printf '%s\n' animal,second,easting,northing "a,$second,105,20005" "a,$second,0,105" | makes a.csv
 printf '%s\n' "$head_line" 'a,2024-05-01 00:30:00,1,16777216.5,33N,' | split_to 1
 says 'record 1: 1.00 east and 16777216.50 north is off the grid, which goes from 0 to 16777216 metres'

@@ -9,8 +9,8 @@ refuses() {
     says "$message"
 }
 refuses 'record 1: there is no timestamp' "$head_line" 'a,,1,2,33N,'
-refuses "record 1: timestamp is '01.05.2024 00:30' and not a UTC time" "$head_line" 'a,01.05.2024 00:30,1,2,33N,'
-refuses "record 1: timestamp is '2024-05-01 00:30:00+02:00' and not" "$head_line" 'a,2024-05-01 00:30:00+02:00,1,2,33N,'
+refuses "record 1: timestamp is '01.05.2024 00:30' and not a time such as 2024-05-01 00:30:04" "$head_line" 'a,01.05.2024 00:30,1,2,33N,'
+refuses "record 1: timestamp is '2024-05-01 00:30:00 CEST' and not" "$head_line" 'a,2024-05-01 00:30:00 CEST,1,2,33N,'
 refuses "record 1: timestamp is '2024-02-30 00:30:00', which is no time" "$head_line" 'a,2024-02-30 00:30:00,1,2,33N,'
 refuses "record 1: timestamp is '1969-12-31 23:59:59', which is no time since 1970" "$head_line" \
     'a,1969-12-31 23:59:59,1,2,33N,'
@@ -20,13 +20,13 @@ refuses "record 1: utm-easting is '1234567890123' and not a number of up to 12 d
 refuses "record 2: utm-easting is '1 000' and not a number" "$head_line" 'a,,,,,' 'a,2024-05-01 00:30:00,1 000,2,33N,'
 refuses "record 1: visible is 'FALSCH' and not true or false" "$head_line" 'a,2024-05-01 00:30:00,1,2,33N,FALSCH'
 refuses 'record 1: 5 fields where 6 are wanted' "$head_line" 'a,2024-05-01 00:30:00,1,2,33N'
-refuses 'there are no columns individual-local-identifier and timestamp' 'animal,second,easting,northing' 'a,1,2,3'
+refuses 'there are no columns of usual titles for easting and northing, or longitude and latitude' 'animal,second,x' 'a,1,2'
 refuses 'fixes lie in several zones (33N 2, 32N 1): name the zone' "$head_line" 'a,2024-05-01 00:30:00,1,2,33N,' \
     'a,2024-05-01 00:30:00,1,2,33N,' 'b,2024-05-01 00:30:00,1,2,32N,'
 refuses 'fixes lie in several zones (33N 1, 33S 1): name the zone' "$head_line" 'a,2024-05-01 00:30:00,1,2,33N,' \
     'a,2024-05-01 00:30:00,1,2,33S,'
-refuses 'record 1: -52.30 east and 2.00 north is off the grid' "$head_line" 'a,2024-05-01 00:30:00,-52.3,2,33N,'
+refuses 'record 1: -52.30 east and 2000.00 north is off the grid' "$head_line" 'a,2024-05-01 00:30:00,-52.3,2000,33N,'
 refuses "animals 'a/b' and 'a_b' would both be named a_b" "$head_line" 'a/b,2024-05-01 00:30:00,1,2,33N,' \
-    'a_b,2024-05-01 00:30:00,1,2,33N,'
+    'a_b,2024-05-01 00:30:00,1,2,33N,' 'a_b,2024-05-01 00:30:00,1,2,33N,'
 refuses 'a quote has no end' "$head_line" 'a,2024-05-01 00:30:00,1,2,33N,"tall' 'b,2024-05-01 00:30:00,1,2,33N,'
 refuses 'no fix is left' "$head_line" 'a,2024-05-01 00:30:00,,,33N,'

@@ -1,0 +1,27 @@
+# Tests the Python package by pytest, each of whose tests is counted, and its types by mypy.
+# shellcheck shell=sh disable=SC2154
+
+# What a summary of pytest says of tests that ended so.
+ended() {
+    sed -n "s/^$1 //p" summary
+}
+
+if ! python3 -c 'import pandas, pytest' 2>errors; then
+    skip "the Python package: $(tail -n 1 errors)"
+else
+    export PYTHONDONTWRITEBYTECODE=1
+    python3 -m pytest -q -r pfEs -p no:cacheprovider "$top/python/tests" >summary 2>&1
+    status=$?
+    ended PASSED >>"$work/passed"
+    ended SKIPPED | while read -r said; do skip "the Python package: $said"; done
+    for end in FAILED ERROR; do
+        ended "$end" | while read -r said; do holds "the Python package: $said" false; done
+    done
+    holds 'the tests of the Python package' [ "$status" -eq 0 ]
+    if python3 -c 'import mypy' 2>errors; then
+        holds 'types of the Python package' \
+            python3 -m mypy --strict --cache-dir "$work/mypy" "$top/python/homerange"
+    else
+        skip 'types of the Python package: no mypy'
+    fi
+fi
