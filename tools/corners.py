@@ -14,6 +14,10 @@ import sys
 import tempfile
 from pathlib import Path
 
+sys.path.insert(0, str(Path(__file__).resolve().parents[1] / "python"))
+
+from homerange.report import kept_places
+
 COLUMNS = ("animal", "second", "easting", "northing")
 
 
@@ -40,7 +44,7 @@ def run(program, *arguments):
         refuse(f"{program} does not run: {fault.strerror}")
     if ended.returncode != 0:
         sys.exit(max(ended.returncode, 1))
-    return ended.stdout.decode().splitlines()
+    return ended.stdout.decode("utf-8", errors="surrogateescape").split("\n")[:-1]
 
 
 def read(path):
@@ -48,17 +52,6 @@ def read(path):
     with open(path, encoding="utf-8-sig", newline="") as file:
         rows = [row for row in csv.DictReader(file) if row.get("use", "1") == "1"]
     return [(row["animal"], *(int(row[column]) for column in COLUMNS[1:])) for row in rows]
-
-
-def kept(records, level):
-    """Which records the level keeps. All is multiplied by their number, so that the numbers are whole."""
-    count = len(records)
-    east, north = (sum(record[axis] for record in records) for axis in (2, 3))
-
-    def distance(at):
-        return (count * records[at][2] - east) ** 2 + (count * records[at][3] - north) ** 2
-
-    return {*sorted(range(count), key=distance)[:(level * count + 99) // 100]}
 
 
 def write_marked(path, records, used):
@@ -73,7 +66,7 @@ def corners(program, level, unit, path):
     whole = run(program, "--percent", str(level), "--unit", unit, "--", path)
     wanted = next(line for line in whole if line.startswith("percent,"))
     records = read(path)
-    used = kept(records, level)
+    used = {*kept_places([record[2] for record in records], [record[3] for record in records], level)}
     with tempfile.TemporaryDirectory() as folder:
         marked = Path(folder, "kept.csv")
         write_marked(marked, records, used)
@@ -91,6 +84,7 @@ def main():
     parser.add_argument("file", metavar="FILE", help="a file of one animal's fixes, as homerange reads it")
     parser.add_argument("--unit", choices=("m", "dm"), default="m", help="the unit of its coordinates [default: m]")
     options = parser.parse_args()
+    sys.stdout.reconfigure(errors="surrogateescape")
     print(*corners(find_program(), options.level, options.unit, options.file), sep="\n")
 
 

@@ -1,7 +1,9 @@
 #!/usr/bin/env python3
 """ranges.py FOLDER [--zone 33N]: tables, layers and pictures of the report FOLDER/report.txt, into the same folder.
 
-FOLDER/tracks has the files that the report was made from; the zone is the UTM zone of their coordinates. Files made:
+FOLDER/tracks has the files that the report was made from; the zone is the UTM zone of their coordinates. Where split.py
+made them, the report has to have the animals and fixes of its record, and coordinates that it shifted are shifted back.
+Files made:
 
     summary.csv    for each animal and level the fixes, the kept ones, corners, hectares, and what the last tenth added
     overlaps.csv   which share of the fixes of the row's animal lie in the polygon of the column's
@@ -20,8 +22,24 @@ sys.path.insert(0, str(Path(__file__).resolve().parents[1] / "python"))
 import matplotlib
 
 from homerange import HomeRangeError, plot_curve, plot_ranges, read_report
+from homerange.errors import refuse
+from homerange.exports import difference_from_record, read_record
+from homerange.zones import crs_of, zone_of
 
 matplotlib.use("Agg")
+
+
+def read_ranges(folder, crs):
+    """The ranges of the report, once it is seen that they are those of the tracks as they were split."""
+    record = read_record(folder / "tracks")
+    shift = record.shift if record else (0, 0)
+    files = sorted(path for path in (folder / "tracks").iterdir() if path.name.endswith(".csv"))
+    ranges = read_report(folder / "report.txt", files=files, crs=crs, shift=shift)
+    summary = ranges.summary()
+    fault = record and difference_from_record(record, dict(zip(summary["animal"], summary["fixes"])))
+    if fault:
+        refuse(fault)
+    return ranges
 
 
 def write_tables(ranges, folder):
@@ -55,9 +73,8 @@ def main():
     parser.add_argument("folder", type=Path, metavar="FOLDER", help="the folder with report.txt and tracks")
     parser.add_argument("--zone", metavar="33N", help="the UTM zone; without it the layers have no reference system")
     options = parser.parse_args()
-    crs = options.zone and f"EPSG:{326 if options.zone[-1] == 'N' else 327}{options.zone[:-1]:0>2}"
     try:
-        ranges = read_report(options.folder / "report.txt", files=sorted(options.folder.glob("tracks/*.csv")), crs=crs)
+        ranges = read_ranges(options.folder, options.zone and crs_of(zone_of(options.zone)))
         write_tables(ranges, options.folder)
         write_layers(ranges, options.folder / "ranges.gpkg")
         write_pictures(ranges, options.folder)

@@ -7,7 +7,7 @@
 #                       animals, which are several runs (herd/run.sh), it is SHA256SUMS, those of all files
 #   summary.csv, overlaps.csv, ranges.gpkg, curves.png, ranges.png     by ranges.py, of the report and the tracks
 #
-# The options are those of split.py, --unit, --zone, --sensor, --mark and --skip-unnamed, and --percent of homerange.
+# The options are those of split.py but --into, and --percent of homerange.
 # HOMERANGE names another program than that of program.sh. Needs geopandas and matplotlib. A folder that is there is
 # refused, and a call that fails leaves none. The status is 0 where all was made, 2 where options are wrong, else 1.
 set -eu
@@ -19,8 +19,17 @@ fail() {
     exit "${2:-1}"
 }
 wrong() {
-    options='[--unit m|dm] [--zone ZONE] [--sensor TYPE] [--mark] [--skip-unnamed] [--percent LIST]'
-    fail "$1: ranges.sh $options EXPORT INTO" 2
+    fail "$1: ranges.sh [OPTIONS of split.py] [--percent LIST] EXPORT INTO" 2
+}
+
+# Whether split.py or the program takes this option.
+is_option() {
+    case ${1#--} in
+        mark | skip-unnamed | percent | unit | zone | sensor | from | animal | name | time | time-format | tz | lon | lat | \
+            easting | northing | na | skip-lines | encoding | argos-class | argos | max-dop | dop | fix-type | fix | since | \
+            until | max-speed | every) ;;
+        *) return 1 ;;
+    esac
 }
 
 # What is left in the arguments is for split.py, once the options were gone through, and the last two arguments taken.
@@ -28,10 +37,11 @@ unit=m levels=50,95,100 left=$#
 while [ "$left" -gt 2 ]; do
     case $1 in
         --mark | --skip-unnamed) option=$1 used=1 ;;
-        --unit=* | --zone=* | --sensor=* | --percent=*) option=$1 used=1 ;;
-        --unit | --zone | --sensor | --percent) option=$1=$2 used=2 ;;
+        --*=*) option=$1 used=1 ;;
+        --*) option=$1=$2 used=2 ;;
         *) wrong "$1 is no option" ;;
     esac
+    is_option "${option%%=*}" || wrong "$1 is no option"
     shift $used
     left=$((left - used))
     case $option in
@@ -84,6 +94,7 @@ zone=$(zone_of_tracks)
 [ -n "$zone" ] || echo 'ranges.sh: no UTM zone is known: ranges.gpkg has no reference system' >&2
 rm said
 
+# Names that begin with a point are none of split.py's.
 set -- tracks/*.csv
 if [ $# -le 64 ]; then
     "$tools/evidence.sh" report.txt --percent "$levels" --unit "$unit" "$@"

@@ -284,3 +284,35 @@ def split_text(path: str, into: str, options: dict[str, Any], tell: Callable[[st
         (folder / "split.txt").write_text("".join(f"{one_line(line)}\n" for line in lines), encoding="utf-8")
     except OSError as fault:
         refuse(f"{fault.filename or into}: {fault.strerror}", "text")
+
+
+class SplitRecord(NamedTuple):
+    """What split.txt says of the tracks beside it."""
+
+    unit: str
+    zone: str | None
+    shift: tuple[int, int]
+    used: dict[str, int]  # how many used fixes the file of each animal has
+
+
+def read_record(folder: Path) -> SplitRecord | None:
+    """The record of the split that made the tracks of a folder; None where there is none."""
+    path = folder / "split.txt"
+    if not path.is_file():
+        return None
+    fields = [line.split(",") for line in path.read_text("utf-8", errors="surrogateescape").split("\n")]
+    known = {field[0]: field[1:] for field in fields if field[0] in ("unit", "zone", "shift")}
+    zone, shift = known.get("zone", ["none"])[0], known.get("shift", ["0", "0"])
+    return SplitRecord(known.get("unit", ["m"])[0], None if zone == "none" else zone, (int(shift[0]), int(shift[1])),
+                       {name: int(used) for _, name, _, used in (field for field in fields if field[0] == "track")})
+
+
+def difference_from_record(record: SplitRecord, fixes: dict[str, int]) -> str | None:
+    """How the animals and numbers of fixes of a report are not those that the record has; None where they are. An animal
+    none of whose fixes is used has no report."""
+    wanted = {name: used for name, used in record.used.items() if used}
+    if not record.used or wanted == fixes:
+        return None
+    name = sorted({*wanted.items()} ^ {*fixes.items()})[0][0]
+    return (f"the report has {fixes.get(name, 0)} fixes of {name}, and split.txt has {wanted.get(name, 0)}: was a track "
+            "changed, or left out?")

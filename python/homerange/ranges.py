@@ -19,7 +19,7 @@ from .errors import FrameError, HomeRangeInfo, HomeRangeNote, ReportError, refus
 from .exports import LISTS, read_text
 from .frames import Tracks, read_frame
 from .program import MOST_ANIMALS, Runs, find_program
-from .report import Corners, Percent, Report, Table, kept_count, parse
+from .report import Corners, Percent, Report, Table, kept_places, parse
 from .tables import Said
 
 Moment = Union[str, date, datetime]
@@ -34,16 +34,8 @@ def _clock(seconds: Any, tz: str) -> Any:
 
 
 def _kept(track: Any, level: int) -> Any:
-    """The fixes of a track that a level keeps: those nearest to the mean of all, of fixes as near the earlier. All is
-    multiplied by the number of fixes, so that the numbers are whole and exact."""
-    fixes, eastings, northings = len(track), track["easting"].tolist(), track["northing"].tolist()
-    east, north = sum(eastings), sum(northings)
-
-    def distance(at: int) -> int:
-        return int((fixes * eastings[at] - east) ** 2 + (fixes * northings[at] - north) ** 2)
-
-    near = sorted(range(fixes), key=distance)[:kept_count(fixes, level)]
-    return track.iloc[sorted(near)]
+    """The fixes of a track that a level keeps."""
+    return track.iloc[kept_places(track["easting"].tolist(), track["northing"].tolist(), level)]
 
 
 def _growth(areas: Sequence[int]) -> float:
@@ -413,7 +405,7 @@ def _boundary(ranges: HomeRanges, reserve: Any) -> Any:
     if hasattr(reserve, "geometry") or hasattr(reserve, "geom_type") and not isinstance(
             getattr(reserve, "geom_type"), str):
         if (own is None) != (ranges.crs is None):
-            refuse(f"the {'ranges' if ranges.crs is None else 'reserve'} has no CRS, and the other has: name it, as by "
+            refuse(f"the {'ranges have' if ranges.crs is None else 'reserve has'} no CRS, and the other has: name it, as by "
                    f"{'home_range(.., crs=..)' if ranges.crs is None else 'reserve.set_crs(..)'}", "crs")
         shapes = reserve if own is None else reserve.to_crs(ranges.crs)
         reserve = shapes.geometry.unary_union

@@ -4,7 +4,7 @@ from __future__ import annotations
 
 import itertools
 import re
-from typing import NamedTuple, NoReturn
+from typing import NamedTuple, NoReturn, Sequence
 
 from .errors import ReportError
 
@@ -141,3 +141,14 @@ def parse(text: str, where: str) -> Report:
 def kept_count(fixes: int, level: int) -> int:
     """How many fixes a level keeps: its share, rounded up."""
     return (level * fixes + 99) // 100
+
+
+def kept_places(eastings: Sequence[int], northings: Sequence[int], level: int) -> list[int]:
+    """The places of the fixes that a level keeps: those nearest to the mean of all, of fixes as near the earlier. All is
+    multiplied by the number of fixes, so that the numbers are whole and exact."""
+    fixes, east, north = len(eastings), sum(eastings), sum(northings)
+
+    def distance(at: int) -> int:
+        return (fixes * eastings[at] - east) ** 2 + (fixes * northings[at] - north) ** 2
+
+    return sorted(sorted(range(fixes), key=distance)[:kept_count(fixes, level)])

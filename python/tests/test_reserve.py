@@ -49,7 +49,7 @@ def test_a_level_below_100():
 
 @pytest.mark.parametrize("crs, reserve, said", [
     ("EPSG:32633", geopandas.GeoSeries([RESERVE]), "the reserve has no CRS, and the other has"),
-    (None, geopandas.GeoSeries([RESERVE], crs=32633), "the ranges has no CRS, and the other has"),
+    (None, geopandas.GeoSeries([RESERVE], crs=32633), "the ranges have no CRS"),
     (None, Polygon([(0, 0), (10, 10), (10, 0), (0, 10)]), "the boundary of the reserve crosses itself"),
     (None, "reserve.shp", "neither a GeoDataFrame"), (None, RESERVE.centroid, "has no area"),
 ])

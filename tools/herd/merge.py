@@ -3,12 +3,17 @@
 
 Each report of a run is read by its grammar (reports.py). All are to be of the groups that plan.sh wrote, in one unit and
 of the same levels; each animal is to stand in one of them, and an overlap that several have is to be the same in all.
+Where split.py made the tracks, animals and numbers of fixes are to be those of its record.
 What is not so is said in one line, with status 1, and there is no OUT/report.txt then."""
 import sys
 from itertools import chain, combinations_with_replacement
 from pathlib import Path
 
 from reports import TEXT, Refusal, Report, Table, need
+
+sys.path.insert(0, str(Path(__file__).resolve().parents[2] / "python"))
+
+from homerange.exports import difference_from_record, read_record
 
 
 def lines_of(path):
@@ -24,6 +29,14 @@ def read_groups(out):
     planned = [f"{first} {second}" for first, second in combinations_with_replacement(groups, 2)]
     need(lines_of(out / "steps") == planned, f"{out / 'steps'}: not the steps of the {len(groups)} groups")
     return groups
+
+
+def check_record(out, animals):
+    """Refuses animals, and numbers of fixes, that are not those of the record beside the tracks, where there is one."""
+    folders = {Path(line).parent for group in (out / "groups").iterdir() for line in lines_of(group)}
+    for record in filter(None, map(read_record, sorted(folders))):
+        fault = difference_from_record(record, animals)
+        need(fault is None or len(folders) > 1, f"{out}: {fault}")
 
 
 class Herd:
@@ -81,6 +94,7 @@ class Herd:
         """Hands on the whole report, and says of how many animals it is."""
         for group in self.files:
             self.read_group(group)
+        check_record(self.out, {name: fixes for animals in self.animals.values() for name, fixes in animals.items()})
         names = list(self.counts)
         for number, group in enumerate(self.files):
             for other in list(self.files)[number + 1:]:

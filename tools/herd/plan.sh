@@ -30,6 +30,9 @@ keep() {
     rm "$1.part"
 }
 
+# A pattern does not see them.
+hidden=$(find "$tracks" -maxdepth 1 -name '.*.csv' | head -n 1)
+[ -z "$hidden" ] || fail "the name of $hidden begins with a point: rename it, and the animal in it"
 rm -rf groups.part
 mkdir groups.part
 printf '%s\n' "$tracks"/*.csv | sort | split -l 32 -a 4 -d - groups.part/

@@ -87,13 +87,52 @@ END
     holds 'a checksum of each file' [ "$(wc -l <plan/herd/SHA256SUMS)" -eq $(($(find plan/herd -type f | wc -l))) ]
     holds 'no checksums of one run' [ ! -e plan/herd/report.txt.sha256 ]
 
+    # A name that begins with a point is an animal like others.
+    printf '%s\n' animal,second,easting,northing .hidden,0,562000,5134000 .hidden,1,562100,5134000 \
+        .hidden,2,562100,5134100 boar,0,562000,5134000 boar,1,562200,5134000 boar,2,562200,5134100 >plan/export.csv
+    holds 'ranges of a name with a point' "$make" --percent 100 plan/export.csv plan/points
+    holds 'both are in the report' grep -qx end,2 plan/points/report.txt
+    holds 'both are in the table' [ "$(cut -d, -f1,9 plan/points/summary.csv)" = "animal,hectares
+_hidden,0.5
+boar,1.0" ]
+
+    # A local grid comes back where it was.
+    printf '%s\n' id,date,x,y a,2024-05-01,-300,-400 a,2024-05-02,-200,-400 a,2024-05-03,-200,-300.2 >plan/export.csv
+    holds 'ranges of a local grid' "$make" --percent 100 plan/export.csv plan/local
+    holds 'the record has the shift' grep -qx shift,1000000,1000000 plan/local/tracks/split.txt
+    holds 'its corners are where they were' python3 -c 'import geopandas
+corners = geopandas.read_file("plan/local/ranges.gpkg").geometry[0].exterior.coords
+assert {*corners} == {(-300, -400), (-200, -400), (-200, -300)}, [*corners]'
+
+    # An export of a collar, and its filter.
+    {
+        echo 'No,CollarID,UTC_Date,UTC_Time,Latitude [deg],Longitude [deg],DOP,FixType,AnimalID'
+        for hour in 1 2 3 4; do
+            echo "1,7,0$hour.05.2024,0$hour:00:00,46.35$hour,15.8$hour,$hour.5,GPS-3D,Vesna"
+        done
+    } >plan/export.csv
+    if python3 -c 'import pyproj' 2>errors; then
+        holds 'ranges of a collar' "$make" --from vectronic --max-dop 4 --percent=100 plan/export.csv plan/collar
+        holds 'its filter' grep -qx 'animal,Vesna,fixes,3' plan/collar/report.txt
+    fi
+
+    # Tracks that are not those of the split.
+    cp -r plan/points plan/changed
+    sed -i '$d' plan/changed/tracks/boar.csv
+    "$HOMERANGE" --percent 100 plan/changed/tracks/*.csv >plan/changed/report.txt
+    holds 'a track that was changed is found' is_refused python3 "$tools/ranges.py" plan/changed
+    rm plan/changed/tracks/boar.csv
+    "$HOMERANGE" --percent 100 plan/changed/tracks/*.csv >plan/changed/report.txt
+    holds 'a track that is not there is found' is_refused python3 "$tools/ranges.py" plan/changed
+
     # What is refused leaves nothing.
     export=$top/examples/export.csv
     refuses_ranges 2 'the export and the folder to make are wanted' "$make" "$export"
     refuses_ranges 2 '--depth=9 is no option' "$make" --depth=9 "$export" plan/none
     refuses_ranges 2 'invalid choice' "$make" --unit km "$export" plan/none
     refuses_ranges 1 'plan/nothing.csv cannot be read' "$make" plan/nothing.csv plan/none
-    refuses_ranges 1 'there are no columns' "$make" "$top/examples/fox.csv" plan/none
+    printf '%s\n' animal,second,x a,1,2 >plan/export.csv
+    refuses_ranges 1 'there are no columns' "$make" plan/export.csv plan/none
     refuses_ranges 2 'level 1 is not a whole number' "$make" --percent 0 "$export" plan/none
     refuses_ranges 1 'there is no program' env HOMERANGE=plan/nothing "$make" "$export" plan/none
     refuses_ranges 1 'plan/first is there already' "$make" "$export" plan/first
