@@ -11,9 +11,11 @@ import zoneinfo
 from datetime import date, datetime, timedelta
 from decimal import Decimal
 from functools import lru_cache
-from typing import Any, Callable, NamedTuple, Optional, Sequence
+from typing import Any, Callable, Dict, NamedTuple, Optional, Sequence, TypeVar
 
 from .errors import refuse
+
+Value = TypeVar("Value")
 
 LAST_SECOND = 1_099_511_627_776
 DAYS_TO_1970 = date(1970, 1, 1).toordinal()
@@ -105,7 +107,7 @@ class Numbers:
             return None
         if self.semicolons or text.count("\n") != len(cells) or not self.column.fullmatch(text):
             return None
-        return [float(cell) if cell else math.nan for cell in cells]
+        return list(map(float, cells)) if "" not in cells else [float(cell) if cell else math.nan for cell in cells]
 
 
 def truth(cell: Any, title: str, missing: frozenset[str]) -> bool | None:
@@ -118,8 +120,7 @@ def truth(cell: Any, title: str, missing: frozenset[str]) -> bool | None:
     return found
 
 
-@lru_cache(maxsize=100_000)
-def day_of(text: str) -> int | None:
+def begin_of_day(text: str) -> int | None:
     """The second at which a day begins, by its date; None where there is no such day."""
     if not DATE.fullmatch(text):
         return None
@@ -130,7 +131,6 @@ def day_of(text: str) -> int | None:
         return None
 
 
-@lru_cache(maxsize=100_000)
 def time_of_day(rest: str) -> Optional[tuple[int, float, Optional[int]]]:
     """The seconds since midnight, the fraction and the offset from UTC of what stands behind a date; None where it is no
     time."""
@@ -154,11 +154,44 @@ Stamp = tuple[int, float, bool]  # the second and its fraction, and whether the 
 
 def iso_time(text: str) -> Stamp | None:
     """The stamp of a time as ISO writes it; None where it is none."""
-    day, rest = day_of(text[:10]), time_of_day(text[10:])
-    if day is None or rest is None:
+    try:
+        day, (second, part, offset) = DAYS[text[:10]], CLOCKS[text[10:]]
+    except KeyError:
         return None
-    second, part, offset = rest
     return day + second - (offset or 0), part, offset is None
+
+
+def fraction_of(tail: str) -> float | None:
+    """The fraction of a second of what stands behind one; None where that is more, or other."""
+    if tail == "":
+        return 0.0
+    return float(tail) if tail[0] == "." and tail[1:].isdigit() and tail.isascii() else None
+
+
+def plain_clock(rest: str) -> int | None:
+    """The seconds since midnight of what stands behind a date; None where it has decimals or an offset."""
+    found = time_of_day(rest)
+    return found[0] if found and found[1:] == (0.0, None) else None
+
+
+class Known(Dict[str, Value]):
+    """What was read of texts, each once. What is None raises KeyError."""
+
+    def __init__(self, read: Callable[[str], Optional[Value]]) -> None:
+        super().__init__()
+        self.read = read
+
+    def __missing__(self, text: str) -> Value:
+        if len(self) > 200_000:
+            self.clear()
+        found = self.read(text)
+        if found is None:
+            raise KeyError(text)
+        self[text] = found
+        return found
+
+
+DAYS, CLOCKS, PLAIN_CLOCKS, FRACTIONS = Known(begin_of_day), Known(time_of_day), Known(plain_clock), Known(fraction_of)
 
 
 class Form:
@@ -227,6 +260,18 @@ class Times:
         if isinstance(cell, (int, float)) and not isinstance(cell, bool):
             return self.within(self.number(cell, repr(cell)), cell)
         raise Unread(f"{self.title} is {shown(cell)} and not {WANTED_TIME}", "time")
+
+    def whole_column(self, cells: Sequence[Any]) -> tuple[list[int], list[float]] | None:
+        """The seconds and fractions of a column of texts of UTC that are all as 2024-05-01 00:30:04; None where they have
+        to be read one by one."""
+        if self.forms or self.slack or not all(map(str.__instancecheck__, cells)):
+            return None
+        try:
+            seconds = [DAYS[cell[:10]] + PLAIN_CLOCKS[cell[10:19]] for cell in cells]
+            parts = [FRACTIONS[cell[19:]] for cell in cells]
+        except KeyError:
+            return None
+        return (seconds, parts) if min(seconds, default=0) >= 0 else None
 
     def parse(self, text: str) -> Stamp:
         """The stamp of a text."""

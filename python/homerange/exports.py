@@ -5,6 +5,7 @@ from __future__ import annotations
 
 import codecs
 import csv
+import gc
 import hashlib
 import io
 import os
@@ -12,6 +13,7 @@ import re
 import sys
 from functools import lru_cache
 from itertools import chain, islice
+from operator import itemgetter
 from pathlib import Path
 from typing import Any, Callable, Iterable, Iterator, NamedTuple, Optional
 from xml.etree import ElementTree
@@ -21,7 +23,7 @@ from .errors import FrameError, one_line, refuse
 from .tables import Said, Table
 from .tracks import Track, Tracks, make_tracks
 
-PIECE = 20_000  # rows that are read at once
+PIECE = 2_000  # rows that are read at once; with more, time goes into waiting for memory
 NAME_BYTES = 32
 LISTS = ("animal", "time", "na", "sensor", "argos-class", "fix-type")  # options that are several words between commas
 REASONS = ("animal", "coordinates", "zero", "sensor", "outlier", "class", "no dop", "dop", "type", "before", "after",
@@ -84,7 +86,9 @@ def decode(content: bytes, path: str, encoding: str) -> Iterator[str]:
         codec = codecs.lookup(encoding).name
     except LookupError:
         refuse(f"encoding: there is no coding {encoding}")
-    codec = "utf-8-sig" if codec == "utf-8" else codec
+    stream = io.BytesIO(content)
+    if codec == "utf-8" and content.startswith(codecs.BOM_UTF8):
+        stream.seek(len(codecs.BOM_UTF8))
     decoder = codecs.getincrementaldecoder(codec)()
     try:
         for start in range(0, len(content), 1 << 20):
@@ -92,9 +96,9 @@ def decode(content: bytes, path: str, encoding: str) -> Iterator[str]:
                 refuse(f"{path} is no text: it has a byte 0", "text")
         decoder.decode(b"", True)
     except UnicodeDecodeError:
-        name = "UTF-8" if codec == "utf-8-sig" else encoding
+        name = "UTF-8" if codec == "utf-8" else encoding
         refuse(f"{path} is no text in {name}: name its coding, such as --encoding latin-1", "text")
-    return io.TextIOWrapper(io.BytesIO(content), encoding=codec, newline=None)
+    return io.TextIOWrapper(stream, encoding=codec, newline=None)
 
 
 def gpx_lines(content: bytes, path: str) -> Iterator[str]:
@@ -170,25 +174,31 @@ class Reader:
             self.piece()
 
 
-def check_fields(rows: list[list[str]], width: int, before: int) -> int:
+def count_whole(rows: list[list[str]], width: int) -> int:
     """How many rows have the right number of fields, up to the first that has another."""
+    if {*map(len, rows)} == {width}:
+        return len(rows)
     return next((at for at, row in enumerate(rows) if len(row) != width), len(rows))
 
 
 def read_table(lines: Iterator[str], path: str, asked: Asked) -> Table:
     """The table of a text. The fault of the first record that has one is the one that is told."""
     reader = Reader(lines, path)
+    gc.disable()  # rows are many and refer to nothing
     try:
         table = Table(reader.titles, asked, reader.separator == ";")
+        wanted = itemgetter(*table.wanted, table.wanted[0])  # of one column too a row
         while rows := reader.piece():
-            whole = check_fields(rows, len(reader.titles), table.rows)
-            columns = list(zip(*rows[:whole]))
-            table.take({at: list(columns[at]) if columns else [] for at in table.wanted}, whole)
+            whole = count_whole(rows, len(reader.titles))
+            columns = list(map(list, zip(*map(wanted, rows if whole == len(rows) else rows[:whole]))))
+            table.take({at: columns[place] if columns else [] for place, at in enumerate(table.wanted)}, whole)
             if whole < len(rows):
                 refuse(f"{len(rows[whole])} fields where {len(reader.titles)} are wanted", "fields", table.rows + 1)
     except FrameError:
         reader.check_end()
         raise
+    finally:
+        gc.enable()
     return table
 
 
@@ -216,15 +226,16 @@ def read_text(path: str, options: dict[str, Any], said: Said) -> Split:
     """The tracks of a table of text."""
     try:
         asked = asked_of(options)
-        text = open_text(path, asked, options.get("from") == "gpx")
-        table = read_table(text.lines, path, asked)
+        lines, checksum = open_text(path, asked, options.get("from") == "gpx")
+        table = read_table(lines, path, asked)
+        del lines
         tracks = make_tracks(table, said, clean)
         names = {name: clean(name) for name in [*tracks.by_name, *table.rows_of]}
         check_names(tracks, names)
         for name in tracks.by_name:
             if names[name] != name:
                 said.say(f"animal '{name}' is named {names[name]}")
-        return Split(tracks, names, text.checksum)
+        return Split(tracks, names, checksum)
     except FrameError as fault:
         raise with_record(fault) from None
 

@@ -95,13 +95,14 @@ class Faults:
     def distinct(self, read: Callable[[Any], Any], cells: Cells, rows: Sequence[int], order: int, bad: Any) -> list[Any]:
         """The same, where few cells differ."""
         known: dict[Any, Any] = {}
-        for cell in {*cells}:
+        kinds = {*cells}
+        for cell in kinds:
             try:
                 known[cell] = read(cell)
             except Unread as fault:
                 known[cell] = bad
                 self.note(rows[cells.index(cell)], order, fault)
-        return [known[cell] for cell in cells]
+        return [known[cell] for cell in cells] if len(kinds) > 1 else [*known.values()] * len(cells)
 
 
 class Table:
@@ -191,8 +192,7 @@ class Table:
             names = [names[row] for row in kept]
         found = {**places, "animal": names, "number": [self.rows + row + 1 for row in kept],
                  "used": self.used(cells, kept, faults), **self.words(cells, kept, faults)}
-        stamps = self.stamps(cells, kept, names, faults)
-        found["second"], found["part"] = ([stamp[0] for stamp in stamps], [stamp[1] for stamp in stamps])
+        found["second"], found["part"] = self.stamps(cells, kept, names, faults)
         if faults.first is not None:
             row, _, fault = faults.first
             raise FrameError(one_line(str(fault)), fault.kind, self.rows + row + 1)
@@ -207,16 +207,25 @@ class Table:
         """The animal of each row: "" where there is none, and a fault as it is, which counts where the row has a place."""
         if not self.columns.animal:
             return [self.asked.name] * len(rows)
-        columns = [["" if cell is None or cell in self.names_missing else cell for cell in cells[at]]
-                   for at in self.columns.animal]
+        columns = [self.named(cells[at]) for at in self.columns.animal]
         names = columns[0] if len(columns) == 1 else [next(filter(None, row), "") for row in zip(*columns)]
-        self.rows_of.update(name for name in names if name and isinstance(name, str))
+        for name, count in Counter(names).items():
+            if name and isinstance(name, str):
+                self.rows_of[name] += count
         return names
+
+    def named(self, cells: Cells) -> list[Any]:
+        """The cells of a column of animals, "" for those that are missing."""
+        none = {cell for cell in {*cells} if cell is None or cell in self.names_missing}
+        return ["" if cell in none else cell for cell in cells] if none else list(cells)
 
     def with_place(self, places: Mapping[str, Sequence[float]], names: list[Any]) -> Sequence[int]:
         """The rows that have coordinates and an animal; counts the others."""
         blank = [math.nan] * len(names)
         columns = [places.get(name, blank) for name in ("east", "north", "longitude", "latitude")]
+        sums = [sum(column) for column in (columns if not self.columns.grid else columns[:2])]
+        if not any(map(math.isnan, sums[-2:])) and not ("" in names or 0 in columns[2]):
+            return range(len(names))
         kept: list[int] = []
         for row, (east, north, longitude, latitude) in enumerate(zip(*columns)):
             is_zero = longitude == 0 and latitude == 0
@@ -281,22 +290,31 @@ class Table:
         except FrameError as fault:
             raise Unread(f"{self.title(self.zone or 0)} is {fault}", "zone") from None
 
-    def stamps(self, cells: Mapping[int, Cells], rows: Sequence[int], names: list[Any], faults: Faults) -> list[Stamp]:
-        """The stamps of these rows; notes rows without an animal, which come before their time."""
-        for row, name in zip(rows, names):
+    def check_names(self, rows: Sequence[int], names: list[Any], faults: Faults) -> None:
+        """Notes rows without an animal, or with one that can't be read."""
+        for name in {*names}:
             if name == "":
-                faults.note(row, ANIMAL, Unread(self.unnamed(), "animal"))
+                faults.note(rows[names.index(name)], ANIMAL, Unread(self.unnamed(), "animal"))
             elif not isinstance(name, str):
-                faults.note(row, ANIMAL, Unread(f"the animal is {name.text}", name.kind))
+                faults.note(rows[names.index(name)], ANIMAL, Unread(f"the animal is {name.text}", name.kind))
+
+    def stamps(
+        self, cells: Mapping[int, Cells], rows: Sequence[int], names: list[Any], faults: Faults,
+    ) -> tuple[list[int], list[float]]:
+        """The seconds of these rows, and their fractions."""
+        self.check_names(rows, names, faults)
         if not self.columns.time:
-            return [(self.rows + row, 0.0, False) for row in rows]
+            return [self.rows + row for row in rows], [0.0] * len(rows)
         columns = [cells[at] for at in self.columns.time]
         texts = columns[0] if len(columns) == 1 else [
             None if None in row else " ".join(map(str, row)) for row in zip(*columns)]
+        whole = self.times.whole_column(texts)
+        if whole is not None:
+            return whole
         stamps = faults.each(self.times.read, texts, rows, TIME, (0, 0.0, False))
-        if self.asked.is_frame or self.clock.key == "UTC":
-            return stamps
-        return [self.moment(stamp, row, name, faults) for stamp, row, name in zip(stamps, rows, names)]
+        if self.times.slack:
+            stamps = [self.moment(stamp, row, name, faults) for stamp, row, name in zip(stamps, rows, names)]
+        return [stamp[0] for stamp in stamps], [stamp[1] for stamp in stamps]
 
     def unnamed(self) -> str:
         title = self.title(self.columns.animal[0])

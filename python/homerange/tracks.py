@@ -4,10 +4,11 @@ docs/TABLES.md has the rules."""
 from __future__ import annotations
 
 import operator
+from array import array
 from datetime import date, datetime, timedelta
-from itertools import compress
+from itertools import compress, islice
 from math import floor, hypot, isfinite
-from typing import Any, Callable, NamedTuple, Optional, Sequence
+from typing import Any, Callable, Iterable, NamedTuple, Optional, Sequence
 
 from . import zones
 from .asked import UNITS, Asked, Unit, seconds_of, zone_of_time
@@ -22,10 +23,10 @@ STEP = 1_000_000  # metres by which a local grid is shifted
 class Track(NamedTuple):
     """The records of one animal in the order of time, in whole units."""
 
-    seconds: list[int]
-    eastings: list[int]
-    northings: list[int]
-    used: list[int]  # 1 or 0
+    seconds: Sequence[int]
+    eastings: Sequence[int]
+    northings: Sequence[int]
+    used: Sequence[int]  # 1 or 0
 
 
 class Choice:
@@ -67,7 +68,7 @@ class Choice:
         used = self.records.used
         if self.asked.mark:
             self.said.say("outliers: use 0", len(used) - sum(used))
-        else:
+        elif not all(used):
             self.keep([mark == 1 for mark in used], "outlier", "outliers")
 
     def classes(self) -> None:
@@ -127,13 +128,24 @@ def bound(value: Any, asked: Asked, is_end: bool) -> int:
     return second + (part > 0 and not is_end)
 
 
+Whole = tuple["array[int]", "array[int]"]  # eastings and northings in whole units
+
+
+def off_grid(easting: array[int], northing: array[int], limit: int) -> list[int]:
+    """Which places are off the grid."""
+    if all(0 <= min(side) and max(side) <= limit for side in (easting, northing)):
+        return []
+    return [at for at, (east, north) in enumerate(zip(easting, northing))
+            if not (0 <= east <= limit and 0 <= north <= limit)]
+
+
 class Places:
     """The places of records in metres of one grid. A record that is not used may have none, as NaN."""
 
     def __init__(self, table: Table, records: Records, said: Said) -> None:
         self.table, self.asked, self.records, self.said = table, table.asked, records, said
         self.wanted = None if self.asked.zone is None else zones.zone_of(self.asked.zone)
-        self.zone, self.is_shifted = self.wanted, False
+        self.zone, self.is_shifted, self.off = self.wanted, False, list[int]()
         self.east: Sequence[float] = records.east
         self.north: Sequence[float] = records.north
 
@@ -156,10 +168,12 @@ class Places:
         columns, records = self.table.columns, self.records
         if columns.grid is None or columns.grid[0] < 0:
             return
-        pairs = [(east, north) for east, north in zip(compress(records.east, records.used),
-                                                      compress(records.north, records.used)) if east == east]
-        is_small = bool(pairs) and all(abs(east) <= 180 and abs(north) <= 90 for east, north in pairs)
-        if not is_small or all(east == floor(east) and north == floor(north) for east, north in pairs):
+        places = zip(compress(records.east, records.used), compress(records.north, records.used))
+        if not all(abs(east) <= 180 and abs(north) <= 90 for east, north in places if east == east):
+            return
+        pairs = [(east, north) for east, north, used in zip(records.east, records.north, records.used)
+                 if used and east == east]
+        if all(east == floor(east) and north == floor(north) for east, north in pairs):
             return
         if columns.is_own:
             self.said.say("all fixes lie within 180 m by 90 m of the grid's corner: are they longitude and latitude?")
@@ -184,14 +198,26 @@ class Places:
                    records.number[at])
         return wanted
 
+    def zones_of(self, mask: Sequence[bool], wanted: Optional[str]) -> Iterable[str]:
+        """The zones of the records whose place in the mask is true."""
+        records = self.records
+        if records.zone and all({*records.zone}):
+            return compress(records.zone, mask)
+        return (self.zone_of(at, wanted) for at in compress(range(len(records)), mask))
+
+    def out_of_zone(self, zone: str, has_grid: Sequence[bool]) -> list[int]:
+        """The records that are not of the zone, or have no metres."""
+        if all(has_grid) and {*self.records.zone} == {zone}:
+            return []
+        return [at for at, grid in enumerate(has_grid) if not grid or self.zone_of(at, zone) != zone]
+
     def take_grid(self) -> bool:
         """Takes the UTM coordinates of the table, where those of all used records are of one zone, the wanted one if
         any."""
         records, wanted = self.records, self.wanted
-        used = [at for at in range(len(records)) if records.used[at]]
         has_grid = [east == east for east in records.east]
-        zone, counts = ranked(self.zone_of(at, wanted) for at in used if has_grid[at])
-        bare = next((at for at in used if not has_grid[at]), None)
+        zone, counts = ranked(self.zones_of([bool(used and grid) for used, grid in zip(records.used, has_grid)], wanted))
+        bare = next((at for at, grid in enumerate(has_grid) if not grid and records.used[at]), None)
         remedy = f"name the zone of all, such as {self.asked.word('zone', zone)}"
         if "," in counts and not wanted:
             refuse(f"fixes lie in several zones ({counts}): {remedy}", "zone")
@@ -199,8 +225,7 @@ class Places:
             refuse(f"there are no UTM coordinates: {remedy}", "zone", records.number[bare])
         if "," in counts or bare is not None or wanted not in (None, zone):
             return False
-        off = [at for at in range(len(records)) if not (has_grid[at] and self.zone_of(at, zone) == zone)]
-        for at in off:
+        for at in self.out_of_zone(zone, has_grid):
             records.east[at] = float("nan")
         self.zone = zone
         self.said.say(f"UTM coordinates are those of the export; zone: {counts}")
@@ -252,16 +277,14 @@ class Places:
         refuse(f"{side} go from {least:.2f} to {most:.2f}, which is wider than a grid of {unit.limit // unit.per_metre} "
                "metres: is one of them wrong?", "grid")
 
-    def rounded(self, unit: Unit, shift: tuple[int, int]) -> tuple[list[int], list[int]]:
+    def rounded(self, unit: Unit, shift: tuple[int, int]) -> Whole:
         """The places in whole units, half a unit rounded up; -1 where a fix that is not used is off the grid."""
         whole = []
         for metres, added in zip((self.east, self.north), shift):
-            values = [value + added for value in metres] if added else metres
-            units = [floor(unit.per_metre * value + 0.5) if abs(value) < 1e9 else -1 for value in values]
-            whole.append(units)
-        limit = unit.limit
-        off = [at for at, (east, north) in enumerate(zip(*whole)) if not (0 <= east <= limit and 0 <= north <= limit)]
-        for at in off:
+            scale, values = unit.per_metre, [value + added for value in metres] if added else metres
+            whole.append(array("q", [floor(scale * value + 0.5) if -1e9 < value < 1e9 else -1 for value in values]))
+        self.off = off_grid(whole[0], whole[1], unit.limit)
+        for at in self.off:
             self.refuse_used(at, unit)
             whole[0][at] = -1
         return whole[0], whole[1]
@@ -277,16 +300,14 @@ class Places:
                f"{unit.limit // unit.per_metre} metres", "grid", self.records.number[at])
 
 
-def check_scale(names: Sequence[str], places: Places, scale: zones.Scale, said: Said) -> None:
+def check_scale(herd: Herd, places: Places, scale: zones.Scale, said: Said) -> None:
     """Refuses a grid on which areas of an animal are wrong by more than 1 %, and says where by more than 0.1 %."""
-    sums: dict[str, list[float]] = {}
-    for name, east, north in compress(zip(names, places.east, places.north), places.records.used):
-        total = sums.setdefault(name, [0.0, 0.0, 0])
-        total[0] += east
-        total[1] += north
-        total[2] += 1
-    found = [(scale(east / count, north / count), name) for name, (east, north, count) in sums.items()
-             if isfinite(east) and isfinite(north)]
+    used, found = places.records.used, []
+    for name, rows in herd.rows.items():
+        own = array("l", [at for at in rows if used[at]]) if 0 in used else rows
+        if own:
+            means = [sum(picked(metres, own)) / len(own) for metres in (places.east, places.north)]
+            found.append((scale(*means), name))
     worst, name = max(found, key=lambda pair: abs(pair[0] - 1), default=(1.0, ""))
     text = f"areas of {name} are {abs(worst - 1) * 100:.2f} % too {'great' if worst > 1 else 'small'} on this grid"
     if abs(worst - 1) > zones.REFUSED:
@@ -302,30 +323,41 @@ def is_reached(most: float, unit: Unit, before: tuple[int, int, int], fix: tuple
     return east * east + north * north <= reach * reach
 
 
+def picked(column: Sequence[Any], rows: array[int]) -> Sequence[Any]:
+    """What a column has in these rows."""
+    found: Sequence[Any] = operator.itemgetter(*rows)(column) if len(rows) > 1 else [column[at] for at in rows]
+    return found
+
+
 class Herd:
     """The records of each animal in the order of time, as rows of their places."""
 
-    def __init__(self, choice: Choice, easting: list[int], northing: list[int]) -> None:
+    def __init__(self, choice: Choice, easting: array[int], northing: array[int], off: Iterable[int]) -> None:
         self.choice, self.said, self.records = choice, choice.said, choice.records
         self.easting, self.northing = easting, northing
-        self.rows: dict[str, list[int]] = {}
+        self.rows: dict[str, array[int]] = {}
+        off, rows = {*off}, dict[str, list[int]]()
         for at, name in enumerate(self.records.animal):
-            if easting[at] >= 0:
-                self.rows.setdefault(name, []).append(at)
+            if at not in off:
+                rows.setdefault(name, []).append(at)
+        self.rows = {name: array("l", own) for name, own in rows.items()}
 
     def sort(self, shown: Callable[[str], str]) -> None:
         """Puts the records of each animal in the order of time, by the whole stamp, and says what was not."""
         second, part = self.records.second, self.records.part
         for name, rows in self.rows.items():
-            stamps = [(second[at], part[at]) for at in rows]
+            seconds = picked(second, rows)
+            if all(map(operator.lt, seconds, islice(seconds, 1, None))):
+                continue
+            stamps = list(zip(seconds, picked(part, rows)))
             falls = sum(map(operator.lt, stamps[1:], stamps))
             if falls:
                 self.said.say(f"records of {shown(name)} come before an earlier one: sorted by time", falls)
-                rows = [rows[place] for place in sorted(range(len(rows)), key=stamps.__getitem__)]
+                rows = array("l", [rows[place] for place in sorted(range(len(rows)), key=stamps.__getitem__)])
                 self.rows[name] = rows
             self.tell_same(rows, shown(name))
 
-    def tell_same(self, rows: list[int], name: str) -> None:
+    def tell_same(self, rows: array[int], name: str) -> None:
         """Says how many records have the second of the one before."""
         second, east, north = self.records.second, self.easting, self.northing
         same = [(former, later) for former, later in zip(rows, rows[1:]) if second[former] == second[later]]
@@ -338,7 +370,7 @@ class Herd:
         total, used = 0, self.records.used
         for name, rows in self.rows.items():
             kept = {*chosen([at for at in rows if used[at]])}
-            rest = [at for at in rows if at in kept or not used[at]]
+            rest = array("l", [at for at in rows if at in kept or not used[at]])
             gone = len(rows) - len(rest)
             total += gone
             self.rows[name] = rest
@@ -399,14 +431,14 @@ def calendar_tests(choice: Choice) -> list[tuple[str, str, Callable[[int], bool]
     return tests
 
 
-def tell_moved(places: Places, whole: tuple[list[int], list[int]], shift: tuple[int, int], unit: Unit, said: Said) -> None:
+def tell_moved(places: Places, whole: Whole, shift: tuple[int, int], unit: Unit, said: Said) -> None:
     """Says how far rounding moves fixes."""
-    scale, most = unit.per_metre, 0.0
+    scale = unit.per_metre
     if all(value.is_integer() for metres in (places.east, places.north) for value in metres):
         return
-    for east, north, metres_east, metres_north in zip(*whole, places.east, places.north):
-        if east >= 0:
-            most = max(most, hypot(east / scale - shift[0] - metres_east, north / scale - shift[1] - metres_north))
+    moves = [map(operator.sub, [one / scale - added for one in units], metres)
+             for units, added, metres in zip(whole, shift, (places.east, places.north))]
+    most = max(move for move in map(hypot, *moves) if move < 1)  # not those of places off the grid
     if most > 1e-6:
         said.say(f"coordinates are rounded to whole {unit.name}, which moves a fix by at most {most:.2g} m")
 
@@ -415,7 +447,7 @@ class Tracks(NamedTuple):
     """What a table comes to."""
 
     by_name: dict[str, Track]
-    rows: dict[str, list[int]]  # which records each track has
+    rows: dict[str, array[int]]  # which records each track has
     places: Places
     zone: str | None
     shift: tuple[int, int]  # metres that were added to all eastings and northings
@@ -437,12 +469,12 @@ def make_tracks(table: Table, said: Said, shown: Callable[[str], str] = str, sca
     known_scale = scale or (zones.scale_of_zone if places.zone else None)
     shift = places.shift(unit)
     whole = places.rounded(unit, shift)
-    if known_scale:
-        check_scale(records.animal, places, known_scale, said)
-    said.left.update((name, "grid") for name, east in zip(records.animal, whole[0]) if east < 0)
-    said.say("outliers off the grid: left out", sum(east < 0 for east in whole[0]))
+    said.left.update((records.animal[at], "grid") for at in places.off)
+    said.say("outliers off the grid: left out", len(places.off))
     tell_moved(places, whole, shift, unit, said)
-    herd = Herd(choice, *whole)
+    herd = Herd(choice, *whole, places.off)
+    if known_scale:
+        check_scale(herd, places, known_scale, said)
     herd.sort(shown)
     if asked.max_speed is not None:
         herd.fast(asked.max_speed, unit)
@@ -458,10 +490,9 @@ def make_tracks(table: Table, said: Said, shown: Callable[[str], str] = str, sca
     return Tracks(by_name, {name: herd.rows[name] for name in by_name}, places, places.zone, shift, table)
 
 
-def track_of(records: Records, whole: tuple[list[int], list[int]], rows: list[int]) -> Track:
+def track_of(records: Records, whole: Whole, rows: array[int]) -> Track:
     """The track of these rows."""
-    columns = (records.second, whole[0], whole[1], records.used)
-    return Track(*([column[at] for at in rows] for column in columns))
+    return Track(*(array("q", picked(column, rows)) for column in (records.second, whole[0], whole[1], records.used)))
 
 
 def tell_columns(table: Table, by_name: dict[str, Track], unit: Unit, said: Said) -> None:

@@ -92,7 +92,7 @@ END
         .hidden,2,562100,5134100 boar,0,562000,5134000 boar,1,562200,5134000 boar,2,562200,5134100 >plan/export.csv
     holds 'ranges of a name with a point' "$make" --percent 100 plan/export.csv plan/points
     holds 'both are in the report' grep -qx end,2 plan/points/report.txt
-    holds 'both are in the table' [ "$(cut -d, -f1,9 plan/points/summary.csv)" = "animal,hectares
+    holds 'both are in the table' [ "$(cut -d, -f1,8 plan/points/summary.csv)" = "animal,hectares
 _hidden,0.5
 boar,1.0" ]
 
