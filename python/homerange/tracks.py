@@ -300,20 +300,20 @@ class Places:
                f"{unit.limit // unit.per_metre} metres", "grid", self.records.number[at])
 
 
-def check_scale(herd: Herd, places: Places, scale: zones.Scale, said: Said) -> None:
+def check_scale(herd: Herd, places: Places, scale: zones.Scale, shown: Callable[[str], str]) -> None:
     """Refuses a grid on which areas of an animal are wrong by more than 1 %, and says where by more than 0.1 %."""
     used, found = places.records.used, []
     for name, rows in herd.rows.items():
         own = array("l", [at for at in rows if used[at]]) if 0 in used else rows
         if own:
             means = [sum(picked(metres, own)) / len(own) for metres in (places.east, places.north)]
-            found.append((scale(*means), name))
+            found.append((scale(*means), shown(name)))
     worst, name = max(found, key=lambda pair: abs(pair[0] - 1), default=(1.0, ""))
     text = f"areas of {name} are {abs(worst - 1) * 100:.2f} % too {'great' if worst > 1 else 'small'} on this grid"
     if abs(worst - 1) > zones.REFUSED:
         refuse(f"{text}: take a zone or a reference system of the place", "scale")
     if abs(worst - 1) > zones.TOLD:
-        said.say(text)
+        herd.said.say(text)
 
 
 def is_reached(most: float, unit: Unit, before: tuple[int, int, int], fix: tuple[int, int, int]) -> bool:
@@ -474,7 +474,7 @@ def make_tracks(table: Table, said: Said, shown: Callable[[str], str] = str, sca
     tell_moved(places, whole, shift, unit, said)
     herd = Herd(choice, *whole, places.off)
     if known_scale:
-        check_scale(herd, places, known_scale, said)
+        check_scale(herd, places, known_scale, shown)
     herd.sort(shown)
     if asked.max_speed is not None:
         herd.fast(asked.max_speed, unit)
@@ -484,8 +484,7 @@ def make_tracks(table: Table, said: Said, shown: Callable[[str], str] = str, sca
     by_name = {name: track_of(records, whole, rows) for name, rows in herd.rows.items() if rows}
     for name in sorted({*animals}.difference(by_name)):
         said.say(f"no fix of '{name}' is left: {'it has no range' if asked.is_frame else 'no file'}")
-    if not any(any(track.used) for track in by_name.values()):
-        nothing_left()
+    tell_unfit(by_name, shown, said)
     tell_columns(table, by_name, unit, said)
     return Tracks(by_name, {name: herd.rows[name] for name in by_name}, places, places.zone, shift, table)
 
@@ -493,6 +492,17 @@ def make_tracks(table: Table, said: Said, shown: Callable[[str], str] = str, sca
 def track_of(records: Records, whole: Whole, rows: array[int]) -> Track:
     """The track of these rows."""
     return Track(*(array("q", picked(column, rows)) for column in (records.second, whole[0], whole[1], records.used)))
+
+
+def tell_unfit(by_name: dict[str, Track], shown: Callable[[str], str], said: Said) -> None:
+    """Says which tracks the program refuses. Refuses where none has a used fix."""
+    if not any(any(track.used) for track in by_name.values()):
+        nothing_left()
+    for name, track in by_name.items():
+        if len(track.used) > MOST_FIXES:
+            said.say(f"{shown(name)} has {len(track.used)} records, more than the {MOST_FIXES} that homerange takes")
+        if not any(track.used):
+            said.say(f"no fix of {shown(name)} is used, which homerange refuses")
 
 
 def tell_columns(table: Table, by_name: dict[str, Track], unit: Unit, said: Said) -> None:

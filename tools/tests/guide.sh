@@ -48,6 +48,31 @@ v,30,120,100,1
 END
 echo '1 of 4 records left out' | writes sh 'records left out'
 
+# The commands for exports, each with a table of its maker.
+if python3 -c 'import pyproj' 2>errors; then
+    PYTHONDONTWRITEBYTECODE=1 python3 "$tools/tests/tables/unpack.py" "$work/guide/tables" >unpacked
+    grep -E '^    python3 tools/split.py ' "$top/docs/GUIDE.md" | sed 's/^ *//' >commands
+    holds 'the guide has commands for exports' [ "$(wc -l <commands)" -ge 9 ]
+    while IFS= read -r command; do
+        maker=$(echo "$command" | sed -n 's/.*--from \([a-z]*\).*/\1/p')
+        case $command in
+            *RecDateTime*) table=lotek_in_local_time ;;
+            *' argos '*) table=argos_of_classes ;;
+            *) table=$maker ;;
+        esac
+        cp "tables/$table/table.csv" export.csv 2>/dev/null || cp examples/export.csv export.csv
+        cp export.csv dog.gpx
+        case $command in
+            *Tier*) printf '%s\n' Tier,Datum,Uhrzeit,Laenge,Breite a,1.5.2024,12:30,15.8,46.3 >export.csv ;;
+        esac
+        rm -rf tracks
+        holds "the guide's $command" sh -c "$command"
+        holds "tracks of the guide's $command" sh -c 'ls tracks/*.csv'
+    done <commands
+else
+    skip "the guide's commands for exports: $(tail -n 1 errors)"
+fi
+
 # A square of 200 metres, a line and a point; the same square in decimetres.
 printf '%s\n' animal,second,easting,northing a,0,0,0 a,1,200,0 a,2,200,200 a,3,0,200 >a.csv
 printf '%s\n' animal,second,easting,northing b,0,0,0 b,1,200,0 >b.csv
