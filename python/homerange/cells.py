@@ -20,6 +20,7 @@ Value = TypeVar("Value")
 LAST_SECOND = 1_099_511_627_776
 DAYS_TO_1970 = date(1970, 1, 1).toordinal()
 EPOCH = datetime(1970, 1, 1)
+MOST = 10 ** 12  # which no number in a table reaches
 LAST_OF_CALENDAR = 253_402_300_799  # of the year 9999
 TRUTHS = {**dict.fromkeys(("true", "TRUE", "True", "1", "1.0"), True),
           **dict.fromkeys(("false", "FALSE", "False", "0", "0.0"), False)}
@@ -85,11 +86,16 @@ class Numbers:
         if isinstance(cell, Bad):
             raise Unread(f"{self.title} is {cell.text}", cell.kind)
         if isinstance(cell, (int, float, Decimal)) and not isinstance(cell, bool):
-            number = float(cell) if -1e300 < cell < 1e300 else math.inf
-            if math.isinf(number):
-                raise Unread(f"{self.title} is not finite", "number")
-            return number
+            return self.checked(cell)
         raise Unread(f"{self.title} is {shown(cell)} and not a number", "number")
+
+    def checked(self, cell: int | float | Decimal) -> float:
+        """A number that has no more digits than a text may have."""
+        if math.isinf(cell):
+            raise Unread(f"{self.title} is not finite", "number")
+        if not -MOST < cell < MOST:
+            raise Unread(f"{self.title} is {shown(cell)} and not a number of up to 12 digits", "number")
+        return float(cell)
 
     def parse(self, text: str) -> float:
         """The number of a text."""

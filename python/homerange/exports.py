@@ -10,6 +10,7 @@ import hashlib
 import io
 import os
 import re
+import shutil
 import sys
 from functools import lru_cache
 from itertools import chain, islice
@@ -294,6 +295,7 @@ def split_text(path: str, into: str, options: dict[str, Any], tell: Callable[[st
         lines = record_lines(path, split, unit, said)
         (folder / "split.txt").write_text("".join(f"{one_line(line)}\n" for line in lines), encoding="utf-8")
     except OSError as fault:
+        shutil.rmtree(folder, ignore_errors=True)
         refuse(f"{fault.filename or into}: {fault.strerror}", "text")
 
 

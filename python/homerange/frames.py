@@ -353,9 +353,19 @@ class Frame:
             said.say(f"no fix of '{name}' is left: it has no range")
         by_name = {name: pandas.DataFrame(dict(zip(("second", "easting", "northing"), track)), dtype="int64")
                    for name, track in tracks.by_name.items()}
+        self.check_zone(tracks.zone)
         crs = self.crs if self.crs is not None else tracks.zone and crs_of(tracks.zone)
         left_out = {name: counts[name] - len(track) for name, track in by_name.items()}
         return Tracks(by_name, left_out, crs, tracks.shift, self.asked.clock, said.lines)
+
+    def check_zone(self, zone: str | None) -> None:
+        """Refuses a zone that is not that of the reference system."""
+        if zone is None or self.crs is None:
+            return
+        own = getattr(self.crs, "utm_zone", None)
+        if own != zone:
+            refuse(f"the coordinates are of the zone {zone}, and the CRS {getattr(self.crs, 'name', self.crs)} is "
+                   f"{'that of ' + own if own else 'none of UTM'}: give one of the two", "zone")
 
     def counts(self) -> Counter[str]:
         """How many rows of the whole frame each animal has."""

@@ -15,7 +15,7 @@ from typing import Any, Callable, Iterable, Sequence, Union
 import pandas  # type: ignore[import]
 
 from .asked import UNITS, Asked, seconds_of
-from .errors import FrameError, HomeRangeInfo, HomeRangeNote, ReportError, refuse
+from .errors import FrameError, HomeRangeInfo, HomeRangeNote, ReportError, one_line, refuse
 from .exports import LISTS, read_text
 from .frames import Tracks, read_frame
 from .program import MOST_ANIMALS, Runs, find_program
@@ -330,7 +330,7 @@ def read_export(path: str | os.PathLike[str], **options: Any) -> Any:
     try:
         split = read_text(str(path), {**words, "mark": True}, said)
     except FrameError as fault:
-        raise FrameError(f"{path}: {fault}", fault.kind, fault.record) from None
+        raise FrameError(f"{one_line(str(path))}: {fault}", fault.kind, fault.record) from None
     # What the frame has is neither rounded nor shifted.
     tell(line for line in said.lines if not line.startswith(("coordinates are rounded", "coordinates are shifted")))
     tracks = split.tracks

@@ -288,7 +288,7 @@ class Table:
         try:
             return zone_of(word) if word else ""
         except FrameError as fault:
-            raise Unread(f"{self.title(self.zone or 0)} is {fault}", "zone") from None
+            raise Unread(f"{self.title(self.zone or 0)}: {fault}", "zone") from None
 
     def check_names(self, rows: Sequence[int], names: list[Any], faults: Faults) -> None:
         """Notes rows without an animal, or with one that can't be read."""

@@ -8,7 +8,7 @@ from functools import lru_cache
 from math import cosh
 from typing import Any, Callable, Sequence
 
-from .errors import FrameError
+from .errors import FrameError, refuse
 
 ZONE = re.compile("0?([1-9]|[1-5][0-9]|60) ?([NnSs])")
 BAND = re.compile("0?([1-9]|[1-5][0-9]|60) ?([C-HJ-MP-RT-Xc-hj-mp-rt-x])")
@@ -29,7 +29,7 @@ def zone_of(text: str) -> str:
     remedy = ""
     if band:
         remedy = f": {band[2]} is a band, and the zone is {band[1]}{'S' if band[2].upper() < 'N' else 'N'}"
-    raise FrameError(f"{text} is no zone as 33N{remedy}", "zone")
+    refuse(f"{text} is no zone as 33N{remedy}", "zone")
 
 
 def crs_of(zone: str) -> str:

@@ -195,6 +195,19 @@ def test_a_crs_of_columns_is_that_of_the_answers():
         assert home_range(frame_of(a=SQUARE), zone="33 n").crs == "EPSG:32633"
 
 
+def test_a_zone_and_a_crs_have_to_be_of_one_place():
+    pytest.importorskip("pyproj")
+    frame = frame_of(a=SQUARE)
+    assert home_range(frame, zone="33N", crs="EPSG:25833").crs.to_epsg() == 25833
+    for words in ({"zone": "33N", "crs": 32632}, {"zone": "33N", "crs": 3035}):
+        with pytest.raises(FrameError, match="the coordinates are of the zone 33N, and the CRS") as fault:
+            home_range(frame, **words)
+        assert fault.value.kind == "zone"
+    utm = frame.rename(columns={"easting": "utm_easting", "northing": "utm_northing"}).assign(utm_zone="33N")
+    with pytest.raises(FrameError, match="the coordinates are of the zone 33N"):
+        home_range(utm, crs=32634)
+
+
 def test_longitude_and_latitude_are_projected_into_a_zone_that_is_named():
     pytest.importorskip("pyproj")
     frame = pandas.DataFrame({"id": "a", "date": START, "lon": [15.805899, 15.807277], "lat": [46.356742, 46.358710]})
