@@ -210,13 +210,14 @@ class Form:
         if unknown or len({*signs}) < len(signs) or not ("Y" in signs or "y" in signs):
             refuse(f"time-format is '{form}', which is no form of a date with %Y %m %d, or %H %M %S, %I %p, %y %b %j")
         body = "".join(FORMS[piece[1]] if at % 2 else re.escape(piece) for at, piece in enumerate(pieces))
-        self.form = re.compile(body, re.IGNORECASE | re.ASCII)
+        self.form, self.text, self.is_used = re.compile(body, re.IGNORECASE | re.ASCII), form, False
 
     def read(self, text: str) -> Stamp | None:
         """The stamp of a text; None where it has another form, or is no time."""
         found = self.form.fullmatch(text)
         if found is None:
             return None
+        self.is_used = True
         has = found.groupdict()
         try:
             day = self.day(has)

@@ -22,6 +22,7 @@ from xml.etree import ElementTree
 from .asked import Asked
 from .errors import FrameError, one_line, refuse
 from .tables import Said, Table
+from .titles import TIMES, Titles
 from .tracks import Track, Tracks, make_tracks
 
 PIECE = 2_000  # rows that are read at once; with more, time goes into waiting for memory
@@ -72,6 +73,23 @@ def asked_of(options: dict[str, Any], is_frame: bool = False) -> Asked:
             several = option in LISTS and isinstance(value, str)
             words[option.replace("-", "_")] = value.split(",") if several else value
     return Asked(is_frame=is_frame, **words)
+
+
+def maker_of(titles: Iterable[str]) -> str | None:
+    """The maker whose columns of time and place a table has, if it has those of one."""
+    has = {title.strip(" \t") for title in titles}
+    for maker, options in presets().items():
+        wanted = [*options["time"].split(","), options["lon"], options["lat"]]
+        if maker != "gpx" and all(has.intersection(words.split("|")) for words in wanted):
+            return maker
+    return None
+
+
+def check_maker(titles: list[str], asked: Asked) -> None:
+    """Refuses a table of a maker whose preset was not asked for."""
+    maker = maker_of(titles) if asked.time is None and asked.lon is None and asked.easting is None else None
+    if maker is not None and not Titles(titles, asked).first(TIMES):
+        refuse(f"the columns are those of {maker}: read them by --from {maker}", "columns")
 
 
 def read_bytes(path: str) -> bytes:
@@ -187,6 +205,7 @@ def read_table(lines: Iterator[str], path: str, asked: Asked) -> Table:
     reader = Reader(lines, path)
     gc.disable()  # rows are many and refer to nothing
     try:
+        check_maker(reader.titles, asked)
         table = Table(reader.titles, asked, reader.separator == ";")
         wanted = itemgetter(*table.wanted, table.wanted[0])  # of one column too a row
         while rows := reader.piece():

@@ -19,13 +19,11 @@ from .asked import UNITS, Asked
 from .cells import TRUTHS, Bad, Moment
 from .errors import FrameError, refuse
 from .tables import Said, Table
-from .titles import FAMILIES, OTHER_ANIMALS, OTHER_TIMES, Titles, find_columns, plain
+from .titles import ANIMALS, TIMES, Titles, find_columns, plain
 from .tracks import make_tracks
 from .zones import Scale, crs_of, scale_of_crs, zone_of
 
 BAD_NAME = re.compile("[\x00-\x1f\x7f\ud800-\udfff]")
-ANIMALS = {plain(title) for title in (*(family.animal for family in FAMILIES), *OTHER_ANIMALS)}
-TIMES = {plain(title) for title in (*(family.time for family in FAMILIES), *OTHER_TIMES)}
 MOST_EXACT = 2 ** 53
 POINT = (-1, -2)
 
@@ -161,9 +159,9 @@ def columns_of(frame: Any, asked: Asked, has_points: bool) -> Columns:
         is_time = pandas.api.types.is_datetime64_any_dtype(values.dtype)
         if title in titles or isinstance(frame.index, pandas.RangeIndex):
             continue
-        if not found.time and (is_time or plain(title) in TIMES) and asked.time is None:
+        if not found.time and (is_time or plain(title) in map(plain, TIMES)) and asked.time is None:
             asked.time = [title]
-        elif not found.animal and plain(title) in ANIMALS and asked.animal is None:
+        elif not found.animal and plain(title) in map(plain, ANIMALS) and asked.animal is None:
             asked.animal = [title]
         else:
             continue

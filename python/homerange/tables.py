@@ -12,7 +12,7 @@ from typing import Any, Callable, Iterable, Mapping, NoReturn, Optional, Sequenc
 from .asked import Asked, zone_of_time
 from .cells import Bad, Form, Numbers, Stamp, Times, Unread, moments_of, shown, truth
 from .errors import FrameError, one_line, refuse
-from .titles import DOPS, FIX_TYPES, HOMERANGE, Titles, find_columns
+from .titles import ARGOS_CLASSES, DOPS, FIX_TYPES, HOMERANGE, Titles, find_columns
 from .zones import zone_of
 
 SENSORS = {"397": "bird-ring", "653": "gps", "673": "radio-transmitter", "82798": "argos-doppler-shift",
@@ -120,7 +120,7 @@ class Table:
         self.names_missing = frozenset({"", *asked.na})
         self.marks = {} if asked.all_used else self.find_marks()
         self.sensor = None if asked.all_used and not asked.sensor else self.titles.first(("sensor-type", "sensor-type-id"))
-        self.argos = self.optional("argos", asked.argos, ("argos-lc",))
+        self.argos = self.optional("argos", asked.argos, ARGOS_CLASSES)
         self.dop = self.optional("dop", asked.dop, DOPS) if asked.max_dop is not None else None
         self.fix = self.optional("fix", asked.fix, FIX_TYPES) if asked.fix_type is not None else None
         self.require(asked.max_dop is not None and self.dop is None, "max-dop", "dop", DOPS)
@@ -352,10 +352,17 @@ class Table:
             said.say(f"no column has a usual title for the animal: all fixes are of one, named {self.asked.name}")
         if not self.columns.time:
             said.say("no column has a usual title for the time: fixes are in the order of rows, as seconds 0, 1, 2, ..")
+        self.tell_times(said)
         if self.twice:
             numbers = ", ".join(map(str, self.twice[:10])) + (", .." if len(self.twice) > 10 else "")
             said.say(f"records lie in the hour that comes twice in {self.clock.key}: records {numbers}", len(self.twice))
         return self.records
+
+    def tell_times(self, said: Said) -> None:
+        """Says by which form and in which zone times were read, where these were named."""
+        if self.columns.time and (self.times.forms or self.times.slack):
+            forms = " and ".join(form.text for form in self.times.forms if form.is_used) or "ISO text"
+            said.say(f"times are read as {forms}, in {self.clock.key}")
 
     def check_animals(self, said: Said) -> None:
         """Refuses a column of the animal that has another one in each row, and says where most have."""

@@ -26,9 +26,12 @@ SP = Family("id", "date", ("coords.x1", "coords.x2"))
 FAMILIES = (MOVEBANK, HOMERANGE, Family("id", "t_", ("x_", "y_")), EVERYDAY, SP)
 OTHER_ANIMALS = ("animal-id", "animals-id", "individual-id", "individual", "traj-id", "track-id", "user-id")
 OTHER_TIMES = ("time", "datetime", "date-time", "acquisition-time", "tracked-at")
+ANIMALS = (*dict.fromkeys(family.animal for family in FAMILIES), *OTHER_ANIMALS)
+TIMES = (*dict.fromkeys(family.time for family in FAMILIES), *OTHER_TIMES)
 LOCATION = ("location-long", "location-lat")
 DEGREES = (LOCATION, ("longitude", "latitude"), ("lon", "lat"), ("long", "lat"), ("lng", "lat"))
 DOPS = ("gps-dop", "dop", "gps-hdop", "hdop", "pdop")
+ARGOS_CLASSES = ("argos-lc", "argos-class", "loc. quality", "location-quality", "location-class")
 FIX_TYPES = ("gps-fix-type", "fix-type", "fixtype", "fix-status", "fixstatus", "type-of-fix")
 
 
@@ -146,8 +149,7 @@ def _animal(titles: Titles, family: Family | None) -> list[int]:
     own = titles.first([MOVEBANK.animal, *([family.animal] if family else [])])
     if own is not None:
         return [own]
-    others = [*dict.fromkeys(family.animal for family in FAMILIES), *OTHER_ANIMALS]
-    return titles.one_of(others, "the animal", "animal")
+    return titles.one_of(ANIMALS, "the animal", "animal")
 
 
 def _time(titles: Titles, family: Family | None) -> list[int]:
@@ -157,8 +159,7 @@ def _time(titles: Titles, family: Family | None) -> list[int]:
     own = titles.first([family.time]) if family else None
     if own is not None and family is not None and family.time != EVERYDAY.time:
         return [own]
-    others = [*dict.fromkeys(family.time for family in FAMILIES), *OTHER_TIMES]
-    return titles.one_of(others, "the time", "time")
+    return titles.one_of(TIMES, "the time", "time")
 
 
 def find_columns(titles: Titles, has_points: bool = False) -> Columns:
