@@ -269,9 +269,9 @@ def check_names(tracks: Tracks, names: dict[str, str]) -> None:
             refuse(f"animals '{other}' and '{name}' would both be named {names[name]}", "name")
 
 
-def write_track(path: Path, name: str, track: Track, mark: bool) -> None:
-    """Writes the file of an animal."""
-    with open(path, "x", encoding="utf-8", newline="\n") as file:
+def write_track(folder: Path, name: str, track: Track, mark: bool) -> None:
+    """Writes the file of an animal, whose name is in UTF-8 in whatever locale."""
+    with open(os.path.join(os.fsencode(folder), f"{name}.csv".encode()), "x", encoding="utf-8", newline="\n") as file:
         file.write("animal,second,easting,northing" + ",use" * mark + "\n")
         if mark:
             file.writelines(f"{name},{second},{east},{north},{used}\n" for second, east, north, used in zip(*track))
@@ -308,7 +308,7 @@ def split_text(path: str, into: str, options: dict[str, Any], tell: Callable[[st
     try:
         folder.mkdir(parents=True)
         for name, track in split.tracks.by_name.items():
-            write_track(folder / f"{split.names[name]}.csv", split.names[name], track, mark)
+            write_track(folder, split.names[name], track, mark)
         fixes = sum(len(track.seconds) for track in split.tracks.by_name.values())
         said.say(f"{fixes} fixes of {len(split.tracks.by_name)} animals are in {into}, in {unit}")
         lines = record_lines(path, split, unit, said)

@@ -20,6 +20,7 @@ SENSORS = {"397": "bird-ring", "653": "gps", "673": "radio-transmitter", "82798"
 OWNERS_MARK, VALID = "manually-marked-outlier", "manually-marked-valid"
 OTHER_MARKS = ("algorithm-marked-outlier", "import-marked-outlier")
 ARGOS = "argos-doppler-shift"
+CLASSES_OF_ARGOS = frozenset("3210ABZG")
 NUMBERS, ANIMAL, MARK, TIME, ZONE, DOP = range(6)  # the order in which the faults of a record are told
 
 Cells = Sequence[Any]

@@ -14,7 +14,7 @@ from . import zones
 from .asked import UNITS, Asked, Unit, seconds_of, zone_of_time
 from .cells import EPOCH, LAST_OF_CALENDAR, Offsets, day_begins, iso_time, moments_of
 from .errors import refuse
-from .tables import ARGOS, Records, Said, Table, nothing_left, ranked
+from .tables import ARGOS, CLASSES_OF_ARGOS, Records, Said, Table, nothing_left, ranked
 
 MOST_FIXES = 1_048_576  # of one animal
 STEP = 1_000_000  # metres by which a local grid is shifted
@@ -77,7 +77,7 @@ class Choice:
         argos = records.argos or [""] * len(records)
         sensors = records.sensor or [""] * len(records)
         if wanted is None:
-            if any(used and (of or sensor == ARGOS) for used, of, sensor in zip(records.used, argos, sensors)):
+            if any(used and (of in CLASSES_OF_ARGOS or sensor == ARGOS) for used, of, sensor in zip(records.used, argos, sensors)):
                 refuse("fixes are of Argos, most of whose classes are off by kilometres: name the classes to take, such as "
                        f"{self.asked.word('argos-class', '3,2,1')} (none is a fix without a class)", "argos")
             return

@@ -101,3 +101,15 @@ said,1 fixes of 1 animals are in tracks, in dm
 left,a_b,1,coordinates
 track,a_b,1,1
 END
+
+# What was read from a pipe has its own checksum; names of files are UTF-8 in whatever locale; a folder without a name.
+rm -rf "$work/piped" "$work/plain"
+printf '%s\n' "$head_line" 'J\303\244ger,2024-05-01 00:30:00,500001,2,33N,' | xargs -0 printf >"$work/export.csv"
+PYTHONUTF8=0 PYTHONCOERCECLOCALE=0 LC_ALL=C python3 "$tools/split.py" --into "$work/piped" /dev/stdin <"$work/export.csv" \
+    2>"$work/errors"
+holds 'the checksum of what was read from a pipe' \
+    grep -qx "sha256,$(sha256sum <"$work/export.csv" | cut -c -64)" "$work/piped/split.txt"
+holds 'a name in UTF-8 in a locale without it' [ -f "$work/piped/Jäger.csv" ]
+holds 'a folder without a name is refused' is_refused python3 "$tools/split.py" --into '' "$work/export.csv"
+holds 'a folder that cannot be made is refused in a line' [ "$(python3 "$tools/split.py" --into /dev/null/x \
+    "$work/export.csv" 2>&1 | tail -n 1)" = 'split: /dev/null/x: Not a directory' ]
