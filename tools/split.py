@@ -64,9 +64,10 @@ def read_options() -> argparse.Namespace:
 
 def main() -> None:
     options = {name.replace("_", "-"): value for name, value in vars(read_options()).items()}
+    export, into = options.pop("export"), options.pop("into")
     sys.stderr.reconfigure(errors="backslashreplace")
     try:
-        split_text(options.pop("export"), options.pop("into"), options, lambda line: print(f"split: {line}", file=sys.stderr))
+        split_text(export, into, options, lambda line: print(f"split: {line}", file=sys.stderr))
     except FrameError as fault:
         print(f"split: {fault}", file=sys.stderr)
         sys.exit(2 if fault.kind == "option" else 1)

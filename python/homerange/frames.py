@@ -131,8 +131,8 @@ def names_of(cells: Sequence[Any]) -> list[Any]:
             name = name_of(cell)
             kind = str if isinstance(cell, str) else float
             if isinstance(name, str) and kinds.setdefault(name, kind) is not kind:
-                name = Bad(f"{cell!r}, and another row has it as {'text' if kind is float else 'a number'}: make all text",
-                           "name")
+                other = "text" if kind is float else "a number"
+                name = Bad(f"{cell!r}, and another row has it as {other}: make all text", "name")
             known[key] = name
         found.append(known[key])
     return found
@@ -367,8 +367,10 @@ class Frame:
 
     def counts(self) -> Counter[str]:
         """How many rows of the whole frame each animal has."""
-        if not self.is_chosen or not self.table.columns.animal:
-            return Counter(self.table.rows_of) if self.table.columns.animal else Counter({self.asked.name: len(self.labels)})
+        if not self.table.columns.animal:
+            return Counter({self.asked.name: len(self.labels)})
+        if not self.is_chosen:
+            return Counter(self.table.rows_of)
         at = self.table.columns.animal[0]
         return Counter(name for name in names_of(cells_of(self.columns.series[at])) if isinstance(name, str))
 

@@ -335,7 +335,8 @@ def read_export(path: str | os.PathLike[str], **options: Any) -> Any:
     tell(line for line in said.lines if not line.startswith(("coordinates are rounded", "coordinates are shifted")))
     tracks = split.tracks
     places, records = tracks.places, tracks.places.records
-    order = sorted(itertools.chain.from_iterable(tracks.rows.values()), key=lambda at: (records.second[at], records.part[at]))
+    rows = itertools.chain.from_iterable(tracks.rows.values())
+    order = sorted(rows, key=lambda at: (records.second[at], records.part[at]))
     is_since_1970 = all(10 ** 8 <= records.second[at] < 10 ** 10 for at in order)
     titles = ("utm-easting", "utm-northing") if tracks.zone else ("easting", "northing")
     return pandas.DataFrame({
@@ -405,8 +406,9 @@ def _boundary(ranges: HomeRanges, reserve: Any) -> Any:
     if hasattr(reserve, "geometry") or hasattr(reserve, "geom_type") and not isinstance(
             getattr(reserve, "geom_type"), str):
         if (own is None) != (ranges.crs is None):
-            refuse(f"the {'ranges have' if ranges.crs is None else 'reserve has'} no CRS, and the other has: name it, as by "
-                   f"{'home_range(.., crs=..)' if ranges.crs is None else 'reserve.set_crs(..)'}", "crs")
+            who, how = ("ranges have", "home_range(.., crs=..)") if own is not None else (
+                "reserve has", "reserve.set_crs(..)")
+            refuse(f"the {who} no CRS, and the other has: name it, as by {how}", "crs")
         shapes = reserve if own is None else reserve.to_crs(ranges.crs)
         reserve = shapes.geometry.unary_union
     if not hasattr(reserve, "intersection") or not hasattr(reserve, "is_valid"):

@@ -82,7 +82,9 @@ class Faults:
         if self.first is None or (row, order) < self.first[:2]:
             self.first = (row, order, fault)
 
-    def each(self, read: Callable[[Any], Any], cells: Iterable[Any], rows: Sequence[int], order: int, bad: Any) -> list[Any]:
+    def each(
+        self, read: Callable[[Any], Any], cells: Iterable[Any], rows: Sequence[int], order: int, bad: Any,
+    ) -> list[Any]:
         """What is read of each cell, or this where it can't be read."""
         found = []
         for row, cell in zip(rows, cells):
@@ -93,7 +95,9 @@ class Faults:
                 found.append(bad)
         return found
 
-    def distinct(self, read: Callable[[Any], Any], cells: Cells, rows: Sequence[int], order: int, bad: Any) -> list[Any]:
+    def distinct(
+        self, read: Callable[[Any], Any], cells: Cells, rows: Sequence[int], order: int, bad: Any,
+    ) -> list[Any]:
         """The same, where few cells differ."""
         known: dict[Any, Any] = {}
         kinds = {*cells}
@@ -120,7 +124,8 @@ class Table:
         self.missing = asked.missing
         self.names_missing = frozenset({"", *asked.na})
         self.marks = {} if asked.all_used else self.find_marks()
-        self.sensor = None if asked.all_used and not asked.sensor else self.titles.first(("sensor-type", "sensor-type-id"))
+        is_any_sensor = asked.all_used and not asked.sensor
+        self.sensor = None if is_any_sensor else self.titles.first(("sensor-type", "sensor-type-id"))
         self.argos = self.optional("argos", asked.argos, ARGOS_CLASSES)
         self.dop = self.optional("dop", asked.dop, DOPS) if asked.max_dop is not None else None
         self.fix = self.optional("fix", asked.fix, FIX_TYPES) if asked.fix_type is not None else None
@@ -136,12 +141,13 @@ class Table:
     def check_time(self) -> None:
         needs = self.asked.needs_time
         if not self.columns.time and needs:
-            refuse(f"{self.asked.title(needs)}: no column has a usual title for the time: name it, as by {self.asked.word('time', 'COLUMN')}")
+            refuse(f"{self.asked.title(needs)}: no column has a usual title for the time: name it, as by "
+                   f"{self.asked.word('time', 'COLUMN')}")
 
     def require(self, fails: bool, option: str, column: str, usual: Sequence[str]) -> None:
         if fails:
-            refuse(f"{self.asked.title(option)}: no column has a usual title for it ({', '.join(usual)}): name it, as by "
-                   f"{self.asked.word(column, 'COLUMN')}", "columns")
+            refuse(f"{self.asked.title(option)}: no column has a usual title for it ({', '.join(usual)}): "
+                   f"name it, as by {self.asked.word(column, 'COLUMN')}", "columns")
 
     def optional(self, option: str, named: str | None, usual: Sequence[str]) -> int | None:
         """A column that was named, or the first of usual titles."""
@@ -205,7 +211,7 @@ class Table:
         return faults.each(reader.read, cells, rows, NUMBERS, math.nan) if whole is None else whole
 
     def names(self, cells: Mapping[int, Cells], rows: Sequence[int], faults: Faults) -> list[Any]:
-        """The animal of each row: "" where there is none, and a fault as it is, which counts where the row has a place."""
+        """The animal of each row: "" where there is none, and a fault as it is, which counts where there is a place."""
         if not self.columns.animal:
             return [self.asked.name] * len(rows)
         columns = [self.named(cells[at]) for at in self.columns.animal]

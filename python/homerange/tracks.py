@@ -77,9 +77,10 @@ class Choice:
         argos = records.argos or [""] * len(records)
         sensors = records.sensor or [""] * len(records)
         if wanted is None:
-            if any(used and (of in CLASSES_OF_ARGOS or sensor == ARGOS) for used, of, sensor in zip(records.used, argos, sensors)):
-                refuse("fixes are of Argos, most of whose classes are off by kilometres: name the classes to take, such as "
-                       f"{self.asked.word('argos-class', '3,2,1')} (none is a fix without a class)", "argos")
+            found = {*compress(zip(argos, sensors), records.used)}
+            if any(of in CLASSES_OF_ARGOS or sensor == ARGOS for of, sensor in found):
+                refuse("fixes are of Argos, most of whose classes are off by kilometres: name the classes to take, "
+                       f"such as {self.asked.word('argos-class', '3,2,1')} (none is a fix without a class)", "argos")
             return
         names = {"" if name == "none" else name for name in wanted}
         self.keep([of in names for of in argos], "class", f"fixes are of other Argos classes than {','.join(wanted)}")
@@ -93,7 +94,8 @@ class Choice:
             self.keep([dop <= most for dop in records.dop], "dop", f"fixes have a DOP above {most:g}")
         if asked.fix_type is not None:
             wanted = ",".join(asked.fix_type)
-            self.keep([fix in asked.fix_type for fix in records.fix], "type", f"fixes are of other fix types than {wanted}")
+            mask = [fix in asked.fix_type for fix in records.fix]
+            self.keep(mask, "type", f"fixes are of other fix types than {wanted}")
 
     def period(self) -> None:
         """Keeps the fixes from the first moment to the last that are wanted."""
@@ -180,10 +182,10 @@ class Places:
             return
         titles = [self.table.title(at) for at in columns.grid]
         zone = zones.zone_at(*pairs[0])
+        words = [self.asked.word(*pair) for pair in (("lon", titles[0]), ("lat", titles[1]), ("zone", zone))]
         refuse(f"all of {titles[0]} and {titles[1]} lie within 180 by 90, as longitude and latitude do: say so by "
-               f"{self.asked.word('lon', titles[0])}{', ' if self.asked.is_frame else ' '}"
-               f"{self.asked.word('lat', titles[1])}{', ' if self.asked.is_frame else ' '}{self.asked.word('zone', zone)}; "
-               "or, if they are metres, add 1000 to all", "degrees")
+               f"{(', ' if self.asked.is_frame else ' ').join(words)}; or, if they are metres, add 1000 to all",
+               "degrees")
 
     def zone_of(self, at: int, wanted: Optional[str]) -> str:
         """The zone of a record's UTM coordinates: as the table names it, or else as its longitude has it, or else the
@@ -194,8 +196,8 @@ class Places:
         if records.longitude and records.longitude[at] == records.longitude[at]:
             return zones.zone_at(records.longitude[at], records.latitude[at])
         if wanted is None:
-            refuse(f"there is no utm-zone: name that of its coordinates, such as {self.asked.word('zone', '33N')}", "zone",
-                   records.number[at])
+            refuse(f"there is no utm-zone: name that of its coordinates, such as {self.asked.word('zone', '33N')}",
+                   "zone", records.number[at])
         return wanted
 
     def zones_of(self, mask: Sequence[bool], wanted: Optional[str]) -> Iterable[str]:
@@ -216,7 +218,8 @@ class Places:
         any."""
         records, wanted = self.records, self.wanted
         has_grid = [east == east for east in records.east]
-        zone, counts = ranked(self.zones_of([bool(used and grid) for used, grid in zip(records.used, has_grid)], wanted))
+        used_grid = [bool(used and grid) for used, grid in zip(records.used, has_grid)]
+        zone, counts = ranked(self.zones_of(used_grid, wanted))
         bare = next((at for at, grid in enumerate(has_grid) if not grid and records.used[at]), None)
         remedy = f"name the zone of all, such as {self.asked.word('zone', zone)}"
         if "," in counts and not wanted:
@@ -251,9 +254,9 @@ class Places:
 
     def refuse_degrees(self, zone: str) -> None:
         longitude, latitude = (self.table.title(at) for at in self.table.columns.degrees or ())
-        refuse(f"the frame has longitude and latitude: name the UTM zone to project them into, zone={zone!r}; or make points "
-               "of them and project them, as by points = geopandas.GeoDataFrame(frame, geometry=geopandas.points_from_xy("
-               f"frame['{longitude}'], frame['{latitude}']), crs=4326) and points.to_crs(points.estimate_utm_crs())",
+        refuse(f"the frame has longitude and latitude: name the UTM zone to project them into, zone={zone!r}; or make "
+               "points of them and project them, as by points = geopandas.GeoDataFrame(frame, "
+               f"geometry=geopandas.points_from_xy(frame['{longitude}'], frame['{latitude}']), crs=4326) and points.to_crs(points.estimate_utm_crs())",
                "degrees")
 
     def shift(self, unit: Unit) -> tuple[int, int]:
@@ -418,7 +421,8 @@ def calendar_tests(choice: Choice) -> list[tuple[str, str, Callable[[int], bool]
     asked, local, tests = choice.asked, choice.offsets.local, list[tuple[str, str, Callable[[int], bool]]]()
     if asked.months is not None:
         months, text = asked.months, ", ".join(map(str, asked.months))
-        tests.append(("months", f"fixes are in other months than {text}", lambda second: month_of(local(second)) in months))
+        tests.append(("months", f"fixes are in other months than {text}",
+                      lambda second: month_of(local(second)) in months))
     if asked.hours is not None:
         first, last = asked.hours
         start, end = first * 3600, last * 3600

@@ -34,7 +34,8 @@ def as_text(case):
         options = {name: True if name in ("mark", "skip-unnamed") else int(value) if name == "skip-lines" else value
                    for name, value in case.options.items()}
         split_text(str(case.table), f"{folder}/tracks", options, lambda line: None)
-        return {path.name[:-4]: path.read_bytes() for path in Path(folder, "tracks").iterdir() if path.name != "split.txt"}
+        paths = [path for path in Path(folder, "tracks").iterdir() if path.name != "split.txt"]
+        return {path.name[:-4]: path.read_bytes() for path in paths}
 
 
 def argument(name, value):
