@@ -103,6 +103,7 @@ def decode(content: bytes, path: str, encoding: str) -> Iterator[str]:
     """The lines of a text, whose ends become line feeds. Looks at all of it before the first is given."""
     try:
         codec = codecs.lookup(encoding).name
+        io.TextIOWrapper(io.BytesIO(), encoding=codec)  # refuses what is no coding of text
     except LookupError:
         refuse(f"encoding: there is no coding {encoding}")
     stream = io.BytesIO(content)
@@ -143,6 +144,8 @@ def open_text(path: str, asked: Asked, is_gpx: bool = False) -> Text:
     """The text of a file, from its line of titles on."""
     content = read_bytes(path)
     lines = gpx_lines(content, path) if is_gpx else decode(content, path, asked.encoding)
+    if asked.skip_lines < 0:
+        refuse(f"skip-lines is {asked.skip_lines} and not a number from 0")
     for _ in islice(lines, asked.skip_lines):
         pass
     if asked.header:
@@ -300,7 +303,7 @@ def split_text(path: str, into: str, options: dict[str, Any], tell: Callable[[st
     if not into:
         refuse("into: the folder has no name")
     if os.path.lexists(into):
-        refuse(f"{into} is there already: remove it, or name another by --into")
+        refuse(f"{into} is there already: remove it, or name another by --into", "text")
     said = Said(tell)
     split = read_text(path, options, said)
     folder = Path(into)
@@ -312,7 +315,8 @@ def split_text(path: str, into: str, options: dict[str, Any], tell: Callable[[st
         fixes = sum(len(track.seconds) for track in split.tracks.by_name.values())
         said.say(f"{fixes} fixes of {len(split.tracks.by_name)} animals are in {into}, in {unit}")
         lines = record_lines(path, split, unit, said)
-        (folder / "split.txt").write_text("".join(f"{one_line(line)}\n" for line in lines), encoding="utf-8")
+        text = "".join(f"{one_line(line)}\n" for line in lines)
+        (folder / "split.txt").write_text(text, encoding="utf-8", errors="surrogateescape")
     except OSError as fault:
         shutil.rmtree(folder, ignore_errors=True)
         refuse(f"{fault.filename or into}: {fault.strerror}", "text")

@@ -38,6 +38,7 @@ class Tracks:
     shift: tuple[int, int] = (0, 0)  # metres that were added to coordinates
     tz: str = "UTC"
     notes: list[str] = field(default_factory=list)
+    reasons: Counter[tuple[str, str]] = field(default_factory=Counter)  # fixes left out, by animal and why
 
 
 class Columns(NamedTuple):
@@ -354,7 +355,15 @@ class Frame:
         self.check_zone(tracks.zone)
         crs = self.crs if self.crs is not None else tracks.zone and crs_of(tracks.zone)
         left_out = {name: counts[name] - len(track) for name, track in by_name.items()}
-        return Tracks(by_name, left_out, crs, tracks.shift, self.asked.clock, said.lines)
+        self.count_unused(counts, said)
+        return Tracks(by_name, left_out, crs, tracks.shift, self.asked.clock, said.lines, said.left)
+
+    def count_unused(self, counts: Counter[str], said: Said) -> None:
+        """Counts the rows that an argument left out."""
+        if self.is_chosen:
+            gone = counts - self.table.rows_of if self.table.columns.animal else Counter(
+                {self.asked.name: len(self.labels) - len(self.positions)})
+            said.left.update({(name, "use"): count for name, count in gone.items()})
 
     def check_zone(self, zone: str | None) -> None:
         """Refuses a zone that is not that of the reference system."""

@@ -98,6 +98,13 @@ class HomeRanges:
         times = {title: self._times(summary[title]) for title in ("first", "last")}
         return summary.assign(**times, left_out=summary["left_out"].astype("Int64"))
 
+    def left_out(self) -> Any:
+        """How many fixes were left out of the frame, a row for each ``animal`` and ``reason``, with ``fixes``. The reasons
+        are those of docs/TABLES.md, and use, where the argument of that name left them out."""
+        reasons = sorted(self._tracks.reasons.items()) if self._tracks else []
+        rows = [(name, reason, count) for (name, reason), count in reasons if count]
+        return pandas.DataFrame(rows, columns=["animal", "reason", "fixes"])
+
     def curve(self) -> Any:
         """The table of incremental area analysis (Harris et al. 1990), a row for each fix: ``animal``; ``n``, the
         number of the fix; its ``time``; and ``corners`` and ``hectares`` of the polygon of the first n fixes."""

@@ -128,6 +128,8 @@ def test_filters_are_arguments():
     assert noted(notes) == ["1 fixes have no DOP: left out", "1 fixes have a DOP above 2: left out",
                             "1 fixes are of other fix types than 3D: left out"]
     assert found.summary()["left_out"].tolist() == [3]
+    assert found.left_out().values.tolist() == [["a", "dop", 1], ["a", "no dop", 1], ["a", "type", 1]]
+    assert home_range(frame, use=[True, True, False, True]).left_out().values.tolist() == [["a", "use", 1]]
     with pytest.warns(HomeRangeNote, match="1 fixes are faster than 0.12 m/s"):
         home_range(frame.assign(easting=[562_000, 562_200, 562_400, 563_000], northing=0), 100, max_speed=0.12)
     with pytest.raises(FrameError, match="argos_class='3,2,1'"):
