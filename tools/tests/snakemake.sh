@@ -3,10 +3,10 @@
 
 # Plans the herd, and runs it.
 plan() {
-    'a clone/plan.sh' 'my tracks' 'my herd' "$@"
+    'a clone/tools/herd/plan.sh' 'my tracks' 'my herd' "$@"
 }
 engine() {
-    timeout 100 snakemake --snakefile 'a clone/Snakefile' --directory 'my herd' "$@"
+    timeout 100 snakemake --snakefile 'a clone/tools/herd/Snakefile' --directory 'my herd' "$@"
 }
 
 # What is said by a call that fails, and leaves no report.
@@ -32,7 +32,9 @@ is_over() {
 if is_here snakemake 'herds by Snakemake'; then
     rm -rf 'my tracks' 'my herd' 'a clone'
     rm -f called
-    cp -R "$tools/herd" 'a clone'
+    mkdir -p 'a clone/tools'
+    cp -R "$tools/herd" 'a clone/tools'
+    ln -s "$top/python" 'a clone/python'
     python3 "$top/examples/simulate.py" 'my tracks' 40 20
     plan
     holds 'Snakemake runs' engine --cores 2
@@ -61,7 +63,7 @@ if is_here snakemake 'herds by Snakemake'; then
         "$HOMERANGE" >slow
     chmod +x slow
     HOMERANGE=./slow plan
-    snakemake --snakefile 'a clone/Snakefile' --directory 'my herd' --cores 1 >told 2>&1 &
+    snakemake --snakefile 'a clone/tools/herd/Snakefile' --directory 'my herd' --cores 1 >told 2>&1 &
     killed=$!
     wait_until [ -e 'my herd/begun' ]
     kill -9 $killed
