@@ -4,24 +4,22 @@ those of a text are."""
 from __future__ import annotations
 
 import datetime as clock
-import math
 import re
 import sys
 from collections import Counter
 from dataclasses import dataclass, field
-from decimal import Decimal
-from typing import Any, Callable, Iterable, NamedTuple, Sequence
+from typing import Any, Callable, NamedTuple, Sequence
 
 import numpy
 import pandas  # type: ignore[import]
 
-from .asked import UNITS, Asked
+from .asked import Asked
 from .cells import TRUTHS, Bad, Moment
 from .errors import FrameError, refuse
 from .tables import Said, Table
 from .titles import ANIMALS, TIMES, Titles, find_columns, plain
 from .tracks import make_tracks
-from .zones import Scale, crs_of, scale_of_crs, zone_of
+from .zones import Scale, crs_of, scale_of_crs
 
 BAD_NAME = re.compile("[\x00-\x1f\x7f\ud800-\udfff]")
 MOST_EXACT = 2 ** 53

@@ -5,7 +5,6 @@ from __future__ import annotations
 import csv
 import itertools
 import math
-import operator
 import os
 import warnings
 from datetime import date, datetime
