@@ -33,9 +33,10 @@ REASONS = ("animal", "coordinates", "zero", "sensor", "outlier", "class", "no do
 
 
 class Text(NamedTuple):
-    """What was read: the lines, and the checksum of the bytes."""
+    """What was read: the lines, whether a quote is in them, and the checksum of the bytes."""
 
     lines: Iterator[str]
+    has_quotes: bool
     checksum: str
 
 
@@ -99,8 +100,9 @@ def read_bytes(path: str) -> bytes:
         refuse(f"{path} cannot be read", "text")
 
 
-def decode(content: bytes, path: str, encoding: str) -> Iterator[str]:
-    """The lines of a text, whose ends become line feeds. Looks at all of it before the first is given."""
+def decode(content: bytes, path: str, encoding: str) -> tuple[Iterator[str], bool]:
+    """The lines of a text, whose ends become line feeds, and whether a quote is in them. Looks at all of it before the
+    first is given."""
     try:
         codec = codecs.lookup(encoding).name
         io.TextIOWrapper(io.BytesIO(), encoding=codec)  # refuses what is no coding of text
@@ -109,19 +111,21 @@ def decode(content: bytes, path: str, encoding: str) -> Iterator[str]:
     stream = io.BytesIO(content)
     if codec == "utf-8" and content.startswith(codecs.BOM_UTF8):
         stream.seek(len(codecs.BOM_UTF8))
-    decoder = codecs.getincrementaldecoder(codec)()
+    decoder, has_quotes = codecs.getincrementaldecoder(codec)(), False
     try:
         for start in range(0, len(content), 1 << 20):
-            if "\0" in decoder.decode(content[start:start + (1 << 20)]):
+            text = decoder.decode(content[start:start + (1 << 20)])
+            has_quotes = has_quotes or '"' in text
+            if "\0" in text:
                 refuse(f"{path} is no text: it has a byte 0", "text")
         decoder.decode(b"", True)
     except UnicodeDecodeError:
         name = "UTF-8" if codec == "utf-8" else encoding
         refuse(f"{path} is no text in {name}: name its coding, such as --encoding latin-1", "text")
-    return io.TextIOWrapper(stream, encoding=codec, newline=None)
+    return io.TextIOWrapper(stream, encoding=codec, newline=None), has_quotes
 
 
-def gpx_lines(content: bytes, path: str) -> Iterator[str]:
+def gpx_lines(content: bytes, path: str) -> tuple[Iterator[str], bool]:
     """The track points of GPX as the lines of a table."""
     try:
         root = ElementTree.fromstring(content)
@@ -137,13 +141,13 @@ def gpx_lines(content: bytes, path: str) -> Iterator[str]:
     text = io.StringIO(newline="")
     csv.writer(text, lineterminator="\n").writerows(rows)
     text.seek(0)
-    return text
+    return text, True
 
 
 def open_text(path: str, asked: Asked, is_gpx: bool = False) -> Text:
     """The text of a file, from its line of titles on."""
     content = read_bytes(path)
-    lines = gpx_lines(content, path) if is_gpx else decode(content, path, asked.encoding)
+    lines, has_quotes = gpx_lines(content, path) if is_gpx else decode(content, path, asked.encoding)
     if asked.skip_lines < 0:
         refuse(f"skip-lines is {asked.skip_lines} and not a number from 0")
     for _ in islice(lines, asked.skip_lines):
@@ -154,7 +158,7 @@ def open_text(path: str, asked: Asked, is_gpx: bool = False) -> Text:
         if before is None:
             refuse(f"no line begins with '{wanted}', as that of titles does", "columns")
         lines = chain([before], lines)
-    return Text(lines, hashlib.sha256(content).hexdigest())
+    return Text(lines, has_quotes, hashlib.sha256(content).hexdigest())
 
 
 def separator_of(line: str) -> str:
@@ -165,24 +169,33 @@ def separator_of(line: str) -> str:
 
 
 class Reader:
-    """The rows of a table of text."""
+    """The rows of a table of text. Where no quote is in it, a line is split at each sign that separates."""
 
-    def __init__(self, lines: Iterator[str], path: str) -> None:
+    def __init__(self, lines: Iterator[str], has_quotes: bool, path: str) -> None:
         first = next((line for line in lines if line.strip("\n")), None)
         if first is None:
             refuse(f"{path} has no line of titles", "empty")
-        self.path, self.separator = path, separator_of(first)
+        self.path, self.separator, self.lines, self.has_end = path, separator_of(first), lines, False
         csv.field_size_limit(sys.maxsize)
-        self.rows = csv.reader(chain([first], lines, ["end"]), delimiter=self.separator)
-        self.titles = next(self.rows)
-        if self.titles == ["end"] or not self.titles:
-            refuse(f"{path} has no line of titles", "empty")
-        self.has_end = False
+        self.rows = csv.reader(chain([first], lines, ["end"]), delimiter=self.separator) if has_quotes else None
+        self.titles = next(self.rows) if self.rows else first.rstrip("\n").split(self.separator)
 
     def piece(self) -> list[list[str]]:
         """The next rows; none where there are no more. Blank lines are none."""
-        if self.has_end:
-            return []
+        rows: list[list[str]] = []
+        while not rows and not self.has_end:
+            rows = self.quoted() if self.rows else self.plain()
+        return rows
+
+    def plain(self) -> list[list[str]]:
+        """The next rows of a text without quotes."""
+        lines, separator = list(islice(self.lines, PIECE)), self.separator
+        self.has_end = len(lines) < PIECE
+        return [line.rstrip("\n").split(separator) for line in lines if line != "\n"]
+
+    def quoted(self) -> list[list[str]]:
+        """The next rows of a text with quotes."""
+        assert self.rows is not None
         rows = list(islice(self.rows, PIECE))
         if len(rows) < PIECE:
             self.has_end = True
@@ -203,9 +216,9 @@ def count_whole(rows: list[list[str]], width: int) -> int:
     return next((at for at, row in enumerate(rows) if len(row) != width), len(rows))
 
 
-def read_table(lines: Iterator[str], path: str, asked: Asked) -> Table:
+def read_table(text: Text, path: str, asked: Asked) -> Table:
     """The table of a text. The fault of the first record that has one is the one that is told."""
-    reader = Reader(lines, path)
+    reader = Reader(text.lines, text.has_quotes, path)
     gc.disable()  # rows are many and refer to nothing
     try:
         check_maker(reader.titles, asked)
@@ -249,9 +262,9 @@ def read_text(path: str, options: dict[str, Any], said: Said) -> Split:
     """The tracks of a table of text."""
     try:
         asked = asked_of(options)
-        lines, checksum = open_text(path, asked, options.get("from") == "gpx")
-        table = read_table(lines, path, asked)
-        del lines
+        text = open_text(path, asked, options.get("from") == "gpx")
+        table, checksum = read_table(text, path, asked), text.checksum
+        del text
         tracks = make_tracks(table, said, clean)
         names = {name: clean(name) for name in [*tracks.by_name, *table.rows_of]}
         check_names(tracks, names)

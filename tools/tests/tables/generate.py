@@ -106,6 +106,23 @@ def herd():
     return "a_herd_of_70", text.encode(), [], sorted(lines, key=lambda line: line.split(",")[0]), None
 
 
+def long(name, count, ill=None, end=""):
+    """A table of many records, with thousands of blank lines in its midst, one of which may be ill, and this end."""
+    lines = [f"a,{second},{562000 + second % 97},{5134000 + second % 89}" for second in range(count)]
+    rows = [f"a,{at},x,1" if at == ill else line for at, line in enumerate(lines)]
+    rows[count // 2:count // 2] = [""] * 5000
+    text = "animal,second,easting,northing\n" + "".join(f"{row}\n" for row in rows) + end
+    refusal = None if ill is None else f"{ill + 1} number"
+    return name, text.encode(), [], [] if refusal else lines, refusal
+
+
 def generated():
-    """All these tables: the name, the bytes, the call, the tracks' lines, and None where there is no refusal."""
-    return [*map(drawn, range(50)), wide(), herd()]
+    """All these tables: the name, the bytes, the call, the tracks' lines, and the refusal, of which one is None."""
+    return [*map(drawn, range(50)), wide(), herd(), long("a_long_table", 9000),
+            long("a_long_table_with_a_fault", 9000, ill=7654)]
+
+
+def generated_texts():
+    """The tables that can be given as texts alone."""
+    open_quote = long("a_long_table_with_an_open_quote", 6000, end='"a,6000,1,1\n')
+    return [(*open_quote[:3], [], "- text")]

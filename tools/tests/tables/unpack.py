@@ -5,7 +5,7 @@ import sys
 from datetime import datetime, timezone
 from pathlib import Path
 
-from generate import generated
+from generate import generated, generated_texts
 
 HERE = Path(__file__).resolve().parent
 ENDS = {"|": b"\n", "r|": b"\r\n", "c|": b"\r", "n|": b""}
@@ -84,18 +84,22 @@ def read(path):
     return cases
 
 
+def made(name, table, call, tracks, refusal, only=""):
+    """A case of a table that was made."""
+    case = Case(name, only)
+    case.table, case.call = table, call
+    for line in tracks:
+        case.track(line)
+    if refusal:
+        case.files["refusal"] = [refusal]
+    return case
+
+
 def main():
     folder = Path(sys.argv[1])
     folder.mkdir(parents=True)
     cases = [case for path in sorted(HERE.glob("*.cases")) for case in read(path)]
-    for name, table, call, tracks, refusal in generated():
-        case = Case(name)
-        case.table, case.call = table, call
-        for line in tracks:
-            case.track(line)
-        if refusal:
-            case.files["refusal"] = [refusal]
-        cases.append(case)
+    cases += [made(*given) for given in generated()] + [made(*given, only="text") for given in generated_texts()]
     for case in cases:
         if bool(case.tracks) == ("refusal" in case.files):
             sys.exit(f"unpack.py: {case.name} wants either tracks or a refusal")
