@@ -1,5 +1,6 @@
 #!/bin/sh
-# ranges.sh [OPTION ..] EXPORT INTO: from a Movebank export to what a plan needs, in the new folder INTO:
+# ranges.sh [OPTION ..] EXPORT INTO: from an export, of Movebank or of a collar, to what a plan needs, in the new folder
+# INTO:
 #
 #   tracks              a file for each animal, by split.py
 #   report.txt          what homerange reports of them

@@ -327,7 +327,8 @@ class Frame:
             return fault
         at = self.positions[fault.record - 1]
         label = self.labels[at]
-        where = f"row {at}" if isinstance(label, int) and label == at else f"row {label} (frame.iloc[{at}])"
+        is_place = isinstance(label, (int, numpy.integer)) and label == at
+        where = f"row {at}" if is_place else f"row {label} (frame.iloc[{at}])"
         return FrameError(f"{where}: {fault}", fault.kind, at + 1)
 
     def scale(self) -> Scale | None:

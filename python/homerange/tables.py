@@ -313,8 +313,7 @@ class Table:
         if not self.columns.time:
             return [self.rows + row for row in rows], [0.0] * len(rows)
         columns = [cells[at] for at in self.columns.time]
-        texts = columns[0] if len(columns) == 1 else [
-            None if None in row else " ".join(map(str, row)) for row in zip(*columns)]
+        texts = columns[0] if len(columns) == 1 else list(map(joined, zip(*columns)))
         whole = self.times.whole_column(texts)
         if whole is not None:
             return whole
@@ -382,6 +381,13 @@ class Table:
                    f"{self.asked.word('animal', 'COLUMN')}", "onefix")
         if 2 * single > animals:
             said.say(f"of {animals} animals have one record: is {title} the animal?", single)
+
+
+def joined(cells: Sequence[Any]) -> Any:
+    """The text of several cells, None where one is missing."""
+    if None in cells:
+        return None
+    return " ".join(cells) if all(isinstance(cell, str) for cell in cells) else Bad("not text in all columns", "time")
 
 
 def ranked(words: Iterable[str]) -> tuple[str, str]:

@@ -121,6 +121,14 @@ def test_bounds(words, kept):
             assert len(home_range(frame, **words).curve()) == kept
 
 
+def test_two_columns_of_the_time():
+    frame = frame_of(a=SQUARE).assign(day="2024-05-01", clock=["01:00", "02:00", "03:00", "04:00"])
+    found = home_range(frame, time=["day", "clock"])
+    assert found.curve()["time"].tolist() == [pandas.Timestamp(f"2024-05-01 0{hour}:00", tz="UTC") for hour in (1, 2, 3, 4)]
+    with pytest.raises(FrameError, match="row 0: timestamp clock is not text in all columns"):
+        home_range(frame, time=["timestamp", "clock"])
+
+
 def test_filters_are_arguments():
     frame = frame_of(a=SQUARE).assign(hdop=[1, 2, 3, None], fixtype=["3D", "2D", "3D", "3D"])
     with pytest.warns(HomeRangeNote) as notes:
