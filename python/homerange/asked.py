@@ -93,10 +93,13 @@ class Asked:
         """Refuses options that cannot be right."""
         if self.unit not in UNITS:
             refuse(f"unit={self.unit!r} is neither 'm' nor 'dm'")
-        texts = ("zone", "easting", "northing", "lon", "lat", "dop", "fix", "argos", "name")
+        texts = ("zone", "easting", "northing", "lon", "lat", "dop", "fix", "argos", "name", "encoding", "time_format",
+                 "header")
         for option in texts:
             if not isinstance(value := getattr(self, option), (str, type(None))):
                 refuse(f"{option}={value!r} is no text")
+        if not isinstance(self.skip_lines, int) or self.skip_lines < 0:
+            refuse(f"skip_lines={self.skip_lines!r} is not a number of lines")
         zone_of_time(self.clock)
         self.max_dop = positive(self.max_dop, "max-dop")
         self.max_speed = positive(self.max_speed, "max-speed")

@@ -12,6 +12,7 @@ import os
 import re
 import shutil
 import sys
+from dataclasses import fields
 from functools import lru_cache
 from itertools import chain, islice
 from operator import itemgetter
@@ -73,6 +74,9 @@ def asked_of(options: dict[str, Any], is_frame: bool = False) -> Asked:
         if value is not None:
             several = option in LISTS and isinstance(value, str)
             words[option.replace("-", "_")] = value.split(",") if several else value
+    unknown = sorted({*words}.difference(field.name for field in fields(Asked)))
+    if unknown:
+        refuse(f"there is no option {unknown[0]}")
     return Asked(is_frame=is_frame, **words)
 
 
@@ -146,10 +150,9 @@ def gpx_lines(content: bytes, path: str) -> tuple[Iterator[str], bool]:
 
 def open_text(path: str, asked: Asked, is_gpx: bool = False) -> Text:
     """The text of a file, from its line of titles on."""
+    asked.check()
     content = read_bytes(path)
     lines, has_quotes = gpx_lines(content, path) if is_gpx else decode(content, path, asked.encoding)
-    if asked.skip_lines < 0:
-        refuse(f"skip-lines is {asked.skip_lines} and not a number from 0")
     for _ in islice(lines, asked.skip_lines):
         pass
     if asked.header:
