@@ -106,6 +106,28 @@ def herd():
     return "a_herd_of_70", text.encode(), [], sorted(lines, key=lambda line: line.split(",")[0]), None
 
 
+def movebank():
+    """An export with all columns of Movebank, quoted as it writes them, of two foxes, with an outlier and a failed fix."""
+    titles = ("event-id,visible,timestamp,location-long,location-lat,gps:dop,manually-marked-outlier,sensor-type,"
+              "individual-taxon-canonical-name,tag-local-identifier,individual-local-identifier,study-name,utm-easting,"
+              "utm-northing,utm-zone,study-timezone,study-local-timestamp")
+    rows, tracks = [], []
+    for at in range(40):
+        fox, east, north = f"fox {at % 2}", 562000 + 77 * at, 5134000 + 78 * at
+        time = EPOCH + timedelta(seconds=1714521600 + 1801 * at)
+        clock_text = time.strftime("%Y-%m-%d %H:%M:%S") + f".{at:03}"
+        places = [f"{15.8 + at / 1000:.6f}", f"{46.35 + at / 1400:.6f}"], [f"{east}.13", f"{north - 1}.871"]
+        if at == 9:
+            places = ["", ""], ["", ""]
+        rows.append([str(90000 + at), '"true"', clock_text, *places[0], "1.8", "true" if at == 7 else "", '"gps"',
+                     '"Vulpes vulpes"', f'"tag {at % 2}"', f'"{fox}"', '"A study, of foxes"', *places[1], '"33N"',
+                     '"Central European Summer Time"', clock_text])
+        if at not in (7, 9):
+            tracks.append(f"{fox},{1714521600 + 1801 * at},{east},{north}")
+    text = "\n".join([titles, *map(",".join, rows)]) + "\n"
+    return "an_export_of_movebank", text.encode(), [], tracks, None
+
+
 def long(name, count, ill=None, end=""):
     """A table of many records, with thousands of blank lines in its midst, one of which may be ill, and this end."""
     lines = [f"a,{second},{562000 + second % 97},{5134000 + second % 89}" for second in range(count)]
@@ -118,7 +140,7 @@ def long(name, count, ill=None, end=""):
 
 def generated():
     """All these tables: the name, the bytes, the call, the tracks' lines, and the refusal, of which one is None."""
-    return [*map(drawn, range(50)), wide(), herd(), long("a_long_table", 9000),
+    return [*map(drawn, range(50)), wide(), herd(), movebank(), long("a_long_table", 9000),
             long("a_long_table_with_a_fault", 9000, ill=7654)]
 
 
