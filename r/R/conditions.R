@@ -1,19 +1,67 @@
-# How the package refuses, and what it says on its way.
+# How the package refuses, and what it says on its way, each in one line.
 
-# Stops with a fault of this kind: its classes are homerange_KIND_error and homerange_error.
-refuse <- function(kind, ...) {
-  stop(errorCondition(paste0(...), class = c(paste0("homerange_", kind, "_error"), "homerange_error")))
+# The kinds of refusals of a table, which docs/TABLES.md has. Their errors are homerange_data_error too.
+kinds_of_tables <- c("text", "fields", "columns", "ambiguous", "number", "animal", "name", "onefix", "mark", "time", "zone",
+                     "degrees", "grid", "scale", "crs", "sensor", "argos", "empty")
+
+# Stops with a fault of this kind: its classes are homerange_KIND_error and homerange_error. The record is the number of
+# the row that has it, counted from 1.
+refuse <- function(kind, ..., record = NULL) {
+  classes <- paste0("homerange_", c(kind, if (kind %in% kinds_of_tables) "data"), "_error")
+  stop(errorCondition(one_line(paste0(...)), class = c(classes, "homerange_error"), kind = kind, record = record))
 }
 
-# Stops where a row of the table is bad, and names the first of them.
-refuse_rows <- function(rows, bad, ...) {
-  first <- which(bad)[1]
-  if (is.na(first)) return(invisible())
-  why <- vapply(list(...), function(part) as.character(if (length(part) > 1) part[first] else part), "")
-  refuse("data", "row ", rows[first], ": ", paste(why, collapse = ""))
+# Makes a call; what it refuses is refused with this text before it.
+with_prefix <- function(prefix_of, call) {
+  tryCatch(call, homerange_data_error = function(fault) {
+    refuse(fault$kind, prefix_of(fault$record), conditionMessage(fault), record = fault$record)
+  })
 }
 
-say <- function(...) message("homerange: ", ...)
+# Text with its control characters and separators of lines escaped.
+one_line <- function(text) {
+  form <- "[\\x01-\\x1f\\x7f]|\\xc2[\\x80-\\x9f]|\\xe2\\x80[\\xa8\\xa9]"
+  bad <- grepl(form, text, perl = TRUE, useBytes = TRUE)
+  text[bad] <- vapply(text[bad], escaped, "", USE.NAMES = FALSE)
+  text
+}
+
+escaped <- function(text) {
+  codes <- utf8ToInt(enc2utf8(text))
+  if (anyNA(codes)) return(gsub("[[:cntrl:]]", "?", text, useBytes = TRUE))
+  signs <- intToUtf8(codes, multiple = TRUE)
+  bad <- codes < 32 | codes >= 127 & codes < 160 | codes %in% c(8232, 8233)
+  signs[bad] <- sprintf(ifelse(codes[bad] < 256, "\\x%02x", "\\u%04x"), codes[bad])
+  paste(signs, collapse = "")
+}
+
+# What is said, which tell tells, and how many fixes of which animal were left out for which reason.
+new_said <- function(tell) {
+  said <- new.env()
+  said$tell <- tell
+  said$lines <- character()
+  said$left <- data.frame(animal = character(), reason = character(), fixes = numeric())
+  said
+}
+
+# Says a text, behind its count if it has one; what counts 0 is not said.
+say <- function(said, count, ...) {
+  if (identical(as.numeric(count), 0)) return(invisible())
+  line <- one_line(paste0(if (!is.null(count)) paste0(sprintf("%.0f", count), " "), ...))
+  said$lines <- c(said$lines, line)
+  said$tell(line)
+}
+
+# Counts fixes of these animals as left out for this reason.
+leave_out <- function(said, animals, reason) {
+  names <- unique(animals)
+  if (!length(names)) return(invisible())
+  counts <- tabulate(match(animals, names), length(names))
+  known <- match(paste(reason, names), paste(said$left$reason, said$left$animal))
+  old <- !is.na(known)
+  said$left$fixes[known[old]] <- said$left$fixes[known[old]] + counts[old]
+  said$left <- rbind(said$left, data.frame(animal = names[!old], reason = rep(reason, sum(!old)), fixes = counts[!old]))
+}
 
 in_digits <- function(numbers) format(numbers, big.mark = ",", scientific = FALSE, trim = TRUE)
 

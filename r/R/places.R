@@ -1,111 +1,150 @@
-# The coordinates of a table of fixes in metres of one plane grid, and the grid's coordinate reference system.
+# The places of records in metres of one grid, and in whole units of it: docs/TABLES.md, Coordinates.
 
-has_sf <- function() requireNamespace("sf", quietly = TRUE)
+shift_step <- 1000000  # metres by which a local grid is shifted
 
-# A list of easting, northing (in metres), crs (an sf crs, or NULL), what they are called, and the call that takes the
-# rows that have them. The rows are the numbers that faults name.
-find_places <- function(table, rows, easting, northing, crs) {
-  if (inherits(table, "sf")) {
-    if (!is.null(c(easting, northing)) || !is.null(crs)) {
-      refuse("option", "easting, northing, crs: an sf table brings its own coordinates and its own CRS")
+# The places of records. A record that is not used may have none, as NA.
+find_places <- function(table, records, said) {
+  asked <- table$asked
+  wanted <- if (!is.null(asked$zone)) zone_of(asked$zone)
+  if (!any(records$used)) nothing_left()
+  check_degrees(table, records, said)
+  if (!is.null(table$columns$grid) && !table$columns$is_utm) {
+    if (!is.null(wanted) || !asked$is_frame) {
+      say(said, NULL, "coordinates are those of the table; zone: ", if (is.null(wanted)) "not known" else wanted)
     }
-    return(places_of_points(table, rows))
+    return(list(east = records$east, north = records$north, zone = wanted, is_shifted = TRUE))
   }
-  columns <- place_columns(table, easting, northing)
-  whole <- sprintf("x[!is.na(x[[\"%s\"]] + x[[\"%s\"]]), ]", columns[1], columns[2])
-  places <- list(easting = table[[columns[1]]], northing = table[[columns[2]]], columns = columns, whole = whole)
-  for (column in columns) {
-    kind <- class(table[[column]])[1]
-    if (!is.numeric(table[[column]])) refuse("data", "column ", column, " is ", kind, " and no number")
+  has_grid <- !is.null(records$east) && any(!is.na(records$east[records$used]))
+  found <- if (has_grid) utm_places(asked, records, wanted, said)
+  if (is.null(found)) projected_places(table, records, wanted, said) else found
+}
+
+# Refuses degrees in the columns of metres.
+check_degrees <- function(table, records, said) {
+  columns <- table$columns
+  if (is.null(columns$grid) || columns$grid[1] < 0) return(invisible())
+  is_there <- records$used & !is.na(records$east)
+  east <- records$east[is_there]
+  north <- records$north[is_there]
+  if (!all(abs(east) <= 180 & abs(north) <= 90) || all(east == floor(east) & north == floor(north))) return(invisible())
+  if (columns$is_own) {
+    say(said, NULL, "all fixes lie within 180 m by 90 m of the grid's corner: are they longitude and latitude?")
+    return(invisible())
   }
-  places$crs <- crs_of_columns(table, rows, columns, crs)
-  places
+  titles <- title_of(table, columns$grid)
+  words <- mapply(function(option, value) option_word(table$asked, option, value), c("lon", "lat", "zone"),
+                  c(titles, zones_at(east[1], north[1])))
+  refuse("degrees", "all of ", titles[1], " and ", titles[2], " lie within 180 by 90, as longitude and latitude do: say so by ",
+         paste(words, collapse = if (table$asked$is_frame) ", " else " "), "; or, if they are metres, add 1000 to all")
 }
 
-places_of_points <- function(table, rows) {
-  if (!has_sf()) refuse("data", "an sf table wants the package sf, which is not installed")
-  kind <- as.character(sf::st_geometry_type(table))
-  refuse_rows(rows, kind != "POINT", "the geometry is a ", kind, " and no POINT")
-  at <- sf::st_coordinates(table)
-  crs <- sf::st_crs(table)
-  check_crs(crs, sf::st_geometry(table), "x")
-  list(easting = at[, "X"], northing = at[, "Y"], crs = crs, columns = c("point's easting", "point's northing"),
-       whole = "x[!sf::st_is_empty(x), ]")
-}
-
-place_columns <- function(table, easting, northing) {
-  if (is.null(easting) != is.null(northing)) refuse("option", "easting and northing: name both columns, or none")
-  if (!is.null(easting)) {
-    return(c(named_column(table, "easting", easting), named_column(table, "northing", northing)))
+# The zones of the UTM coordinates of these records: as the table names them, or else as the longitude has it, or else the
+# wanted one.
+zones_of <- function(asked, records, mask, wanted) {
+  zones <- words_in(records, "zone")[mask]
+  if (!is.null(records$longitude)) {
+    longitude <- records$longitude[mask]
+    bare <- zones == "" & !is.na(longitude)
+    zones[bare] <- zones_at(longitude[bare], records$latitude[mask][bare])
   }
-  columns <- find_pair(table, usual_places)
-  if (!is.null(columns)) return(columns)
-  degrees <- find_pair(table, usual_degrees)
-  if (is.null(degrees)) {
-    refuse("data", "no columns of easting and northing were found: name both; ", list_columns(table))
+  none <- which(zones == "")
+  if (length(none) && is.null(wanted)) {
+    refuse("zone", "there is no utm-zone: name that of its coordinates, such as ", option_word(asked, "zone", "33N"),
+           record = records$number[mask][none[1]])
   }
-  points <- sprintf("sf::st_as_sf(x, coords = c(\"%s\", \"%s\"), crs = 4326)", degrees[1], degrees[2])
-  refuse("data", "longitude and latitude are no plane coordinates: sf::st_transform(", points, ", ",
-         utm_code(table[[degrees[1]]], table[[degrees[2]]]), ")")
+  zones[none] <- wanted
+  zones
 }
 
-# The CRS that was named, or that of the zone of Movebank's UTM coordinates; NULL where none is known.
-crs_of_columns <- function(table, rows, columns, crs) {
-  zone <- zone_of_columns(table, rows, columns)
-  if (is.null(crs) || inherits(crs, "crs") && is.na(crs)) crs <- zone
-  if (is.null(crs)) return(NULL)
-  if (!has_sf()) refuse("option", "crs: this wants the package sf, which is not installed")
-  crs <- tryCatch(sf::st_crs(crs), error = function(fault) refuse("option", "crs: ", conditionMessage(fault)))
-  if (is.na(crs)) refuse("option", "crs: there is no such coordinate reference system")
-  at <- data.frame(x = table[[columns[1]]], y = table[[columns[2]]])
-  at <- at[is.finite(at$x) & is.finite(at$y), ]
-  points <- sprintf("sf::st_as_sf(x, coords = c(\"%s\", \"%s\"), crs = \"%s\")", columns[1], columns[2], crs$input)
-  check_crs(crs, sf::st_geometry(sf::st_as_sf(at, coords = c("x", "y"), crs = crs)), points)
-  crs
-}
-
-# The EPSG code of Movebank's column utm-zone; several zones are several grids, and are refused.
-zone_of_columns <- function(table, rows, columns) {
-  at <- match("utm-zone", plain_titles(table))
-  if (is.na(at) || plain_titles(table)[match(columns[1], names(table))] != "utm-easting") return(NULL)
-  zones <- as.character(table[[at]])
-  known <- !is.na(zones) & nzchar(zones)
-  refuse_rows(rows, known & zones != zones[known][1], "UTM zone ", zones, " is not that of the rows before; ",
-              "project longitude and latitude into one zone with sf::st_transform")
-  zone <- zones[known][1]
-  if (!has_sf() || !grepl("^([1-9]|[1-5][0-9]|60)[NS]$", zone)) return(NULL)
-  (if (grepl("N", zone)) 32600 else 32700) + as.numeric(sub("[NS]", "", zone))
-}
-
-# The EPSG code of the UTM zone of most fixes.
-utm_code <- function(longitude, latitude) {
-  known <- is.finite(longitude) & is.finite(latitude)
-  if (!any(known)) return("EPSG")
-  zone <- floor((longitude[known] + 180) / 6) %% 60 + 1
-  codes <- ifelse(latitude[known] >= 0, 32600, 32700) + zone
-  names(which.max(table(codes)))
-}
-
-# Refuses a CRS in which areas would not be true square metres, and says how to project the points.
-check_crs <- function(crs, points, name) {
-  if (is.na(crs)) refuse("data", "the points have no CRS: ", call_for_no_crs(points))
-  why <- if (isTRUE(sf::st_is_longlat(crs))) {
-    "longitude and latitude are no plane coordinates"
-  } else if (!isTRUE(tolower(crs$units_gdal) %in% c("metre", "meter", "m"))) {
-    paste0("the unit of the coordinates is not the metre but ", crs$units_gdal)
-  } else if (grepl("Pseudo.Mercator", crs$wkt)) {
-    "web maps' Mercator projection stretches areas"
+# The UTM coordinates of the table, where those of all used records are of one zone, the wanted one if any; else NULL.
+utm_places <- function(asked, records, wanted, said) {
+  has_grid <- !is.na(records$east)
+  found <- ranked(zones_of(asked, records, records$used & has_grid, wanted))
+  bare <- which(records$used & !has_grid)
+  remedy <- paste("name the zone of all, such as", option_word(asked, "zone", found$first))
+  if (found$number > 1 && is.null(wanted)) refuse("zone", "fixes lie in several zones (", found$counts, "): ", remedy)
+  if (length(bare) && is.null(wanted)) {
+    refuse("zone", "there are no UTM coordinates: ", remedy, record = records$number[bare[1]])
   }
-  if (is.null(why)) return(invisible())
-  degrees <- sf::st_coordinates(sf::st_transform(points[!sf::st_is_empty(points)], 4326))
-  refuse("data", why, ": sf::st_transform(", name, ", ", utm_code(degrees[, "X"], degrees[, "Y"]), ")")
+  if (found$number > 1 || length(bare) || !is.null(wanted) && wanted != found$first) return(NULL)
+  is_other <- !has_grid
+  is_other[has_grid] <- zones_of(asked, records, has_grid, found$first) != found$first
+  say(said, NULL, "UTM coordinates are those of the export; zone: ", found$counts)
+  list(east = replace(records$east, is_other, NA), north = records$north, zone = found$first, is_shifted = FALSE)
 }
 
-call_for_no_crs <- function(points) {
-  at <- sf::st_coordinates(points)
-  at <- at[is.finite(at[, "X"]), , drop = FALSE]
-  if (all(abs(at[, "X"]) <= 180 & abs(at[, "Y"]) <= 90)) {
-    return(paste0("sf::st_transform(sf::st_set_crs(x, 4326), ", utm_code(at[, "X"], at[, "Y"]), ")"))
+# Longitude and latitude projected into the wanted zone, or else into that of most used records.
+projected_places <- function(table, records, wanted, said) {
+  asked <- table$asked
+  bare <- if (is.null(records$longitude)) 1 else which(is.na(records$longitude))[1]
+  if (!is.na(bare)) refuse("zone", "there is no longitude and latitude to project", record = records$number[bare])
+  longitude <- records$longitude[records$used]
+  latitude <- records$latitude[records$used]
+  zones <- ranked(zones_at(longitude, latitude))
+  if (is.null(wanted) && asked$is_frame) refuse_degrees(table, zones$first)
+  if (is.null(wanted) && grepl("N", zones$counts) && grepl("S", zones$counts)) {
+    refuse("zone", "fixes lie on both sides of the equator (", zones$counts, "): name the zone of all, such as ",
+           option_word(asked, "zone", sub("[NS]", "S", zones$first)))
   }
-  "sf::st_set_crs(x, 32633) where they are of UTM zone 33 north"
+  zone <- if (is.null(wanted)) zones$first else wanted
+  say(said, NULL, "longitude and latitude are projected into zone ", zone, "; fixes by zone: ", zones$counts)
+  places <- project(records$longitude, records$latitude, zone, asked)
+  list(east = places[, 1], north = places[, 2], zone = zone, is_shifted = FALSE)
+}
+
+refuse_degrees <- function(table, zone) {
+  titles <- title_of(table, table$columns$degrees)
+  refuse("degrees", "longitude and latitude are no plane coordinates: name the UTM zone to project them into, zone = \"", zone,
+         "\"; or make points of them and project them, sf::st_transform(sf::st_as_sf(x, coords = c(\"", titles[1], "\", \"",
+         titles[2], "\"), crs = 4326), ", code_of_zone(zone), ")")
+}
+
+# How many metres all eastings and northings are shifted by, so that those of used records are on the grid.
+shift_of_places <- function(places, used, unit, said) {
+  if (!places$is_shifted) return(c(0, 0))
+  shift <- c(shift_of(places$east[used], "eastings", unit), shift_of(places$north[used], "northings", unit))
+  if (any(shift != 0)) say(said, NULL, sprintf("coordinates are shifted by %.0f m east and %.0f m north", shift[1], shift[2]))
+  shift
+}
+
+# How many metres one side is shifted by. What is wider than the grid is refused.
+shift_of <- function(metres, side, unit) {
+  ends <- range(c(metres[is.finite(metres)], if (!any(is.finite(metres))) 0))
+  for (shift in c(0, -shift_step * floor(ends[1] / shift_step))) {
+    whole <- floor(unit$scale * (ends + shift) + 0.5)
+    if (whole[1] >= 0 && whole[2] <= unit$limit) return(shift)
+  }
+  refuse("grid", side, sprintf(" go from %.2f to %.2f, which is wider than a grid of %.0f metres: is one of them wrong?",
+                               ends[1], ends[2], unit$limit %/% unit$scale))
+}
+
+# The places in whole units, half a unit rounded up, and which records are off the grid: of those that are used that is
+# refused.
+round_places <- function(places, records, unit, shift) {
+  whole <- Map(function(metres, added) floor(unit$scale * (metres + added) + 0.5), list(places$east, places$north), shift)
+  is_on <- !is.na(whole[[1]]) & !is.na(whole[[2]]) & whole[[1]] >= 0 & whole[[2]] >= 0 & whole[[1]] <= unit$limit &
+    whole[[2]] <= unit$limit
+  bad <- which(!is_on & records$used)[1]
+  if (!is.na(bad)) refuse_off_grid(places$east[bad], places$north[bad], unit, records$number[bad])
+  list(easting = whole[[1]], northing = whole[[2]], is_on = is_on)
+}
+
+refuse_off_grid <- function(east, north, unit, record) {
+  if (!is.finite(east) || !is.finite(north)) {
+    refuse("grid", "its longitude and latitude have no place in the zone", record = record)
+  }
+  refuse("grid", sprintf("%.2f east and %.2f north is off the grid, which goes from 0 to %.0f metres", east, north,
+                         unit$limit %/% unit$scale), record = record)
+}
+
+# Says how far rounding moves fixes.
+tell_moved <- function(places, whole, shift, unit, said) {
+  is_whole <- all(places$east == floor(places$east)) && all(places$north == floor(places$north))
+  if (is_whole %in% TRUE) return(invisible())
+  moved <- sqrt((whole$easting / unit$scale - shift[1] - places$east)^2 + (whole$northing / unit$scale - shift[2] - places$north)^2)
+  furthest <- max(moved[which(moved < 1)], 0)
+  if (furthest > 1e-6) {
+    say(said, NULL, "coordinates are rounded to whole ", unit$name, ", which moves a fix by at most ", sprintf("%.2g", furthest),
+        " m")
+  }
 }

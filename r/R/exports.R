@@ -1,0 +1,229 @@
+# Reads tables of fixes that are text, of Movebank, of collars or of one's own: docs/TABLES.md, The text.
+
+list_options <- c("animal", "time", "na", "sensor", "argos_class", "fix_type")  # which are several words between commas
+reasons_known <- c("animal", "coordinates", "zero", "sensor", "outlier", "class", "no dop", "dop", "type", "before", "after",
+                   "grid", "speed", "months", "hours", "every")
+byte_order_mark <- as.raw(c(0xef, 0xbb, 0xbf))
+
+# The options of each maker, which stand in collars.csv. A test holds this copy to that of the package for Python.
+presets <- function() {
+  path <- getOption("homerange.collars", system.file("extdata", "collars.csv", package = "homerange"))
+  table <- utils::read.csv(path, colClasses = "character", encoding = "UTF-8", na.strings = character())
+  lapply(split(table, factor(table$maker, unique(table$maker))), function(own) {
+    `names<-`(as.list(own$value), gsub("-", "_", own$option, fixed = TRUE))
+  })
+}
+
+# The options, where a maker is named with those of its preset that are not named themselves.
+with_preset <- function(options) {
+  maker <- options$from
+  options$from <- NULL
+  if (is.null(maker)) return(options)
+  known <- presets()
+  if (!maker %in% names(known)) refuse("option", "from: ", maker, " is none of ", paste(names(known), collapse = ", "))
+  preset <- known[[maker]]
+  if (!is.null(options$easting)) preset[c("lon", "lat")] <- NULL
+  if (!is.null(options$lon)) preset[c("easting", "northing")] <- NULL
+  if (!is.null(options$time)) preset["time_format"] <- NULL
+  c(options, preset[setdiff(names(preset), names(options))])
+}
+
+# What is asked by options, of which lists are words between commas.
+asked_of_text <- function(options) {
+  options <- with_preset(Filter(Negate(is.null), options))
+  lists <- intersect(names(options), list_options)
+  options[lists] <- lapply(options[lists], function(value) {
+    if (length(value) == 1) strsplit(paste0(value, ","), ",", fixed = TRUE)[[1]] else as.character(value)
+  })
+  new_asked(options, is_frame = FALSE)
+}
+
+# Refuses a table of a maker whose preset was not asked for.
+check_maker <- function(titles, asked) {
+  if (!is.null(asked$time) || !is.null(asked$lon) || !is.null(asked$easting)) return(invisible())
+  has <- trimmed(titles)
+  for (maker in setdiff(names(presets()), "gpx")) {
+    preset <- presets()[[maker]]
+    wanted <- c(strsplit(preset$time, ",", fixed = TRUE)[[1]], preset$lon, preset$lat)
+    is_there <- vapply(strsplit(wanted, "|", fixed = TRUE), function(words) any(words %in% has), NA)
+    if (all(is_there)) {
+      if (is.na(first_usual(new_titles(titles, asked), titles_of_times))) {
+        refuse("columns", "the columns are those of ", maker, ": read them by --from ", maker)
+      }
+      return(invisible())
+    }
+  }
+}
+
+# The name by which R knows a coding of text; NA where there is none.
+coding_of <- function(name) {
+  plain <- gsub("[ _]", "-", tolower(name))
+  if (plain %in% c("utf-8", "utf8", "u8", "utf-8-sig")) return("UTF-8")
+  tries <- c(name, plain, sub("^latin-?", "latin", plain), sub("^(iso)-?8859-?", "\\1-8859-", plain), sub("^cp-?", "CP", plain),
+             sub("^mac-?roman$", "MACINTOSH", plain))
+  is_known <- vapply(tries, function(coding) {
+    !inherits(try(iconv("a", coding, "UTF-8"), silent = TRUE), "try-error")
+  }, NA)
+  unname(tries[is_known][1])
+}
+
+# Copies a file, whose text becomes UTF-8 without a byte order mark, and answers its checksum. Looks at all of it.
+copy_text <- function(path, copy, asked) {
+  coding <- coding_of(asked$encoding)
+  if (is.na(coding)) refuse("option", "encoding: there is no coding ", asked$encoding)
+  sum <- tempfile("sum")
+  on.exit(unlink(sum))
+  input <- open_file(path)
+  hash <- pipe(paste("sha256sum >", shQuote(sum)), "wb")
+  output <- file(copy, "wb")
+  if (coding == "UTF-8") copy_pieces(input, list(hash, output), path) else copy_recoded(input, hash, output, path, coding, asked)
+  for (connection in list(input, hash, output)) close(connection)
+  substr(readLines(sum), 1, 64)
+}
+
+open_file <- function(path) {
+  unread <- function(fault) refuse("text", path, " cannot be read")
+  if (dir.exists(path)) unread()
+  tryCatch(file(path, "rb", raw = TRUE), warning = unread, error = unread)
+}
+
+# Copies a text in UTF-8 in pieces that end between letters; the mark at its start goes to the first output alone.
+copy_pieces <- function(input, outputs, path) {
+  rest <- raw()
+  is_first <- TRUE
+  repeat {
+    bytes <- readBin(input, "raw", 4e6)
+    writeBin(bytes, outputs[[1]])
+    piece <- c(rest, bytes)
+    if (is_first && identical(utils::head(piece, 3), byte_order_mark)) piece <- piece[-(1:3)]
+    is_first <- FALSE
+    cut <- if (length(bytes)) utils::tail(which(utils::tail(piece, 8) < 0x80), 1) + max(length(piece) - 8, 0) else length(piece)
+    cut <- if (length(cut)) cut else 0
+    rest <- piece[seq_along(piece) > cut]
+    piece <- piece[seq_len(cut)]
+    check_bytes(piece, path, "UTF-8")
+    writeBin(piece, outputs[[2]])
+    if (!length(bytes)) return(invisible())
+  }
+}
+
+# Refuses bytes that are no text.
+check_bytes <- function(bytes, path, name) {
+  if (length(grepRaw(as.raw(0), bytes, fixed = TRUE))) refuse("text", path, " is no text: it has a byte 0")
+  if (!validUTF8(rawToChar(bytes))) refuse_coding(path, name)
+}
+
+refuse_coding <- function(path, name) {
+  refuse("text", path, " is no text in ", name, ": name its coding, such as --encoding latin-1")
+}
+
+# Copies a text in another coding, as UTF-8.
+copy_recoded <- function(input, hash, output, path, coding, asked) {
+  bytes <- raw()
+  while (length(more <- readBin(input, "raw", 4e6))) bytes <- c(bytes, more)
+  writeBin(bytes, hash)
+  text <- iconv(list(bytes), coding, "UTF-8", toRaw = TRUE)[[1]]
+  if (is.null(text)) refuse_coding(path, asked$encoding)
+  check_bytes(text, path, asked$encoding)
+  writeBin(text, output)
+}
+
+# The track points of GPX as a table, written to a file.
+copy_gpx <- function(path, copy, asked) {
+  if (!requireNamespace("xml2", quietly = TRUE)) refuse("text", path, ": to read GPX, install r-cran-xml2")
+  checksum <- copy_text(path, copy, asked)
+  root <- tryCatch(xml2::read_xml(copy), error = function(fault) NULL)
+  if (is.null(root) || !endsWith(xml2::xml_name(root), "gpx")) refuse("text", path, " is no GPX")
+  own <- function(node, name) xml2::xml_text(xml2::xml_find_first(node, sprintf("./*[local-name() = '%s']", name)))
+  tracks <- xml2::xml_find_all(root, "./*[local-name() = 'trk']")
+  rows <- lapply(tracks, function(track) {
+    points <- xml2::xml_find_all(track, "./*[local-name() = 'trkseg']/*[local-name() = 'trkpt']")
+    name <- own(track, "name")
+    name <- if (is.na(name) || name == "") "animal" else name
+    cbind(rep(name, length(points)), own(points, "time"), xml2::xml_attr(points, "lon"), xml2::xml_attr(points, "lat"))
+  })
+  cells <- do.call(rbind, c(list(c("animal", "time", "lon", "lat")), rows))
+  cells[is.na(cells)] <- ""
+  quoted <- matrix(paste0("\"", gsub("\"", "\"\"", cells, fixed = TRUE), "\""), ncol = 4)
+  write_lines(copy, apply(quoted, 1, paste, collapse = ","))
+  checksum
+}
+
+write_lines <- function(path, lines) {
+  output <- file(path, "wb")
+  on.exit(close(output))
+  writeLines(enc2utf8(lines), output, useBytes = TRUE)
+}
+
+# The first line that has the titles: blank ones are passed over, and where a start of it is asked for all before.
+line_of_titles <- function(connection, asked, path) {
+  if (asked$skip_lines > 0) readLines(connection, asked$skip_lines, warn = FALSE)
+  repeat {
+    line <- readLines(connection, 1, warn = FALSE, encoding = "UTF-8")
+    if (!length(line)) break
+    is_wanted <- if (is.null(asked$header)) line != "" else startsWith(sub("^\"+", "", line), asked$header)
+    if (is_wanted) return(line)
+  }
+  if (is.null(asked$header)) refuse("empty", path, " has no line of titles")
+  refuse("columns", "no line begins with '", asked$header, "', as that of titles does")
+}
+
+# The table of a text. The fault of the first record that has one is the one that is told, but for a quote without an end.
+read_table <- function(copy, path, asked) {
+  connection <- file(copy, "r")
+  on.exit(close(connection))
+  if (asked$skip_lines < 0) refuse("option", "skip-lines is ", asked$skip_lines, " and not a number from 0")
+  csv <- new_csv(connection, line_of_titles(connection, asked, path), path)
+  tryCatch({
+    check_maker(csv$titles, asked)
+    table <- new_table(csv$titles, asked, csv$sign == ";")
+    want_columns(csv, wanted_columns(table))
+    while (!is.null(piece <- next_piece(csv))) take_piece(table, piece, length(csv$titles))
+    table
+  }, homerange_error = function(fault) {
+    check_end(csv)
+    stop(fault)
+  })
+}
+
+take_piece <- function(table, piece, width) {
+  if (piece$count > 0) take_rows(table, piece$cells, piece$count)
+  if (!is.null(piece$width)) {
+    refuse("fields", piece$width, " fields where ", width, " are wanted", record = table$rows + 1)
+  }
+}
+
+# Names with _ for what a name or a file's name may not have, cut to 32 bytes.
+clean_names <- function(names) {
+  names <- gsub("[\\x01-\\x1f\\x7f/\\\\,\"]|^[.]", "_", names, perl = TRUE)
+  long <- nchar(names, "bytes") > 32
+  names[long] <- vapply(strsplit(names[long], ""), function(letters) {
+    paste(letters[cumsum(nchar(letters, "bytes")) <= 32], collapse = "")
+  }, "")
+  names
+}
+
+# The tracks of a table of text, its checksum, and the clean name of each animal by its number.
+read_text <- function(path, options, said) {
+  with_prefix(function(record) if (!is.null(record)) paste0("record ", record, ": "), {
+    copy <- tempfile("text")
+    on.exit(unlink(copy))
+    asked <- asked_of_text(options)
+    checksum <- (if (identical(options$from, "gpx")) copy_gpx else copy_text)(path, copy, asked)
+    table <- read_table(copy, path, asked)
+    tracks <- make_tracks(table, said, clean_names)
+    tell_names(tracks$herd, said)
+    list(tracks = tracks, names = clean_names(table$names), checksum = checksum)
+  })
+}
+
+# Says which animals have another name in files, and refuses two whose names come out the same.
+tell_names <- function(herd, said) {
+  names <- herd$names[herd_animals(herd)]
+  clean <- clean_names(names)
+  twice <- which(duplicated(clean))[1]
+  if (!is.na(twice)) {
+    refuse("name", "animals '", names[match(clean[twice], clean)], "' and '", names[twice], "' would both be named ", clean[twice])
+  }
+  for (at in which(names != clean)) say(said, NULL, "animal '", names[at], "' is named ", clean[at])
+}

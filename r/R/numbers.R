@@ -1,0 +1,141 @@
+# What cells of a column say as numbers and truths: docs/TABLES.md, Coordinates, Marks.
+#
+# Cells are text, numbers, truths, or moments (seconds and fractions); NA where they are missing. What reads a column
+# answers its values and the first cell that cannot be read: bad is its place, or NA, and why and kind are of its refusal.
+
+powers_of_ten <- 10^(0:22)
+most <- 1e12  # which no number in a table reaches
+
+read_values <- function(values, bad = NA_integer_, why = NULL, kind = NULL) list(values = values, bad = bad, why = why, kind = kind)
+
+is_moments <- function(cells) inherits(cells, "moments")
+cells_length <- function(cells) if (is_moments(cells)) length(cells$second) else length(cells)
+
+# The cells of these rows.
+cells_at <- function(cells, rows) {
+  if (is_moments(cells)) return(structure(list(second = cells$second[rows], part = cells$part[rows]), class = "moments"))
+  cells[rows]
+}
+
+are_missing <- function(cells, missing) {
+  if (is_moments(cells)) return(is.na(cells$second))
+  if (is.character(cells)) is.na(cells) | cells %in% missing else is.na(cells)
+}
+
+# A cell as a refusal has it.
+shown <- function(cells, at) {
+  cell <- if (is_moments(cells)) cells$second[at] else cells[at]
+  if (is.na(cell)) return("missing")
+  text <- if (is.character(cell)) paste0("'", cell, "'") else format(cell, digits = 15)
+  if (nchar(text, allowNA = TRUE) %in% 0:62) text else paste0(substr(text, 1, 58), "...")
+}
+
+# The numbers of texts of digits with decimals behind a point, each the double that is nearest to it. R's own reading is
+# off by a last place now and then, so digits are divided by a power of ten, which is exact up to 15 of them.
+decimals <- function(text) {
+  number <- as.numeric(text)
+  point <- regexpr(".", text, fixed = TRUE)
+  behind <- ifelse(point > 0, nchar(text, "bytes") - point, 0)
+  digits <- nchar(text, "bytes") - (point > 0)
+  is_short <- !is.na(number) & digits <= 15 & behind > 0
+  scale <- powers_of_ten[behind[is_short] + 1]
+  number[is_short] <- round(number[is_short] * scale) / scale
+  long <- which(!is.na(number) & digits > 15 & behind > 0)
+  if (length(long)) number[long] <- mapply(nearest_double, text[long], number[long], USE.NAMES = FALSE)
+  number
+}
+
+# Of a number and its neighbours the one that is nearest to a text of digits: its decimals are compared with those of the
+# places halfway. Of less than 1 the number stays.
+nearest_double <- function(text, number) {
+  size <- abs(number)
+  if (size < 1) return(number)
+  step <- 2^(floor(log2(size)) - 52)
+  whole <- as.numeric(sub("[.].*", "", sub("-", "", text)))
+  wanted <- sub(".*[.]", "", text)
+  width <- max(nchar(wanted), 60)
+  padded <- function(decimals) substr(paste0(decimals, strrep("0", width)), 1, width)
+  above <- function(part) sub("^0[.]", "", sprintf("%.*f", width, part))
+  is_over <- function(part) part < 1 && padded(wanted) > above(part)
+  part <- size - whole
+  if (part - step / 2 >= 0 && !is_over(part - step / 2)) part <- part - step
+  else if (is_over(part + step / 2)) part <- part + step
+  sign(number) * (whole + part)
+}
+
+# What reads the numbers of a column. Where semicolons separate, decimals may stand behind a comma.
+new_reader <- function(title, has_semicolons, is_metres, missing) {
+  point <- if (has_semicolons) "[.,]" else "[.]"
+  list(title = title, form = paste0("^-?0*[0-9]{1,12}(?:", point, "[0-9]+)?\\z"), has_semicolons = has_semicolons,
+       is_grouped = has_semicolons && is_metres, missing = missing)
+}
+
+# The numbers of cells; NA where they are missing.
+read_numbers <- function(cells, reader) {
+  found <- if (is.character(cells)) numbers_of_text(cells, reader) else numbers_of_numbers(cells, reader)
+  own <- attr(cells, "fault")  # that of a place that is no point
+  if (!is.null(own) && (is.na(found$bad) || own$bad <= found$bad)) found[c("bad", "why", "kind")] <- own[c("bad", "why", "kind")]
+  found
+}
+
+numbers_of_text <- function(cells, reader) {
+  is_there <- !are_missing(cells, reader$missing)
+  is_plain <- grepl(reader$form, cells, perl = TRUE)
+  is_grouped <- reader$is_grouped & grepl("^-?[0-9]{1,3}(?:[.][0-9]{3})+\\z", cells, perl = TRUE)
+  bad <- which(is_there & (!is_plain | is_grouped))[1]
+  values <- rep(NA_real_, length(cells))
+  good <- is_there & is_plain
+  texts <- if (all(good)) cells else cells[good]
+  values[good] <- decimals(if (reader$has_semicolons) sub(",", ".", texts, fixed = TRUE) else texts)
+  why <- if (isTRUE(is_grouped[bad])) ", whose point may stand before thousands: export without it" else
+    " and not a number of up to 12 digits"
+  read_values(values, bad, paste0(reader$title, " is ", shown(cells, bad), why), "number")
+}
+
+numbers_of_numbers <- function(cells, reader) {
+  if (!is.numeric(cells) && !all(are_missing(cells, character()))) {
+    bad <- which(!are_missing(cells, character()))[1]
+    return(read_values(rep(NA_real_, cells_length(cells)), bad,
+                       paste0(reader$title, " is ", if (is_moments(cells)) "a time" else shown(cells, bad), " and not a number"),
+                       "number"))
+  }
+  values <- if (is.numeric(cells)) as.numeric(cells) else rep(NA_real_, cells_length(cells))
+  values[is.nan(values)] <- NA
+  bad <- which(abs(values) >= most)[1]
+  why <- if (isTRUE(is.infinite(values[bad]))) " is not finite" else
+    paste0(" is ", shown(values, bad), " and not a number of up to 12 digits")
+  read_values(values, bad, paste0(reader$title, why), "number")
+}
+
+truths <- c(
+  "true" = TRUE, "TRUE" = TRUE, "True" = TRUE, "1" = TRUE, "1.0" = TRUE, "false" = FALSE, "FALSE" = FALSE, "False" = FALSE,
+  "0" = FALSE, "0.0" = FALSE
+)
+
+# The truths of cells, NA where they are missing; where they must not be, that is a fault.
+read_truths <- function(cells, title, missing, must = FALSE) {
+  is_there <- !are_missing(cells, missing)
+  found <- if (is_moments(cells)) rep(NA, length(is_there)) else unname(truths[match(as.character(cells), names(truths))])
+  bad <- which(is_there & is.na(found) | must & !is_there)[1]
+  why <- if (isTRUE(is_there[bad])) " and not true or false (or 1 or 0)" else
+    " and neither true nor false: name another column of marks, or rename this one"
+  found[!is_there] <- NA
+  read_values(found, bad, paste0(title, " is ", shown_or_empty(cells, bad), why), "mark")
+}
+
+shown_or_empty <- function(cells, at) if (is.character(cells) && is.na(cells[at])) "''" else shown(cells, at)
+
+# What cells say as words, "" where they are missing; whole numbers are their digits.
+read_words <- function(cells, missing) {
+  is_there <- !are_missing(cells, missing)
+  words <- if (is.numeric(cells)) digits_of(cells) else if (is_moments(cells)) digits_of(cells$second) else as.character(cells)
+  ifelse(is_there, words, "")
+}
+
+# Numbers as text: whole ones as their digits.
+digits_of <- function(numbers) {
+  kinds <- unique(numbers)
+  is_whole <- is.finite(kinds) & kinds == floor(kinds)
+  text <- ifelse(is_whole, sprintf("%.0f", kinds), vapply(kinds, format, "", digits = 15))
+  text[match(numbers, kinds)]
+}

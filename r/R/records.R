@@ -1,0 +1,351 @@
+# From the cells of a table to its records: which rows have coordinates and an animal, and what they say. The rules are
+# those of docs/TABLES.md, of a text and of a data frame alike.
+
+types_of_sensors <- c(
+  "397" = "bird-ring", "653" = "gps", "673" = "radio-transmitter", "82798" = "argos-doppler-shift", "2365682" = "natural-mark",
+  "3886361" = "solar-geolocator"
+)
+marks_of_movebank <- c(
+  "visible", "manually-marked-outlier", "algorithm-marked-outlier", "import-marked-outlier", "manually-marked-valid"
+)
+# The order in which the faults of a record are told.
+order_of_faults <- c(number = 0, animal = 1, mark = 2, time = 3, word = 4, dop = 5)
+
+# The first fault of the first row that has one.
+new_faults <- function() list2env(list(row = Inf, order = Inf))
+
+# Notes what reading a column found; rows are those of its cells.
+note_fault <- function(faults, found, rows, order) {
+  row <- rows[found$bad]
+  if (is.na(found$bad) || row > faults$row || row == faults$row && order_of_faults[[order]] >= faults$order) return(invisible())
+  list2env(list(row = row, order = order_of_faults[[order]], why = found$why, kind = found$kind), faults)
+}
+
+# A table that is read in pieces. Its columns are found by the titles.
+new_table <- function(titles, asked, has_semicolons = FALSE, has_points = FALSE) {
+  check_asked(asked)
+  table <- new.env()
+  table$asked <- asked
+  table$titles <- new_titles(titles, asked)
+  table$columns <- find_columns(table$titles, has_points)
+  check_time_is_there(table)
+  find_marks(table)
+  find_words(table)
+  table$readers <- number_readers(table, has_semicolons)
+  table$times <- time_reader(table)
+  table$names <- if (length(table$columns$animal)) character() else asked$name
+  table$counts <- numeric()
+  table$rows <- 0
+  table$pieces <- list()
+  table$left <- new_said(identity)
+  table
+}
+
+check_time_is_there <- function(table) {
+  asked <- table$asked
+  needs <- needs_time(asked)
+  if (!length(table$columns$time) && !is.null(needs)) {
+    refuse("option", option_title(asked, needs), ": no column has a usual title for the time: name it, as by ",
+           option_word(asked, "time", "COLUMN"))
+  }
+}
+
+# The columns of marks by their usual titles: use alone, where it is there.
+find_marks <- function(table) {
+  use <- usual(table$titles, "use")
+  wanted <- if (table$asked$is_all_used) character() else if (!is.na(use)) "use" else marks_of_movebank
+  marks <- vapply(wanted, function(title) usual(table$titles, title), 1L)
+  table$marks <- marks[!is.na(marks)]
+}
+
+# The columns of zones, sensors, classes, types of fixes and dilution of precision, as far as they are wanted.
+find_words <- function(table) {
+  asked <- table$asked
+  is_any_sensor <- asked$is_all_used && is.null(asked$sensor)
+  sensor <- if (is_any_sensor) NA else first_usual(table$titles, c("sensor-type", "sensor-type-id"))
+  table$argos <- optional_column(table, "argos", titles_of_classes)
+  table$dop <- wanted_column(table, "max_dop", "dop", titles_of_dops)
+  table$fix <- wanted_column(table, "fix_type", "fix", titles_of_types)
+  zone <- if (table$columns$is_utm) usual(table$titles, "utm-zone") else NA
+  table$words <- Filter(Negate(is.na), c(zone = zone, sensor = sensor, argos = table$argos, fix = table$fix))
+}
+
+# A column that was named, or the first of usual titles, or NA.
+optional_column <- function(table, option, titles) {
+  named <- table$asked[[option]]
+  if (is.null(named)) first_usual(table$titles, titles) else named_column(table$titles, named, option)
+}
+
+# The column that a filter wants; NA where there is no such wish.
+wanted_column <- function(table, filter, option, titles) {
+  if (is.null(table$asked[[filter]])) return(NA)
+  found <- optional_column(table, option, titles)
+  if (is.na(found)) {
+    refuse("columns", option_title(table$asked, filter), ": no column has a usual title for it (",
+           paste(titles, collapse = ", "), "): name it, as by ", option_word(table$asked, option, "COLUMN"))
+  }
+  found
+}
+
+# The title of a column; a point has none.
+title_of <- function(table, at) ifelse(at > 0, table$titles$text[abs(at)], "point")
+
+# What reads the coordinates, by the names that records have for them, and where they stand.
+number_readers <- function(table, has_semicolons) {
+  columns <- table$columns
+  at <- c(east = columns$grid[1], north = columns$grid[2], longitude = columns$degrees[1], latitude = columns$degrees[2])
+  lapply(split(at, factor(names(at), names(at))), function(place) {
+    is_metres <- names(place) %in% c("east", "north")
+    c(new_reader(title_of(table, place), has_semicolons, is_metres, table$asked$missing), at = unname(place))
+  })
+}
+
+time_reader <- function(table) {
+  asked <- table$asked
+  columns <- table$columns$time
+  is_second <- length(columns) == 1 && table$titles$plain[columns] == families$homerange$time
+  forms <- if (!is.null(asked$time_format)) {
+    lapply(strsplit(paste0(asked$time_format, "|"), "|", fixed = TRUE)[[1]], new_form)
+  }
+  is_zoned <- !asked$is_frame && clock_of(asked) != "UTC"
+  new_times(paste(title_of(table, columns), collapse = " "), is_second, forms, is_zoned, asked$missing)
+}
+
+# The columns that are read.
+wanted_columns <- function(table) {
+  places <- vapply(table$readers, `[[`, 1L, "at")
+  found <- c(table$columns$animal, table$columns$time, places, table$marks, table$words, table$dop)
+  sort(unique(found[!is.na(found) & found > 0]))
+}
+
+cells_of_column <- function(cells, at) cells[[as.character(at)]]
+
+# Takes the next rows, so many, of which the cells are by the number of their column. Refuses the first that has a fault.
+take_rows <- function(table, cells, count) {
+  faults <- new_faults()
+  rows <- seq_len(count)
+  places <- lapply(table$readers, function(reader) {
+    found <- read_numbers(cells_of_column(cells, reader$at), reader)
+    note_fault(faults, found, rows, "number")
+    found$values
+  })
+  named <- names_of_rows(table, cells, count)
+  kept <- rows_with_place(table, places, named$name)
+  if (length(kept) < count) {
+    cells <- lapply(cells, cells_at, kept)
+    places <- lapply(places, `[`, kept)
+    named <- lapply(named, `[`, kept)
+  }
+  check_names(table, named, kept, faults)
+  found <- c(list(number = table$rows + kept, animal = match(named$name, table$names)), places,
+             list(used = used_rows(table, cells, kept, faults)), words_of_rows(table, cells, kept, faults),
+             stamps_of_rows(table, cells, kept, faults))
+  if (is.finite(faults$row)) refuse(faults$kind, faults$why, record = table$rows + faults$row)
+  table$rows <- table$rows + count
+  table$pieces <- c(table$pieces, list(found))
+}
+
+# The animal of each row, "" where there is none, and why it cannot be one, if so.
+names_of_rows <- function(table, cells, count) {
+  columns <- table$columns$animal
+  if (!length(columns)) return(list(name = rep(table$asked$name, count)))
+  found <- lapply(columns, function(at) names_of_cells(cells_of_column(cells, at), table$asked$na))
+  named <- Reduce(function(first, second) {
+    Map(function(one, other) ifelse(first$name == "" & first$why == "", other, one), first, second)
+  }, found)
+  is_name <- named$name != ""
+  new <- setdiff(unique(named$name[is_name]), table$names)
+  table$names <- c(table$names, new)
+  counts <- tabulate(match(named$name[is_name], table$names), length(table$names))
+  table$counts <- c(table$counts, rep(0, length(new))) + counts
+  named
+}
+
+# The names of a column, "" where they are missing; why says what is wrong with one, "" where nothing is.
+names_of_cells <- function(cells, na) {
+  faults <- attr(cells, "why")  # of a frame's names
+  text <- as.vector(cells)
+  text[is.na(text) | text %in% na] <- ""
+  list(name = text, why = if (is.null(faults)) rep("", length(text)) else faults)
+}
+
+# The rows that have coordinates and an animal; counts the others.
+rows_with_place <- function(table, places, names) {
+  none <- rep(NA_real_, length(names))
+  of <- function(side) if (is.null(places[[side]])) none else places[[side]]
+  is_zero <- of("longitude") %in% 0 & of("latitude") %in% 0
+  has_grid <- !is.na(of("east")) & !is.na(of("north")) & !(is_zero & of("east") %in% 0 & of("north") %in% 0)
+  has_none <- !has_grid & (is_zero | is.na(of("longitude")) | is.na(of("latitude")))
+  is_unnamed <- !has_none & names == "" & table$asked$skip_unnamed
+  leave_out(table$left, rep("", sum(is_unnamed)), "animal")
+  leave_out(table$left, names[has_none & !is_zero], "coordinates")
+  leave_out(table$left, names[has_none & is_zero], "zero")
+  which(!has_none & !is_unnamed)
+}
+
+# Notes rows without an animal, or with one that cannot be read.
+check_names <- function(table, named, rows, faults) {
+  bad <- which(named$name == "" & named$why == "")[1]
+  if (!is.na(bad)) {
+    how <- if (table$asked$is_frame) "skip_unnamed = TRUE" else "--skip-unnamed"
+    why <- paste0("there is no ", title_of(table, table$columns$animal[1]), ", and ", how, " leaves such records out")
+    note_fault(faults, read_values(NULL, bad, why, "animal"), rows, "animal")
+  }
+  odd <- which(named$why != "")[1]
+  if (!is.na(odd)) {
+    note_fault(faults, read_values(NULL, odd, paste("the animal is", named$why[odd]), "name"), rows, "animal")
+  }
+}
+
+# Which of these rows the marks have as used.
+used_rows <- function(table, cells, rows, faults) {
+  marks <- lapply(names(table$marks), function(name) {
+    at <- table$marks[[name]]
+    found <- read_truths(cells_of_column(cells, at), title_of(table, at), table$asked$missing, name == "use")
+    note_fault(faults, found, rows, "mark")
+    found$values %in% TRUE | (name == "visible" & is.na(found$values))
+  })
+  names(marks) <- names(table$marks)
+  if (!is.null(marks$use)) return(marks$use)
+  of <- function(name, other) if (is.null(marks[[name]])) rep(other, length(rows)) else marks[[name]]
+  is_found_bad <- of("algorithm-marked-outlier", FALSE) | of("import-marked-outlier", FALSE)
+  of("visible", TRUE) & !of("manually-marked-outlier", FALSE) & (of("manually-marked-valid", FALSE) | !is_found_bad)
+}
+
+# The zones, sensors, classes, types and dilutions of precision of these rows, as far as they are wanted.
+words_of_rows <- function(table, cells, rows, faults) {
+  words <- lapply(table$words, function(at) read_words(cells_of_column(cells, at), table$asked$missing))
+  if (!is.null(words$sensor)) {
+    type <- types_of_sensors[words$sensor]
+    words$sensor <- unname(ifelse(is.na(type), words$sensor, type))
+  }
+  if (!is.null(words$zone)) {
+    found <- read_zones(words$zone, title_of(table, table$words[["zone"]]))
+    note_fault(faults, found, rows, "word")
+    words$zone <- found$values
+  }
+  if (!is.na(table$dop)) {
+    reader <- new_reader(title_of(table, table$dop), TRUE, FALSE, table$asked$missing)
+    found <- read_numbers(cells_of_column(cells, table$dop), reader)
+    note_fault(faults, found, rows, "dop")
+    words$dop <- found$values
+  }
+  words
+}
+
+# The seconds of these rows and their fractions, and the other second of one of a local clock that comes twice.
+stamps_of_rows <- function(table, cells, rows, faults) {
+  columns <- table$columns$time
+  if (!length(columns)) return(list(second = table$rows + rows - 1, part = rep(0, length(rows))))
+  cells <- lapply(columns, function(at) cells_of_column(cells, at))
+  if (length(cells) > 1) cells <- list(joined_texts(cells))
+  stamps <- read_times(cells[[1]], table$times)
+  note_fault(faults, stamps, rows, "time")
+  if (!table$times$slack || is.finite(faults$row)) return(stamps[c("second", "part")])
+  moments <- moments_of(stamps$second, clock_of(table$asked))
+  is_local <- stamps$is_local
+  last <- ifelse(is.na(moments$other), moments$first, moments$other)
+  bad <- which(is_local & (is.na(last) | last < 0))[1]
+  why <- paste0(table$times$title, ": the clocks of ", clock_of(table$asked), " passed over that time")
+  note_fault(faults, read_values(NULL, bad, why, "time"), rows, "time")
+  list(second = ifelse(is_local, moments$first, stamps$second), part = stamps$part, other = ifelse(is_local, moments$other, NA))
+}
+
+# Texts of several columns joined by blanks, missing where one is.
+joined_texts <- function(columns) {
+  joined <- do.call(paste, lapply(columns, function(cells) if (is.character(cells)) cells else read_words(cells, character())))
+  joined[Reduce(`|`, lapply(columns, are_missing, character()))] <- NA
+  joined
+}
+
+# The records, once it is said what was read as what, and which rows are none.
+finish_table <- function(table, said) {
+  if (!table$rows) refuse("empty", "there is no record below the titles")
+  check_animals(table, said)
+  said$left <- table$left$left
+  texts <- c(animal = "records have no animal", coordinates = "records have no coordinates",
+             zero = "records have longitude and latitude 0")
+  for (reason in names(texts)) {
+    say(said, sum(said$left$fixes[said$left$reason == reason]), texts[[reason]], ": left out")
+  }
+  tell_columns_missing(table, said)
+  tell_times(table, said)
+  records <- bound_pieces(table)
+  if (is.null(records$other)) records else settled_records(table, records, said)
+}
+
+tell_columns_missing <- function(table, said) {
+  if (!length(table$columns$animal)) {
+    say(said, NULL, "no column has a usual title for the animal: all fixes are of one, named ", table$asked$name)
+  }
+  if (!length(table$columns$time)) {
+    say(said, NULL, "no column has a usual title for the time: fixes are in the order of rows, as seconds 0, 1, 2, ..")
+  }
+}
+
+# Says by which form and in which zone times were read, where these were named.
+tell_times <- function(table, said) {
+  times <- table$times
+  if (!length(table$columns$time) || is.null(times$forms) && !times$slack) return(invisible())
+  used <- Filter(function(form) form$state$is_used, times$forms)
+  texts <- vapply(used, `[[`, "", "text")
+  how <- if (length(texts)) paste(texts, collapse = " and ") else "ISO text"
+  say(said, NULL, "times are read as ", how, ", in ", clock_of(table$asked))
+}
+
+# The records of all pieces, by columns; the pieces are gone then.
+bound_pieces <- function(table) {
+  columns <- unique(unlist(lapply(table$pieces, names)))
+  records <- list()
+  for (column in columns) {
+    records[[column]] <- unlist(lapply(table$pieces, `[[`, column), use.names = FALSE)
+    table$pieces <- lapply(table$pieces, function(piece) piece[names(piece) != column])
+  }
+  records
+}
+
+# The records with the second moment of times that come twice where the record before of the same animal is later than the
+# first.
+settled_records <- function(table, records, said) {
+  twice <- which(!is.na(records$other))
+  order <- order(records$animal)
+  before <- rep(NA_integer_, length(order))
+  before[order[-1]] <- ifelse(diff(records$animal[order]) == 0, order[-length(order)], NA)
+  for (at in twice) {
+    last <- before[at]
+    if (is.na(last)) next
+    is_earlier <- records$second[at] < records$second[last] ||
+      records$second[at] == records$second[last] && records$part[at] < records$part[last]
+    if (is_earlier) records$second[at] <- records$other[at]
+  }
+  numbers <- records$number[twice]
+  listed <- paste0(paste(numbers[seq_len(min(10, length(numbers)))], collapse = ", "), if (length(numbers) > 10) ", ..")
+  say(said, length(twice), "records lie in the hour that comes twice in ", clock_of(table$asked), ": records ", listed)
+  records$other <- NULL
+  records
+}
+
+# Refuses a column of the animal that has another one in each row, and says where most have.
+check_animals <- function(table, said) {
+  animals <- length(table$counts)
+  single <- sum(table$counts == 1)
+  if (!length(table$columns$animal) || animals < 2) return(invisible())
+  title <- title_of(table, table$columns$animal[1])
+  if (single == animals) {
+    refuse("onefix", "every one of ", animals, " animals has one record: is ", title, " the animal? Name its column, as by ",
+           option_word(table$asked, "animal", "COLUMN"))
+  }
+  if (2 * single > animals) say(said, single, "of ", animals, " animals have one record: is ", title, " the animal?")
+}
+
+# The most frequent word, how many words there are, and each with its count, as text.
+ranked <- function(words) {
+  kinds <- unique(words)
+  counts <- tabulate(match(words, kinds), length(kinds))
+  order <- order(-counts, kinds, method = "radix")
+  kinds <- kinds[order]
+  list(first = kinds[1], number = length(kinds),
+       counts = paste(ifelse(kinds == "", "none", kinds), counts[order], collapse = ", "))
+}
+
+nothing_left <- function() refuse("empty", "no fix is left")

@@ -1,0 +1,186 @@
+# From the records of a table to the tracks of its animals: places in whole units, the order of time, filters by time and
+# speed. docs/TABLES.md has the rules.
+
+most_fixes <- 1048576  # of one animal
+
+# The tracks of a table that was read: of each animal the records that are chosen, in whole units, in the order of time.
+# shown is how an animal's name is said, and scale the areal scale of the reference system that is known otherwise than by
+# its zone.
+make_tracks <- function(table, said, shown = identity, scale = NULL) {
+  records <- finish_table(table, said)
+  choice <- new_choice(table, records, said)
+  choose_records(choice)
+  records <- choice$records
+  unit <- units_known[[table$asked$unit]]
+  places <- find_places(table, records, said)
+  shift <- shift_of_places(places, records$used, unit, said)
+  whole <- round_places(places, records, unit, shift)
+  leave_out(said, table$names[records$animal[!whole$is_on]], "grid")
+  say(said, sum(!whole$is_on), "outliers off the grid: left out")
+  tell_moved(places, whole, shift, unit, said)
+  if (is.null(scale) && !is.null(places$zone)) scale <- scale_of_zone
+  herd <- new_herd(choice, places, whole, shown)
+  if (!is.null(scale)) check_scale(herd, places, scale)
+  sort_herd(herd)
+  filter_herd(herd, unit)
+  tell_animals(herd, table$asked$is_frame)
+  tell_columns(herd, unit)
+  list(herd = herd, records = herd$records, rows = herd$rows, places = places, zone = places$zone, shift = shift, table = table)
+}
+
+# The records with a place, whose rows stand by animal, in the order of their first rows.
+new_herd <- function(choice, places, whole, shown) {
+  records <- choice$records
+  records$easting <- whole$easting
+  records$northing <- whole$northing
+  rows <- which(whole$is_on)
+  place <- match(records$animal[rows], unique(records$animal[rows]))
+  if (is.unsorted(place)) rows <- rows[order(place, method = "radix")]
+  list2env(list(records = records, rows = rows, names = choice$table$names, shown = shown, said = choice$said,
+                asked = choice$asked, tz = choice$tz, table = choice$table))
+}
+
+# The numbers of the animals of the rows, and those of the animals that have rows, in their order.
+animals_of <- function(herd) herd$records$animal[herd$rows]
+herd_animals <- function(herd) unique(animals_of(herd))
+
+# How an animal is said, by its number.
+said_name <- function(herd, animal) herd$shown(herd$names[animal])
+
+# Refuses a grid on which areas of an animal are wrong by more than 1 %, and says where by more than 0.1 %.
+check_scale <- function(herd, places, scale) {
+  used <- herd$rows[herd$records$used[herd$rows]]
+  animal <- factor(herd$records$animal[used], unique(herd$records$animal[used]))
+  means <- lapply(list(places$east, places$north), function(side) tapply(side[used], animal, mean))
+  scales <- mapply(scale, means[[1]], means[[2]])
+  worst <- which.max(abs(scales - 1))
+  away <- scales[[worst]] - 1
+  text <- paste0("areas of ", said_name(herd, as.integer(levels(animal)[worst])), " are ", sprintf("%.2f", 100 * abs(away)),
+                 " % too ", if (away > 0) "great" else "small", " on this grid")
+  if (abs(away) > scale_refused) refuse("scale", text, ": take a zone or a reference system of the place")
+  if (abs(away) > scale_told) say(herd$said, NULL, text)
+}
+
+# Puts the rows of each animal in the order of time, by the whole stamp, and says what was not.
+sort_herd <- function(herd) {
+  records <- herd$records
+  animal <- animals_of(herd)
+  animals <- unique(animal)
+  place <- match(animal, animals)
+  is_next <- diff(place) == 0
+  later <- diff(records$second[herd$rows])
+  falls <- is_next & (later < 0 | later == 0 & diff(records$part[herd$rows]) < 0)
+  fallen <- tabulate(place[-1][falls], length(animals))
+  if (any(falls)) herd$rows <- herd$rows[order(place, records$second[herd$rows], records$part[herd$rows], method = "radix")]
+  rows <- herd$rows
+  same <- is_next & diff(records$second[rows]) == 0
+  same_place <- same & diff(records$easting[rows]) == 0 & diff(records$northing[rows]) == 0
+  sames <- tabulate(place[-1][same], length(animals))
+  places <- tabulate(place[-1][same_place], length(animals))
+  for (at in seq_along(animals)) tell_order(herd, said_name(herd, animals[at]), fallen[at], sames[at], places[at])
+}
+
+tell_order <- function(herd, name, falls, same, places) {
+  say(herd$said, falls, "records of ", name, " come before an earlier one: sorted by time")
+  beside <- if (places > 0) paste0(", and ", places, " its place: kept") else ": kept"
+  say(herd$said, same, "records of ", name, " have the second of the one before", beside)
+}
+
+filter_herd <- function(herd, unit) {
+  asked <- herd$asked
+  records <- herd$records
+  if (!is.null(asked$max_speed)) {
+    leave_rows(herd, "speed", sprintf("fixes are faster than %g m/s", asked$max_speed), function(rows) {
+      reached_rows(records, rows, asked$max_speed * unit$scale)
+    })
+  }
+  for (test in calendar_tests(asked, herd$tz)) {
+    leave_rows(herd, test$reason, test$text, function(rows) rows[test$passes(records$second[rows])])
+  }
+  if (!is.null(asked$every)) {
+    leave_rows(herd, "every", sprintf("fixes are not the first in %g hours", asked$step / 3600), function(rows) {
+      rows[!duplicated(local_seconds(records$second[rows], herd$tz) %/% asked$step)]
+    })
+  }
+}
+
+# Keeps of each animal's used records those that are chosen.
+leave_rows <- function(herd, reason, text, chosen) {
+  used <- herd$records$used
+  animal <- animals_of(herd)
+  kept <- lapply(split(herd$rows, factor(animal, unique(animal))), function(rows) {
+    rows[!used[rows] | rows %in% chosen(rows[used[rows]])]
+  })
+  kept <- unlist(kept, use.names = FALSE)
+  gone <- setdiff(herd$rows, kept)
+  leave_out(herd$said, herd$names[herd$records$animal[gone]], reason)
+  say(herd$said, length(gone), text, ": left out")
+  herd$rows <- kept
+}
+
+# The rows to which an animal of this speed, in units a second, comes from the last that is kept.
+reached_rows <- function(records, rows, speed) {
+  second <- records$second[rows]
+  easting <- records$easting[rows]
+  northing <- records$northing[rows]
+  kept <- logical(length(rows))
+  last <- 1
+  for (at in seq_along(rows)) {
+    reach <- speed * (second[at] - second[last])
+    if ((easting[at] - easting[last])^2 + (northing[at] - northing[last])^2 <= reach * reach || at == 1) {
+      kept[at] <- TRUE
+      last <- at
+    }
+  }
+  rows[kept]
+}
+
+# The tests by month and hour that are wanted: the reason, what is said, and which seconds pass.
+calendar_tests <- function(asked, tz) {
+  in_months <- function(seconds) {
+    local <- local_seconds(seconds, tz)
+    month <- as.POSIXlt(.POSIXct(pmin(local, last_of_calendar), tz = "UTC"), tz = "UTC")$mon + 1
+    local <= last_of_calendar & month %in% asked$months
+  }
+  in_hours <- function(seconds) {
+    time <- local_seconds(seconds, tz) %% 86400
+    ends <- 3600 * asked$hours
+    if (ends[1] < ends[2]) time >= ends[1] & time < ends[2] else time >= ends[1] | time < ends[2]
+  }
+  months <- sprintf("fixes are in other months than %s", paste(asked$months, collapse = ", "))
+  c(if (!is.null(asked$months)) list(list(reason = "months", text = months, passes = in_months)),
+    if (!is.null(asked$hours)) {
+      list(list(reason = "hours", text = sprintf("fixes are at other hours than %g to %g", asked$hours[1], asked$hours[2]),
+                passes = in_hours))
+    })
+}
+
+# Says which animals have no track, and which tracks the program refuses. Refuses where no fix is used.
+tell_animals <- function(herd, is_frame) {
+  animal <- animals_of(herd)
+  used <- herd$records$used[herd$rows]
+  for (name in sort(setdiff(herd$names, herd$names[animal]), method = "radix")) {
+    say(herd$said, NULL, "no fix of '", name, "' is left: ", if (is_frame) "it has no range" else "no file")
+  }
+  if (!any(used)) nothing_left()
+  animals <- unique(animal)
+  numbers <- tabulate(match(animal, animals), length(animals))
+  unused <- !animals %in% animal[used]
+  for (at in which(numbers > most_fixes | unused)) {
+    name <- said_name(herd, animals[at])
+    if (numbers[at] > most_fixes) {
+      say(herd$said, NULL, name, " has ", numbers[at], " records, more than the ", most_fixes, " that homerange takes")
+    }
+    if (unused[at]) say(herd$said, NULL, "no fix of ", name, " is used, which homerange refuses")
+  }
+}
+
+# Says which columns were taken, the number of animals, and the extent of the used fixes.
+tell_columns <- function(herd, unit) {
+  columns <- herd$table$columns
+  titles <- unique(title_of(herd$table, c(columns$animal, columns$time, columns$grid, columns$degrees)))
+  used <- herd$rows[herd$records$used[herd$rows]]
+  box <- vapply(herd$records[c("easting", "northing")], function(side) diff(range(side[used])), 0) / unit$scale / 1000
+  say(herd$said, NULL, "columns: ", paste(titles, collapse = ", "), "; ", length(herd_animals(herd)), " animals, box ",
+      sprintf("%.3f by %.3f km", box[1], box[2]))
+}
