@@ -1,7 +1,8 @@
 # The fields of a text, read in pieces as Python's module csv reads them: a quote at the start of a field opens it, one at
 # another place is a letter. Lines with such quotes are read slower.
 
-piece_size <- 50000  # lines that are read at once
+piece_size <- 20000  # lines that are read at once
+plain_number <- "(?:-?0*[0-9]{1,12}(?:[.][0-9]+)?|)"
 
 # Expressions for one field, for whatever field, and for a line whose last field is open, where this stands between fields.
 field_form <- function(sign) sprintf("(?:\"[^\"]*+(?:\"\"[^\"]*+)*+\"|(?!\")[^%s]*+)", sign)
@@ -33,12 +34,15 @@ more_lines <- function(csv) {
   lines
 }
 
-# Sets which columns are wanted.
-want_columns <- function(csv, wanted) {
+# Sets which columns are wanted, and which of them are numbers, of which the second form knows the plain ones.
+want_columns <- function(csv, wanted, numbers) {
   csv$wanted <- wanted
+  csv$numbers <- wanted %in% numbers
+  at <- seq_along(csv$titles)
   field <- field_form(csv$sign)
-  fields <- ifelse(seq_along(csv$titles) %in% wanted, paste0("(", field, ")"), field)
-  csv$form <- paste0("^", paste(fields, collapse = csv$sign), "\\z")
+  csv$form <- paste0("^", paste0(ifelse(at %in% wanted, paste0("(", field, ")"), field), collapse = csv$sign), "\\z")
+  csv$plain_form <- paste0("^", paste0(ifelse(at %in% numbers, plain_number, field), collapse = csv$sign), "\\z")
+  csv$what <- lapply(at, function(column) if (column %in% numbers) 0 else if (column %in% wanted) "")
 }
 
 # The next records: the cells of the wanted columns by their number, how many there are up to the first that has another
@@ -46,24 +50,44 @@ want_columns <- function(csv, wanted) {
 next_piece <- function(csv) {
   lines <- more_lines(csv)
   if (!length(lines)) return(NULL)
-  found <- regexpr(csv$form, lines, perl = TRUE)
-  if (any(found < 0)) {
-    lines <- whole_records(csv, lines)
-    lines <- lines[lines != ""]
-    if (!length(lines)) return(next_piece(csv))
-    found <- regexpr(csv$form, lines, perl = TRUE)
+  if (all(grepl(csv$plain_form, lines, perl = TRUE)) && all(lines != "")) return(plain_piece(csv, lines))
+  lines <- whole_records(csv, lines)
+  lines <- lines[lines != ""]
+  if (length(lines)) odd_piece(csv, lines) else next_piece(csv)
+}
+
+# A piece of lines whose numbers are plain: R reads them, and those of which it might be wrong are read again.
+plain_piece <- function(csv, lines) {
+  quote <- if (any(grepl("\"", lines, fixed = TRUE))) "\"" else ""
+  cells <- scan(text = lines, what = csv$what, sep = csv$sign, quote = quote, quiet = TRUE, na.strings = character(),
+                blank.lines.skip = FALSE, multi.line = FALSE)[csv$wanted]
+  names(cells) <- csv$wanted
+  for (at in which(csv$numbers)) {
+    near <- near_halves(cells[[at]])
+    if (length(near)) cells[[at]][near] <- decimals(captured_fields(csv, lines[near])[[at]])
   }
+  list(cells = cells, count = length(lines))
+}
+
+# The wanted fields of lines, each a column; "" where a line has not the form.
+captured_fields <- function(csv, lines, found = regexpr(csv$form, lines, perl = TRUE)) {
+  starts <- attr(found, "capture.start")
+  ends <- starts + attr(found, "capture.length") - 1L
+  lapply(seq_along(csv$wanted), function(at) plain_fields(substr(lines, starts[, at], ends[, at])))
+}
+
+# A piece of whatever records.
+odd_piece <- function(csv, lines) {
+  found <- regexpr(csv$form, lines, perl = TRUE)
   odd <- which(found < 0)
   fields <- fields_of_records(lines[odd], csv$sign)
   wrong <- which(lengths(fields) != length(csv$titles))[1]
   count <- if (is.na(wrong)) length(lines) else odd[wrong] - 1
-  starts <- attr(found, "capture.start")
-  ends <- starts + attr(found, "capture.length") - 1
-  cells <- lapply(seq_along(csv$wanted), function(at) {
-    own <- plain_fields(substr(lines, starts[, at], ends[, at]))
-    own[odd] <- vapply(fields, function(row) row[csv$wanted[at]], "")
+  cells <- captured_fields(csv, lines, found)
+  cells <- Map(function(own, column) {
+    own[odd] <- vapply(fields, function(row) row[column], "")
     own[seq_len(count)]
-  })
+  }, cells, csv$wanted)
   names(cells) <- csv$wanted
   list(cells = cells, count = count, width = if (!is.na(wrong)) length(fields[[wrong]]))
 }

@@ -97,14 +97,19 @@ copy_pieces <- function(input, outputs, path) {
     piece <- c(rest, bytes)
     if (is_first && identical(utils::head(piece, 3), byte_order_mark)) piece <- piece[-(1:3)]
     is_first <- FALSE
-    cut <- if (length(bytes)) utils::tail(which(utils::tail(piece, 8) < 0x80), 1) + max(length(piece) - 8, 0) else length(piece)
-    cut <- if (length(cut)) cut else 0
-    rest <- piece[seq_along(piece) > cut]
-    piece <- piece[seq_len(cut)]
+    cut <- if (length(bytes)) end_of_letters(piece) else length(piece)
+    rest <- utils::tail(piece, length(piece) - cut)
+    if (cut < length(piece)) piece <- utils::head(piece, cut)
     check_bytes(piece, path, "UTF-8")
     writeBin(piece, outputs[[2]])
     if (!length(bytes)) return(invisible())
   }
+}
+
+# How many bytes there are up to the last that is a letter by itself, among the last few.
+end_of_letters <- function(bytes) {
+  last <- max(which(utils::tail(bytes, 8) < 0x80), 0)
+  if (last) last + max(length(bytes) - 8, 0) else 0
 }
 
 # Refuses bytes that are no text.
@@ -177,7 +182,7 @@ read_table <- function(copy, path, asked) {
   tryCatch({
     check_maker(csv$titles, asked)
     table <- new_table(csv$titles, asked, csv$sign == ";")
-    want_columns(csv, wanted_columns(table))
+    want_columns(csv, wanted_columns(table), plain_columns(table))
     while (!is.null(piece <- next_piece(csv))) take_piece(table, piece, length(csv$titles))
     table
   }, homerange_error = function(fault) {

@@ -30,17 +30,28 @@ shown <- function(cells, at) {
   if (nchar(text, allowNA = TRUE) %in% 0:62) text else paste0(substr(text, 1, 58), "...")
 }
 
-# The numbers of texts of digits with decimals behind a point, each the double that is nearest to it. R's own reading is
-# off by a last place now and then, so digits are divided by a power of ten, which is exact up to 15 of them.
+# The numbers of texts of digits with decimals behind a point. R's own reading is off by a last place now and then, which
+# matters where a number lies near a half of a metre or of a decimetre: those are read as the double that is nearest.
 decimals <- function(text) {
   number <- as.numeric(text)
+  near <- near_halves(number)
+  if (length(near)) number[near] <- nearest_doubles(text[near], number[near])
+  number
+}
+
+# Which numbers lie near a multiple of a twentieth, as halves of decimetres do.
+near_halves <- function(number) which(abs(20 * number - round(20 * number)) < 1e-6)
+
+# The doubles that are nearest to texts of digits, which R has as these numbers. Up to 15 digits are divided by a power of
+# ten, which is exact.
+nearest_doubles <- function(text, number) {
   point <- regexpr(".", text, fixed = TRUE)
-  behind <- ifelse(point > 0, nchar(text, "bytes") - point, 0)
+  behind <- (nchar(text, "bytes") - point) * (point > 0)
   digits <- nchar(text, "bytes") - (point > 0)
-  is_short <- !is.na(number) & digits <= 15 & behind > 0
+  is_short <- digits <= 15
   scale <- powers_of_ten[behind[is_short] + 1]
   number[is_short] <- round(number[is_short] * scale) / scale
-  long <- which(!is.na(number) & digits > 15 & behind > 0)
+  long <- which(!is_short & behind > 0)
   if (length(long)) number[long] <- mapply(nearest_double, text[long], number[long], USE.NAMES = FALSE)
   number
 }
@@ -67,7 +78,7 @@ nearest_double <- function(text, number) {
 new_reader <- function(title, has_semicolons, is_metres, missing) {
   point <- if (has_semicolons) "[.,]" else "[.]"
   list(title = title, form = paste0("^-?0*[0-9]{1,12}(?:", point, "[0-9]+)?\\z"), has_semicolons = has_semicolons,
-       is_grouped = has_semicolons && is_metres, missing = missing)
+       is_grouped = has_semicolons && is_metres, is_simple = !has_semicolons && !any(grepl("[0-9]", missing)), missing = missing)
 }
 
 # The numbers of cells; NA where they are missing.
@@ -79,8 +90,9 @@ read_numbers <- function(cells, reader) {
 }
 
 numbers_of_text <- function(cells, reader) {
-  is_there <- !are_missing(cells, reader$missing)
   is_plain <- grepl(reader$form, cells, perl = TRUE)
+  if (reader$is_simple && all(is_plain)) return(read_values(decimals(cells)))
+  is_there <- !are_missing(cells, reader$missing)
   is_grouped <- reader$is_grouped & grepl("^-?[0-9]{1,3}(?:[.][0-9]{3})+\\z", cells, perl = TRUE)
   bad <- which(is_there & (!is_plain | is_grouped))[1]
   values <- rep(NA_real_, length(cells))
@@ -129,7 +141,8 @@ shown_or_empty <- function(cells, at) if (is.character(cells) && is.na(cells[at]
 read_words <- function(cells, missing) {
   is_there <- !are_missing(cells, missing)
   words <- if (is.numeric(cells)) digits_of(cells) else if (is_moments(cells)) digits_of(cells$second) else as.character(cells)
-  ifelse(is_there, words, "")
+  words[!is_there] <- ""
+  words
 }
 
 # Numbers as text: whole ones as their digits.

@@ -118,6 +118,13 @@ wanted_columns <- function(table) {
   sort(unique(found[!is.na(found) & found > 0]))
 }
 
+# The columns of numbers that may be read as such: where nothing else is a number, and nothing that is missing looks like one.
+plain_columns <- function(table) {
+  others <- c(table$columns$animal, table$columns$time, table$marks, table$words, table$dop)
+  is_simple <- vapply(table$readers, `[[`, NA, "is_simple")
+  setdiff(vapply(table$readers[is_simple], `[[`, 1L, "at"), others)
+}
+
 cells_of_column <- function(cells, at) cells[[as.character(at)]]
 
 # Takes the next rows, so many, of which the cells are by the number of their column. Refuses the first that has a fault.
@@ -173,6 +180,8 @@ names_of_cells <- function(cells, na) {
 rows_with_place <- function(table, places, names) {
   none <- rep(NA_real_, length(names))
   of <- function(side) if (is.null(places[[side]])) none else places[[side]]
+  grid <- if (is.null(places$east)) of("longitude") + of("latitude") else of("east") + of("north")
+  if (!anyNA(grid) && !any(of("longitude") == 0, na.rm = TRUE) && !any(names == "")) return(seq_along(names))
   is_zero <- of("longitude") %in% 0 & of("latitude") %in% 0
   has_grid <- !is.na(of("east")) & !is.na(of("north")) & !(is_zero & of("east") %in% 0 & of("north") %in% 0)
   has_none <- !has_grid & (is_zero | is.na(of("longitude")) | is.na(of("latitude")))

@@ -1,5 +1,7 @@
 # Writes the tracks of a table of text as files for homerange, with a record of what was done: what tools/split.R does.
 
+lines_written <- 50000  # at once
+
 # Makes the folder of tracks of a table of text. What is said is told by tell.
 split_text <- function(path, into, options, tell) {
   if (!nzchar(into)) refuse("option", "into: the folder has no name")
@@ -30,8 +32,7 @@ make_folder <- function(path) {
 
 # The rows of each animal, by its number.
 rows_of_animals <- function(herd) {
-  animal <- animals_of(herd)
-  split(herd$rows, factor(animal, unique(animal)))
+  split(herd$rows, as_groups(animals_of(herd)))
 }
 
 # Writes the file of an animal, in pieces.
@@ -40,8 +41,9 @@ write_track <- function(folder, split, animal, rows, has_marks) {
   output <- file(file.path(folder, paste0(name, ".csv")), "wb")
   on.exit(close(output))
   writeLines(paste0("animal,second,easting,northing", if (has_marks) ",use"), output)
-  for (piece in unname(split(rows, (seq_along(rows) - 1) %/% 1e5))) {
-    writeLines(enc2utf8(track_lines(split$tracks$records, name, piece, has_marks)), output, useBytes = TRUE)
+  for (start in seq(1, length(rows), lines_written)) {
+    piece <- rows[start:min(start + lines_written - 1, length(rows))]
+    writeLines(track_lines(split$tracks$records, name, piece, has_marks), output, useBytes = TRUE)
   }
 }
 

@@ -39,7 +39,8 @@ iso_stamps <- function(text) {
   day <- by_distinct(substr(text, 1, 10), day_seconds)
   second <- day + by_distinct(substr(text, 11, 19), plain_clocks)
   part <- by_distinct(substring(text, 20), function(tails) suppressWarnings(fractions(tails)))
-  stamps <- new_stamps(ifelse(is.na(part), NA, second), part, TRUE)
+  second[is.na(part)] <- NA
+  stamps <- new_stamps(second, part, TRUE)
   odd <- which(is.na(stamps$second))
   if (!length(odd)) return(stamps)
   rest <- iso_clocks(substring(text[odd], 11))
@@ -72,7 +73,6 @@ new_times <- function(title, is_second, forms, is_zoned, missing) {
 
 # The stamps of cells; bad, why and kind are those of the first that has none.
 read_times <- function(cells, times) {
-  is_there <- !are_missing(if (is.character(cells)) trimws(cells, whitespace = " ") else cells, times$missing)
   if (is_moments(cells)) {
     stamps <- new_stamps(cells$second, cells$part, FALSE)
   } else if (is.character(cells)) {
@@ -80,11 +80,21 @@ read_times <- function(cells, times) {
   } else {
     stamps <- stamps_of_numbers(if (is.numeric(cells)) cells else rep(NA_real_, length(cells)), times)
   }
-  least <- ifelse(stamps$is_local, -times$slack, 0)
-  bad <- which(!is_there | is.na(stamps$second) | stamps$second < least | stamps$second > latest_second)[1]
-  why <- if (!isTRUE(is_there[bad])) paste("there is no", times$title) else
+  least <- if (times$slack) -times$slack * stamps$is_local else 0
+  gone <- rows_without_time(cells, stamps, times)
+  is_bad <- is.na(stamps$second) | stamps$second < least | stamps$second > latest_second
+  is_bad[gone] <- TRUE
+  bad <- which(is_bad)[1]
+  why <- if (bad %in% gone) paste("there is no", times$title) else
     paste0(times$title, " is ", shown(cells, bad), why_no_time(cells, bad, stamps, times))
   c(stamps, list(bad = bad, why = why, kind = "time"))
+}
+
+# The cells that are missing; those that are times need no look where nothing that stands for a missing one has digits.
+rows_without_time <- function(cells, stamps, times) {
+  suspects <- if (any(grepl("[0-9]", times$missing))) seq_along(stamps$second) else which(is.na(stamps$second))
+  cells <- cells_at(cells, suspects)
+  suspects[are_missing(if (is.character(cells)) trimws(cells, whitespace = " ") else cells, times$missing)]
 }
 
 # Why a cell that is there is no time.

@@ -44,13 +44,19 @@ new_herd <- function(choice, places, whole, shown) {
 animals_of <- function(herd) herd$records$animal[herd$rows]
 herd_animals <- function(herd) unique(animals_of(herd))
 
+# Whole numbers as a factor, whose levels stand in their order.
+as_groups <- function(numbers) {
+  levels <- unique(numbers)
+  structure(match(numbers, levels), levels = as.character(levels), class = "factor")
+}
+
 # How an animal is said, by its number.
 said_name <- function(herd, animal) herd$shown(herd$names[animal])
 
 # Refuses a grid on which areas of an animal are wrong by more than 1 %, and says where by more than 0.1 %.
 check_scale <- function(herd, places, scale) {
   used <- herd$rows[herd$records$used[herd$rows]]
-  animal <- factor(herd$records$animal[used], unique(herd$records$animal[used]))
+  animal <- as_groups(herd$records$animal[used])
   means <- lapply(list(places$east, places$north), function(side) tapply(side[used], animal, mean))
   scales <- mapply(scale, means[[1]], means[[2]])
   worst <- which.max(abs(scales - 1))
@@ -107,8 +113,7 @@ filter_herd <- function(herd, unit) {
 # Keeps of each animal's used records those that are chosen.
 leave_rows <- function(herd, reason, text, chosen) {
   used <- herd$records$used
-  animal <- animals_of(herd)
-  kept <- lapply(split(herd$rows, factor(animal, unique(animal))), function(rows) {
+  kept <- lapply(split(herd$rows, as_groups(animals_of(herd))), function(rows) {
     rows[!used[rows] | rows %in% chosen(rows[used[rows]])]
   })
   kept <- unlist(kept, use.names = FALSE)
