@@ -4,7 +4,9 @@
 piece_size <- 20000  # lines that are read at once
 plain_number <- "(?:-?0*[0-9]{1,12}(?:[.][0-9]+)?|)"
 
-# Expressions for one field, for whatever field, and for a line whose last field is open, where this stands between fields.
+# Expressions where this stands between fields: for a field without quotes but those in which it stands, for one that may have
+# others behind its start, for one that goes on behind its quotes, and for a line whose last field is open.
+plain_field_form <- function(sign) sprintf("(?:\"[^\"]*+(?:\"\"[^\"]*+)*+\"|[^\"%s]*+)", sign)
 field_form <- function(sign) sprintf("(?:\"[^\"]*+(?:\"\"[^\"]*+)*+\"|(?!\")[^%s]*+)", sign)
 odd_field_form <- function(sign) sprintf("(?:\"[^\"]*+(?:\"\"[^\"]*+)*+\"[^%s]*+|(?!\")[^%s]*+)", sign, sign)
 open_form <- function(sign) sprintf("^(?:%s%s)*+\"[^\"]*+(?:\"\"[^\"]*+)*+\\z", odd_field_form(sign), sign)
@@ -41,7 +43,7 @@ want_columns <- function(csv, wanted, numbers) {
   at <- seq_along(csv$titles)
   field <- field_form(csv$sign)
   csv$form <- paste0("^", paste0(ifelse(at %in% wanted, paste0("(", field, ")"), field), collapse = csv$sign), "\\z")
-  csv$plain_form <- paste0("^", paste0(ifelse(at %in% numbers, plain_number, field), collapse = csv$sign), "\\z")
+  csv$plain_form <- paste0("^", paste0(ifelse(at %in% numbers, plain_number, plain_field_form(csv$sign)), collapse = csv$sign), "\\z")
   csv$what <- lapply(at, function(column) if (column %in% numbers) 0 else if (column %in% wanted) "")
 }
 

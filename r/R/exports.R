@@ -73,12 +73,16 @@ copy_text <- function(path, copy, asked) {
   if (is.na(coding)) refuse("option", "encoding: there is no coding ", asked$encoding)
   sum <- tempfile("sum")
   on.exit(unlink(sum))
-  input <- open_file(path)
-  hash <- pipe(paste("sha256sum >", shQuote(sum)), "wb")
-  output <- file(copy, "wb")
-  if (coding == "UTF-8") copy_pieces(input, list(hash, output), path) else copy_recoded(input, hash, output, path, coding, asked)
-  for (connection in list(input, hash, output)) close(connection)
+  copy_to_outputs(path, list(pipe(paste("sha256sum >", shQuote(sum)), "wb"), file(copy, "wb")), coding, asked)
   substr(readLines(sum), 1, 64)
+}
+
+# Copies a file to the first output, and its text in UTF-8 to the second; closes both.
+copy_to_outputs <- function(path, outputs, coding, asked) {
+  on.exit(for (output in outputs) close(output))
+  input <- open_file(path)
+  on.exit(close(input), add = TRUE)
+  if (coding == "UTF-8") copy_pieces(input, outputs, path) else copy_recoded(input, outputs, path, coding, asked)
 }
 
 open_file <- function(path) {
@@ -123,14 +127,14 @@ refuse_coding <- function(path, name) {
 }
 
 # Copies a text in another coding, as UTF-8.
-copy_recoded <- function(input, hash, output, path, coding, asked) {
+copy_recoded <- function(input, outputs, path, coding, asked) {
   bytes <- raw()
   while (length(more <- readBin(input, "raw", 4e6))) bytes <- c(bytes, more)
-  writeBin(bytes, hash)
+  writeBin(bytes, outputs[[1]])
   text <- iconv(list(bytes), coding, "UTF-8", toRaw = TRUE)[[1]]
   if (is.null(text)) refuse_coding(path, asked$encoding)
   check_bytes(text, path, asked$encoding)
-  writeBin(text, output)
+  writeBin(text, outputs[[2]])
 }
 
 # The track points of GPX as a table, written to a file.
@@ -231,4 +235,43 @@ tell_names <- function(herd, said) {
     refuse("name", "animals '", names[match(clean[twice], clean)], "' and '", names[twice], "' would both be named ", clean[twice])
   }
   for (at in which(names != clean)) say(said, NULL, "animal '", names[at], "' is named ", clean[at])
+}
+
+# The fixes of a table of text as a data frame for home_range.
+read_export <- function(file, ...) {
+  options <- list(...)
+  check_options(options)
+  said <- new_said(function(line) {
+    # What the table has is neither rounded nor shifted.
+    if (!grepl("^coordinates are (rounded|shifted)", line)) message("homerange: ", line)
+  })
+  split <- with_prefix(function(record) paste0(file, ": "), read_text(file, c(options, mark = TRUE), said))
+  tracks <- split$tracks
+  rows <- tracks$rows[order(tracks$records$second[tracks$rows], tracks$records$part[tracks$rows], method = "radix")]
+  own <- lapply(tracks$records, `[`, rows)
+  has_calendar <- all(own$second >= 1e8 & own$second < 1e10)
+  zone <- if (is.null(options$tz)) "UTC" else options$tz
+  table <- data.frame(
+    individual.local.identifier = tracks$table$names[own$animal], timestamp = .POSIXct(own$second + own$part, tz = zone),
+    utm.easting = tracks$places$east[rows], utm.northing = tracks$places$north[rows]
+  )
+  if (!has_calendar) {
+    names(table)[2] <- "second"
+    table$second <- own$second + own$part
+  }
+  if (is.null(tracks$zone)) names(table)[3:4] <- c("easting", "northing") else table$utm.zone <- tracks$zone
+  table$use <- own$used
+  table
+}
+
+options_of_text <- c("from", "zone", "sensor", "skip_unnamed", "animal", "name", "time", "time_format", "tz", "lon", "lat", "easting",
+                     "northing", "na", "skip_lines", "encoding", "argos_class", "argos", "max_dop", "dop", "fix_type", "fix", "since",
+                     "until", "max_speed", "every")
+
+check_options <- function(options) {
+  odd <- setdiff(names(options), options_of_text)
+  if (length(odd) || length(options) > sum(nzchar(names(options)))) {
+    refuse("option", "there is no option ", if (length(odd)) odd[1] else "without a name", "; there are ",
+           paste(options_of_text, collapse = ", "))
+  }
 }

@@ -31,7 +31,7 @@ percent_corners <- function(ranges, level) {
   reports <- in_folder(function(folder) {
     files <- write_tracks(ranges$fixes, folder, kept)
     parts <- unname(split(seq_along(files), (seq_along(files) - 1) %/% most_files))
-    lapply(parts, function(part) parse_report(run_program(files[part], animals[part], c("--unit", ranges$unit))))
+    lapply(parts, function(part) report_of(files[part], animals[part], c("--unit", ranges$unit)))
   })
   report <- join_reports(lapply(reports, function(report) report[setdiff(names(report), "overlaps")]))
   wanted <- ranges$percents[ranges$percents$level == level, ]

@@ -2,6 +2,7 @@
 
 plot.home_range <- function(x, what = c("ranges", "curve"), level = 100, animals = NULL, over = NULL,
                             label = "boundary", main = "", reset = TRUE, ...) {
+  check_title(...)
   what <- tryCatch(match.arg(what), error = function(fault) refuse("option", "what: \"ranges\" or \"curve\" is wanted"))
   shown <- shown_animals(x, animals)
   over <- check_over(x, over)
@@ -13,6 +14,15 @@ plot.home_range <- function(x, what = c("ranges", "curve"), level = 100, animals
     draw_ranges(x, shown, level, over, label, main, ...)
   }
   invisible(x)
+}
+
+arguments_of_titles <- c("sub", "outer", "family", paste0(c("cex.", "col.", "font."), rep(c("main", "sub", "lab"), each = 3)))
+
+# Refuses arguments that are none of titles.
+check_title <- function(...) {
+  odd <- setdiff(if (...length()) ...names(), arguments_of_titles)
+  if (length(odd)) refuse("option", "there is no argument ", odd[1])
+  if (...length() > sum(nzchar(...names()))) refuse("option", "there is an argument too many")
 }
 
 shown_animals <- function(ranges, animals) {
@@ -102,13 +112,13 @@ draw_curves <- function(ranges, shown, main, ...) {
 }
 
 draw_ranges <- function(ranges, shown, level, over, label, main, ...) {
-  scale <- units_known[[ranges$unit]]$scale
   rings <- unlist(lapply(level, function(level) rings_of(ranges, level)[shown]), recursive = FALSE)
   styles <- styles_of(shown)
   corners <- do.call(rbind, rings)
   fixes <- ranges$fixes[ranges$fixes$animal %in% shown, ]
-  easting <- fixes$easting / scale
-  northing <- fixes$northing / scale
+  places <- if (!is.null(fixes)) in_metres(ranges, fixes) else matrix(numeric(), 0, 2)
+  easting <- places[, 1]
+  northing <- places[, 2]
   limits <- if (is.null(over)) c(NA, NA, NA, NA) else sf::st_bbox(over)
   key <- rbind(styles, if (!is.null(over)) data.frame(animal = label, colour = "grey40", line = 1))
   begin_plot(range(corners[, 1], easting, limits[c(1, 3)], na.rm = TRUE),

@@ -50,23 +50,38 @@ refuse_run <- function(status, lines, files, animals) {
   refuse(kind, line)
 }
 
-# Writes the fixes of each animal to a file with a number as name; a column use has which are used, if it is not NULL.
+# Writes the fixes of each animal to a file; a column use has which are used, if it is not NULL. The file and the animal in
+# it are named by a number, since the program takes not each name.
 write_tracks <- function(fixes, folder, use = NULL) {
-  numbers <- lapply(list(floor(fixes$moment), fixes$easting, fixes$northing), sprintf, fmt = "%.0f")
-  text <- do.call(paste, c(list(fixes$animal), numbers, sep = ","))
+  animals <- unique(fixes$animal)
+  animal <- factor(match(fixes$animal, animals), seq_along(animals))
+  numbers <- lapply(list(fixes$moment, fixes$easting, fixes$northing), sprintf, fmt = "%.0f")
+  text <- do.call(paste, c(list(animal), numbers, sep = ","))
   header <- "animal,second,easting,northing"
   if (!is.null(use)) {
     text <- paste(text, as.integer(use), sep = ",")
     header <- paste0(header, ",use")
   }
-  tracks <- split(text, factor(fixes$animal, unique(fixes$animal)))
+  tracks <- split(text, animal)
   files <- file.path(folder, paste0(seq_along(tracks), ".csv"))
   for (place in seq_along(tracks)) {
-    file <- file(files[place], "wb")
-    writeLines(enc2utf8(c(header, tracks[[place]])), file, useBytes = TRUE)
-    close(file)
+    write_lines(files[place], c(header, tracks[[place]]))
   }
   files
+}
+
+# The report of these files, with the names of their animals.
+report_of <- function(files, animals, options) {
+  report <- parse_report(run_program(files, animals, options))
+  names <- `names<-`(animals, sub("[.]csv$", "", basename(files)))
+  for (table in setdiff(names(report), "unit")) {
+    for (column in intersect(c("animal", "other"), names(report[[table]]))) {
+      found <- names[report[[table]][[column]]]
+      if (anyNA(found)) refuse("check", "the report has not the animals of its files")
+      report[[table]][[column]] <- unname(found)
+    }
+  }
+  report
 }
 
 # Calls a function with a folder of its own, which is gone afterwards.

@@ -24,8 +24,7 @@ run_all <- function(files, animals, options, progress) {
   reports <- list()
   for (step in seq_along(plan)) {
     run <- plan[[step]]
-    lines <- run_program(files[run$places], animals[run$places], options)
-    report <- parse_report(lines)
+    report <- report_of(files[run$places], animals[run$places], options)
     counts <- put_overlaps(counts, report$overlaps)
     if (!run$is_pair) reports <- c(reports, list(report[setdiff(names(report), "overlaps")]))
     if (!is.null(bar)) setTxtProgressBar(bar, step)

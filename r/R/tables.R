@@ -17,10 +17,13 @@ growth_at_end <- function(ranges) {
 
 # A data frame with a row for each animal and level.
 summary.home_range <- function(object, ...) {
+  check_dots(...)
   place <- match(object$percents$animal, object$animals$animal)
   last <- last_rows(object)
   first <- last - object$animals$fixes + 1
-  left_out <- if (is.null(object$left_out)) NA_real_ else rowSums(object$left_out)[place]
+  animals <- object$animals$animal
+  left_out <- vapply(animals, function(animal) sum(object$left_out$fixes[object$left_out$animal == animal]), 0)
+  left_out <- if (is.null(object$left_out)) NA_real_ else unname(left_out)[place]
   table <- data.frame(
     animal = object$percents$animal,
     first = object$rows$time[first[place]],
@@ -37,6 +40,15 @@ summary.home_range <- function(object, ...) {
   table
 }
 
+# How many fixes were left out of the table, by animal and reason.
+left_out <- function(x) {
+  if (!inherits(x, "home_range")) refuse("option", "x: a home range is wanted")
+  if (is.null(x$left_out)) refuse("option", "a report does not say what was left out")
+  table <- x$left_out[order(x$left_out$animal, x$left_out$reason, method = "radix"), ]
+  rownames(table) <- NULL
+  table
+}
+
 # The table of incremental area analysis; what is no home range goes to the function of this name in graphics.
 curve <- function(x, ...) {
   ranges <- tryCatch(x, error = function(fault) if (inherits(fault, "homerange_error")) stop(fault))
@@ -45,6 +57,7 @@ curve <- function(x, ...) {
     call[[1]] <- quote(graphics::curve)
     return(eval(call, parent.frame()))
   }
+  check_dots(...)
   rows <- ranges$rows
   data.frame(animal = rows$animal, n = rows$n, time = rows$time, corners = rows$corners,
              hectares = hectares_of(ranges, rows$area2))
@@ -54,13 +67,16 @@ overlap <- function(x, ...) UseMethod("overlap")
 
 # How many fixes, or which share, of a row's animal lie in the polygon of a column's animal.
 overlap.home_range <- function(x, share = FALSE, ...) {
-  if (isTRUE(share)) x$overlaps / x$animals$fixes else x$overlaps
+  check_dots(...)
+  if (!isTRUE(share) && !isFALSE(share)) refuse("option", "share: TRUE or FALSE is wanted")
+  if (share) x$overlaps / x$animals$fixes else x$overlaps
 }
 
 polygons <- function(x, ...) UseMethod("polygons")
 
 # The polygons of a level: an sf, or a list of corners in metres where there is no CRS or no sf.
 polygons.home_range <- function(x, level = 100, ...) {
+  check_dots(...)
   rings <- rings_of(x, level)
   if (is.null(x$crs) || !has_sf()) rings else as_sf(x, level, rings)
 }
@@ -76,7 +92,7 @@ rings_of <- function(ranges, level) {
     refuse("option", "level: a report has no corners of polygons below 100; home_range makes them from fixes")
   }
   corners <- if (level == 100) ranges$corners else percent_corners(ranges, level)
-  metres <- as.matrix(corners[c("easting", "northing")]) / units_known[[ranges$unit]]$scale
+  metres <- in_metres(ranges, corners)
   rownames(metres) <- NULL
   parts <- split(seq_len(nrow(corners)), factor(corners$animal, ranges$animals$animal))
   lapply(parts, function(part) metres[part, , drop = FALSE])
@@ -104,7 +120,7 @@ print.home_range <- function(x, ...) {
   number <- nrow(x$animals)
   times <- range(x$rows$time)
   if (!is.object(times)) times <- paste("second", in_digits(times))
-  left_out <- if (is.null(x$left_out)) "" else paste0(", ", in_digits(sum(x$left_out)), " left out")
+  left_out <- if (is.null(x$left_out)) "" else paste0(", ", in_digits(sum(x$left_out$fixes)), " left out")
   cat("Home ranges of ", count_of(number, "animal"), " (minimum convex polygons)\n", sep = "")
   cat(count_of(sum(x$animals$fixes), "fix", "fixes"), " in whole ", units_known[[x$unit]]$name, left_out, ", ",
       format(times[1]), " to ", format(times[2]), "\n", sep = "")

@@ -1,11 +1,10 @@
 #!/usr/bin/env python3
-"""run_split.py CASES COMMAND ..: whether the command, split.py or split.R, makes of each table the tracks that are wanted,
-or refuses it. CASES is the folder that unpack.py wrote. A refusal is one line with the record, if it is of one, and leaves
-no file."""
+"""run_split.py CASES KEPT COMMAND ..: whether the command, split.py or split.R, makes of each table the tracks that are
+wanted, or refuses it. CASES is the folder that unpack.py wrote. A refusal is one line with the record, if it is of one, and
+leaves no file. In KEPT/CASE the status, the messages and the tracks stay, to be compared with those of another command."""
 import re
 import subprocess
 import sys
-import tempfile
 from concurrent.futures import ThreadPoolExecutor
 from pathlib import Path
 
@@ -43,19 +42,21 @@ def check_tracks(case, run, into):
     return difference(case.tracks, found) or (silent and f"{silent[0]!r} is not said, but {record}") or None
 
 
-def check(case, command):
+def check(case, command, kept):
     """How a command does not do what a case wants; None where it does."""
-    with tempfile.TemporaryDirectory() as folder:
-        into = Path(folder, "tracks")
-        run = subprocess.run([*command, "--into", str(into), *words(case), "--", str(case.table)], capture_output=True)
-        return (check_refusal if case.refusal(False) else check_tracks)(case, run, into)
+    folder = Path(kept, case.name)
+    folder.mkdir(parents=True)
+    run = subprocess.run([*command, *words(case), "--", str(case.table.resolve())], capture_output=True, cwd=folder)
+    (folder / "status").write_text(f"{run.returncode}\n")
+    (folder / "messages").write_bytes(run.stderr)
+    return (check_refusal if case.refusal(False) else check_tracks)(case, run, folder / "tracks")
 
 
 def main():
-    folder, *command = sys.argv[1:]
+    folder, kept, *command = sys.argv[1:]
     found = list(cases(folder, "text"))
     with ThreadPoolExecutor(4) as pool:
-        faults = list(pool.map(lambda case: check(case, command), found))
+        faults = list(pool.map(lambda case: check(case, command, kept), found))
     sys.exit(report([(case.name, fault) for case, fault in zip(found, faults)]))
 
 

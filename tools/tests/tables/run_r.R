@@ -1,0 +1,96 @@
+# run_r.R CASES: whether the package for R makes of each table the tracks that are wanted, or refuses it with the kind and the
+# record: as a text, as a frame with types, and as a frame of text. CASES is the folder that unpack.py wrote.
+invisible(Sys.setlocale("LC_CTYPE", "C.UTF-8"))
+script <- sub("^--file=", "", grep("^--file=", commandArgs(), value = TRUE))
+package <- file.path(dirname(normalizePath(script)), "..", "..", "..", "r")
+options(homerange.collars = file.path(package, "inst", "extdata", "collars.csv"))
+homerange <- new.env()
+for (file in list.files(file.path(package, "R"), "[.]R$", full.names = TRUE)) sys.source(file, homerange)
+
+lines_of <- function(case, name) {
+  path <- file.path(case, name)
+  if (file.exists(path)) readLines(path, encoding = "UTF-8") else character()
+}
+
+# The options of a case as a list of words.
+options_of <- function(case) {
+  call <- lines_of(case, "call")
+  values <- ifelse(grepl(" ", call, fixed = TRUE), sub("^[^ ]* ", "", call), NA)
+  names(values) <- gsub("-", "_", sub(" .*", "", call), fixed = TRUE)
+  lapply(values, function(value) if (is.na(value)) TRUE else if (grepl("^-?[0-9]+$", value)) as.numeric(value) else value)
+}
+
+# The text of each track that is wanted, or that was made, by the name of its file.
+texts_in <- function(folder) {
+  paths <- setdiff(list.files(folder, all.files = TRUE, no.. = TRUE), "split.txt")
+  texts <- lapply(file.path(folder, paths), function(path) rawToChar(readBin(path, "raw", file.size(path))))
+  `names<-`(texts, sub("[.]csv$", "", paths))
+}
+
+as_text <- function(case) {
+  folder <- tempfile("tracks")
+  on.exit(unlink(folder, recursive = TRUE))
+  options <- options_of(case)
+  words <- !names(options) %in% c("mark", "skip_unnamed", "skip_lines")
+  options[words] <- lapply(options[words], as.character)
+  homerange$split_text(file.path(case, "table.csv"), folder, options, identity)
+  texts_in(folder)
+}
+
+# The tracks of the table as a frame that is read so, as files would have them.
+as_frame <- function(case, ...) {
+  frame <- read.csv(file.path(case, "table.csv"), check.names = FALSE, encoding = "UTF-8", ...)
+  options <- options_of(case)
+  lists <- intersect(names(options), homerange$list_options)
+  options[lists] <- lapply(options[lists], function(value) homerange$words_of(value, "value"))
+  read <- suppressMessages(homerange$read_frame(frame, homerange$new_asked(options, is_frame = TRUE)))
+  shift <- c(lines_of(case, "shift"), "0,0")[1]
+  if (sprintf("%.0f,%.0f", read$shift[1], read$shift[2]) != shift) stop("shifted by ", paste(read$shift, collapse = ","))
+  names <- strsplit(lines_of(case, "names"), "\t", fixed = TRUE)
+  files <- vapply(names, `[`, "", 1)
+  fixes <- read$fixes
+  known <- match(fixes$animal, vapply(names, `[`, "", 2))
+  fixes$animal <- ifelse(is.na(known), fixes$animal, files[known])
+  lines <- sprintf("%s,%.0f,%.0f,%.0f\n", fixes$animal, fixes$moment, fixes$easting, fixes$northing)
+  lapply(split(lines, fixes$animal), function(own) paste0(c("animal,second,easting,northing\n", own), collapse = ""))
+}
+
+as_typed_frame <- function(case) as_frame(case)
+as_frame_of_text <- function(case) as_frame(case, colClasses = "character", na.strings = character())
+
+# How what is made of a case is not what is wanted; NULL where it is.
+difference <- function(case, make, is_frame) {
+  refusal <- c(if (is_frame) lines_of(case, "refusal.frame"), lines_of(case, "refusal"))[1]
+  found <- tryCatch(make(case), homerange_error = function(fault) fault)
+  if (inherits(found, "error")) {
+    told <- paste(if (is.null(found$record)) "-" else found$record, found$kind)
+    if (!told %in% refusal) return(paste0("refused as ", told, " (", conditionMessage(found), "), ", refusal, " is wanted"))
+  } else if (!is.na(refusal)) {
+    return(paste("taken, and", refusal, "is wanted"))
+  } else {
+    wanted <- texts_in(file.path(case, "tracks"))
+    if (!setequal(names(found), names(wanted)) || !identical(found[names(wanted)], wanted)) return(paste("other tracks:", deparse(found)[1]))
+  }
+}
+
+# The cases that can be given to this kind of front end.
+cases_of <- function(folder, kind) {
+  cases <- list.dirs(folder, recursive = FALSE)
+  cases[vapply(cases, function(case) c(lines_of(case, "only"), kind)[1] == kind, NA)]
+}
+
+# How many cases of a way are as they are wanted, and how many there are. Prints those that are not.
+run_all <- function(what, make, is_frame) {
+  cases <- cases_of(commandArgs(trailingOnly = TRUE)[1], if (is_frame) "frame" else "text")
+  faults <- lapply(cases, function(case) {
+    tryCatch(difference(case, make, is_frame), error = function(fault) paste("stops:", conditionMessage(fault)))
+  })
+  is_bad <- !vapply(faults, is.null, NA)
+  if (any(is_bad)) cat(paste0(basename(cases)[is_bad], " as a ", what, ": ", faults[is_bad], "\n"), sep = "")
+  c(sum(!is_bad), length(cases))
+}
+
+counts <- run_all("text", as_text, FALSE) + run_all("typed frame", as_typed_frame, TRUE) +
+  run_all("frame of text", as_frame_of_text, TRUE)
+cat(counts[1], "of", counts[2], "tables\n")
+quit(status = if (counts[1] == counts[2] && counts[2] > 0) 0 else 1)
