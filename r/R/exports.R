@@ -3,6 +3,7 @@
 list_options <- c("animal", "time", "na", "sensor", "argos_class", "fix_type")  # which are several words between commas
 reasons_known <- c("animal", "coordinates", "zero", "sensor", "outlier", "class", "no dop", "dop", "type", "before", "after",
                    "grid", "speed", "months", "hours", "every")
+bytes_read <- 2^20  # at once
 byte_order_mark <- as.raw(c(0xef, 0xbb, 0xbf))
 
 # The options of each maker, which stand in collars.csv. A test holds this copy to that of the package for Python.
@@ -96,7 +97,7 @@ copy_pieces <- function(input, outputs, path) {
   rest <- raw()
   is_first <- TRUE
   repeat {
-    bytes <- readBin(input, "raw", 4e6)
+    bytes <- readBin(input, "raw", bytes_read)
     writeBin(bytes, outputs[[1]])
     piece <- c(rest, bytes)
     if (is_first && identical(utils::head(piece, 3), byte_order_mark)) piece <- piece[-(1:3)]
@@ -118,8 +119,10 @@ end_of_letters <- function(bytes) {
 
 # Refuses bytes that are no text.
 check_bytes <- function(bytes, path, name) {
-  if (length(grepRaw(as.raw(0), bytes, fixed = TRUE))) refuse("text", path, " is no text: it has a byte 0")
+  has_zero <- length(grepRaw(as.raw(0), bytes, fixed = TRUE)) > 0
+  if (has_zero) bytes <- bytes[bytes != 0]
   if (!validUTF8(rawToChar(bytes))) refuse_coding(path, name)
+  if (has_zero) refuse("text", path, " is no text: it has a byte 0")
 }
 
 refuse_coding <- function(path, name) {
@@ -129,7 +132,7 @@ refuse_coding <- function(path, name) {
 # Copies a text in another coding, as UTF-8.
 copy_recoded <- function(input, outputs, path, coding, asked) {
   bytes <- raw()
-  while (length(more <- readBin(input, "raw", 4e6))) bytes <- c(bytes, more)
+  while (length(more <- readBin(input, "raw", bytes_read))) bytes <- c(bytes, more)
   writeBin(bytes, outputs[[1]])
   text <- iconv(list(bytes), coding, "UTF-8", toRaw = TRUE)[[1]]
   if (is.null(text)) refuse_coding(path, asked$encoding)

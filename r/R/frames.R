@@ -9,12 +9,12 @@ most_exact <- 2^53
 read_frame <- function(x, asked, use = NULL, crs = NULL) {
   check_frame(x)
   frame <- new_frame(x, asked, use, crs)
+  check_calendar(frame)
   said <- new_said(function(line) message("homerange: ", line))
   tracks <- with_prefix(function(record) row_label(frame, record), {
     take_rows(frame$table, frame_cells(frame), length(frame$rows))
     make_tracks(frame$table, said, scale = frame_scale(frame))
   })
-  check_calendar(frame, tracks)
   if (!is.null(frame$zone_said)) say(said, NULL, frame$zone_said)
   count_unused(frame, said)
   check_zone_of_crs(tracks$zone, frame$crs)
@@ -176,7 +176,9 @@ in_utf8 <- function(text) {
   is_bare <- Encoding(text) == "unknown"
   Encoding(text[is_bare & validUTF8(text)]) <- "UTF-8"
   is_known <- Encoding(text) != "unknown" | !is.na(iconv(text, "", "UTF-8"))
-  ifelse(is_known & validEnc(text), enc2utf8(text), text)
+  is_good <- is_known & validEnc(text)
+  text[is_good] <- enc2utf8(text[is_good])
+  text
 }
 
 # The names of animals as text, with what is wrong with each that cannot be one.
@@ -210,7 +212,7 @@ cells_of_points <- function(shapes) {
 }
 
 # Refuses months and hours of times that have none.
-check_calendar <- function(frame, tracks) {
+check_calendar <- function(frame) {
   wished <- intersect(c("months", "hours"), ls(frame$asked))
   if (!length(wished)) return(invisible())
   kind <- kind_of_times(frame)

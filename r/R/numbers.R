@@ -24,9 +24,9 @@ are_missing <- function(cells, missing) {
 
 # A cell as a refusal has it.
 shown <- function(cells, at) {
-  cell <- if (is_moments(cells)) cells$second[at] else cells[at]
+  cell <- if (is_moments(cells)) format(.POSIXct(cells$second[at], tz = "UTC"), "%Y-%m-%d %H:%M:%S") else cells[at]
   if (is.na(cell)) return("missing")
-  text <- if (is.character(cell)) paste0("'", cell, "'") else format(cell, digits = 15)
+  text <- if (is.character(cells)) paste0("'", cell, "'") else format(cell, digits = 15)
   if (nchar(text, allowNA = TRUE) %in% 0:62) text else paste0(substr(text, 1, 58), "...")
 }
 

@@ -54,7 +54,7 @@ project <- function(longitude, latitude, zone, asked) {
     refuse("zone", "there are no UTM coordinates of one zone, and longitude and latitude need sf: ", where)
   }
   places <- cbind(longitude, latitude)
-  has_place <- abs(latitude) <= 90
+  has_place <- abs(latitude) <= 90 & abs(longitude) <= 10 * 180 / pi  # what PROJ takes
   found <- matrix(Inf, nrow(places), 2)
   found[has_place, ] <- sf::sf_project("EPSG:4326", paste0("EPSG:", code_of_zone(zone)), places[has_place, , drop = FALSE],
                                        keep = TRUE, warn = FALSE)

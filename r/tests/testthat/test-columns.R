@@ -1,7 +1,7 @@
 # Columns are found by the usual names of other packages and of exports.
 
 square <- function(titles, times = as.POSIXct("2024-05-01", tz = "UTC") + 3600 * 0:3) {
-  `names<-`(data.frame("hare", times, c(0, 200, 200, 0), c(0, 0, 200, 200)), titles)
+  `names<-`(data.frame("hare", times, c(562000, 562200, 562200, 562000), c(0, 0, 200, 200)), titles)
 }
 
 expect_square <- function(table, ...) {
@@ -14,10 +14,13 @@ expect_square <- function(table, ...) {
 test_that("usual names are found, and said", {
   skip_without_program()
   movebank <- c("individual-local-identifier", "timestamp", "utm-easting", "utm-northing")
-  said <- expect_square(square(movebank))
-  expect_identical(said[1], "homerange: columns: individual-local-identifier, timestamp, utm-easting, utm-northing\n")
-  expect_square(square(chartr("-", ".", movebank)))
-  expect_square(square(chartr("-", "_", movebank)))
+  said <- expect_square(square(movebank), zone = "37N")
+  expect_identical(said, paste0("homerange: ", c(
+    "UTM coordinates are those of the export; zone: 37N 4\n",
+    "columns: individual-local-identifier, timestamp, utm-easting, utm-northing; 1 animals, box 0.200 by 0.200 km\n"
+  )))
+  expect_square(square(chartr("-", ".", movebank)), zone = "37N")
+  expect_square(square(chartr("-", "_", movebank)), zone = "37N")
   expect_square(square(c("id", "t_", "x_", "y_")))
   expect_square(square(c("id", "date", "x", "y")))
   expect_square(square(c("animal", "second", "easting", "northing"), times = c(0, 10, 20, 30)))
@@ -52,10 +55,8 @@ test_that("Movebank's zone is the CRS, and its marks of outliers are minded", {
   skip_if_not_installed("sf")
   ranges <- quietly(home_range(deer))
   expect_identical(sf::st_crs(polygons(ranges)), sf::st_crs(32633))
-  expect_equal(ranges$left_out[, "use"], c(Asta = 1, Bruno = 0, Cilla = 0))
-  said <- capture_messages(ranges <- home_range(deer, use = TRUE))
-  expect_true("homerange: 1 fix is used that is marked as an outlier\n" %in% said)
-  expect_equal(sum(ranges$animals$fixes), 1080)
+  expect_equal(left_out(ranges), data.frame(animal = "Asta", reason = "outlier", fixes = 1))
+  expect_equal(sum(quietly(home_range(deer, use = TRUE))$animals$fixes), 1080)
   table <- square(c("id", "date", "x", "y"))
   table[["manually-marked-outlier"]] <- c("", "true", "", "")
   table$visible <- "true"
@@ -76,8 +77,11 @@ test_that("homerange's own column use is minded", {
 test_that("names may be numbers, factors, and what R takes for missing", {
   skip_without_program()
   table <- rbind(square(c("id", "date", "x", "y")), square(c("id", "date", "x", "y")))
+  table$id <- rep(c(100000, 7), each = 4)
+  expect_identical(quietly(home_range(table))$animals$animal, c("100000", "7"))
   table$id <- rep(c(100000, 7.5), each = 4)
-  expect_identical(quietly(home_range(table))$animals$animal, c("100000", "7.5"))
+  expect_error(quietly(home_range(table)), "row 5: the animal is 7.5, a number that is not whole",
+               class = "homerange_name_error")
   table$id <- factor(rep(c("NA", "NULL"), each = 4), levels = c("NULL", "none", "NA"))
   ranges <- quietly(home_range(table))
   expect_identical(ranges$animals$animal, c("NA", "NULL"))

@@ -16,7 +16,7 @@ test_that("each status has its class, and animals stand for files", {
   }
 })
 
-test_that("files are numbers in a folder that is gone afterwards", {
+test_that("files and animals are numbers in a folder that is gone afterwards", {
   skip_on_os("windows")
   folder <- local_folder()
   said <- file.path(folder, "said")
@@ -27,7 +27,7 @@ test_that("files are numbers in a folder that is gone afterwards", {
   files <- strsplit(lines[1], " ")[[1]]
   expect_identical(files[1:4], c("--unit", "dm", "--percent", "5,50"))
   expect_identical(basename(files[5:6]), c("1.csv", "2.csv"))
-  expect_identical(lines[-1], c("animal,second,easting,northing", "red fox,0,0,0", "red fox,1,10,10"))
+  expect_identical(lines[-1], c("animal,second,easting,northing", "1,0,0,0", "1,1,10,10"))
   expect_false(dir.exists(dirname(files[5])))
 })
 

@@ -68,7 +68,12 @@ test_that("a report of the program reads as its run", {
   fixes <- herd_of_three()
   ranges <- quietly(home_range(fixes, levels = c(95, 50)))
   report <- in_folder(function(folder) {
-    files <- write_tracks(ranges$fixes, folder)
+    files <- file.path(folder, c("1.csv", "2.csv", "3.csv"))
+    tracks <- split(ranges$fixes, factor(ranges$fixes$animal, ranges$animals$animal))
+    for (at in 1:3) {
+      lines <- sprintf("%s,%.0f,%.0f,%.0f", tracks[[at]]$animal, tracks[[at]]$moment, tracks[[at]]$easting, tracks[[at]]$northing)
+      write_lines(files[at], c("animal,second,easting,northing", lines))
+    }
     read_report(written(run_program(files, ranges$animals$animal, c("--percent", "95,50"))))
   })
   expect_equal(summary(report)[-5], summary(ranges)[-5])

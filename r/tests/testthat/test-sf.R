@@ -65,7 +65,7 @@ test_that("a table whose coordinates cannot be taken is refused, with the call t
   refused(lines, "row 2: the geometry is a LINESTRING and no POINT")
   empty <- points_of()
   sf::st_geometry(empty)[3] <- sf::st_point()
-  refused(empty, "row 3: there is no point's easting; such rows are not in x[!sf::st_is_empty(x), ]")
+  expect_match(capture_messages(home_range(empty)), "1 records have no coordinates: left out", all = FALSE)
   expect_equal(nrow(curve(quietly(home_range(empty[!sf::st_is_empty(empty), ])))), 49)
   expect_equal(nrow(curve(quietly(home_range(empty, use = !sf::st_is_empty(empty))))), 49)
   expect_error(quietly(home_range(points_of(), easting = "x", northing = "y")), "brings its own",
@@ -87,6 +87,5 @@ test_that("the CRS of columns is that of the argument", {
   expect_identical(sf::st_crs(polygons(quietly(home_range(fixes, crs = 25833)))), sf::st_crs(25833))
   expect_error(quietly(home_range(fixes, crs = 4326)), "sf::st_transform(sf::st_as_sf(x", fixed = TRUE,
                class = "homerange_data_error")
-  expect_error(quietly(home_range(fixes, crs = NA)), "no such coordinate reference system",
-               class = "homerange_option_error")
+  expect_error(quietly(home_range(fixes, crs = NA)), "no such coordinate reference system", class = "homerange_crs_error")
 })

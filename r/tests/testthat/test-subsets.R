@@ -59,11 +59,12 @@ test_that("each subset says how many it leaves out", {
     ranges <- home_range(fixes, use = "good", to = "2024-04-01", months = 4, hours = c(5, 6), every = 48)
   })
   expect_identical(grep("left out", said, value = TRUE), paste0("homerange: ", c(
-    "2 fixes are left out by use\n", "3 fixes are left out by to\n", "7 fixes are left out by months\n",
-    "2 fixes are left out by hours\n", "0 fixes are left out by every\n")))
-  wanted <- rbind(hare = c(1, 2, 3, 1, 0), boar = c(1, 1, 4, 1, 0))
-  colnames(wanted) <- c("use", "to", "months", "hours", "every")
-  expect_equal(ranges$left_out, wanted)
+    "3 fixes are after 2024-04-01: left out\n", "7 fixes are in other months than 4: left out\n",
+    "2 fixes are at other hours than 5 to 6: left out\n")))
+  expect_equal(left_out(ranges), data.frame(
+    animal = rep(c("boar", "hare"), each = 4), reason = rep(c("after", "hours", "months", "use"), 2),
+    fixes = c(1, 1, 4, 1, 2, 1, 3, 1)
+  ))
   expect_equal(summary(ranges)$left_out, rep(7, 6))
   expect_equal(ranges$fixes$easting, c(5, 15))
 })
@@ -72,7 +73,7 @@ test_that("an animal of which nothing is left is said, and a table of which noth
   skip_without_program()
   fixes <- rbind(spring(), transform(spring()[1:2, ], id = "boar"))
   said <- capture_messages(ranges <- home_range(fixes, from = "2024-03-31"))
-  expect_true("homerange: no fix of boar is left: it has no home range\n" %in% said)
+  expect_true("homerange: no fix of 'boar' is left: it has no range\n" %in% said)
   expect_identical(unique(summary(ranges)$animal), "hare")
   expect_error(quietly(home_range(fixes, from = "2025-01-01")), "no fix is left", class = "homerange_data_error")
 })
@@ -81,7 +82,7 @@ test_that("fixes are sorted by time, which is said", {
   skip_without_program()
   fixes <- spring()[c(2, 1, 3, 4, 8, 7, 6, 5), ]
   said <- capture_messages(ranges <- home_range(fixes))
-  expect_true("homerange: 4 fixes come before an earlier one of the same animal: sorted by time\n" %in% said)
+  expect_true("homerange: 4 records of hare come before an earlier one: sorted by time\n" %in% said)
   expect_equal(ranges$fixes$easting, 1:8)
   expect_equal(ranges$fixes$row, c(2, 1, 3, 4, 8, 7, 6, 5))
   expect_false(any(grepl("sorted", capture_messages(home_range(spring())))))
@@ -97,8 +98,8 @@ test_that("fixes are sorted by time, which is said", {
 test_that("how far rounding moves a fix is said", {
   skip_without_program()
   fixes <- data.frame(animal = "a", second = 1:2, easting = c(10.3, 20), northing = c(10.4, 20))
-  expect_match(capture_messages(home_range(fixes)), "whole metres, by which a fix moves by at most 0.50 m", all = FALSE)
+  expect_match(capture_messages(home_range(fixes)), "whole metres, which moves a fix by at most 0.5 m", all = FALSE)
   expect_false(any(grepl("rounded", capture_messages(home_range(fixes, unit = "dm")))))
   said <- capture_messages(home_range(transform(fixes, easting = easting + 0.03), unit = "dm"))
-  expect_match(said, "whole decimetres, by which a fix moves by at most 0.03 m", all = FALSE)
+  expect_match(said, "whole decimetres, which moves a fix by at most 0.03 m", all = FALSE)
 })
