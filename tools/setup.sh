@@ -9,4 +9,4 @@ apt-get -q update
 apt-get -q -y --no-install-recommends install \
     fuse3 gcc libc6-dev gnuplot-nox man-db munge mypy pandoc python3 python3-fusepy python3-geopandas \
     python3-matplotlib python3-pandas python3-pyproj python3-pytest python3-scipy python3-shapely r-base-core \
-    r-cran-knitr r-cran-rmarkdown r-cran-sf r-cran-testthat shellcheck slurm-wlm snakemake
+    r-cran-knitr r-cran-rmarkdown r-cran-sf r-cran-testthat r-cran-xml2 shellcheck slurm-wlm snakemake

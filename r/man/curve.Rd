@@ -7,7 +7,7 @@ curve(x, ...)
 }
 \arguments{
 \item{x}{a home range, from \code{\link{home_range}} or \code{\link{read_report}}.}
-\item{...}{not used for a home range.}
+\item{...}{of a home range none; others are refused.}
 }
 \details{
 The function of the same name in the package graphics, which this one hides, draws functions. What is no home range is handed

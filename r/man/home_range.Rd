@@ -10,8 +10,11 @@ animals how many fixes of one lie in the polygon of the other.
 \usage{
 home_range(x, levels = c(50, 95, 100), unit = "m", animal = NULL, time = NULL,
            easting = NULL, northing = NULL, use = NULL, from = NULL, to = NULL,
-           months = NULL, hours = NULL, every = NULL, tz = "UTC", crs = NULL,
-           progress = interactive())
+           months = NULL, hours = NULL, every = NULL, tz = NULL, crs = NULL,
+           progress = interactive(), lon = NULL, lat = NULL, name = "animal",
+           zone = NULL, skip_unnamed = FALSE, sensor = NULL, argos_class = NULL,
+           argos = NULL, max_dop = NULL, dop = NULL, fix_type = NULL, fix = NULL,
+           since = NULL, until = NULL, max_speed = NULL)
 
 \method{print}{home_range}(x, ...)
 }
@@ -21,48 +24,39 @@ home_range(x, levels = c(50, 95, 100), unit = "m", animal = NULL, time = NULL,
 \item{levels}{the levels of the percent polygons: 1 to 8 different whole numbers from 1 to 100.}
 \item{unit}{to what coordinates are rounded: \code{"m"} for whole metres, \code{"dm"} for whole decimetres. The
   coordinates of \code{x} are in metres in either case.}
-\item{animal, time}{the names of the columns that have the animal's name and the time. Times are \code{POSIXct},
-  \code{Date}, or numbers of seconds since a start of one's choice.}
-\item{easting, northing}{the names of the columns that have the coordinates, in metres of one plane grid such as a UTM
-  zone. Not for an \code{sf} table, which brings its own.}
-\item{use}{which fixes are used: the name of a column, or a vector, of \code{TRUE} and \code{FALSE}; a column may have 1
-  and 0. Rows that are not used are not checked. If left out, a column \code{use} is taken, else Movebank's
-  \code{visible} and \code{manually-marked-outlier}, where the table has them; fixes of several types of sensors, by
-  Movebank's \code{sensor-type}, are refused then. \code{use = TRUE} uses all rows;
-  outliers that are used are said in a message.}
-\item{from, to}{the first and the last time: a day (a \code{Date}, or text such as \code{"2024-05-31"}), a
-  \code{POSIXct}, or a number of seconds. Both are included; a day of \code{to} to its end.}
+\item{animal, time, easting, northing, lon, lat}{the names of columns, where they have no usual titles. Not for the
+  coordinates of an \code{sf} table, which brings its own.}
+\item{name}{the name of the one animal, where no column has it.}
+\item{use}{which rows are used: the name of a column, or a vector, of \code{TRUE} and \code{FALSE}, or of 1 and 0;
+  \code{TRUE} for all. Rows that are not used are not looked at, and neither are marks of outliers and types of sensors.}
+\item{since, until, from, to}{the first and the last time: a day (a \code{Date}, or text such as \code{"2024-05-31"}), a
+  \code{POSIXct}, text such as \code{"2024-05-31 18:00"}, or a number of seconds. Both are included; a day of \code{until} to
+  its end. \code{from} and \code{to} are other names of them.}
 \item{months}{the months to use: whole numbers from 1 to 12.}
 \item{hours}{the hours of the day to use: two numbers from 0 to 24. Times from the first, up to the second but without it,
   are used: \code{c(18, 6)} is the night from 18:00 to before 06:00.}
-\item{every}{one fix in so many hours is used: of each animal the first in each stretch of \code{every} hours. Stretches
-  are counted from 1970-01-01 00:00 by the clock of \code{tz}, or from second 0 where times are numbers.}
-\item{tz}{the time zone of days, months and hours, and of times that are shown; \code{\link{OlsonNames}} lists them.}
+\item{every}{one fix in each piece of time is used: a number of hours, or text such as \code{"2h"} or \code{"30min"}.}
+\item{tz}{the time zone of days, months and hours, and of times that are shown; \code{\link{OlsonNames}} lists them. If left
+  out, that of the column of times, which is said; of text and numbers UTC.}
 \item{crs}{the CRS of the columns of coordinates, as \code{sf::st_crs} takes it, such as 32633 for UTM zone 33 north. It
-  changes no number: \code{\link{polygons}} are given in it. If left out, it is that of an amt track, or of Movebank's column \code{utm-zone}.}
+  changes no number: \code{\link{polygons}} are given in it. If left out, it is that of an amt track, or of the UTM zone.}
+\item{zone}{the UTM zone of the coordinates, such as \code{"33N"}; longitude and latitude are projected into it, which takes
+  the package sf.}
+\item{skip_unnamed}{whether rows without an animal are left out and counted, and not refused.}
+\item{sensor, argos_class, fix_type}{which types of sensors, Argos classes and types of fixes are used.}
+\item{max_dop, max_speed}{the greatest dilution of precision, and the greatest speed in metres a second from the last fix
+  that is kept.}
+\item{argos, dop, fix}{the names of the columns of Argos classes, dilution of precision and types of fixes, where they have
+  no usual titles.}
 \item{progress}{whether a bar shows how far many runs of the program have come.}
 \item{...}{not used.}
 }
 \details{
-\strong{Columns.} Columns that are not named are found by the usual titles, of which the first that is there counts;
-upper case, points, underscores and blanks make no difference. What was taken is said in a message.
-\tabular{ll}{
-animal \tab \code{individual-local-identifier} (Movebank, move2), \code{animal}, \code{animal-id}, \code{id} \cr
-time \tab \code{timestamp} (Movebank), \code{second}, \code{t_} (amt), \code{date} (adehabitatHR), \code{time} \cr
-easting, northing \tab \code{utm-easting}, \code{utm-northing} (Movebank); \code{easting}, \code{northing};
-  \code{x_}, \code{y_} (amt); \code{x}, \code{y} (adehabitatHR)
-}
-A \code{move2} table says itself which columns have the animal and the time.
-
-\strong{Coordinates} are rounded to whole metres or decimetres, halves up, and a message says by how much a fix moves at
-most. They have to be in one plane grid. Longitude and latitude, feet, web maps' Mercator projection and an \code{sf}
-table without a CRS are refused, and the message has the call that projects them into the UTM zone of most fixes.
-
-\strong{Order.} Animals come in the order of their first rows, and fixes in the order of time; fixes of one time stay in
-the order of their rows. Fractions of a second count for the order alone.
-
-\strong{Subsets} are taken in the order \code{use}, \code{from}, \code{to}, \code{months}, \code{hours}, \code{every}, and
-a message says how many fixes each of them leaves out.
+\strong{How a table is read} stands in \file{docs/TABLES.md} of homerange's repository, once for
+R, Python and the commands: the usual titles of columns, times and coordinates, marks of outliers, sensors and filters, what
+is left out, sorted, moved or rounded, and what is refused. What is guessed or left out is said in messages, a line for each;
+\code{\link{left_out}} counts fixes by animal and reason. A \code{move2} table says itself which columns have the animal and
+the time. Times of class \code{POSIXct} that have no zone are by the clock of the session.
 
 \strong{The percent rule.} Of n fixes, level p keeps the \code{(p * n + 99) \%/\% 100} that lie nearest to the mean of all
 n fixes, of fixes as near as each other the earlier. The percent polygon is the minimum convex polygon of those. Other
@@ -79,11 +73,11 @@ An object of class \code{home_range}. \code{print} shows about ten lines of it. 
 \code{\link{overlap}}, \code{\link{polygons}} and \code{\link[=plot.home_range]{plot}}.
 }
 \section{Limits and errors}{
-What cannot be right is refused with an error of class \code{homerange_data_error}, which names the row: no animal, time or
-coordinate; one that is not finite; names that are not 1 to 32 bytes of UTF-8 without commas, double quotes and control
-characters; times before 1970 (or below 0) or past 1,099,511,627,776 seconds; coordinates outside the grid, which goes from
-0 to 16,777,216 metres, or with \code{unit = "dm"} to 13,421,772 metres. An animal has at most 1,048,576 fixes. Arguments
-that cannot be right are refused as \code{homerange_option_error}. \link{homerange-package} lists all classes.
+What cannot be right is refused with an error of class \code{homerange_data_error}, in one line with the row and the remedy;
+its \code{kind} is the word that docs/TABLES.md has for it, and \code{record} the number of the row among those that are used.
+Arguments that cannot be right are refused as \code{homerange_option_error}. \link{homerange-package} lists all classes.
+Coordinates are in a grid of 16,777,216 metres, or with \code{unit = "dm"} of 13,421,772 metres. An animal has at most
+1,048,576 fixes.
 
 Areas are exact for the rounded coordinates. They are handed on as doubles, which hold whole numbers up to 2^53: enough for
 any range on land.

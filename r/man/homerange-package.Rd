@@ -13,13 +13,15 @@ package itself is tested, and not proved.
 
 \code{\link{home_range}} makes home ranges from a table, \code{\link{read_report}} reads them from a report.
 \code{\link[=summary.home_range]{summary}}, \code{\link{curve}}, \code{\link{overlap}} and \code{\link{polygons}} give
-tables and polygons of them, \code{\link[=plot.home_range]{plot}} draws them. \code{\link{homerange_program}} says which
+tables and polygons of them, \code{\link{share_inside}} their share in a reserve, \code{\link[=plot.home_range]{plot}} draws
+them. \code{\link{read_export}} reads exports of Movebank and of collars. \code{\link{homerange_program}} says which
 program is run. \code{vignette("homerange")} goes from an export to a map.
 }
 \section{Errors}{
-Each error of the package has the class \code{homerange_error} and one more, which \code{\link{tryCatch}} can tell apart:
+Each error of the package has the class \code{homerange_error} and another, which \code{\link{tryCatch}} can tell apart:
 \tabular{ll}{
-\code{homerange_data_error} \tab the table of fixes is refused; the message names the row \cr
+\code{homerange_data_error} \tab the table of fixes is refused; the message names the row. Beside it stands the kind of
+  docs/TABLES.md, such as \code{homerange_time_error} \cr
 \code{homerange_option_error} \tab an argument is refused, by the package or by the program (its status 2) \cr
 \code{homerange_program_error} \tab there is no program, or it ended with a status that it does not know \cr
 \code{homerange_file_error} \tab a file cannot be read, or is refused by the program (status 1) \cr

@@ -11,7 +11,7 @@ overlap(x, ...)
 \arguments{
 \item{x}{a home range, from \code{\link{home_range}} or \code{\link{read_report}}.}
 \item{share}{whether to give shares of the row animal's fixes, from 0 to 1, in place of counts.}
-\item{...}{not used.}
+\item{...}{none; others are refused.}
 }
 \value{
 A matrix with a row and a column for each animal, by their names. Row A, column B has how many fixes of A lie in the polygon

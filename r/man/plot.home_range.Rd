@@ -21,7 +21,8 @@ that is made to the right of the plot.
 \item{main}{a title.}
 \item{reset}{whether the device gets its margins back. With \code{FALSE} more can be drawn on the plot, such as by
   \code{\link{text}}; coordinates are in metres then.}
-\item{...}{further arguments of \code{\link{title}}.}
+\item{...}{further arguments of \code{\link{title}}: \code{sub}, \code{outer}, \code{family}, and sizes, colours and fonts such
+  as \code{cex.main}; others are refused.}
 }
 \details{
 A map has equal scales on both axes, in metres, or in kilometres where it is 10 km wide or wider, and a bar of a round length

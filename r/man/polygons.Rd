@@ -11,7 +11,7 @@ polygons(x, ...)
 \arguments{
 \item{x}{a home range, from \code{\link{home_range}} or \code{\link{read_report}}.}
 \item{level}{the level in per cent: 100, or one of the levels that \code{home_range} was given.}
-\item{...}{not used.}
+\item{...}{none; others are refused.}
 }
 \details{
 The program's report has the corners of the polygons of all fixes. For a level below 100 the fixes that the level keeps are
@@ -26,7 +26,8 @@ columns \code{animal}, \code{level}, \code{kept} (how many fixes), \code{hectare
 corners a line and of one a point.
 
 Otherwise a list with a matrix for each animal, by its name, with the columns \code{easting} and \code{northing} in metres: the
-corners, counterclockwise from the westernmost, of two such the southern. The first is not repeated at the end.
+corners, counterclockwise from the westernmost, of two such the southern. The first is not repeated at the end. Coordinates
+that were shifted are where they were.
 }
 \references{
 Mohr, C. O. (1947) Table of equivalent populations of North American small mammals. \emph{American Midland Naturalist}

@@ -7,14 +7,14 @@
 }
 \arguments{
 \item{object}{a home range, from \code{\link{home_range}} or \code{\link{read_report}}.}
-\item{...}{not used.}
+\item{...}{none; others are refused.}
 }
 \value{
 A data frame with the columns
 \item{animal}{the animal's name.}
 \item{first, last}{the times of its first and its last fix that is used.}
 \item{fixes}{how many fixes are used.}
-\item{left_out}{how many of its fixes were left out by \code{use} and by subsets; \code{NA} for a report.}
+\item{left_out}{how many of its rows were left out, as \code{\link{left_out}} says by reason; \code{NA} for a report.}
 \item{level}{the level of the percent polygon, in per cent of the fixes.}
 \item{kept}{how many fixes the level keeps.}
 \item{corners}{how many corners the polygon has.}

@@ -1,0 +1,21 @@
+\name{left_out}
+\alias{left_out}
+\title{Fixes That Were Left Out}
+\description{Counts the rows of a table that are not among the fixes of a home range, by animal and reason.}
+\usage{
+left_out(x)
+}
+\arguments{
+\item{x}{a home range, from \code{\link{home_range}}.}
+}
+\value{
+A data frame with a row for each animal and reason:
+\item{animal}{the animal's name, empty where a row has none.}
+\item{reason}{why: a word of those that docs/TABLES.md of homerange's repository has, such as \code{coordinates} of fixes that
+  failed, \code{outlier}, \code{hours}, or \code{use} of rows that the argument of this name leaves out.}
+\item{fixes}{how many.}
+}
+\examples{
+found <- tryCatch(nzchar(homerange_program()), homerange_program_error = function(fault) FALSE)
+if (found) left_out(home_range(deer, hours = c(18, 6)))
+}
