@@ -200,6 +200,7 @@ cells_of_names <- function(column, title) {
 
 # The eastings and northings of points, NA where there is none; the fault is that of the first other shape.
 cells_of_points <- function(shapes) {
+  shapes <- sf::st_zm(shapes)
   kinds <- as.character(sf::st_geometry_type(shapes))
   is_empty <- sf::st_is_empty(shapes)
   is_point <- kinds == "POINT" & !is_empty
