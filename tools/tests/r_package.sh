@@ -20,6 +20,7 @@ without_program() {
 rm -rf r_package
 mkdir r_package
 cd r_package || exit 1
+holds 'its presets are those of the package for Python' cmp "$top/r/inst/extdata/collars.csv" "$top/python/homerange/collars.csv"
 if is_r_ready; then
     holds 'the package for R is built' R CMD build "$top/r"
     holds 'the package for R is checked' env _R_CHECK_FORCE_SUGGESTS_=false R CMD check --no-manual homerange_*.tar.gz

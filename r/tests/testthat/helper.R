@@ -74,9 +74,3 @@ local_folder <- function(frame = parent.frame()) {
   at_end(bquote(unlink(.(folder), recursive = TRUE)), frame)
   folder
 }
-
-# The clone of the repository in which the tests stand, or the working folder.
-clone_of_tests <- function() {
-  folder <- Sys.getenv("HOMERANGE")
-  if (nzchar(folder)) dirname(dirname(folder)) else "."
-}

@@ -11,13 +11,6 @@ refused <- function(table, message, kind, ...) {
   expect_error(quietly(home_range(table, ...)), message, fixed = TRUE, class = paste0("homerange_", kind, "_error"))
 }
 
-test_that("presets are those of the package for Python", {
-  own <- system.file("extdata", "collars.csv", package = "homerange")
-  other <- file.path(clone_of_tests(), "python", "homerange", "collars.csv")
-  skip_if_not(file.exists(other), "the clone")
-  expect_identical(readLines(own), readLines(other))
-})
-
 test_that("row names of write.csv are no eastings, and numbers of rows no animals", {
   skip_without_program()
   path <- file.path(local_folder(), "rows.csv")
