@@ -99,7 +99,7 @@ class Asked:
             if not isinstance(value := getattr(self, option), (str, type(None))):
                 refuse(f"{option}={value!r} is no text")
         if not isinstance(self.skip_lines, int) or self.skip_lines < 0:
-            refuse(f"skip_lines={self.skip_lines!r} is not a number of lines")
+            refuse(f"skip-lines is {self.skip_lines!r} and not a number from 0")
         zone_of_time(self.clock)
         self.max_dop = positive(self.max_dop, "max-dop")
         self.max_speed = positive(self.max_speed, "max-speed")

@@ -58,7 +58,7 @@ def test_outliers_are_not_used_and_fixes_are_in_order(tmp_path):
     ("a,2024-05-01,1,2,33N,,gps\n", {"sensor": "argos"}, "no fix is of argos"),
     ("a,2024-05-01,1,2,33N,,gps\n", {"zome": "33N"}, "there is no option zome"),
     ("a,2024-05-01,1,2,33N,,gps\n", {"zone": 33}, "zone=33 is no text"),
-    ("a,2024-05-01,1,2,33N,,gps\n", {"skip_lines": "2"}, "skip_lines='2' is not a number of lines"),
+    ("a,2024-05-01,1,2,33N,,gps\n", {"skip_lines": "2"}, "skip-lines is '2' and not a number from 0"),
     ("a,2024-05-01,1,2,33N,,gps\n", {"encoding": 8}, "encoding=8 is no text"),
     ("a,2024-05-01,1,2,33N,,gps\n", {"tz": "Middle-earth"}, "is no time zone"),
     ("a,2024-05-01,1,2,33N,,gps\n", {"from_": "acme"}, "acme is none of vectronic, lotek"),
