@@ -1,5 +1,5 @@
 //! Tests of command lines: what words say, and which are refused; the reports of runs, byte for byte and in
-//! every plan, files with each fault, sources and outputs that fail at each call; the words that the system gives;
+//! several plans, files with each fault, sources and outputs that fail at each call; the words that the system gives;
 //! the line and the status of each refusal, and which characters stand in it as they are; and what the program answers to whole command lines.
 #![tactic(auto)]
 
