@@ -7,9 +7,12 @@ import math
 import re
 import zoneinfo
 from dataclasses import dataclass, field
+from datetime import date, datetime
 from typing import Any, NamedTuple, Sequence
 
+from .cells import Form, day_begins, iso_time, moments_of
 from .errors import refuse
+from .zones import zone_of
 
 
 class Unit(NamedTuple):
@@ -24,6 +27,7 @@ class Unit(NamedTuple):
 UNITS = {"m": Unit(1, 16_777_216, "metres", 20_000), "dm": Unit(10, 134_217_728, "decimetres", 2_000_000)}
 LENGTHS = {"h": 3600, "min": 60, "s": 1}
 LENGTH = re.compile("([0-9]+(?:[.][0-9]+)?)(h|min|s)")
+NUMBER = re.compile("[-+]?(?:[0-9]+[.]?[0-9]*|[.][0-9]+)(?:[eE][-+]?[0-9]+)?")
 
 
 @dataclass
@@ -90,7 +94,7 @@ class Asked:
         return next((name for name, wish in wishes.items() if wish is not None), None)
 
     def check(self) -> None:
-        """Refuses options that cannot be right."""
+        """Refuses options that cannot be right, before a table is looked at."""
         if self.unit not in UNITS:
             refuse(f"unit={self.unit!r} is neither 'm' nor 'dm'")
         texts = ("zone", "easting", "northing", "lon", "lat", "dop", "fix", "argos", "name", "encoding", "time_format",
@@ -98,6 +102,8 @@ class Asked:
         for option in texts:
             if not isinstance(value := getattr(self, option), (str, type(None))):
                 refuse(f"{option}={value!r} is no text")
+        if self.name == "" or (self.is_frame and any(letter < " " or letter == "\x7f" for letter in self.name)):
+            refuse(f"{self.title('name')}: a name without control characters is wanted")
         if not isinstance(self.skip_lines, int) or self.skip_lines < 0:
             refuse(f"skip-lines is {self.skip_lines!r} and not a number from 0")
         zone_of_time(self.clock)
@@ -105,6 +111,17 @@ class Asked:
         self.max_speed = positive(self.max_speed, "max-speed")
         if self.every is not None:
             seconds_of(self.every)
+        if self.zone is not None:
+            zone_of(self.zone)
+        forms_of(self.time_format)
+        for bound, is_end in ((self.since, False), (self.until, True)):
+            if bound is not None:
+                second_of_bound(bound, self.clock, is_end)
+
+
+def forms_of(text: str | None) -> list[Form]:
+    """The forms of times that were named."""
+    return [] if text is None else [Form(form) for form in text.split("|")]
 
 
 def zone_of_time(name: object) -> zoneinfo.ZoneInfo:
@@ -119,8 +136,9 @@ def positive(value: Any, option: str) -> float | None:
     """A number that is not negative, or None."""
     if value is None:
         return None
+    is_odd = isinstance(value, bool) or isinstance(value, str) and not NUMBER.fullmatch(value)
     try:
-        number = math.nan if isinstance(value, bool) else float(value)
+        number = math.nan if is_odd else float(value)
     except (TypeError, ValueError):
         number = math.nan
     if not 0 <= number < math.inf:
@@ -142,3 +160,21 @@ def seconds_of(every: Any, name: str = "every") -> int:
     if not 1 <= length < 2 ** 40:
         refuse(f"{name}={every!r} is not a second or more, such as 2h or 30min")
     return round(length)
+
+
+def second_of_bound(value: Any, clock: str, is_end: bool) -> int:
+    """The second of a bound. One without a zone is a time of the clock; a day is its first second, or its last."""
+    text = value if isinstance(value, str) else value.isoformat() if isinstance(value, (date, datetime)) else str(value)
+    text = text.strip()
+    stamp, zone = iso_time(text), zone_of_time(clock)
+    if stamp is None:
+        refuse(f"{value!r} is no time in {clock}, such as '2024-05-01' or '2024-05-01 00:30:04'")
+    second, part, is_local = stamp
+    if len(text) == len("2024-05-01"):
+        return day_begins(second + 86400, zone) - 1 if is_end else day_begins(second, zone)
+    if is_local:
+        found = moments_of(second, zone)
+        if not found:
+            refuse(f"{value!r} is no time in {clock}, whose clocks passed it over")
+        second = found[-1] if is_end else found[0]
+    return second + (part > 0 and not is_end)

@@ -36,6 +36,10 @@ FORMS = {
     "j": "(?P<j>[0-9]{1,3})", "b": f"(?P<b>{'|'.join(NAMES_OF_MONTHS)})", "H": "(?P<H>[0-9]{1,2})",
     "I": "(?P<I>[0-9]{1,2})", "M": "(?P<M>[0-9]{1,2})", "S": "(?P<S>[0-9]{1,2}([.][0-9]+)?)", "p": "(?P<p>am|pm)",
 }
+# As in 20240501, 240501, 2024050112 and 2405011230; the last two are no seconds before 2030.
+DIGITS_OF_DATE = re.compile(
+    "(?:19|20)?[0-9]{2}(?:0[1-9]|1[0-2])[0-3][0-9]|(?:19|20)[0-9]{2}(?:0[1-9]|1[0-2])[0-3][0-9](?:[01][0-9]|2[0-3])"
+    "|(?:19|[2-9][0-9])(?:0[1-9]|1[0-2])[0-3][0-9](?:[01][0-9]|2[0-3])[0-5][0-9]")
 WANTED_TIME = "a time such as 2024-05-01 00:30:04"
 
 
@@ -52,6 +56,12 @@ class Moment(NamedTuple):
     second: int
     part: float
 
+    def __str__(self) -> str:
+        try:
+            return f"{EPOCH + timedelta(seconds=self.second)}"
+        except OverflowError:
+            return f"second {self.second}"
+
 
 class Unread(Exception):
     """Why a cell cannot be read."""
@@ -63,7 +73,7 @@ class Unread(Exception):
 
 def shown(cell: object) -> str:
     """A cell as a refusal has it."""
-    text = f"'{cell}'" if isinstance(cell, str) else repr(cell)
+    text = f"'{cell}'" if isinstance(cell, str) else str(cell) if isinstance(cell, Moment) else repr(cell)
     return text if len(text) <= 62 else f"{text[:58]}..."
 
 
@@ -122,7 +132,8 @@ def truth(cell: Any, title: str, missing: frozenset[str]) -> bool | None:
         return None
     found = TRUTHS.get(cell if isinstance(cell, str) else str(cell))
     if found is None:
-        raise Unread(f"{title} is {shown(cell)} and not true or false (or 1 or 0)", "mark")
+        raise Unread(f"{title} is {shown(cell)} and not true or false (or 1 or 0): write those, or rename the "
+                     "column", "mark")
     return found
 
 
@@ -200,6 +211,14 @@ class Known(Dict[str, Value]):
 DAYS, CLOCKS, PLAIN_CLOCKS, FRACTIONS = Known(begin_of_day), Known(time_of_day), Known(plain_clock), Known(fraction_of)
 
 
+def is_whole_form(signs: set[str]) -> bool:
+    """Whether the signs of a form say a day, and of its time nothing that means little alone."""
+    is_day = not signs.isdisjoint("Yy") and ("j" in signs or "d" in signs and not signs.isdisjoint("mb"))
+    is_half = ("I" in signs) != ("p" in signs) or signs >= {"H", "I"}
+    is_hour = not signs.isdisjoint("HI")
+    return is_day and not is_half and (is_hour or "M" not in signs) and ("M" in signs or "S" not in signs)
+
+
 class Form:
     """A form of times, as strptime has it."""
 
@@ -207,8 +226,9 @@ class Form:
         pieces = re.split("(%.)", form)
         signs = [piece[1] for piece in pieces[1::2]]
         unknown = [sign for sign in signs if sign not in FORMS]
-        if unknown or len({*signs}) < len(signs) or not ("Y" in signs or "y" in signs):
-            refuse(f"time-format is '{form}', which is no form of a date with %Y %m %d, or %H %M %S, %I %p, %y %b %j")
+        if unknown or len({*signs}) < len(signs) or not is_whole_form({*signs}):
+            refuse(f"time-format is '{form}', which is no form of a day, such as %Y-%m-%d, %d.%m.%y, %d %b %Y or %Y %j, with "
+                   "%H:%M:%S or %I:%M %p")
         body = "".join(FORMS[piece[1]] if at % 2 else re.escape(piece) for at, piece in enumerate(pieces))
         self.form, self.text, self.is_used = re.compile(body, re.IGNORECASE | re.ASCII), form, False
 
@@ -298,7 +318,7 @@ class Times:
         if not math.isfinite(value):
             raise Unread(f"{self.title} is {shown(text)} and not {WANTED_TIME}", "time")
         digits = len(str(int(value)))
-        if not self.is_second and not (value > 0 and 9 <= digits <= 10):
+        if not self.is_second and (not (value > 0 and 9 <= digits <= 10) or are_digits_of_date(value)):
             raise Unread(f"{self.title} is {shown(text)}, which {looks_like(value)}: write {WANTED_TIME}, or seconds since "
                          "1970, or seconds since another start in a column 'second'", "time")
         second = math.floor(value)
@@ -312,6 +332,11 @@ class Times:
         return stamp
 
 
+def are_digits_of_date(value: float) -> bool:
+    """Whether a number is a date without hyphens."""
+    return value == int(value) and DIGITS_OF_DATE.fullmatch(str(int(value))) is not None
+
+
 def looks_like(value: float) -> str:
     """What a number that is no second may be."""
     if value < 0:
@@ -320,7 +345,7 @@ def looks_like(value: float) -> str:
         return "looks like days of Excel"
     if 2_400_000 <= value < 2_500_000:
         return "looks like Julian days"
-    if value == int(value) and re.fullmatch("(19|20)?[0-9]{2}(0[1-9]|1[0-2])[0-3][0-9]", str(int(value))):
+    if are_digits_of_date(value):
         return "looks like a date without hyphens"
     if 1e11 <= value < 1e14:
         return "looks like milliseconds, or a date without signs between"

@@ -21,13 +21,16 @@ from typing import Any, Callable, Iterable, Iterator, NamedTuple, Optional
 from xml.etree import ElementTree
 
 from .asked import Asked
-from .errors import FrameError, one_line, refuse
+from .errors import FrameError, refuse
+from .record import option_lines, tool_lines, write_record
 from .tables import Said, Table
 from .titles import TIMES, Titles
 from .tracks import Track, Tracks, make_tracks
 
 PIECE = 2_000  # rows that are read at once; with more, time goes into waiting for memory
 NAME_BYTES = 32
+MARKS = {"utf-8": codecs.BOM_UTF8, "utf-16-le": codecs.BOM_UTF16_LE, "utf-16-be": codecs.BOM_UTF16_BE,
+         "utf-32-le": codecs.BOM_UTF32_LE, "utf-32-be": codecs.BOM_UTF32_BE}  # byte order marks that Python leaves in texts
 LISTS = ("animal", "time", "na", "sensor", "argos-class", "fix-type")  # options that are several words between commas
 REASONS = ("animal", "coordinates", "zero", "sensor", "outlier", "class", "no dop", "dop", "type", "before", "after",
            "grid", "speed", "months", "hours", "every")
@@ -104,17 +107,23 @@ def read_bytes(path: str) -> bytes:
         refuse(f"{path} cannot be read", "text")
 
 
-def decode(content: bytes, path: str, encoding: str) -> tuple[Iterator[str], bool]:
-    """The lines of a text, whose ends become line feeds, and whether a quote is in them. Looks at all of it before the
-    first is given."""
+def codec_of(encoding: str) -> str:
+    """Python's name of a coding of text."""
     try:
         codec = codecs.lookup(encoding).name
         io.TextIOWrapper(io.BytesIO(), encoding=codec)  # refuses what is no coding of text
     except LookupError:
         refuse(f"encoding: there is no coding {encoding}")
+    return codec
+
+
+def decode(content: bytes, path: str, encoding: str) -> tuple[Iterator[str], bool]:
+    """The lines of a text, whose ends become line feeds, and whether a quote is in them. Looks at all of it before the
+    first is given."""
+    codec = codec_of(encoding)
     stream = io.BytesIO(content)
-    if codec == "utf-8" and content.startswith(codecs.BOM_UTF8):
-        stream.seek(len(codecs.BOM_UTF8))
+    if codec in MARKS and content.startswith(MARKS[codec]):
+        stream.seek(len(MARKS[codec]))
     decoder, has_quotes = codecs.getincrementaldecoder(codec)(), False
     try:
         for start in range(0, len(content), 1 << 20):
@@ -123,7 +132,7 @@ def decode(content: bytes, path: str, encoding: str) -> tuple[Iterator[str], boo
             if "\0" in text:
                 refuse(f"{path} is no text: it has a byte 0", "text")
         decoder.decode(b"", True)
-    except UnicodeDecodeError:
+    except UnicodeError:
         name = "UTF-8" if codec == "utf-8" else encoding
         refuse(f"{path} is no text in {name}: name its coding, such as --encoding latin-1", "text")
     return io.TextIOWrapper(stream, encoding=codec, newline=None), has_quotes
@@ -143,7 +152,7 @@ def gpx_lines(content: bytes, path: str) -> tuple[Iterator[str], bool]:
         rows += [[name, point.findtext("{*}time"), point.get("lon"), point.get("lat")]
                  for point in track.iterfind("{*}trkseg/{*}trkpt")]
     text = io.StringIO(newline="")
-    csv.writer(text, lineterminator="\n").writerows(rows)
+    csv.writer(text, lineterminator="\n", quoting=csv.QUOTE_ALL).writerows(rows)
     text.seek(0)
     return text, True
 
@@ -151,6 +160,7 @@ def gpx_lines(content: bytes, path: str) -> tuple[Iterator[str], bool]:
 def open_text(path: str, asked: Asked, is_gpx: bool = False) -> Text:
     """The text of a file, from its line of titles on."""
     asked.check()
+    codec_of(asked.encoding)
     content = read_bytes(path)
     lines, has_quotes = gpx_lines(content, path) if is_gpx else decode(content, path, asked.encoding)
     for _ in islice(lines, asked.skip_lines):
@@ -269,8 +279,7 @@ def read_text(path: str, options: dict[str, Any], said: Said) -> Split:
         table, checksum = read_table(text, path, asked), text.checksum
         del text
         tracks = make_tracks(table, said, clean)
-        names = {name: clean(name) for name in [*tracks.by_name, *table.rows_of]}
-        check_names(tracks, names)
+        names = {**clean_names(tracks.by_name), **{name: clean(name) for name in table.rows_of}}
         for name in tracks.by_name:
             if names[name] != name:
                 said.say(f"animal '{name}' is named {names[name]}")
@@ -279,39 +288,54 @@ def read_text(path: str, options: dict[str, Any], said: Said) -> Split:
         raise with_record(fault) from None
 
 
-def check_names(tracks: Tracks, names: dict[str, str]) -> None:
-    """Refuses two animals whose names come out the same."""
-    known: dict[str, str] = {}
-    for name in tracks.by_name:
-        other = known.setdefault(names[name], name)
+def clean_names(animals: Iterable[str]) -> dict[str, str]:
+    """The clean name of each animal that has a file; two that come out the same are refused."""
+    names: dict[str, str] = {}
+    animal_of: dict[str, str] = {}
+    for name in animals:
+        names[name] = clean(name)
+        other = animal_of.setdefault(names[name], name)
         if other != name:
             refuse(f"animals '{other}' and '{name}' would both be named {names[name]}", "name")
+    return names
 
 
-def write_track(folder: Path, name: str, track: Track, mark: bool) -> None:
-    """Writes the file of an animal, whose name is in UTF-8 in whatever locale."""
-    with open(os.path.join(os.fsencode(folder), f"{name}.csv".encode()), "x", encoding="utf-8", newline="\n") as file:
-        file.write("animal,second,easting,northing" + ",use" * mark + "\n")
-        if mark:
-            file.writelines(f"{name},{second},{east},{north},{used}\n" for second, east, north, used in zip(*track))
-        else:
-            file.writelines(f"{name},{second},{east},{north}\n" for second, east, north, _ in zip(*track))
+def track_lines(name: str, track: Track, mark: bool) -> Iterator[str]:
+    """The lines of an animal's file."""
+    yield "animal,second,easting,northing" + ",use" * mark + "\n"
+    if mark:
+        yield from (f"{name},{second},{east},{north},{used}\n" for second, east, north, used in zip(*track))
+    else:
+        yield from (f"{name},{second},{east},{north}\n" for second, east, north, _ in zip(*track))
 
 
-def record_lines(path: str, split: Split, unit: str, said: Said) -> Iterable[str]:
-    """The record of what was done: the export, the unit, the zone, what was said and what was left out."""
-    yield f"export,{path}"
+def write_track(folder: Path, name: str, track: Track, mark: bool) -> str:
+    """Writes the file of an animal, whose name is in UTF-8 in whatever locale, and answers its checksum."""
+    lines, checksum = track_lines(name, track, mark), hashlib.sha256()
+    with open(os.path.join(os.fsencode(folder), f"{name}.csv".encode()), "xb") as file:
+        while piece := "".join(islice(lines, PIECE)).encode():
+            file.write(piece)
+            checksum.update(piece)
+    return checksum.hexdigest()
+
+
+def record_lines(path: str, split: Split, options: dict[str, Any], sums: dict[str, str], said: Said) -> Iterable[str]:
+    """The record of what was done: the export, the unit, the zone, the options, what was said, what was left out, and what
+    was made by what."""
+    yield f"export,{os.path.basename(path)}"
     yield f"sha256,{split.checksum}"
-    yield f"unit,{unit}"
+    yield f"unit,{options.get('unit') or 'm'}"
     yield f"zone,{split.tracks.zone or 'none'}"
     if any(split.tracks.shift):
         yield "shift,{},{}".format(*split.tracks.shift)
+    yield from option_lines(options)
     yield from (f"said,{line}" for line in said.lines)
     left = [(split.names.get(name, clean(name)), REASONS.index(reason), count)
             for (name, reason), count in said.left.items()]
     yield from (f"left,{name},{count},{REASONS[reason]}" for name, reason, count in sorted(left))
     for name, track in split.tracks.by_name.items():
-        yield f"track,{split.names[name]},{len(track.used)},{sum(track.used)}"
+        yield f"track,{split.names[name]},{len(track.used)},{sum(track.used)},{sums[name]}"
+    yield from tool_lines(split.tracks.places.is_projected)
 
 
 def split_text(path: str, into: str, options: dict[str, Any], tell: Callable[[str], None]) -> None:
@@ -326,45 +350,10 @@ def split_text(path: str, into: str, options: dict[str, Any], tell: Callable[[st
     unit, mark = options.get("unit") or "m", bool(options.get("mark"))
     try:
         folder.mkdir(parents=True)
-        for name, track in split.tracks.by_name.items():
-            write_track(folder, split.names[name], track, mark)
-        fixes = sum(len(track.seconds) for track in split.tracks.by_name.values())
-        said.say(f"{fixes} fixes of {len(split.tracks.by_name)} animals are in {into}, in {unit}")
-        lines = record_lines(path, split, unit, said)
-        text = "".join(f"{one_line(line)}\n" for line in lines)
-        (folder / "split.txt").write_text(text, encoding="utf-8", errors="surrogateescape")
+        sums = {name: write_track(folder, split.names[name], track, mark) for name, track in split.tracks.by_name.items()}
+        write_record(folder / "split.txt", record_lines(path, split, options, sums, said))
     except OSError as fault:
         shutil.rmtree(folder, ignore_errors=True)
         refuse(f"{fault.filename or into}: {fault.strerror}", "text")
-
-
-class SplitRecord(NamedTuple):
-    """What split.txt says of the tracks beside it."""
-
-    unit: str
-    zone: str | None
-    shift: tuple[int, int]
-    used: dict[str, int]  # how many used fixes the file of each animal has
-
-
-def read_record(folder: Path) -> SplitRecord | None:
-    """The record of the split that made the tracks of a folder; None where there is none."""
-    path = folder / "split.txt"
-    if not path.is_file():
-        return None
-    fields = [line.split(",") for line in path.read_text("utf-8", errors="surrogateescape").split("\n")]
-    known = {field[0]: field[1:] for field in fields if field[0] in ("unit", "zone", "shift")}
-    zone, shift = known.get("zone", ["none"])[0], known.get("shift", ["0", "0"])
-    return SplitRecord(known.get("unit", ["m"])[0], None if zone == "none" else zone, (int(shift[0]), int(shift[1])),
-                       {name: int(used) for _, name, _, used in (field for field in fields if field[0] == "track")})
-
-
-def difference_from_record(record: SplitRecord, fixes: dict[str, int]) -> str | None:
-    """How the animals and numbers of fixes of a report are not those that the record has; None where they are. An animal
-    none of whose fixes is used has no report."""
-    wanted = {name: used for name, used in record.used.items() if used}
-    if not record.used or wanted == fixes:
-        return None
-    name = sorted({*wanted.items()} ^ {*fixes.items()})[0][0]
-    return (f"the report has {fixes.get(name, 0)} fixes of {name}, and split.txt has {wanted.get(name, 0)}: was a track "
-            "changed, or left out?")
+    fixes = sum(len(track.seconds) for track in split.tracks.by_name.values())
+    said.say(f"{fixes} fixes of {len(split.tracks.by_name)} animals are in {into}, in {unit}")

@@ -9,8 +9,8 @@ from collections import Counter
 from itertools import compress
 from typing import Any, Callable, Iterable, Mapping, NoReturn, Optional, Sequence
 
-from .asked import Asked, zone_of_time
-from .cells import Bad, Form, Numbers, Stamp, Times, Unread, moments_of, shown, truth
+from .asked import Asked, forms_of, zone_of_time
+from .cells import Bad, Numbers, Stamp, Times, Unread, moments_of, shown, truth
 from .errors import FrameError, one_line, refuse
 from .titles import ARGOS_CLASSES, DOPS, FIX_TYPES, HOMERANGE, Titles, find_columns
 from .zones import zone_of
@@ -175,10 +175,8 @@ class Table:
     def time_reader(self) -> Times:
         """What reads times."""
         title = " ".join(map(self.title, self.columns.time))
-        form = self.asked.time_format
         is_second = len(self.columns.time) == 1 and self.titles.plain[self.columns.time[0]] == HOMERANGE.time
-        forms = [Form(text) for text in form.split("|")] if form else []
-        return Times(title, is_second, forms, not self.asked.is_frame and self.asked.clock != "UTC", self.missing)
+        return Times(title, is_second, forms_of(self.asked.time_format), not self.asked.is_frame and self.asked.clock != "UTC", self.missing)
 
     @property
     def wanted(self) -> list[int]:
@@ -256,8 +254,8 @@ class Table:
             def read(cell: Any, title: str = self.title(at), must: bool = name == "use") -> bool | None:
                 found = truth(cell, title, self.missing)
                 if must and found is None:
-                    raise Unread(f"{title} is {shown(cell)} and neither true nor false: name another column of marks, "
-                                 "or rename this one", "mark")
+                    raise Unread(f"{title} is {shown(cell)} and neither true nor false: write those, or rename the "
+                                 "column", "mark")
                 return found
             truths[name] = faults.distinct(read, cells[at], rows, MARK, None)
         if "use" in truths:
@@ -381,13 +379,23 @@ class Table:
                    f"{self.asked.word('animal', 'COLUMN')}", "onefix")
         if 2 * single > animals:
             said.say(f"of {animals} animals have one record: is {title} the animal?", single)
+        self.tell_alike(said)
+
+    def tell_alike(self, said: Said) -> None:
+        """Says which names may be meant as one."""
+        known: dict[str, str] = {}
+        for name in self.rows_of:
+            other = known.setdefault(name.strip(" \t\u00a0").lower(), name)
+            if other != name:
+                said.say(f"animals '{other}' and '{name}' differ in blanks or capitals alone: are they one?")
 
 
 def joined(cells: Sequence[Any]) -> Any:
     """The text of several cells, None where one is missing."""
     if None in cells:
         return None
-    return " ".join(cells) if all(isinstance(cell, str) for cell in cells) else Bad("not text in all columns", "time")
+    return " ".join(cells) if all(isinstance(cell, str) for cell in cells) else Bad(
+        "not text in all columns: make text of them", "time")
 
 
 def ranked(words: Iterable[str]) -> tuple[str, str]:

@@ -6,6 +6,7 @@ import re
 from typing import NamedTuple, Sequence
 
 from .asked import Asked
+from .cells import shown
 from .errors import refuse
 
 Pair = tuple[int, int]
@@ -82,9 +83,13 @@ class Titles:
         wanted = text.split("|")
         found = [at for title in wanted for at, own in enumerate(self.titles) if own == title.strip(" \t")]
         if not found:
-            has = ", ".join(f"'{title}'" for title in self.titles[:40])
-            refuse(f"{self.asked.title(option)}: there is no column '{' or '.join(wanted)}'; the table has {has}", "columns")
+            refuse(f"{self.asked.title(option)}: there is no column '{' or '.join(wanted)}'; the table has {self.listed()}",
+                   "columns")
         return found[0]
+
+    def listed(self) -> str:
+        """The first titles of a table, as a refusal lists them."""
+        return ", ".join(map(shown, self.titles[:40]))
 
     def first(self, titles: Sequence[str]) -> int | None:
         """The column of the first of these usual titles that is there."""
@@ -133,12 +138,11 @@ def _usual_places(titles: Titles) -> tuple[Columns, Family | None]:
     if len(degrees) > 1:
         titles.refuse_both([degrees[0][0], degrees[1][0]], "the longitude", "lon")
     if not degrees:
-        has = ", ".join(f"'{title}'" for title in titles.titles[:40])
         remedy = "name them, as by {} and {}, or {} and {}".format(
             titles.asked.word("easting", "X"), titles.asked.word("northing", "Y"),
             titles.asked.word("lon", "X"), titles.asked.word("lat", "Y"))
         refuse(f"there are no columns of usual titles for easting and northing, or longitude and latitude: {remedy}; "
-               f"the table has {has}", "columns")
+               f"the table has {titles.listed()}", "columns")
     return Columns([], [], None, degrees[0], False, False), MOVEBANK if location else None
 
 

@@ -5,18 +5,19 @@ from __future__ import annotations
 
 import operator
 from array import array
-from datetime import date, datetime, timedelta
+from datetime import timedelta
 from itertools import compress, islice
 from math import floor, hypot, isfinite
 from typing import Any, Callable, Iterable, NamedTuple, Optional, Sequence
 
 from . import zones
-from .asked import UNITS, Asked, Unit, seconds_of, zone_of_time
-from .cells import EPOCH, LAST_OF_CALENDAR, Offsets, day_begins, iso_time, moments_of
+from .asked import UNITS, Unit, second_of_bound, seconds_of, zone_of_time
+from .cells import EPOCH, LAST_OF_CALENDAR, Offsets
 from .errors import refuse
 from .tables import ARGOS, CLASSES_OF_ARGOS, Records, Said, Table, nothing_left, ranked
 
 MOST_FIXES = 1_048_576  # of one animal
+FAR = 100_000  # metres from the corner of a grid, within which fixes beside it are no surprise
 STEP = 1_000_000  # metres by which a local grid is shifted
 
 
@@ -101,33 +102,16 @@ class Choice:
         """Keeps the fixes from the first moment to the last that are wanted."""
         asked, records = self.asked, self.records
         if asked.since is not None:
-            first = bound(asked.since, asked, False)
+            first = second_of_bound(asked.since, asked.clock, False)
             self.keep([second >= first for second in records.second], "before", f"fixes are before {asked.since}")
         if asked.until is not None:
-            last = bound(asked.until, asked, True)
+            last = second_of_bound(asked.until, asked.clock, True)
             self.keep([second <= last for second in records.second], "after", f"fixes are after {asked.until}")
 
 
 def month_of(second: int) -> int:
     """The month of a second of a clock; 0 after the year 9999."""
     return (EPOCH + timedelta(seconds=second)).month if second <= LAST_OF_CALENDAR else 0
-
-
-def bound(value: Any, asked: Asked, is_end: bool) -> int:
-    """The second of a bound. One without a zone is a time of the clock; a day is its first second, or its last."""
-    text = value if isinstance(value, str) else value.isoformat() if isinstance(value, (date, datetime)) else str(value)
-    stamp, zone = iso_time(text.strip()), zone_of_time(asked.clock)
-    if stamp is None:
-        refuse(f"{value!r} is no time in {asked.clock}, such as '2024-05-01' or '2024-05-01 00:30:04'")
-    second, part, is_local = stamp
-    if len(text) == len("2024-05-01"):
-        return day_begins(second + 86400, zone) - 1 if is_end else day_begins(second, zone)
-    if is_local:
-        found = moments_of(second, zone)
-        if not found:
-            refuse(f"{value!r} is no time in {asked.clock}, whose clocks passed it over")
-        second = found[-1] if is_end else found[0]
-    return second + (part > 0 and not is_end)
 
 
 Whole = tuple["array[int]", "array[int]"]  # eastings and northings in whole units
@@ -147,7 +131,7 @@ class Places:
     def __init__(self, table: Table, records: Records, said: Said) -> None:
         self.table, self.asked, self.records, self.said = table, table.asked, records, said
         self.wanted = None if self.asked.zone is None else zones.zone_of(self.asked.zone)
-        self.zone, self.is_shifted, self.off = self.wanted, False, list[int]()
+        self.zone, self.is_shifted, self.is_projected, self.off = self.wanted, False, False, list[int]()
         self.east: Sequence[float] = records.east
         self.north: Sequence[float] = records.north
 
@@ -156,6 +140,7 @@ class Places:
         records, used = self.records, self.records.used
         if not any(used):
             nothing_left()
+        self.ask_zeros()
         self.check_degrees()
         if self.table.columns.grid and not self.table.columns.is_utm:
             self.is_shifted = True
@@ -165,19 +150,32 @@ class Places:
         if not records.east or not any(east == east for east in compress(records.east, used)) or not self.take_grid():
             self.project()
 
+    def used_pairs(self) -> list[tuple[float, float]]:
+        """The eastings and northings of the used records that have them."""
+        places = zip(compress(self.records.east, self.records.used), compress(self.records.north, self.records.used))
+        return [place for place in places if place[0] == place[0]]
+
+    def ask_zeros(self) -> None:
+        """Asks about fixes at the corner of the grid, where all others are far from it."""
+        if not self.table.columns.grid or 0 not in self.records.east:
+            return
+        pairs = self.used_pairs()
+        away = [hypot(*pair) for pair in pairs if pair != (0, 0)]
+        if min(away, default=0.0) > FAR:
+            self.said.say("fixes lie at easting 0 and northing 0: are they fixes that failed?", len(pairs) - len(away))
+
     def check_degrees(self) -> None:
         """Refuses degrees in the columns of metres."""
         columns, records = self.table.columns, self.records
-        if columns.grid is None or columns.grid[0] < 0:
+        if columns.grid is None:
             return
         places = zip(compress(records.east, records.used), compress(records.north, records.used))
         if not all(abs(east) <= 180 and abs(north) <= 90 for east, north in places if east == east):
             return
-        pairs = [(east, north) for east, north, used in zip(records.east, records.north, records.used)
-                 if used and east == east]
+        pairs = self.used_pairs()
         if all(east == floor(east) and north == floor(north) for east, north in pairs):
             return
-        if columns.is_own:
+        if columns.is_own or columns.grid[0] < 0:
             self.said.say("all fixes lie within 180 m by 90 m of the grid's corner: are they longitude and latitude?")
             return
         titles = [self.table.title(at) for at in columns.grid]
@@ -250,6 +248,7 @@ class Places:
                    f"{self.asked.word('zone', most[:-1] + 'S')}", "zone")
         self.zone = self.wanted or most
         self.said.say(f"longitude and latitude are projected into zone {self.zone}; fixes by zone: {counts}")
+        self.is_projected = True
         self.east, self.north = zones.project(records.longitude, records.latitude, self.zone)
 
     def refuse_degrees(self, zone: str) -> None:

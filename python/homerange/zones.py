@@ -37,6 +37,14 @@ def crs_of(zone: str) -> str:
     return f"EPSG:{326 if zone[-1] == 'N' else 327}{zone[:-1]:0>2}"
 
 
+UTM = {crs_of(f"{zone}{half}"): f"{zone}{half}" for zone in range(1, 61) for half in "NS"}
+
+
+def zone_of_crs(crs: Any) -> str | None:
+    """The zone of a reference system; None where it is that of none."""
+    return UTM.get(str(crs))
+
+
 def zone_at(longitude: float, latitude: float) -> str:
     """The zone of a place, by its longitude alone."""
     return f"{int((longitude + 180) // 6) % 60 + 1}{'N' if latitude >= 0 else 'S'}"

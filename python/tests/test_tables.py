@@ -7,7 +7,7 @@ from pathlib import Path
 import numpy
 import pandas
 import pytest
-from exact import cloud, hull
+from exact import cloud
 from frames import START, frame_of, noted
 
 from homerange import FrameError, HomeRangeError, HomeRangeInfo, HomeRangeNote, home_range
@@ -86,6 +86,23 @@ def test_failed_fixes_are_left_out_and_counted():
         assert home_range(frame, 100).summary()[["fixes", "left_out"]].values.tolist() == [[3, 1]]
 
 
+@pytest.mark.parametrize("tz, zone, said", [
+    (timezone(timedelta(hours=5, minutes=30)), None,
+     "^days and hours are those of UTC, since the zone UTC[+]05:30 of timestamp has no name"),
+    (None, "Europe/Berlin", "^times of timestamp without a zone are those of UTC, and days and hours those of Europe/Berlin"),
+])
+def test_a_zone_that_is_guessed_is_said(tz, zone, said):
+    times = pandas.date_range("2024-05-01", periods=4, freq="H", tz=tz)
+    with pytest.warns(UserWarning, match=said):
+        found = home_range(frame_of(a=SQUARE).assign(timestamp=times), tz=zone)
+    assert found.summary()["first"][0] == (times[0] if tz else times[0].tz_localize("UTC"))
+
+
+def test_a_category_of_times_has_its_zone():
+    times = pandas.Series(pandas.date_range("2024-05-01", periods=4, freq="H", tz="Europe/Berlin")).astype("category")
+    assert home_range(frame_of(a=SQUARE).assign(timestamp=times)).tz == "Europe/Berlin"
+
+
 @pytest.mark.parametrize("zone, name", [
     ("Europe/Berlin", "Europe/Berlin"), (timezone(timedelta(hours=2)), "Etc/GMT-2"), ("UTC", "UTC"), (None, "UTC")])
 def test_hours_are_those_of_the_columns_zone(zone, name):
@@ -108,6 +125,7 @@ def test_hours_may_be_parts_and_numbers_of_numpy():
 
 @pytest.mark.parametrize("words, kept", [
     ({"since": "2018-11-04", "tz": "America/Sao_Paulo"}, 21), ({"until": "2018-11-03", "tz": "America/Sao_Paulo"}, 3),
+    ({"until": " 2018-11-03 ", "tz": "America/Sao_Paulo"}, 3),
     ({"from_": numpy.datetime64("2018-11-04T12:00")}, 12), ({"since": pandas.Timestamp("2018-11-04 12:00")}, 12),
     ({"every": "12h"}, 2), ({"every": 0.5}, 24), ({"every": "90min"}, 16),
 ])
@@ -125,8 +143,16 @@ def test_two_columns_of_the_time():
     frame = frame_of(a=SQUARE).assign(day="2024-05-01", clock=["01:00", "02:00", "03:00", "04:00"])
     found = home_range(frame, time=["day", "clock"])
     assert found.curve()["time"].tolist() == [pandas.Timestamp(f"2024-05-01 0{hour}:00", tz="UTC") for hour in (1, 2, 3, 4)]
-    with pytest.raises(FrameError, match="row 0: timestamp clock is not text in all columns"):
+    with pytest.raises(FrameError, match="row 0: timestamp clock is not text in all columns: make text of them"):
         home_range(frame, time=["timestamp", "clock"])
+
+
+@pytest.mark.parametrize("name", ["", "a\tb", "a\x7f"])
+def test_a_name_that_cannot_be_right(name):
+    frame = frame_of(a=SQUARE).drop(columns="animal")
+    with pytest.raises(FrameError, match="name: a name without control characters is wanted") as fault:
+        home_range(frame, name=name)
+    assert fault.value.kind == "option"
 
 
 def test_filters_are_arguments():
@@ -156,7 +182,7 @@ def test_a_number_and_a_text_are_no_one_animal():
 @pytest.mark.parametrize("words", [
     {"use": True}, {"easting": "northing", "northing": "northing"}, {"animal": pandas.Series(["a"])}, {"tz": 5},
     {"levels": numpy.nan}, {"every": "often"}, {"every_hours": float("inf")}, {"hours": 18}, {"hours": ("a", "b")},
-    {"months": "May"}, {"max_speed": -1}, {"unit": None}, {"zone": 33}, {"use": 5}, {"since": 5}, {"until": "2024-02-30"},
+    {"months": "May"}, {"max_speed": -1}, {"unit": None}, {"zone": 33}, {"use": 5}, {"since": 5}, {"until": "2024-02-30"}, {"max_dop": "1_0"},
     {"argos_class": 3.5}, {"crs": 5},
 ])
 def test_arguments_are_taken_or_refused_as_one_error(words):
@@ -203,6 +229,14 @@ def test_a_crs_of_columns_is_that_of_the_answers():
     assert home_range(frame_of(a=SQUARE), crs=32633).polygons().crs.to_epsg() == 32633
     with pytest.warns(HomeRangeInfo, match="coordinates are those of the table; zone: 33N"):
         assert home_range(frame_of(a=SQUARE), zone="33 n").crs == "EPSG:32633"
+
+
+def test_a_crs_is_named_as_a_whole():
+    frame = frame_of(a=SQUARE)
+    assert home_range(frame, crs="WGS 84 / UTM zone 33N").crs.to_epsg() == 32633
+    for name in ("foo", "wgs", "UTM zone 33N"):  # of "foo" pyproj makes Amersfoort
+        with pytest.raises(FrameError, match=f"crs='{name}' names no reference system"):
+            home_range(frame, crs=name)
 
 
 def test_a_zone_and_a_crs_have_to_be_of_one_place():

@@ -5,6 +5,7 @@ units_known <- list(
   dm = list(name = "decimetres", scale = 10, limit = 134217728, hectare = 2000000)
 )
 lengths_known <- c(h = 3600, min = 60, s = 1)
+number_form <- "^[-+]?(?:[0-9]+[.]?[0-9]*|[.][0-9]+)(?:[eE][-+]?[0-9]+)?\\z"
 
 # Options by their names with _ for hyphens. One that is NULL is no wish.
 new_asked <- function(options, is_frame) {
@@ -37,19 +38,33 @@ needs_time <- function(asked) {
 
 is_number <- function(value) is.numeric(value) && length(value) == 1 && is.finite(value)
 is_text <- function(value) is.character(value) && length(value) == 1 && !is.na(value)
+is_truth <- function(value) isTRUE(value) || isFALSE(value)
 
-# Refuses options that cannot be right.
+# Which texts have a control character of ASCII.
+has_control <- function(texts) grepl("[\\x01-\\x1f\\x7f]", texts, perl = TRUE, useBytes = TRUE)
+
+# Refuses options that cannot be right, before a table is looked at.
 check_asked <- function(asked) {
   if (!is_text(asked$unit) || !asked$unit %in% names(units_known)) {
     refuse("option", "unit: \"m\" for metres or \"dm\" for decimetres is wanted")
   }
-  for (option in c("zone", "easting", "northing", "lon", "lat", "dop", "fix", "argos", "name")) {
+  for (option in c("zone", "easting", "northing", "lon", "lat", "dop", "fix", "argos", "name", "encoding", "time_format")) {
     if (!is.null(asked[[option]]) && !is_text(asked[[option]])) refuse("option", option, ": one text is wanted")
   }
+  if (!is_number(asked$skip_lines) || asked$skip_lines < 0 || asked$skip_lines %% 1 > 0) {
+    refuse("option", "skip-lines is ", format(asked$skip_lines)[1], " and not a number from 0")
+  }
+  if (asked$name == "" || asked$is_frame && has_control(asked$name)) {
+    refuse("option", option_title(asked, "name"), ": a name without control characters is wanted")
+  }
+  if (!is_truth(asked$skip_unnamed)) refuse("option", "skip_unnamed: TRUE or FALSE is wanted")
   check_zone_of_time(clock_of(asked))
   asked$max_dop <- number_from_0(asked$max_dop, "max-dop")
   asked$max_speed <- number_from_0(asked$max_speed, "max-speed")
   if (!is.null(asked$every)) asked$step <- seconds_of(asked$every)
+  if (!is.null(asked$zone)) zone_of(asked$zone)
+  forms_of(asked$time_format)
+  for (option in c("since", "until")) if (!is.null(asked[[option]])) second_of_bound(asked[[option]], option, clock_of(asked))
 }
 
 check_zone_of_time <- function(tz) {
@@ -61,7 +76,7 @@ check_zone_of_time <- function(tz) {
 # A number that is not negative, or NULL.
 number_from_0 <- function(value, option) {
   if (is.null(value)) return(NULL)
-  is_plain <- is_number(value) || is_text(value) && grepl("^[-+0-9.eE]+\\z", value, perl = TRUE)
+  is_plain <- is_number(value) || is_text(value) && grepl(number_form, value, perl = TRUE)
   number <- if (is_plain) suppressWarnings(as.numeric(value)) else NA
   if (!is.finite(number) || number < 0) {
     text <- if (is.character(value)) paste0("'", value, "'") else format(value)

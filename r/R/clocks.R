@@ -2,16 +2,21 @@
 
 last_of_calendar <- 253402300799  # the last second of the year 9999
 
+# The different values of a vector, whose values are often all the same.
+distinct <- function(values) {
+  if (length(values) && isTRUE(all(values == values[1]))) values[1] else unique(values)
+}
+
 # What a function makes of the different values of a vector, put where they stand.
 by_distinct <- function(values, action) {
-  kinds <- unique(values)
+  kinds <- distinct(values)
   action(kinds)[match(values, kinds)]
 }
 
 # How many seconds the clock of a zone is before that of UTC at seconds since 1970. Clocks are moved at none within a
 # quarter of an hour.
 offsets_at <- function(seconds, tz) {
-  if (tz == "UTC") return(rep(0, length(seconds)))
+  if (tz %in% c("UTC", "GMT")) return(rep(0, length(seconds)))  # of neither R has an offset
   by_distinct(pmin(900 * (seconds %/% 900), last_of_calendar - 172800), function(quarters) {
     offsets <- as.POSIXlt(.POSIXct(quarters, tz = tz), tz = tz)$gmtoff
     ifelse(is.na(offsets), 0, offsets)

@@ -1,12 +1,13 @@
 # The fields of a text, read in pieces as Python's module csv reads them: a quote at the start of a field opens it, one at
 # another place is a letter. Lines with such quotes are read slower.
 
-piece_size <- 20000  # lines that are read at once
-plain_number <- "(?:-?0*[0-9]{1,12}(?:[.][0-9]+)?|)"
+line_ends <- as.raw(c(10, 13))
+bytes_of_tail <- 4096  # where the end of the last line is looked for first
+plain_number <- "(-?0*[0-9]{1,12}([.][0-9]+)?|)"
 
 # Expressions where this stands between fields: for a field without quotes but those in which it stands, for one that may have
 # others behind its start, for one that goes on behind its quotes, and for a line whose last field is open.
-plain_field_form <- function(sign) sprintf("(?:\"[^\"]*+(?:\"\"[^\"]*+)*+\"|[^\"%s]*+)", sign)
+plain_field_form <- function(sign) sprintf("(?:\"[^\"\n]*+(?:\"\"[^\"\n]*+)*+\"|[^\"%s\n]*+)", sign)
 field_form <- function(sign) sprintf("(?:\"[^\"]*+(?:\"\"[^\"]*+)*+\"|(?!\")[^%s]*+)", sign)
 odd_field_form <- function(sign) sprintf("(?:\"[^\"]*+(?:\"\"[^\"]*+)*+\"[^%s]*+|(?!\")[^%s]*+)", sign, sign)
 open_form <- function(sign) sprintf("^(?:%s%s)*+\"[^\"]*+(?:\"\"[^\"]*+)*+\\z", odd_field_form(sign), sign)
@@ -17,58 +18,134 @@ separator_of <- function(line) {
   if (grepl("\t", line, fixed = TRUE) && !grepl(",", line, fixed = TRUE)) "\t" else ","
 }
 
-# The rows of a text from its line of titles on. The connection gives the lines behind that.
-new_csv <- function(connection, line, path) {
-  csv <- list2env(list(connection = connection, path = path, sign = separator_of(line), has_end = FALSE, waiting = character()))
-  records <- whole_records(csv, line)
-  csv$waiting <- records[-1]
-  csv$titles <- fields_of_records(records[1], csv$sign)[[1]]
-  csv
+# The rows of a text, of which a function gives the next bytes, none where there are no more: rest are those behind the last
+# whole line, and waiting is text that was put back.
+new_csv <- function(more, path) list2env(list(more = more, path = path, rest = raw(), has_end = FALSE, waiting = ""))
+
+# The next whole lines as one text, "" where there are no more. Each line ends in LF.
+next_text <- function(csv) {
+  text <- csv$waiting
+  csv$waiting <- ""
+  while (text == "" && !csv$has_end) {
+    more <- csv$more()
+    csv$has_end <- !length(more)
+    end <- end_of_lines(more)
+    found <- cut_bytes(csv$rest, more, if (end || csv$has_end) length(csv$rest) + end else 0)
+    csv$rest <- found$rest
+    text <- text_of_bytes(found$first, csv$path, "UTF-8")
+  }
+  if (csv$has_end && text != "" && !endsWith(text, "\n")) text <- paste0(text, "\n")
+  text
 }
 
-# The next lines; none where there are no more.
-more_lines <- function(csv) {
-  lines <- csv$waiting
-  csv$waiting <- character()
-  if (length(lines) || csv$has_end) return(lines)
-  lines <- readLines(csv$connection, piece_size, warn = FALSE, encoding = "UTF-8")
-  csv$has_end <- length(lines) < piece_size
+# The first bytes of two vectors one behind the other, so many, and the rest. A connection copies them whole, where R's c()
+# and [ go from byte to byte.
+cut_bytes <- function(one, other, cut) {
+  both <- rawConnection(raw(), "r+")
+  on.exit(close(both))
+  writeBin(one, both)
+  writeBin(other, both)
+  seek(both, 0)
+  list(first = readBin(both, "raw", cut), rest = readBin(both, "raw", length(one) + length(other) - cut))
+}
+
+# How many bytes there are up to the last end of a line, which is looked for among the last first. A CR that is the last byte
+# of all may be half of an end.
+end_of_lines <- function(bytes) {
+  for (width in pmin(c(bytes_of_tail, length(bytes)), length(bytes))) {
+    ends <- which(utils::tail(bytes, width) %in% line_ends) + length(bytes) - width
+    ends <- ends[ends < length(bytes) | bytes[ends] == line_ends[1]]
+    if (length(ends)) return(max(ends))
+  }
+  0
+}
+
+# The text of bytes in UTF-8, marked as such unless it is ASCII, whose lines end in LF; what is no text is refused.
+text_of_bytes <- function(bytes, path, name) {
+  has_zero <- length(grepRaw(as.raw(0), bytes, fixed = TRUE)) > 0
+  text <- rawToChar(if (has_zero) bytes[bytes != 0] else bytes)
+  if (grepl("[^\\x01-\\x0c\\x0e-\\x7f]", text, perl = TRUE, useBytes = TRUE)) {
+    if (!validUTF8(text)) refuse_coding(path, name)
+    text <- gsub("\r\n?", "\n", text, perl = TRUE, useBytes = TRUE)
+    Encoding(text) <- "UTF-8"
+  }
+  if (has_zero) refuse("text", path, " is no text: it has a byte 0")
+  text
+}
+
+# The lines of a text, each of which ends in LF.
+lines_of_text <- function(text) {
+  lines <- strsplit(text, "\n", fixed = TRUE, useBytes = TRUE)[[1]]
+  Encoding(lines) <- "UTF-8"
   lines
 }
 
-# Sets which columns are wanted, and which of them are numbers, of which the second form knows the plain ones.
-want_columns <- function(csv, wanted, numbers) {
+# The next lines; none where there are no more.
+more_lines <- function(csv) lines_of_text(next_text(csv))
+
+# Lines that are read again.
+put_back <- function(csv, lines) csv$waiting <- paste0(lines, "\n", collapse = "")
+
+# Takes the titles, which begin in this line, and lets the lines behind it be read next.
+take_titles <- function(csv, line, behind) {
+  put_back(csv, behind)
+  csv$sign <- separator_of(line)
+  records <- whole_records(csv, line)
+  if (length(records) > 1) put_back(csv, c(records[-1], lines_of_text(csv$waiting)))
+  csv$titles <- fields_of_records(records[1], csv$sign)[[1]]
+}
+
+# Sets which columns are wanted, and which of them are numbers, of which the second form knows the plain ones, and times.
+want_columns <- function(csv, wanted, numbers, times) {
   csv$wanted <- wanted
-  csv$numbers <- wanted %in% numbers
+  csv$kinds <- ifelse(wanted %in% numbers, "number", ifelse(wanted %in% times, "time", "text"))
   at <- seq_along(csv$titles)
-  field <- field_form(csv$sign)
-  csv$form <- paste0("^", paste0(ifelse(at %in% wanted, paste0("(", field, ")"), field), collapse = csv$sign), "\\z")
-  csv$plain_form <- paste0("^", paste0(ifelse(at %in% numbers, plain_number, plain_field_form(csv$sign)), collapse = csv$sign), "\\z")
-  csv$what <- lapply(at, function(column) if (column %in% numbers) 0 else if (column %in% wanted) "")
+  forms_of <- function(field) ifelse(at %in% wanted, paste0("(", field, ")"), field)
+  csv$form <- paste0("^", paste0(forms_of(field_form(csv$sign)), collapse = csv$sign), "\\z")
+  plain <- ifelse(at %in% numbers, plain_number, forms_of(plain_field_form(csv$sign)))
+  csv$plain_form <- paste0("\\G(?!\n)", paste0(plain, collapse = csv$sign), "\n")
 }
 
 # The next records: the cells of the wanted columns by their number, how many there are up to the first that has another
 # number of fields, and how many fields that has; NULL where there are no more.
 next_piece <- function(csv) {
-  lines <- more_lines(csv)
-  if (!length(lines)) return(NULL)
-  if (all(grepl(csv$plain_form, lines, perl = TRUE)) && all(lines != "")) return(plain_piece(csv, lines))
-  lines <- whole_records(csv, lines)
+  text <- next_text(csv)
+  if (text == "") return(NULL)
+  found <- gregexpr(csv$plain_form, text, perl = TRUE, useBytes = TRUE)[[1]]
+  if (sum(attr(found, "match.length")) == nchar(text, "bytes")) return(plain_piece(csv, text, found))
+  lines <- whole_records(csv, lines_of_text(text))
   lines <- lines[lines != ""]
   if (length(lines)) odd_piece(csv, lines) else next_piece(csv)
 }
 
-# A piece of lines whose numbers are plain: R reads them, and those of which it might be wrong are read again.
-plain_piece <- function(csv, lines) {
-  quote <- if (any(grepl("\"", lines, fixed = TRUE))) "\"" else ""
-  cells <- scan(text = lines, what = csv$what, sep = csv$sign, quote = quote, quiet = TRUE, na.strings = character(),
-                blank.lines.skip = FALSE, multi.line = FALSE)[csv$wanted]
+# A piece of lines without odd quotes, whose numbers are plain, by where the fields of its text were found, in bytes. Of a
+# number its decimals were found too.
+plain_piece <- function(csv, text, found) {
+  bytes <- charToRaw(text)
+  if (Encoding(text) != "unknown") Encoding(text) <- "bytes"
+  starts <- attr(found, "capture.start")
+  widths <- attr(found, "capture.length")
+  places <- cumsum(1 + (csv$kinds == "number")) - (csv$kinds == "number")
+  cells <- Map(function(kind, at) {
+    if (kind == "number") return(plain_numbers(bytes, starts[, at], widths[, at], widths[, at + 1]))
+    moments <- if (kind == "time") plain_times(bytes, starts[, at], widths[, at])
+    if (is.null(moments)) plain_texts(text, bytes, starts[, at], widths[, at]) else moments
+  }, csv$kinds, places)
   names(cells) <- csv$wanted
-  for (at in which(csv$numbers)) {
-    near <- near_halves(cells[[at]])
-    if (length(near)) cells[[at]][near] <- decimals(captured_fields(csv, lines[near])[[at]])
+  list(cells = cells, count = length(found))
+}
+
+# The fields of a text. Those that are all the same are cut out once.
+plain_texts <- function(text, bytes, starts, widths) {
+  is_same <- all(widths == widths[1])
+  for (at in seq_len(if (is_same) widths[1] else 0) - 1L) {
+    is_same <- is_same && all(bytes[starts + at] == bytes[starts[1] + at])
   }
-  list(cells = cells, count = length(lines))
+  number <- length(starts)
+  own <- if (is_same) 1 else seq_len(number)
+  fields <- substring(text, starts[own], starts[own] + widths[own] - 1L)
+  if (Encoding(text) == "bytes") Encoding(fields) <- "UTF-8"
+  rep_len(plain_fields(fields), number)
 }
 
 # The wanted fields of lines, each a column; "" where a line has not the form.

@@ -60,6 +60,7 @@ check_maker <- function(titles, asked) {
 coding_of <- function(name) {
   plain <- gsub("[ _]", "-", tolower(name))
   if (plain %in% c("utf-8", "utf8", "u8", "utf-8-sig")) return("UTF-8")
+  if (grepl("^utf-?(16|32)(-?(le|be))?$", plain)) return(toupper(sub("^utf-?(16|32)-?", "utf-\\1", plain)))
   tries <- c(name, plain, sub("^latin-?", "latin", plain), sub("^(iso)-?8859-?", "\\1-8859-", plain), sub("^cp-?", "CP", plain),
              sub("^mac-?roman$", "MACINTOSH", plain))
   is_known <- vapply(tries, function(coding) {
@@ -68,61 +69,72 @@ coding_of <- function(name) {
   unname(tries[is_known][1])
 }
 
-# Copies a file, whose text becomes UTF-8 without a byte order mark, and answers its checksum. Looks at all of it.
-copy_text <- function(path, copy, asked) {
-  coding <- coding_of(asked$encoding)
+# Opens a text: read_bytes gives its bytes in UTF-8, and checksum_read that of its file, once all are read. What is in another
+# coding is read from a copy; else the spare file takes the checksum.
+open_text <- function(path, spare, asked, is_gpx) {
+  text <- list2env(list(path = path, spare = spare, is_first = TRUE))
+  coding <- if (is_gpx) "GPX" else coding_of(asked$encoding)
   if (is.na(coding)) refuse("option", "encoding: there is no coding ", asked$encoding)
+  if (coding == "UTF-8") {
+    text$input <- open_file(path)
+    text$output <- pipe(paste("sha256sum >", shQuote(spare)), "wb")
+  } else {
+    text$checksum <- if (is_gpx) copy_gpx(path, spare, asked) else copy_text(path, spare, coding, asked)
+    text$input <- file(spare, "rb")
+  }
+  text
+}
+
+# The next bytes of a text but for a byte order mark, none where there are no more.
+read_bytes <- function(text) {
+  bytes <- readBin(text$input, "raw", bytes_read)
+  if (!is.null(text$output)) writeBin(bytes, text$output)
+  has_mark <- text$is_first && identical(utils::head(bytes, 3), byte_order_mark)
+  text$is_first <- FALSE
+  if (has_mark) bytes[-(1:3)] else bytes
+}
+
+checksum_read <- function(text) {
+  if (!is.null(text$output)) {
+    close(text$output)
+    text$output <- NULL
+    text$checksum <- substr(readLines(text$spare), 1, 64)
+  }
+  text$checksum
+}
+
+close_text <- function(text) for (connection in list(text$input, text$output)) if (!is.null(connection)) close(connection)
+
+# Copies a file in another coding than UTF-8, whose text becomes UTF-8, and answers its checksum. Looks at all of it.
+copy_text <- function(path, copy, coding, asked) {
+  copy_with_sum(path, copy, function(input, outputs) copy_recoded(input, outputs, path, coding, asked))
+}
+
+# Copies a file by an action that writes its bytes to the first of two outputs and the copy to the second; answers the
+# checksum of the bytes.
+copy_with_sum <- function(path, copy, action) {
   sum <- tempfile("sum")
   on.exit(unlink(sum))
-  copy_to_outputs(path, list(pipe(paste("sha256sum >", shQuote(sum)), "wb"), file(copy, "wb")), coding, asked)
+  copy_to_outputs(path, list(pipe(paste("sha256sum >", shQuote(sum)), "wb"), file(copy, "wb")), action)
   substr(readLines(sum), 1, 64)
 }
 
-# Copies a file to the first output, and its text in UTF-8 to the second; closes both.
-copy_to_outputs <- function(path, outputs, coding, asked) {
+copy_to_outputs <- function(path, outputs, action) {
   on.exit(for (output in outputs) close(output))
   input <- open_file(path)
   on.exit(close(input), add = TRUE)
-  if (coding == "UTF-8") copy_pieces(input, outputs, path) else copy_recoded(input, outputs, path, coding, asked)
+  action(input, outputs)
+}
+
+# Copies a file as it is.
+copy_bytes <- function(input, outputs) {
+  while (length(bytes <- readBin(input, "raw", bytes_read))) for (output in outputs) writeBin(bytes, output)
 }
 
 open_file <- function(path) {
   unread <- function(fault) refuse("text", path, " cannot be read")
   if (dir.exists(path)) unread()
   tryCatch(file(path, "rb", raw = TRUE), warning = unread, error = unread)
-}
-
-# Copies a text in UTF-8 in pieces that end between letters; the mark at its start goes to the first output alone.
-copy_pieces <- function(input, outputs, path) {
-  rest <- raw()
-  is_first <- TRUE
-  repeat {
-    bytes <- readBin(input, "raw", bytes_read)
-    writeBin(bytes, outputs[[1]])
-    piece <- c(rest, bytes)
-    if (is_first && identical(utils::head(piece, 3), byte_order_mark)) piece <- piece[-(1:3)]
-    is_first <- FALSE
-    cut <- if (length(bytes)) end_of_letters(piece) else length(piece)
-    rest <- utils::tail(piece, length(piece) - cut)
-    if (cut < length(piece)) piece <- utils::head(piece, cut)
-    check_bytes(piece, path, "UTF-8")
-    writeBin(piece, outputs[[2]])
-    if (!length(bytes)) return(invisible())
-  }
-}
-
-# How many bytes there are up to the last that is a letter by itself, among the last few.
-end_of_letters <- function(bytes) {
-  last <- max(which(utils::tail(bytes, 8) < 0x80), 0)
-  if (last) last + max(length(bytes) - 8, 0) else 0
-}
-
-# Refuses bytes that are no text.
-check_bytes <- function(bytes, path, name) {
-  has_zero <- length(grepRaw(as.raw(0), bytes, fixed = TRUE)) > 0
-  if (has_zero) bytes <- bytes[bytes != 0]
-  if (!validUTF8(rawToChar(bytes))) refuse_coding(path, name)
-  if (has_zero) refuse("text", path, " is no text: it has a byte 0")
 }
 
 refuse_coding <- function(path, name) {
@@ -134,16 +146,25 @@ copy_recoded <- function(input, outputs, path, coding, asked) {
   bytes <- raw()
   while (length(more <- readBin(input, "raw", bytes_read))) bytes <- c(bytes, more)
   writeBin(bytes, outputs[[1]])
+  if (coding %in% c("UTF-16", "UTF-32") && !has_mark(bytes)) refuse_coding(path, asked$encoding)
   text <- iconv(list(bytes), coding, "UTF-8", toRaw = TRUE)[[1]]
   if (is.null(text)) refuse_coding(path, asked$encoding)
-  check_bytes(text, path, asked$encoding)
+  if (identical(utils::head(text, 3), byte_order_mark)) text <- text[-(1:3)]
+  text_of_bytes(text, path, asked$encoding)
   writeBin(text, outputs[[2]])
 }
 
-# The track points of GPX as a table, written to a file.
+# Whether a byte order mark of UTF-16 or UTF-32 stands at the start.
+has_mark <- function(bytes) {
+  any(vapply(list(c(0xff, 0xfe), c(0xfe, 0xff), c(0, 0, 0xfe, 0xff)), function(mark) {
+    identical(utils::head(bytes, length(mark)), as.raw(mark))
+  }, NA))
+}
+
+# The track points of GPX, which names its own coding, as a table that is written to a file.
 copy_gpx <- function(path, copy, asked) {
   if (!requireNamespace("xml2", quietly = TRUE)) refuse("text", path, ": to read GPX, install r-cran-xml2")
-  checksum <- copy_text(path, copy, asked)
+  checksum <- copy_with_sum(path, copy, copy_bytes)
   root <- tryCatch(xml2::read_xml(copy), error = function(fault) NULL)
   if (is.null(root) || !endsWith(xml2::xml_name(root), "gpx")) refuse("text", path, " is no GPX")
   own <- function(node, name) xml2::xml_text(xml2::xml_find_first(node, sprintf("./*[local-name() = '%s']", name)))
@@ -167,33 +188,32 @@ write_lines <- function(path, lines) {
   writeLines(enc2utf8(lines), output, useBytes = TRUE)
 }
 
-# The first line that has the titles: blank ones are passed over, and where a start of it is asked for all before.
-line_of_titles <- function(connection, asked, path) {
-  if (asked$skip_lines > 0) readLines(connection, asked$skip_lines, warn = FALSE)
-  repeat {
-    line <- readLines(connection, 1, warn = FALSE, encoding = "UTF-8")
-    if (!length(line)) break
-    is_wanted <- if (is.null(asked$header)) line != "" else startsWith(sub("^\"+", "", line), asked$header)
-    if (is_wanted) return(line)
+# Finds the line of titles and takes it: blank ones are passed over, and where a start of it is asked for all before.
+find_titles <- function(csv, asked) {
+  passed <- asked$skip_lines
+  while (length(lines <- more_lines(csv))) {
+    is_wanted <- if (is.null(asked$header)) lines != "" else startsWith(sub("^\"+", "", lines), asked$header)
+    at <- which(is_wanted & seq_along(lines) > passed)[1]
+    if (!is.na(at)) return(take_titles(csv, lines[at], lines[-seq_len(at)]))
+    passed <- passed - length(lines)
   }
-  if (is.null(asked$header)) refuse("empty", path, " has no line of titles")
+  if (is.null(asked$header)) refuse("empty", csv$path, " has no line of titles")
   refuse("columns", "no line begins with '", asked$header, "', as that of titles does")
 }
 
-# The table of a text. The fault of the first record that has one is the one that is told, but for a quote without an end.
-read_table <- function(copy, path, asked) {
-  connection <- file(copy, "r")
-  on.exit(close(connection))
-  if (asked$skip_lines < 0) refuse("option", "skip-lines is ", asked$skip_lines, " and not a number from 0")
-  csv <- new_csv(connection, line_of_titles(connection, asked, path), path)
+# The table of a text. The fault of the first record that has one is the one that is told, but for bytes that are no text and a
+# quote without an end.
+read_table <- function(text, asked) {
+  csv <- new_csv(function() read_bytes(text), text$path)
+  find_titles(csv, asked)
   tryCatch({
     check_maker(csv$titles, asked)
     table <- new_table(csv$titles, asked, csv$sign == ";")
-    want_columns(csv, wanted_columns(table), plain_columns(table))
+    want_columns(csv, wanted_columns(table), plain_columns(table), plain_times_column(table))
     while (!is.null(piece <- next_piece(csv))) take_piece(table, piece, length(csv$titles))
     table
   }, homerange_error = function(fault) {
-    check_end(csv)
+    if (fault$kind != "text") check_end(csv)
     stop(fault)
   })
 }
@@ -217,12 +237,15 @@ clean_names <- function(names) {
 
 # The tracks of a table of text, its checksum, and the clean name of each animal by its number.
 read_text <- function(path, options, said) {
-  with_prefix(function(record) if (!is.null(record)) paste0("record ", record, ": "), {
-    copy <- tempfile("text")
-    on.exit(unlink(copy))
+  with_prefix(function(record) if (!is.null(record)) sprintf("record %.0f: ", record), {
+    spare <- tempfile("text")
+    on.exit(unlink(spare))
     asked <- asked_of_text(options)
-    checksum <- (if (identical(options$from, "gpx")) copy_gpx else copy_text)(path, copy, asked)
-    table <- read_table(copy, path, asked)
+    check_asked(asked)
+    text <- open_text(path, spare, asked, identical(options$from, "gpx"))
+    on.exit(close_text(text), add = TRUE, after = FALSE)
+    table <- read_table(text, asked)
+    checksum <- checksum_read(text)
     tracks <- make_tracks(table, said, clean_names)
     tell_names(tracks$herd, said)
     list(tracks = tracks, names = clean_names(table$names), checksum = checksum)
@@ -233,16 +256,21 @@ read_text <- function(path, options, said) {
 tell_names <- function(herd, said) {
   names <- herd$names[herd_animals(herd)]
   clean <- clean_names(names)
-  twice <- which(duplicated(clean))[1]
-  if (!is.na(twice)) {
-    refuse("name", "animals '", names[match(clean[twice], clean)], "' and '", names[twice], "' would both be named ", clean[twice])
-  }
+  refuse_same_names(names, clean)
   for (at in which(names != clean)) say(said, NULL, "animal '", names[at], "' is named ", clean[at])
+}
+
+# Refuses two animals whose clean names are the same.
+refuse_same_names <- function(names, clean) {
+  twice <- which(duplicated(clean))[1]
+  if (is.na(twice)) return(invisible())
+  refuse("name", "animals '", names[match(clean[twice], clean)], "' and '", names[twice], "' would both be named ", clean[twice])
 }
 
 # The fixes of a table of text as a data frame for home_range.
 read_export <- function(file, ...) {
   options <- list(...)
+  if (!is_text(file)) refuse("option", "file: the name of one file is wanted")
   check_options(options)
   said <- new_said(function(line) {
     # What the table has is neither rounded nor shifted.
@@ -271,10 +299,19 @@ options_of_text <- c("from", "zone", "sensor", "skip_unnamed", "animal", "name",
                      "northing", "na", "skip_lines", "encoding", "argos_class", "argos", "max_dop", "dop", "fix_type", "fix", "since",
                      "until", "max_speed", "every")
 
+# Refuses options that there are not, or that cannot be right.
 check_options <- function(options) {
   odd <- setdiff(names(options), options_of_text)
   if (length(odd) || length(options) > sum(nzchar(names(options)))) {
     refuse("option", "there is no option ", if (length(odd)) odd[1] else "without a name", "; there are ",
            paste(options_of_text, collapse = ", "))
   }
+  for (option in intersect(c("from", "encoding", "time_format"), names(options))) {
+    if (!is.null(options[[option]]) && !is_text(options[[option]])) refuse("option", option, ": one text is wanted")
+  }
+  lines <- options$skip_lines
+  if (!is.null(lines) && !(is_number(lines) && lines >= 0 && lines == floor(lines))) {
+    refuse("option", "skip_lines: a whole number from 0 is wanted")
+  }
+  for (option in intersect(list_options, names(options))) words_of(options[[option]], option)
 }

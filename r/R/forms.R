@@ -7,12 +7,18 @@ signs_of_forms <- c(
   S = "[0-9]{1,2}(?:[.][0-9]+)?", p = "am|pm"
 )
 
+# The forms that were named, NULL where none was.
+forms_of <- function(text) {
+  if (!is.null(text)) lapply(strsplit(paste0(text, "|"), "|", fixed = TRUE)[[1]], new_form)
+}
+
 # A form: its text, its signs, and the expression whose groups are those.
 new_form <- function(text) {
   at <- gregexpr("%.", text)[[1]]
   signs <- if (at[1] > 0) substring(text, at + 1, at + 1) else character()
-  if (!all(signs %in% names(signs_of_forms)) || anyDuplicated(signs) || !any(c("Y", "y") %in% signs)) {
-    refuse("option", "time-format is '", text, "', which is no form of a date with %Y %m %d, or %H %M %S, %I %p, %y %b %j")
+  if (!all(signs %in% names(signs_of_forms)) || anyDuplicated(signs) || !is_whole_form(signs)) {
+    refuse("option", "time-format is '", text, "', which is no form of a day, such as %Y-%m-%d, %d.%m.%y, %d %b %Y or %Y %j, with ",
+           "%H:%M:%S or %I:%M %p")
   }
   between <- substring(text, c(1, at + 2), c(at - 1, nchar(text)))
   groups <- paste0("(", signs_of_forms[signs], ")")
@@ -20,6 +26,14 @@ new_form <- function(text) {
   form_state <- new.env()
   form_state$is_used <- FALSE
   list(text = text, signs = signs, form = form, state = form_state)
+}
+
+# Whether the signs of a form say a day, and of its time nothing that means little alone.
+is_whole_form <- function(signs) {
+  has <- function(...) any(c(...) %in% signs)
+  is_day <- has("Y", "y") && (has("j") || has("d") && has("m", "b"))
+  is_half <- has("I") != has("p") || has("H") && has("I")
+  is_day && !is_half && (has("H", "I") || !has("M")) && (has("M") || !has("S"))
 }
 
 # Text as an expression that stands for itself.

@@ -26,9 +26,12 @@ are_missing <- function(cells, missing) {
 shown <- function(cells, at) {
   cell <- if (is_moments(cells)) format(.POSIXct(cells$second[at], tz = "UTC"), "%Y-%m-%d %H:%M:%S") else cells[at]
   if (is.na(cell)) return("missing")
-  text <- if (is.character(cells)) paste0("'", cell, "'") else format(cell, digits = 15)
-  if (nchar(text, allowNA = TRUE) %in% 0:62) text else paste0(substr(text, 1, 58), "...")
+  text <- if (is.character(cells)) paste0("'", cell, "'") else if (is.numeric(cell)) digits_of(cell) else format(cell)
+  shortened(text)
 }
+
+# Texts as a refusal has them, cut where they are long.
+shortened <- function(texts) ifelse(nchar(texts) > 62, paste0(substr(texts, 1, 58), "..."), texts)
 
 # The numbers of texts of digits with decimals behind a point. R's own reading is off by a last place now and then, which
 # matters where a number lies near a half of a metre or of a decimetre: those are read as the double that is nearest.
@@ -74,11 +77,13 @@ nearest_double <- function(text, number) {
   sign(number) * (whole + part)
 }
 
+has_digits <- function(texts) any(grepl("[0-9]", texts))
+
 # What reads the numbers of a column. Where semicolons separate, decimals may stand behind a comma.
 new_reader <- function(title, has_semicolons, is_metres, missing) {
   point <- if (has_semicolons) "[.,]" else "[.]"
   list(title = title, form = paste0("^-?0*[0-9]{1,12}(?:", point, "[0-9]+)?\\z"), has_semicolons = has_semicolons,
-       is_grouped = has_semicolons && is_metres, is_simple = !has_semicolons && !any(grepl("[0-9]", missing)), missing = missing)
+       is_grouped = has_semicolons && is_metres, is_simple = !has_semicolons && !has_digits(missing), missing = missing)
 }
 
 # The numbers of cells; NA where they are missing.
@@ -112,8 +117,9 @@ numbers_of_numbers <- function(cells, reader) {
                        "number"))
   }
   values <- if (is.numeric(cells)) as.numeric(cells) else rep(NA_real_, cells_length(cells))
-  values[is.nan(values)] <- NA
-  bad <- which(abs(values) >= most)[1]
+  if (anyNA(values)) values[is.nan(values)] <- NA
+  is_good <- !length(values) || isTRUE(max(abs(values)) < most)
+  bad <- if (is_good) NA_integer_ else which(abs(values) >= most)[1]
   why <- if (isTRUE(is.infinite(values[bad]))) " is not finite" else
     paste0(" is ", shown(values, bad), " and not a number of up to 12 digits")
   read_values(values, bad, paste0(reader$title, why), "number")
@@ -126,29 +132,40 @@ truths <- c(
 
 # The truths of cells, NA where they are missing; where they must not be, that is a fault.
 read_truths <- function(cells, title, missing, must = FALSE) {
-  is_there <- !are_missing(cells, missing)
-  found <- if (is_moments(cells)) rep(NA, length(is_there)) else unname(truths[match(as.character(cells), names(truths))])
-  bad <- which(is_there & is.na(found) | must & !is_there)[1]
-  why <- if (isTRUE(is_there[bad])) " and not true or false (or 1 or 0)" else
-    " and neither true nor false: name another column of marks, or rename this one"
+  kinds <- kinds_of_cells(cells)
+  is_there <- !are_missing(kinds$cells, missing)
+  found <- if (is_moments(cells)) rep(NA, length(is_there)) else unname(truths[match(as.character(kinds$cells), names(truths))])
   found[!is_there] <- NA
-  read_values(found, bad, paste0(title, " is ", shown_or_empty(cells, bad), why), "mark")
+  is_bad <- if (must) is.na(found) else is_there & is.na(found)
+  bad <- if (any(is_bad)) which(is_bad[kinds$place])[1] else NA_integer_
+  why <- if (isTRUE(is_there[kinds$place[bad]])) " and not true or false (or 1 or 0)" else " and neither true nor false"
+  why <- paste0(why, ": write those, or rename the column")
+  read_values(found[kinds$place], bad, paste0(title, " is ", shown_or_empty(cells, bad), why), "mark")
+}
+
+# The different cells of a column, and the place among them of each.
+kinds_of_cells <- function(cells) {
+  if (is_moments(cells)) return(list(cells = cells, place = seq_along(cells$second)))
+  kinds <- distinct(cells)
+  list(cells = kinds, place = match(cells, kinds))
 }
 
 shown_or_empty <- function(cells, at) if (is.character(cells) && is.na(cells[at])) "''" else shown(cells, at)
 
-# What cells say as words, "" where they are missing; whole numbers are their digits.
-read_words <- function(cells, missing) {
-  is_there <- !are_missing(cells, missing)
-  words <- if (is.numeric(cells)) digits_of(cells) else if (is_moments(cells)) digits_of(cells$second) else as.character(cells)
-  words[!is_there] <- ""
-  words
+# What cells say as words, "" where they are missing; whole numbers are their digits. What else is made of a word is made of
+# each different one.
+read_words <- function(cells, missing, action = identity) {
+  kinds <- kinds_of_cells(cells)
+  own <- kinds$cells
+  words <- if (is.numeric(own)) digits_of(own) else if (is_moments(own)) digits_of(own$second) else as.character(own)
+  words[are_missing(own, missing)] <- ""
+  action(words)[kinds$place]
 }
 
 # Numbers as text: whole ones as their digits.
 digits_of <- function(numbers) {
-  kinds <- unique(numbers)
+  kinds <- unique(numbers) + 0  # of -0 too, which is 0
   is_whole <- is.finite(kinds) & kinds == floor(kinds)
-  text <- ifelse(is_whole, sprintf("%.0f", kinds), vapply(kinds, format, "", digits = 15))
+  text <- ifelse(is_whole, sprintf("%.0f", kinds), vapply(kinds, format, "", digits = 15, decimal.mark = "."))
   text[match(numbers, kinds)]
 }

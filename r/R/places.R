@@ -1,5 +1,6 @@
 # The places of records in metres of one grid, and in whole units of it: docs/TABLES.md, Coordinates.
 
+far_from_corner <- 100000  # metres, within which fixes beside the corner of a grid are no surprise
 shift_step <- 1000000  # metres by which a local grid is shifted
 
 # The places of records. A record that is not used may have none, as NA.
@@ -7,6 +8,7 @@ find_places <- function(table, records, said) {
   asked <- table$asked
   wanted <- if (!is.null(asked$zone)) zone_of(asked$zone)
   if (!any(records$used)) nothing_left()
+  ask_zeros(table, records, said)
   check_degrees(table, records, said)
   if (!is.null(table$columns$grid) && !table$columns$is_utm) {
     if (!is.null(wanted) || !asked$is_frame) {
@@ -19,15 +21,26 @@ find_places <- function(table, records, said) {
   if (is.null(found)) projected_places(table, records, wanted, said) else found
 }
 
+# Asks about fixes at the corner of the grid, where all others are far from it.
+ask_zeros <- function(table, records, said) {
+  if (is.null(table$columns$grid)) return(invisible())
+  is_there <- records$used & !is.na(records$east)
+  away <- sqrt(records$east[is_there]^2 + records$north[is_there]^2)
+  zeros <- sum(away == 0)
+  if (zeros < length(away) && min(away[away > 0]) > far_from_corner) {
+    say(said, zeros, "fixes lie at easting 0 and northing 0: are they fixes that failed?")
+  }
+}
+
 # Refuses degrees in the columns of metres.
 check_degrees <- function(table, records, said) {
   columns <- table$columns
-  if (is.null(columns$grid) || columns$grid[1] < 0) return(invisible())
+  if (is.null(columns$grid)) return(invisible())
   is_there <- records$used & !is.na(records$east)
   east <- records$east[is_there]
   north <- records$north[is_there]
   if (!all(abs(east) <= 180 & abs(north) <= 90) || all(east == floor(east) & north == floor(north))) return(invisible())
-  if (columns$is_own) {
+  if (columns$is_own || columns$grid[1] < 0) {
     say(said, NULL, "all fixes lie within 180 m by 90 m of the grid's corner: are they longitude and latitude?")
     return(invisible())
   }
@@ -89,14 +102,14 @@ projected_places <- function(table, records, wanted, said) {
   zone <- if (is.null(wanted)) zones$first else wanted
   say(said, NULL, "longitude and latitude are projected into zone ", zone, "; fixes by zone: ", zones$counts)
   places <- project(records$longitude, records$latitude, zone, asked)
-  list(east = places[, 1], north = places[, 2], zone = zone, is_shifted = FALSE)
+  list(east = places[, 1], north = places[, 2], zone = zone, is_shifted = FALSE, is_projected = TRUE)
 }
 
 refuse_degrees <- function(table, zone) {
   titles <- title_of(table, table$columns$degrees)
   refuse("degrees", "longitude and latitude are no plane coordinates: name the UTM zone to project them into, zone = \"", zone,
          "\"; or make points of them and project them, sf::st_transform(sf::st_as_sf(x, coords = c(\"", titles[1], "\", \"",
-         titles[2], "\"), crs = 4326), ", code_of_zone(zone), ")")
+         titles[2], "\"), crs = 4326, na.fail = FALSE), ", code_of_zone(zone), ")")
 }
 
 # How many metres all eastings and northings are shifted by, so that those of used records are on the grid.

@@ -35,7 +35,7 @@ new_table <- function(titles, asked, has_semicolons = FALSE, has_points = FALSE)
   table$times <- time_reader(table)
   table$names <- if (length(table$columns$animal)) character() else asked$name
   table$counts <- numeric()
-  table$rows <- 0
+  table$rows <- 0L
   table$pieces <- list()
   table$left <- new_said(identity)
   table
@@ -104,11 +104,8 @@ time_reader <- function(table) {
   asked <- table$asked
   columns <- table$columns$time
   is_second <- length(columns) == 1 && table$titles$plain[columns] == families$homerange$time
-  forms <- if (!is.null(asked$time_format)) {
-    lapply(strsplit(paste0(asked$time_format, "|"), "|", fixed = TRUE)[[1]], new_form)
-  }
   is_zoned <- !asked$is_frame && clock_of(asked) != "UTC"
-  new_times(paste(title_of(table, columns), collapse = " "), is_second, forms, is_zoned, asked$missing)
+  new_times(paste(title_of(table, columns), collapse = " "), is_second, forms_of(asked$time_format), is_zoned, asked$missing)
 }
 
 # The columns that are read.
@@ -120,9 +117,17 @@ wanted_columns <- function(table) {
 
 # The columns of numbers that may be read as such: where nothing else is a number, and nothing that is missing looks like one.
 plain_columns <- function(table) {
-  others <- c(table$columns$animal, table$columns$time, table$marks, table$words, table$dop)
   is_simple <- vapply(table$readers, `[[`, NA, "is_simple")
-  setdiff(vapply(table$readers[is_simple], `[[`, 1L, "at"), others)
+  places <- vapply(table$readers, `[[`, 1L, "at")
+  setdiff(places[is_simple], c(table$columns$animal, table$columns$time, table$marks, table$words, table$dop))
+}
+
+# The column of times, if it may be read as ISO text of UTC, where it is nothing else.
+plain_times_column <- function(table) {
+  times <- table$times
+  is_simple <- length(table$columns$time) == 1 && is.null(times$forms) && !times$slack && !has_digits(times$missing)
+  places <- vapply(table$readers, `[[`, 1L, "at")
+  if (is_simple) setdiff(table$columns$time, c(table$columns$animal, places, table$marks, table$words, table$dop))
 }
 
 cells_of_column <- function(cells, at) cells[[as.character(at)]]
@@ -172,7 +177,8 @@ names_of_rows <- function(table, cells, count) {
 names_of_cells <- function(cells, na) {
   faults <- attr(cells, "why")  # of a frame's names
   text <- as.vector(cells)
-  text[is.na(text) | text %in% na] <- ""
+  is_missing <- text %in% c(NA, na)
+  if (any(is_missing)) text[is_missing] <- ""
   list(name = text, why = if (is.null(faults)) rep("", length(text)) else faults)
 }
 
@@ -223,11 +229,11 @@ used_rows <- function(table, cells, rows, faults) {
 
 # The zones, sensors, classes, types and dilutions of precision of these rows, as far as they are wanted.
 words_of_rows <- function(table, cells, rows, faults) {
-  words <- lapply(table$words, function(at) read_words(cells_of_column(cells, at), table$asked$missing))
-  if (!is.null(words$sensor)) {
-    type <- types_of_sensors[words$sensor]
-    words$sensor <- unname(ifelse(is.na(type), words$sensor, type))
-  }
+  words <- lapply(names(table$words), function(name) {
+    action <- if (name == "sensor") sensors_of_words else identity
+    read_words(cells_of_column(cells, table$words[[name]]), table$asked$missing, action)
+  })
+  names(words) <- names(table$words)
   if (!is.null(words$zone)) {
     found <- read_zones(words$zone, title_of(table, table$words[["zone"]]))
     note_fault(faults, found, rows, "word")
@@ -242,12 +248,18 @@ words_of_rows <- function(table, cells, rows, faults) {
   words
 }
 
+# Sensors by their names; those of other numbers are their number.
+sensors_of_words <- function(words) {
+  types <- types_of_sensors[words]
+  unname(ifelse(is.na(types), words, types))
+}
+
 # The seconds of these rows and their fractions, and the other second of one of a local clock that comes twice.
 stamps_of_rows <- function(table, cells, rows, faults) {
   columns <- table$columns$time
   if (!length(columns)) return(list(second = table$rows + rows - 1, part = rep(0, length(rows))))
   cells <- lapply(columns, function(at) cells_of_column(cells, at))
-  if (length(cells) > 1) cells <- list(joined_texts(cells))
+  if (length(cells) > 1) cells <- list(joined_texts(cells, table$times$title, faults, rows))
   stamps <- read_times(cells[[1]], table$times)
   note_fault(faults, stamps, rows, "time")
   if (!table$times$slack || is.finite(faults$row)) return(stamps[c("second", "part")])
@@ -260,10 +272,15 @@ stamps_of_rows <- function(table, cells, rows, faults) {
   list(second = ifelse(is_local, moments$first, stamps$second), part = stamps$part, other = ifelse(is_local, moments$other, NA))
 }
 
-# Texts of several columns joined by blanks, missing where one is.
-joined_texts <- function(columns) {
-  joined <- do.call(paste, lapply(columns, function(cells) if (is.character(cells)) cells else read_words(cells, character())))
-  joined[Reduce(`|`, lapply(columns, are_missing, character()))] <- NA
+# Texts of several columns joined by blanks, missing where one is. Other cells than text have no one form to join.
+joined_texts <- function(columns, title, faults, rows) {
+  is_missing <- Reduce(`|`, lapply(columns, are_missing, character()))
+  are_texts <- vapply(columns, is.character, NA)
+  odd <- if (!all(are_texts)) which(!is_missing)[1] else NA_integer_
+  why <- paste(title, "is not text in all columns: make text of them")
+  note_fault(faults, read_values(NULL, odd, why, "time"), rows, "time")
+  joined <- if (all(are_texts)) do.call(paste, columns) else rep("", length(is_missing))
+  joined[is_missing] <- NA
   joined
 }
 
@@ -328,7 +345,7 @@ settled_records <- function(table, records, said) {
     if (is_earlier) records$second[at] <- records$other[at]
   }
   numbers <- records$number[twice]
-  listed <- paste0(paste(numbers[seq_len(min(10, length(numbers)))], collapse = ", "), if (length(numbers) > 10) ", ..")
+  listed <- paste0(paste(sprintf("%.0f", numbers)[seq_len(min(10, length(numbers)))], collapse = ", "), if (length(numbers) > 10) ", ..")
   say(said, length(twice), "records lie in the hour that comes twice in ", clock_of(table$asked), ": records ", listed)
   records$other <- NULL
   records
@@ -345,6 +362,15 @@ check_animals <- function(table, said) {
            option_word(table$asked, "animal", "COLUMN"))
   }
   if (2 * single > animals) say(said, single, "of ", animals, " animals have one record: is ", title, " the animal?")
+  tell_alike(table$names, said)
+}
+
+# Says which names may be meant as one.
+tell_alike <- function(names, said) {
+  plain <- tolower(trimws(names, whitespace = "[ \t\u00a0]"))
+  for (at in which(duplicated(plain))) {
+    say(said, NULL, "animals '", names[match(plain[at], plain)], "' and '", names[at], "' differ in blanks or capitals alone: are they one?")
+  }
 }
 
 # The most frequent word, how many words there are, and each with its count, as text.

@@ -16,12 +16,13 @@ crs_of_columns <- function(frame, crs) {
     if (is.null(crs) || inherits(crs, "crs") && is.na(crs)) return(NULL)
   }
   if (!has_sf()) refuse("option", "crs: this wants the package sf, which is not installed")
+  if (!inherits(crs, "crs") && length(crs) != 1) refuse("crs", "crs: one coordinate reference system is wanted")
   crs <- tryCatch(suppressWarnings(sf::st_crs(crs)), error = function(fault) refuse("crs", "crs: ", conditionMessage(fault)))
   if (is.na(crs)) refuse("crs", "crs: there is no such coordinate reference system")
   columns <- frame$table$columns$grid
   if (is.null(columns)) columns <- frame$table$columns$degrees
   titles <- title_of(frame$table, columns)
-  points <- sprintf("sf::st_as_sf(x, coords = c(\"%s\", \"%s\"), crs = \"%s\")", titles[1], titles[2], crs$input)
+  points <- sprintf("sf::st_as_sf(x, coords = c(\"%s\", \"%s\"), crs = \"%s\", na.fail = FALSE)", titles[1], titles[2], crs$input)
   check_crs(crs, points, function() vapply(frame$x[columns], function(column) suppressWarnings(as.numeric(column)), numeric(nrow(frame$x))))
   crs
 }

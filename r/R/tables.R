@@ -5,16 +5,6 @@ hectares_of <- function(ranges, area2) area2 / units_known[[ranges$unit]]$hectar
 # The place of the last row of each animal among all rows.
 last_rows <- function(ranges) cumsum(ranges$animals$fixes)
 
-# The part of each animal's area that its last tenth of fixes, rounded up, added; NA where there is no area, or where
-# fixes are fewer than ten.
-growth_at_end <- function(ranges) {
-  number <- ranges$animals$fixes
-  last <- last_rows(ranges)
-  before <- ranges$rows$area2[pmax(last - ceiling(number / 10), 1)]
-  area <- ranges$rows$area2[last]
-  ifelse(number < 10 | area == 0, NA_real_, (area - before) / area)
-}
-
 # A data frame with a row for each animal and level.
 summary.home_range <- function(object, ...) {
   check_dots(...)
@@ -33,8 +23,7 @@ summary.home_range <- function(object, ...) {
     level = object$percents$level,
     kept = object$percents$kept,
     corners = object$percents$corners,
-    hectares = hectares_of(object, object$percents$area2),
-    growth = growth_at_end(object)[place]
+    hectares = hectares_of(object, object$percents$area2)
   )
   rownames(table) <- NULL
   table
@@ -68,7 +57,7 @@ overlap <- function(x, ...) UseMethod("overlap")
 # How many fixes, or which share, of a row's animal lie in the polygon of a column's animal.
 overlap.home_range <- function(x, share = FALSE, ...) {
   check_dots(...)
-  if (!isTRUE(share) && !isFALSE(share)) refuse("option", "share: TRUE or FALSE is wanted")
+  if (!is_truth(share)) refuse("option", "share: TRUE or FALSE is wanted")
   if (share) x$overlaps / x$animals$fixes else x$overlaps
 }
 
@@ -104,7 +93,7 @@ as_sf <- function(ranges, level, rings) {
   area2 <- if (level == 100) ranges$rows$area2[last_rows(ranges)] else percents$area2
   kept <- if (level == 100) ranges$animals$fixes else percents$kept
   sf::st_sf(animal = ranges$animals$animal, level = level, kept = kept, hectares = hectares_of(ranges, area2),
-            geometry = sf::st_sfc(lapply(unname(rings), as_shape), crs = ranges$crs))
+            geometry = sf::st_sfc(lapply(unname(rings), as_shape), crs = crs_or_none(ranges)))
 }
 
 # A polygon, or of two corners a line and of one a point, since a polygon wants three.
@@ -124,7 +113,7 @@ print.home_range <- function(x, ...) {
   cat("Home ranges of ", count_of(number, "animal"), " (minimum convex polygons)\n", sep = "")
   cat(count_of(sum(x$animals$fixes), "fix", "fixes"), " in whole ", units_known[[x$unit]]$name, left_out, ", ",
       format(times[1]), " to ", format(times[2]), "\n", sep = "")
-  cat("Areas in hectares by percent level; growth in the last tenth of the fixes:\n")
+  cat("Areas in hectares by percent level, and whether they levelled off with more fixes:\n")
   shown <- seq_len(min(number, 6))
   print(area_table(x)[shown, , drop = FALSE], row.names = FALSE)
   if (number > length(shown)) cat("... and ", count_of(number - length(shown), "more animal"), "\n", sep = "")
@@ -140,7 +129,6 @@ area_table <- function(ranges) {
     area2 <- own$area2[match(animals$animal, own$animal)]
     table[[paste0(level, " %")]] <- format(hectares_of(ranges, area2), digits = 4, big.mark = ",", scientific = FALSE)
   }
-  growth <- growth_at_end(ranges)
-  table$growth <- ifelse(is.na(growth), "-", sprintf("%.1f %%", 100 * growth))
+  table$curve <- levelling(ranges)$verdict
   table
 }

@@ -6,6 +6,12 @@ iso_form <- paste0("^[0-9]{4}-[0-9]{2}-[0-9]{2}(?:[ T][0-9]{2}:[0-9]{2}(?::[0-9]
                    "(?:Z|[+-][0-9]{2}(?::?[0-9]{2})?)?)?\\z")
 clock_form <- "^[ T][0-9]{2}:[0-9]{2}(?::[0-9]{2}(?:[.][0-9]+)?)?(?:Z|[+-][0-9]{2}(?::?[0-9]{2})?)?\\z"
 
+# As in 20240501, 240501, 2024050112 and 2405011230; the last two are no seconds before 2030.
+digits_of_date_form <- paste0(
+  "^(?:(?:19|20)?[0-9]{2}(?:0[1-9]|1[0-2])[0-3][0-9]|(?:19|20)[0-9]{2}(?:0[1-9]|1[0-2])[0-3][0-9](?:[01][0-9]|2[0-3])",
+  "|(?:19|[2-9][0-9])(?:0[1-9]|1[0-2])[0-3][0-9](?:[01][0-9]|2[0-3])[0-5][0-9])\\z"
+)
+
 has_form <- function(form, text) grepl(form, text, perl = TRUE, useBytes = TRUE)
 whole_at <- function(text, first, last) suppressWarnings(as.numeric(substr(text, first, last)))
 
@@ -92,7 +98,7 @@ read_times <- function(cells, times) {
 
 # The cells that are missing; those that are times need no look where nothing that stands for a missing one has digits.
 rows_without_time <- function(cells, stamps, times) {
-  suspects <- if (any(grepl("[0-9]", times$missing))) seq_along(stamps$second) else which(is.na(stamps$second))
+  suspects <- if (has_digits(times$missing)) seq_along(stamps$second) else which(is.na(stamps$second))
   cells <- cells_at(cells, suspects)
   suspects[are_missing(if (is.character(cells)) trimws(cells, whitespace = " ") else cells, times$missing)]
 }
@@ -134,18 +140,19 @@ stamps_of_text <- function(text, times) {
 # The stamps of numbers of seconds: those of a column second, or since 1970.
 stamps_of_numbers <- function(numbers, times) {
   second <- floor(as.numeric(numbers))
-  is_good <- is.finite(second) & (times$is_second | second >= 1e8 & second < 1e10)
+  is_good <- is.finite(second) & (times$is_second | second >= 1e8 & second < 1e10 & !are_digits_of_dates(as.numeric(numbers)))
   new_stamps(ifelse(is_good, second, NA), numbers - second, FALSE)
 }
+
+# Whether numbers are dates without hyphens.
+are_digits_of_dates <- function(numbers) is.finite(numbers) & numbers == floor(numbers) & has_form(digits_of_date_form, sprintf("%.0f", numbers))
 
 # What a number that is no second may be.
 looks_like <- function(value) {
   if (value < 0) return("is less than 0")
   if (value >= 15000 && value < 80000) return("looks like days of Excel")
   if (value >= 2400000 && value < 2500000) return("looks like Julian days")
-  if (value == floor(value) && has_form("^(?:19|20)?[0-9]{2}(?:0[1-9]|1[0-2])[0-3][0-9]\\z", sprintf("%.0f", value))) {
-    return("looks like a date without hyphens")
-  }
+  if (are_digits_of_dates(value)) return("looks like a date without hyphens")
   if (value >= 1e11 && value < 1e14) return("looks like milliseconds, or a date without signs between")
   "is no second since 1970 (1973 to 2286)"
 }

@@ -58,7 +58,9 @@ pair_of <- function(titles, pair) {
 }
 
 # The first titles of a table, as a refusal lists them.
-listed <- function(titles) paste0("'", titles$text[seq_len(min(40, length(titles$text)))], "'", collapse = ", ")
+listed <- function(titles) {
+  paste(shortened(sprintf("'%s'", titles$text[seq_len(min(40, length(titles$text)))])), collapse = ", ")
+}
 
 # The column of a title that was named, or of one of several between |.
 named_column <- function(titles, text, option) {

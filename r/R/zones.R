@@ -47,6 +47,14 @@ zones_at <- function(longitude, latitude) {
 # The EPSG code of a zone, on the ellipsoid of WGS 84.
 code_of_zone <- function(zone) (if (endsWith(zone, "N")) 32600 else 32700) + as.numeric(sub("[NS]", "", zone))
 
+# The zone of a reference system of sf; NULL where it is that of none.
+zone_of_crs <- function(crs) {
+  code <- if (is.null(crs)) NA else crs$epsg
+  number <- code %% 100
+  if (!(code %/% 100) %in% c(326, 327) || !number %in% 1:60) return(NULL)
+  paste0(number, if (code < 32700) "N" else "S")
+}
+
 # A matrix of eastings and northings of longitudes and latitudes in a zone; not finite where they have no place.
 project <- function(longitude, latitude, zone, asked) {
   if (!has_sf()) {

@@ -45,5 +45,5 @@ if is_tables_by_r; then
     hold_split split.R Rscript "$tools/split.R"
     hold_tables 'the package for R' Rscript "$suite/run_r.R" "$work/tables"
     [ ! -d "$work/split/split.py" ] || holds 'split.py and split.R say and make the same of each table' \
-        diff -r "$work/split/split.py" "$work/split/split.R"
+        diff -r -I '^tool,' "$work/split/split.py" "$work/split/split.R"
 fi

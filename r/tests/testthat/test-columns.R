@@ -96,3 +96,17 @@ test_that("times keep their class, in the time zone that is asked for", {
   table$date <- as.Date("2024-05-01") + 0:3
   expect_identical(summary(quietly(home_range(table)))$last[1], as.Date("2024-05-04"))
 })
+
+test_that("a zone that is guessed is said, and TZ is that of the session", {
+  skip_without_program()
+  table <- square(c("id", "date", "x", "y"))
+  table$date <- format(table$date, "%Y-%m-%d %H:%M:%S")
+  quietly(expect_message(home_range(table, tz = "Asia/Tokyo"),
+                         "times of date without a zone are those of UTC, and days and hours those of Asia/Tokyo"))
+  expect_identical(quietly(home_range(table, tz = "GMT", hours = c(0, 24)))$animals$fixes, 4)
+  old <- Sys.getenv("TZ", NA)
+  on.exit(if (is.na(old)) Sys.unsetenv("TZ") else Sys.setenv(TZ = old))
+  Sys.setenv(TZ = "Asia/Kolkata")
+  table$date <- as.POSIXct(table$date)
+  quietly(expect_message(home_range(table), "days and hours are those of Asia/Kolkata"))
+})

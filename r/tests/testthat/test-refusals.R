@@ -122,7 +122,7 @@ test_that("longitude and latitude are refused with the call that projects them",
   degrees <- data.frame(id = "a", date = as.Date("2024-05-01") + 0:2)
   degrees$location.long <- c(15.8, 15.9, 9)
   degrees$location.lat <- c(46.3, 46.4, 46.5)
-  points <- "sf::st_as_sf(x, coords = c(\"location.long\", \"location.lat\"), crs = 4326)"
+  points <- "sf::st_as_sf(x, coords = c(\"location.long\", \"location.lat\"), crs = 4326, na.fail = FALSE)"
   refused(degrees, paste0("sf::st_transform(", points, ", 32633)"))
   degrees$location.lat <- -degrees$location.lat
   refused(degrees, "32733)")
@@ -151,7 +151,8 @@ test_that("marks of use that are none are refused", {
   refused(fixes(), "use: there is no column 'good'", "homerange_columns_error", use = "good")
   refused(fixes(), "row 2: use is missing and neither TRUE nor FALSE", "homerange_mark_error", use = c(TRUE, NA, FALSE))
   refused(cbind(fixes(), use = c(1, 1, 2)), "row 3: use is 2 and not true or false (or 1 or 0)")
-  refused(cbind(fixes(), use = "forest"), "row 1: use is 'forest' and not true or false")
+  refused(cbind(fixes(), use = "forest"),
+          "row 1: use is 'forest' and not true or false (or 1 or 0): write those, or rename the column")
   refused(fixes(), "no fix is left", use = FALSE)
 })
 
@@ -159,6 +160,10 @@ test_that("arguments that cannot be right are refused", {
   skip_without_program()
   option <- "homerange_option_error"
   refused(fixes(), "unit: \"m\" for metres or \"dm\" for decimetres", option, unit = "km")
+  expect_equal(nrow(curve(quietly(home_range(fixes(), unit = NULL)))), 3)
+  refused(fixes(), "skip_unnamed: TRUE or FALSE is wanted", option, skip_unnamed = "yes")
+  refused(fixes()[-1], "name: a name without control characters is wanted", option, name = "")
+  refused(fixes()[-1], "name: a name without control characters is wanted", option, name = "a\tb")
   refused(fixes(), "levels: numbers", option, levels = "95")
   refused(fixes(), "levels: 50 is there twice", option, levels = c(50, 95, 50))
   refused(fixes(), "homerange: --percent: level 2 is not a whole number from 1 to 100", option, levels = c(50, 95.5))

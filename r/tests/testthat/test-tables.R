@@ -64,6 +64,45 @@ test_that("integers of 64 bits are numbers, with or without bit64", {
   expect_square(table)
 })
 
+test_that("cells that are no text in UTF-8 are refused by row, and titles that are none are passed over", {
+  skip_without_program()
+  table <- data.frame(id = "a", date = "2024-05-01", x = c("1000", "1100"), y = 1000, visible = "true", sensor.type = "gps",
+                      individual.local.identifier = "a")
+  wrong <- "\xe4"
+  for (title in c("date", "x", "visible", "individual.local.identifier")) {
+    bad <- table
+    bad[2, title] <- wrong
+    kinds <- c(date = "time", x = "number", visible = "mark", individual.local.identifier = "name")
+    refused(bad, "row 2: ", kinds[[title]])
+  }
+  table$sensor.type[2] <- wrong
+  refused(table, "fixes are of several sensors (<e4> 1, gps 1)", "sensor")
+  table$sensor.type <- "gps"
+  names(table)[5] <- wrong
+  expect_equal(nrow(curve(suppressMessages(home_range(table)))), 2)
+})
+
+test_that("a class is known where its package is not loaded, and text of any class is text", {
+  skip_without_program()
+  table <- data.frame(id = structure(c("a", "a"), class = c("glue", "character")), date = "2024-05-01", x = c(1000, 1100), y = 1000)
+  expect_equal(nrow(curve(suppressMessages(home_range(table)))), 2)
+  table$x <- structure(table$x, class = "labelled")
+  refused(table, "x is labelled and not a number", "number")
+  table$x <- structure(c(1, 2), class = "chron")
+  refused(table, "x is chron and not a number", "number")
+  table$id <- c(-0, 0)
+  table$x <- c(1000, 1100)
+  expect_identical(summary(suppressMessages(home_range(table, 100)))$animal, "0")
+})
+
+test_that("columns that are joined have to be text", {
+  skip_without_program()
+  table <- data.frame(id = "a", day = as.Date("2024-05-01"), clock = c("01:00", "02:00"), x = c(1000, 1100), y = 1000)
+  refused(table, "row 1: day clock is not text in all columns: make text of them", "time", time = c("day", "clock"))
+  table$day <- format(table$day)
+  expect_equal(as.numeric(diff(curve(suppressMessages(home_range(table, time = c("day", "clock"))))$time), units = "secs"), 3600)
+})
+
 test_that("units are turned into metres, and other classes are refused by name", {
   skip_without_program()
   in_units <- function(values, unit) {
@@ -75,6 +114,22 @@ test_that("units are turned into metres, and other classes are refused by name",
   expect_square(table)
   table$x <- in_units(table$x, "ft")
   refused(table, "x is in ft and not in metres", "number")
+  table$x <- in_units(table$x / 1e5, "\u00b0")
+  refused(table, "x is in \u00b0 and not in metres: name the columns of degrees by lon and lat, and zone", "number")
+  table <- cbind(square(), dop = 0)
+  table$dop <- in_units(c(2, 7, NA, 3), character())
+  expect_equal(quietly(home_range(table, max_dop = 5))$fixes$row, c(1, 4))
+  table <- square()
+  table[c("lon", "lat")] <- list(in_units(15 + 1:4 / 1000, "\u00b0"), in_units(rep(46, 4), "\u00b0"))
+  table[c("x", "y")] <- NULL
+  skip_if_not_installed("sf")
+  expect_equal(nrow(curve(quietly(home_range(table, zone = "33N")))), 4)
+  table$lat <- in_units(rep(0.8, 4), "rad")
+  refused(table, "lat is in rad and not in degrees", "number", zone = "33N")
+})
+
+test_that("what is no number is refused by its class", {
+  skip_without_program()
   refused(transform(square(), x = TRUE), "row 1: x is TRUE and not a number", "number")
   refused(transform(square(), x = as.POSIXct("2024-05-01", tz = "UTC")), "row 1: x is a time and not a number", "number")
   refused(transform(square(), x = complex(real = x)), "x is complex and not a number", "number")
@@ -176,6 +231,10 @@ test_that("an export is read as a table", {
   writeLines(lines, path)
   expect_error(quietly(read_export(path)), "the columns are those of ornitela", class = "homerange_columns_error")
   expect_error(read_export(path, form = "x"), "there is no option form", class = "homerange_option_error")
+  expect_error(read_export(c(path, path)), "file: the name of one file is wanted", class = "homerange_option_error")
+  expect_error(read_export(path, from = c("lotek", "argos")), "from: one text is wanted", class = "homerange_option_error")
+  expect_error(read_export(path, skip_lines = NA), "skip_lines: a whole number from 0", class = "homerange_option_error")
+  expect_error(read_export(path, sensor = NA), "sensor: text is wanted", class = "homerange_option_error")
   skip_if_not_installed("sf")
   expect_message(table <- read_export(path, from = "ornitela", max_dop = 5), "1 fixes have a DOP above 5: left out")
   expect_equal(table$utm.easting, 562000, tolerance = 1e-6)
