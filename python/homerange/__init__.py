@@ -5,9 +5,10 @@
 
 ``home_range`` takes a data frame of fixes (a location with its time) and has the program make the minimum convex polygon
 of each animal, its percent polygons, its table of incremental area analysis, and the overlaps. ``read_report`` reads a
-report that the program made elsewhere. Both answer with ``HomeRanges``; ``plot_curve`` and ``plot_ranges`` draw it, and
-``share_inside`` says how much of each range lies in a reserve. ``read_export`` makes a data frame of an export of Movebank
-or of a collar. docs/TABLES.md says how frames and exports are read.
+report that the program made elsewhere. Both answer with ``HomeRanges``; ``plot_curve`` and ``plot_ranges`` draw it,
+``write_page`` writes a page to hand in, and ``share_inside`` says how much of each range lies in a reserve.
+``read_export`` makes a data frame of an export of Movebank or of a collar. docs/TABLES.md says how frames and exports are
+read.
 
 The numbers are those of the program. This package chooses, sorts and rounds the fixes, and says what it did in warnings
 of the class ``HomeRangeNote``; it is tested and not proved.
@@ -27,13 +28,15 @@ from .errors import (
 )
 
 if TYPE_CHECKING:
+    from .page import write_page
     from .plot import plot_curve, plot_ranges
     from .ranges import HomeRanges, home_range, read_export, read_report, share_inside
 
+__version__ = "1.0.0"
 __all__ = [
     "CutError", "FileError", "FrameError", "HomeRangeError", "HomeRangeInfo", "HomeRangeNote", "HomeRanges", "OptionError",
     "OutOfMemoryError", "OutputError", "ProgramError", "ReportError", "home_range", "plot_curve", "plot_ranges",
-    "read_export", "read_report", "share_inside",
+    "read_export", "read_report", "share_inside", "write_page",
 ]
 DRAWN = ("plot_curve", "plot_ranges")
 
@@ -42,9 +45,9 @@ def __getattr__(name: str) -> Any:
     """What needs pandas is loaded when it is first asked for: tables of text are read without it."""
     if name not in __all__:
         raise AttributeError(f"module 'homerange' has no attribute {name!r}")
-    from . import plot, ranges
+    from . import page, plot, ranges
 
-    return getattr(plot if name in DRAWN else ranges, name)
+    return getattr(page if name == "write_page" else plot if name in DRAWN else ranges, name)
 
 
 def __dir__() -> list[str]:

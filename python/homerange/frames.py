@@ -13,8 +13,8 @@ from typing import Any, Callable, NamedTuple, Sequence
 import numpy
 import pandas  # type: ignore[import]
 
-from .asked import Asked
-from .cells import TRUTHS, Bad, Moment
+from .asked import Asked, zone_of_time
+from .cells import DATE, TRUTHS, Bad, Moment
 from .errors import FrameError, refuse
 from .tables import Said, Table
 from .titles import ANIMALS, TIMES, Titles, find_columns, plain
@@ -169,7 +169,7 @@ def columns_of(frame: Any, asked: Asked, has_points: bool) -> Columns:
     return Columns(titles, series)
 
 
-def points_of(frame: Any, asked: Asked) -> Any:
+def points_of(frame: Any, asked: Asked, crs: Any) -> Any:
     """The points of a GeoDataFrame, whose reference system has to be a plane one in metres; None for another frame."""
     geopandas = sys.modules.get("geopandas")
     is_named = any((asked.easting, asked.northing, asked.lon, asked.lat))
@@ -179,6 +179,8 @@ def points_of(frame: Any, asked: Asked) -> Any:
         points = frame.geometry
     except AttributeError:
         return None
+    if crs is not None:
+        refuse("crs: points bring their own CRS; frame.set_crs names it, and frame.to_crs projects them into another")
     check_crs(points.crs, "frame")
     return points
 
@@ -206,6 +208,10 @@ def crs_named(crs: Any) -> Any:
     try:
         found = CRS.from_user_input(crs)
     except Exception:
+        found = None
+    # A text that is neither a code nor a definition is a name, of which pyproj takes one that has it as a part.
+    is_name = isinstance(crs, str) and not re.search("[:+=\\[{]|^[0-9]+$", crs)
+    if found is None or is_name and found.name.lower() != crs.lower():
         refuse(f"crs={crs!r} names no reference system", "crs")
     check_crs(found, "table")
     return found
@@ -217,7 +223,8 @@ def place_cells(points: Any) -> tuple[list[Any], list[Any]]:
     empty = (points.isna() | points.is_empty).tolist()
     good = [kind == "Point" and not gone for kind, gone in zip(kinds, empty)]
     own = points[good]
-    pairs = iter(zip(own.x.tolist(), own.y.tolist()))
+    # Points of coordinates that were missing have NaN.
+    pairs = iter(zip(*([None if value != value else value for value in side.tolist()] for side in (own.x, own.y))))
     east: list[Any] = []
     north: list[Any] = []
     for kind, gone, is_point in zip(kinds, empty, good):
@@ -268,17 +275,28 @@ def row_truth(mark: Any, at: int) -> bool:
 
 
 def own_zone(series: Any) -> str | None:
-    """The time zone of a column of times, where it has one that has a name."""
-    zone = getattr(series.dtype, "tz", None)
-    if zone is None and series.dtype == object:
+    """The time zone of a column of times, where it has one."""
+    kind = series.dtype.categories.dtype if isinstance(series.dtype, pandas.CategoricalDtype) else series.dtype
+    zone = getattr(kind, "tz", None)
+    if zone is None and kind == object:
         zones = {str(value.tzinfo) for value in series if isinstance(value, clock.datetime) and value.tzinfo}
         zone = zones.pop() if len(zones) == 1 else None
     name = None if zone is None else str(getattr(zone, "key", None) or getattr(zone, "zone", None) or zone)
     fixed = re.fullmatch(r"(?:UTC|pytz.FixedOffset\()([+-]?)0?([0-9]+)(?::00)?\)?", name or "")
     if fixed and name != "UTC":
-        hours = int(fixed[2]) // (60 if "pytz" in str(name) else 1)
-        return f"Etc/GMT{'+' if fixed[1] == '-' else '-'}{hours}" if hours else "UTC"
+        hours, minutes = divmod(int(fixed[2]), 60) if "pytz" in str(name) else (int(fixed[2]), 0)
+        if not minutes:
+            return f"Etc/GMT{'+' if fixed[1] == '-' else '-'}{hours}" if hours else "UTC"
     return "UTC" if name in ("utc", "tzutc()") else name
+
+
+def is_known_zone(name: str) -> bool:
+    """Whether the system knows a time zone of this name."""
+    try:
+        zone_of_time(name)
+    except FrameError:
+        return False
+    return True
 
 
 class Frame:
@@ -291,25 +309,45 @@ class Frame:
         truths = truths_of(frame, use)
         self.positions = range(len(frame)) if truths is None else [at for at, used in enumerate(truths) if used]
         self.is_chosen = truths is not None
-        self.points = points_of(frame, asked)
+        self.points = points_of(frame, asked, crs)
         self.columns = columns_of(frame, asked, self.points is not None)
         self.crs = self.points.crs if self.points is not None else None if crs is None else crs_named(crs)
         asked.all_used = self.is_chosen
         self.table = Table(self.columns.titles, asked, has_points=self.points is not None)
         if not self.positions:
             refuse("no fix is left", "empty")
+        self.check_calendar()
         self.tell_zone = self.find_zone()
+
+    def check_calendar(self) -> None:
+        """Refuses months and hours of times that have none."""
+        wished = next((name for name in ("months", "hours") if getattr(self.asked, name) is not None), None)
+        if wished is None or len(self.table.columns.time) != 1:
+            return
+        title, series = (own[self.table.columns.time[0]] for own in self.columns)
+        texts = series.dropna().astype(str)
+        if self.table.times.is_second and texts.str.fullmatch("[0-9.]*").all():
+            refuse(f"{wished}: numbers of a column 'second' have no calendar: make times of them, as by "
+                   f"pandas.to_datetime(frame['{title}'], unit='s')")
+        is_text = pandas.api.types.infer_dtype(series, skipna=True) in ("string", "date")
+        if self.asked.hours is not None and is_text and texts.str.fullmatch(DATE.pattern).all():
+            refuse(f"hours: the times of {title} are days, without an hour")
 
     def find_zone(self) -> str | None:
         """Takes the time zone of the column, where none is named; answers what is to be said of it."""
         times = self.table.columns.time
-        if self.asked.tz is None and len(times) == 1:
-            zone = own_zone(self.columns.series[times[0]])
-            self.asked.tz = zone
-            self.asked.check()
-            if zone not in (None, "UTC"):
-                return f"days and hours are those of {zone}, the zone of {self.columns.titles[times[0]]}"
-        return None
+        if len(times) != 1:
+            return None
+        series, title = self.columns.series[times[0]], self.table.title(times[0])
+        zone, named = own_zone(series), self.asked.tz
+        if named is not None:
+            is_bare = zone is None and not pandas.api.types.is_numeric_dtype(series.dtype)
+            return (f"times of {title} without a zone are those of UTC, and days and hours those of {named}"
+                    if is_bare and named != "UTC" else None)
+        if zone is not None and not is_known_zone(zone):
+            return f"days and hours are those of UTC, since the zone {zone} of {title} has no name"
+        self.asked.tz = zone
+        return None if zone in (None, "UTC") else f"days and hours are those of {zone}, the zone of {title}"
 
     def cells(self) -> dict[int, list[Any]]:
         """The cells of the columns that are wanted, of the rows that are used."""

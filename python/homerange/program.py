@@ -13,7 +13,7 @@ from pathlib import Path
 from typing import Any, Callable, Mapping, Sequence
 
 from .errors import FAULTS, ProgramError, ReportError, one_line
-from .report import Lines, Report, overlaps_of, parse
+from .report import Report, lines_of, overlaps_of, parse
 
 MOST_ANIMALS = 64  # of one run
 GROUP = 32  # animals of a group, where there are more
@@ -77,9 +77,9 @@ class Runs:
         names = {str(self.numbers[name]): name for group in step for name in group}
         fixes = {number: len(self.tracks[name]) for number, name in names.items()}
         if len(step) == 2:
-            overlaps = overlaps_of(Lines(text, self.program), fixes)
+            overlaps = overlaps_of(lines_of(text, self.program), fixes)
         else:
-            found = parse(text, self.program)
+            found = parse(lines_of(text, self.program))
             overlaps = found.overlaps
             reported = {number: len(table.rows) for number, table in found.tables.items()}
             if found.unit != self.unit or [*reported.items()] != [*fixes.items()]:

@@ -3,10 +3,12 @@
 from __future__ import annotations
 
 import csv
+import hashlib
 import itertools
 import math
 import os
 import warnings
+from collections import Counter
 from datetime import date, datetime
 from pathlib import Path
 from typing import Any, Callable, Iterable, Sequence, Union
@@ -17,9 +19,13 @@ from .asked import UNITS, Asked, seconds_of
 from .errors import FrameError, HomeRangeInfo, HomeRangeNote, ReportError, one_line, refuse
 from .exports import LISTS, read_text
 from .frames import Tracks, read_frame
+from .levelling import share
+from .overview import Row, reasons_of, rows_of
 from .program import MOST_ANIMALS, Runs, find_program
-from .report import Corners, Percent, Report, Table, kept_places, parse
+from .record import Record, read_record
+from .report import Corners, Percent, Report, Table, kept_places, polygon_of, read as read_lines
 from .tables import Said
+from .zones import crs_of
 
 Moment = Union[str, date, datetime]
 Words = Union[str, Iterable[Any]]
@@ -37,13 +43,6 @@ def _kept(track: Any, level: int) -> Any:
     return track.iloc[kept_places(track["easting"].tolist(), track["northing"].tolist(), level)]
 
 
-def _growth(areas: Sequence[int]) -> float:
-    """The share of the area that the last tenth of the fixes, rounded up, added; NaN where there are less than ten
-    fixes, or no area."""
-    before = 9 * len(areas) // 10
-    return 1 - areas[before - 1] / areas[-1] if len(areas) >= 10 and areas[-1] else math.nan
-
-
 class HomeRanges:
     """The home ranges of some animals: what the program reported, in hectares and metres.
 
@@ -56,8 +55,12 @@ class HomeRanges:
         self, report: Report, tracks: Tracks | None, *, crs: Any = None, tz: str = "UTC",
         program: str | os.PathLike[str] | None = None,
     ) -> None:
-        self._report, self._tracks, self._program = report, tracks, program
+        self._report, self._tracks, self.program = report, tracks, program
         self._corners: dict[int, dict[str, Corners]] = {}
+        self.record: Record | None = None  # of the split of an export, where there was one
+        self.split: Path | None = None  # its file
+        self.files: list[Path] = []  # of the fixes, where they were read with a report
+        self.checksum: str | None = None  # of the report, where it was read
         self.crs, self.tz, self.unit = crs, tz, report.unit
         self.notes = tracks.notes if tracks else []
         self.shift = tracks.shift if tracks else (0, 0)
@@ -67,6 +70,11 @@ class HomeRanges:
     def __repr__(self) -> str:
         fixes = sum(len(table.rows) for table in self._report.tables.values())
         return f"<HomeRanges of {len(self.animals)} animals, {fixes} fixes; levels {', '.join(map(str, self.levels))}>"
+
+    @property
+    def report(self) -> Report:
+        """What the program reported, in its own whole numbers."""
+        return self._report
 
     def _hectares(self, area2: int) -> float:
         return area2 / UNITS[self.unit].hectare
@@ -81,27 +89,76 @@ class HomeRanges:
     def summary(self) -> Any:
         """A row for each animal and level: ``animal``; ``first`` and ``last``, the times of its first and last fix;
         ``fixes``, how many there are, and ``left_out``, how many rows of the frame are not among them (missing where it
-        is not known); ``level`` in per cent; ``kept``, how many fixes the level keeps; ``corners`` and ``hectares`` of
-        their polygon; and ``growth``, the share of the area of all fixes that the last tenth of them, rounded up, added
-        (0 to 1). It is NaN where there are less than ten fixes, or no area. A time after the year 2262 is NaT."""
+        is not known); ``level`` in per cent; ``kept``, how many fixes the level keeps; and ``corners`` and ``hectares``
+        of their polygon. A time after the year 2262 is NaT."""
         left_out = self._tracks.left_out if self._tracks else {}
         rows = []
         for name, table in self._report.tables.items():
-            growth = _growth([area2 for _, _, area2 in table.rows])
             for level, kept, corners, area2 in table.percents:
                 rows.append((
                     name, table.rows[0][0], table.rows[-1][0], len(table.rows), left_out.get(name), level, kept,
-                    corners, self._hectares(area2), growth))
-        titles = ["animal", "first", "last", "fixes", "left_out", "level", "kept", "corners", "hectares", "growth"]
+                    corners, self._hectares(area2)))
+        titles = ["animal", "first", "last", "fixes", "left_out", "level", "kept", "corners", "hectares"]
         summary = pandas.DataFrame(rows, columns=titles)
         times = {title: self._times(summary[title]) for title in ("first", "last")}
         return summary.assign(**times, left_out=summary["left_out"].astype("Int64"))
 
+    def rows(self) -> list[Row]:
+        """The facts of each animal in whole numbers, of which ``overview`` makes a table."""
+        if self.record:
+            return rows_of(self._report.tables, self.record.of_export(), self.record.left_out())
+        if self._tracks is None:
+            return rows_of(self._report.tables, {}, Counter())
+        used = {name: len(table.rows) for name, table in self._report.tables.items()}
+        records = {name: used[name] + count for name, count in self._tracks.left_out.items() if name in used}
+        return rows_of(self._report.tables, records, self._tracks.reasons)
+
+    def overview(self) -> Any:
+        """A row for each animal: ``animal``; ``records``, its fixes in the export or the frame (missing where it is not
+        known); ``left_REASON`` for each reason that occurs, how many were left out for it; ``used``, how many fixes the
+        range has; ``first`` and ``last``, their times; ``days`` from the one to the other; ``median_hours`` and
+        ``longest_hours``, the intervals between fixes; ``hectares_LEVEL`` for each level; and the columns of
+        ``levelling`` behind them."""
+        rows = self.rows()
+        table: dict[str, Any] = {"animal": [row.animal for row in rows]}
+        table["records"] = pandas.array([row.records for row in rows], dtype="Int64")
+        for reason in reasons_of(rows):
+            table[f"left_{reason.replace(' ', '_')}"] = [row.left.get(reason, 0) for row in rows]
+        table["used"] = [row.used for row in rows]
+        table["first"] = self._times([row.first for row in rows])
+        table["last"] = self._times([row.last for row in rows])
+        table["days"] = [(row.last - row.first) / 86400 for row in rows]
+        table["median_hours"] = [math.nan if row.median2 is None else row.median2 / 7200 for row in rows]
+        table["longest_hours"] = [math.nan if row.longest is None else row.longest / 3600 for row in rows]
+        for level in self.levels:
+            table[f"hectares_{level}"] = [self._hectares(row.percents[level].area2) for row in rows]
+        levelling = self.levelling().drop(columns=["animal", "fixes", "hectares"])
+        return pandas.concat([pandas.DataFrame(table), levelling], axis="columns")
+
+    def levelling(self) -> Any:
+        """Whether the area of all fixes levelled off with their number (incremental area analysis, Harris et al. 1990),
+        a row for each animal: ``animal``; ``fixes``; ``hectares`` of all of them; ``within_95_fix`` and
+        ``within_95_time``, the number and the time of the first fix from which on the area stayed within 95 per cent of
+        that; ``last_tenth`` and ``last_quarter``, the share of it that the last tenth and the last quarter of the fixes
+        added (0 to 1), all missing where there is no area; and ``verdict``: 'too few fixes' where there are less than 30,
+        or no area, 'levelled off' where the last quarter added less than 5 per cent, else 'still growing'."""
+        rows = self.rows()
+        found = [row.levelling for row in rows]
+        seconds = pandas.Series([row.within_second for row in rows], dtype="Int64")
+        return pandas.DataFrame({
+            "animal": self.animals, "fixes": [row.used for row in rows],
+            "hectares": [self._hectares(own.area2) for own in found],
+            "within_95_fix": pandas.array([own.within for own in found], dtype="Int64"),
+            "within_95_time": self._times(seconds.fillna(0)).where(seconds.notna()),
+            "last_tenth": [share(own.tenth, own.area2) for own in found],
+            "last_quarter": [share(own.quarter, own.area2) for own in found],
+            "verdict": [own.verdict for own in found]})
+
     def left_out(self) -> Any:
         """How many fixes were left out of the frame, a row for each ``animal`` and ``reason``, with ``fixes``. The reasons
-        are those of docs/TABLES.md, and use, where the argument of that name left them out."""
-        reasons = sorted(self._tracks.reasons.items()) if self._tracks else []
-        rows = [(name, reason, count) for (name, reason), count in reasons if count]
+        are those of docs/TABLES.md, and use, where the argument or the column of that name left them out."""
+        left = self.record.left_out() if self.record else self._tracks.reasons if self._tracks else Counter()
+        rows = [(name, reason, count) for (name, reason), count in sorted(left.items()) if count]
         return pandas.DataFrame(rows, columns=["animal", "reason", "fixes"])
 
     def curve(self) -> Any:
@@ -149,7 +206,7 @@ class HomeRanges:
         tables: dict[str, Table] = {}
         for first in range(0, len(kept), MOST_ANIMALS):
             part = dict(itertools.islice(kept.items(), first, first + MOST_ANIMALS))
-            tables.update(Runs(find_program(self._program), part, "100", self.unit).report().tables)
+            tables.update(Runs(find_program(self.program), part, "100", self.unit).report().tables)
         for name, table in tables.items():
             if Percent(level, len(table.rows), *table.rows[-1][1:]) != self._percent(name, level):
                 raise ReportError(f"the {level} per cent polygon of {name} is not that of the report")
@@ -166,6 +223,16 @@ class HomeRanges:
     def hectares(self, animal: str, level: int = 100) -> float:
         """The area of an animal's polygon at a level."""
         return self._hectares(self._percent(animal, self._level(level)).area2)
+
+    @property
+    def tracks(self) -> Tracks | None:
+        """The fixes in whole units, and what became of others; None where the fixes are not known."""
+        return self._tracks
+
+    @property
+    def has_fixes(self) -> bool:
+        """Whether the fixes are known."""
+        return self._tracks is not None
 
     def fixes(self, animal: str) -> Any:
         """The fixes of an animal in the order of time, an array of eastings and northings in metres; None where they
@@ -193,6 +260,18 @@ class HomeRanges:
             rows.append((name, level, kept, count, self._hectares(area2), shape))
         titles = ["animal", "level", "kept", "corners", "hectares", "geometry"]
         return geopandas.GeoDataFrame(pandas.DataFrame(rows, columns=titles), geometry="geometry", crs=self.crs)
+
+    def evidence(self, folder: str | os.PathLike[str], **page: Any) -> None:
+        """Makes all that is handed in, in a new folder, as docs/EVIDENCE.md describes it: the fixes as files, by names as
+        split.py makes them; the report of a new run over these files, which has to have the numbers of these ranges; the
+        record of the run; tables; polygons, where geopandas is there; the page, with the arguments of ``write_page``; and
+        the checksums of all these. ``tools/verify.py`` of homerange's repository checks it.
+
+        Refused are a folder that is there, two names that come out the same, ranges without fixes, and what is refused
+        of reports and programs elsewhere."""
+        from .output import write_folder
+
+        tell(write_folder(self, folder, page))
 
 
 def whole_number(value: Any) -> int | None:
@@ -354,18 +433,18 @@ def read_export(path: str | os.PathLike[str], **options: Any) -> Any:
 
 
 def _read_track(path: str | os.PathLike[str]) -> tuple[str, Any, int]:
-    """The animal of a file, its used fixes, and how many are not used."""
+    """The animal of a file, its used fixes, of which there may be none, and how many are not used."""
     with open(path, encoding="utf-8-sig", newline="") as file:
         rows = [row for row in csv.DictReader(file)]
     used = [row for row in rows if row.get("use", "1") == "1"]
     titles = ("second", "easting", "northing")
-    if not used or not {"animal", *titles} <= {*used[0]}:
+    if not rows or not {"animal", *titles} <= {*rows[0]}:
         raise FrameError(f"{path} has no fix with animal, second, easting and northing")
     try:
         numbers = {title: [int(row[title]) for row in used] for title in titles}
     except (TypeError, ValueError) as fault:
         raise FrameError(f"{path} has a fix whose second, easting or northing is no number") from fault
-    return used[0]["animal"], pandas.DataFrame(numbers), len(rows) - len(used)
+    return rows[0]["animal"], pandas.DataFrame(numbers), len(rows) - len(used)
 
 
 def _tracks_of(report: Report, files: Iterable[str | os.PathLike[str]]) -> Tracks | None:
@@ -378,35 +457,43 @@ def _tracks_of(report: Report, files: Iterable[str | os.PathLike[str]]) -> Track
             raise ReportError(f"no file has the animal {name} of the report")
         if read[name][0]["second"].tolist() != [second for second, _, _ in table.rows]:
             raise ReportError(f"the file of {name} has other fixes than the report")
-    return Tracks({name: read[name][0] for name in report.tables}, {name: read[name][1] for name in report.tables})
+        points = zip(read[name][0]["easting"].tolist(), read[name][0]["northing"].tolist())
+        if polygon_of(points) != table.corners:
+            raise ReportError(f"the polygon of the file of {name} is not that of the report")
+    unused = {name: read[name][1] for name in report.tables}
+    reasons = Counter({(name, "use"): count for name, count in unused.items()})
+    return Tracks({name: read[name][0] for name in report.tables}, unused, reasons=reasons)
 
 
 def read_report(
     path: str | os.PathLike[str], *, files: Iterable[str | os.PathLike[str]] = (), crs: Any = None, tz: str = "UTC",
     shift: tuple[int, int] = (0, 0), program: str | os.PathLike[str] | None = None,
+    record: str | os.PathLike[str] | None = None,
 ) -> HomeRanges:
     """The home ranges of a report that the program, or tools/herd of it, made elsewhere.
 
     path: the report. One that is cut off, or whose lines are not those of a report, is refused (ReportError).
     files: the files that it was made from, for polygons below 100 per cent and for pictures with fixes. Files with
-        other times of fixes than the report are refused (ReportError).
+        other times of fixes, or another polygon of all, than the report are refused (ReportError).
     crs: the reference system of the coordinates in metres, such as 'EPSG:32633'.
     shift: how many metres were added to eastings and northings, as the line shift of split.txt has it; they are taken off
         in the answers.
     tz: the time zone of the times in the answers, where the seconds of the files are those since 1970 in UTC.
     program: as in home_range.
+    record: split.txt of the files, from which it is known what was left out, the zone and the shift.
     """
-    try:
-        text = Path(path).read_bytes().decode("utf-8")
-    except UnicodeDecodeError as fault:
-        raise ReportError(f"{path} is no text in UTF-8") from fault
-    report = parse(text, str(path))
-    ranges = HomeRanges(report, _tracks_of(report, files), crs=crs, tz=tz, program=program)
-    ranges.shift = shift
+    report, paths = read_lines(path), [Path(file) for file in files]
+    split = read_record(record) if record is not None else None
+    if split is not None:
+        shift = split.shift
+        crs = crs_of(split.zone) if crs is None and split.zone else crs
+    ranges = HomeRanges(report, _tracks_of(report, paths), crs=crs, tz=tz, program=program)
+    ranges.shift, ranges.record, ranges.checksum = shift, split, hashlib.sha256(Path(path).read_bytes()).hexdigest()
+    ranges.files, ranges.split = paths, None if record is None else Path(record)
     return ranges
 
 
-def _boundary(ranges: HomeRanges, reserve: Any) -> Any:
+def boundary_of(ranges: HomeRanges, reserve: Any) -> Any:
     """The shape of a reserve, in the reference system of the ranges."""
     own = getattr(reserve, "crs", None)
     if hasattr(reserve, "geometry") or hasattr(reserve, "geom_type") and not isinstance(
@@ -433,7 +520,7 @@ def share_inside(ranges: HomeRanges, reserve: Any, level: int = 100) -> Any:
     reserve: a GeoDataFrame or a GeoSeries, whose shapes are taken together, in whatever reference system; or a shape of
         shapely in that of the ranges.
     """
-    boundary = _boundary(ranges, reserve)
+    boundary = boundary_of(ranges, reserve)
     polygons = ranges.polygons(level)
     inside = [shape.intersection(boundary).area / 10_000 for shape in polygons.geometry]
     whole = [shape.area / 10_000 for shape in polygons.geometry]

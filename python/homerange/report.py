@@ -1,14 +1,28 @@
-"""Reads a report of the program: its lines, in order, and refuses one that is cut off or does not fit."""
+"""Reads reports of the program line by line, by the grammar of docs/GUIDE.md, section The report, and refuses what does not
+fit: no line is missing, twice or elsewhere, and the numbers are such as go together. The corners have the box and the last
+row's area, percent polygons keep as many fixes as their level says, and no count is above its fixes.
+
+Bytes that are not UTF-8, which the name of an animal may have, stand as surrogates."""
 
 from __future__ import annotations
 
-import itertools
+import io
+import os
 import re
-from typing import NamedTuple, NoReturn, Sequence
+from array import array
+from typing import Any, Callable, Iterable, Iterator, Mapping, NamedTuple, NoReturn, Sequence, TextIO
 
-from .errors import ReportError
+from .errors import ReportError, one_line
 
 Corners = list[tuple[int, int]]
+Rows = list[tuple[int, int, int]]
+
+TEXT: dict[str, Any] = {"encoding": "utf-8", "errors": "surrogateescape", "newline": "\n"}
+# The end of a line with so many numbers: digits alone, at most those of the greatest area, and no zero before others.
+NUMBERS = [re.compile(",".join(["(0|[1-9][0-9]{0,16})"] * count) + "\n") for count in range(5)]
+NAME = re.compile('[^\x00-\x1f\x7f,"]{1,32}')
+END = re.compile("(?:^|\\n)end,[0-9]+\\n\\Z")
+LEVEL = re.compile("percent,([^,]*),([1-9][0-9]{0,2}),.*\n")
 
 
 class Percent(NamedTuple):
@@ -23,7 +37,7 @@ class Percent(NamedTuple):
 class Table(NamedTuple):
     """What a report says of one animal. Areas are doubled, in squares of the unit."""
 
-    rows: list[tuple[int, int, int]]  # second, corners and area after each fix
+    rows: Rows  # second, corners and area after each fix
     corners: Corners
     percents: list[Percent]
 
@@ -36,106 +50,190 @@ class Report(NamedTuple):
     overlaps: dict[tuple[str, str], int]
 
 
-NUMBER = "([0-9]+)"
-NAME = '([^,"\n]+)'
-FORMS = {kind: re.compile(",".join([kind, *fields])) for kind, fields in {
-    "unit": ["(dm)"],
-    "animal": [NAME, "fixes", "([1-9][0-9]*)"],
-    "box": [NAME] + 4 * [NUMBER],
-    "row": [NAME] + 4 * [NUMBER],
-    "corner": [NAME] + 3 * [NUMBER],
-    "percent": [NAME] + 4 * [NUMBER],
-    "overlap": [NAME, NAME] + 2 * [NUMBER],
-    "end": [NUMBER],
-}.items()}
+def doubled_area(corners: Corners) -> int:
+    """Twice the area of the polygon with these corners, counterclockwise."""
+    return sum(a[0] * b[1] - b[0] * a[1] for a, b in zip(corners, corners[1:] + corners[:1]))
+
+
+def polygon_of(points: Iterable[tuple[int, int]]) -> Corners:
+    """The corners of the minimum convex polygon of some points, by Andrew's chains: counterclockwise from the westernmost,
+    of two such the southern."""
+    ordered = sorted(set(points))
+    if len(ordered) < 3:
+        return ordered
+    chains: list[Corners] = []
+    for way in (ordered, ordered[::-1]):
+        chain: Corners = []
+        for point in way:
+            while len(chain) > 1 and turn(chain[-2], chain[-1], point) <= 0:
+                chain.pop()
+            chain.append(point)
+        chains.append(chain[:-1])
+    return chains[0] + chains[1]
+
+
+def turn(a: tuple[int, int], b: tuple[int, int], c: tuple[int, int]) -> int:
+    """Twice the signed area of a triangle, above 0 where the way turns left."""
+    return (b[0] - a[0]) * (c[1] - a[1]) - (b[1] - a[1]) * (c[0] - a[0])
+
+
+def is_convex(corners: Corners) -> bool:
+    """Whether at each of three or more corners the way turns left."""
+    after = corners[1:] + corners[:1]
+    return len(corners) < 3 or all(turn(*three) > 0 for three in zip(corners, after, after[1:] + after[:1]))
 
 
 class Lines:
-    """The lines of a report, taken in order, each of which has to be of the form that is wanted."""
+    """The lines of a report: `line` is the one that is taken next, and `number` says which was taken last."""
 
-    def __init__(self, text: str, where: str) -> None:
-        self.lines = text.split("\n")
-        self.where, self.taken = where, 0
-        if self.lines.pop() or not self.lines or not FORMS["end"].fullmatch(self.lines[-1]):
-            raise ReportError(f"{where} is cut off: its last line is not 'end,' with the number of animals")
+    def __init__(self, file: TextIO, where: str) -> None:
+        self.file, self.where, self.number = file, where, 0
+        self.line = file.readline()
 
-    def begins(self, text: str) -> bool:
-        """Whether the next line begins so."""
-        return self.lines[self.taken].startswith(text)
+    def refuse(self, text: str) -> NoReturn:
+        raise ReportError(one_line(f"{self.where}: line {self.number}: {text}"))
 
-    def take(self, form: re.Pattern[str]) -> tuple[str, ...]:
-        """The fields of the next line that the form has in brackets."""
-        self.taken += 1
-        found = form.fullmatch(self.lines[self.taken - 1])
-        if found is None:
-            self.refuse()
-        return found.groups()
+    def take(self, head: str, count: int) -> list[int]:
+        """The numbers, so many, of the next line, which is to be this head and they."""
+        self.number += 1
+        numbers = NUMBERS[count].fullmatch(self.line, len(head))
+        if not numbers or not self.line.startswith(head):
+            self.refuse(f"{self.line.rstrip()!r}, but {head!r} and numbers ({count}) are wanted")
+        self.line = self.file.readline()
+        return list(map(int, numbers.groups()))
 
-    def numbers(self, form: re.Pattern[str], *known: object) -> list[int]:
-        """The fields of the next line as numbers, behind its first ones, which have to be these."""
-        fields = self.take(form)
-        if fields[:len(known)] != tuple(map(str, known)):
-            self.refuse()
-        return [int(text) for text in fields[len(known):]]
+    def unit(self) -> str:
+        """The unit, which has a line where it is decimetres."""
+        if self.line != "unit,dm\n":
+            return "m"
+        self.take("unit,dm", 0)
+        return "dm"
 
-    def finish(self, animals: int) -> None:
-        """Sees that the next line is the last, with this number of animals."""
-        self.taken += 1
-        if self.lines[self.taken - 1:] != [f"end,{animals}"]:
-            self.refuse()
+    def end(self, animals: int) -> None:
+        """The last line, of so many animals."""
+        if self.take("end,", 1) != [animals]:
+            self.refuse(f"the report is not of {animals} animals")
+        if self.line:
+            self.refuse("a line behind the end")
 
-    def refuse(self) -> NoReturn:
-        """Refuses the line that was taken last."""
-        line = self.lines[self.taken - 1]
-        raise ReportError(f"{self.where}: line {self.taken} is '{line}', which does not fit there")
+    def overlap(self, name: str, fixes: int, other: str) -> int:
+        """How many of an animal's fixes, whose number is known, lie in the polygon of another."""
+        count, total = self.take(f"overlap,{name},{other},", 2)
+        if total != fixes or count > fixes:
+            self.refuse(f"{count} of {total} fixes, but {name} has {fixes}")
+        return count
 
-
-def table_of(lines: Lines, name: str, fixes: int) -> Table:
-    """The lines of an animal below its first."""
-    lines.numbers(FORMS["box"], name)
-    rows: list[tuple[int, int, int]] = []
-    for n in range(1, fixes + 1):
-        second, corners, area2 = lines.numbers(FORMS["row"], name, n)
-        rows.append((second, corners, area2))
-    points: Corners = []
-    for i in range(1, rows[-1][1] + 1):
-        easting, northing = lines.numbers(FORMS["corner"], name, i)
-        points.append((easting, northing))
-    percents: list[Percent] = []
-    while lines.begins(f"percent,{name},"):
-        percent = Percent(*lines.numbers(FORMS["percent"], name))
-        if percent.kept != kept_count(fixes, percent.level):
-            raise ReportError(f"{lines.where}: {name} has {percent.kept} of {fixes} fixes at {percent.level} per cent")
-        percents.append(percent)
-    return Table(rows, points, percents)
+    def overlaps(self, animals: Mapping[str, int]) -> dict[str, array[int]]:
+        """The counts of each of these animals, whose numbers of fixes are known, with all others in their order."""
+        return {
+            name: array("I", [self.overlap(name, fixes, other) for other in animals if other != name])
+            for name, fixes in animals.items()
+        }
 
 
-def overlaps_of(lines: Lines, fixes: dict[str, int]) -> dict[tuple[str, str], int]:
-    """The lines of overlaps, behind which is the last line."""
-    overlaps: dict[tuple[str, str], int] = {}
-    for name, other in itertools.permutations(fixes, 2):
-        count, of = lines.numbers(FORMS["overlap"], name, other)
-        if not count <= of == fixes[name]:
-            lines.refuse()
-        overlaps[name, other] = count
-    lines.finish(len(fixes))
-    return overlaps
+class Animal:
+    """The lines of one animal, the next of a report. Each is handed on as it was read; rows are kept where that is
+    wanted, else the last alone."""
+
+    def __init__(self, lines: Lines, levels: Sequence[int] | None, write: Callable[[str], object] = str,
+                 keeps_rows: bool = False) -> None:
+        self.lines, self.write = lines, write
+        self.name = (lines.line.rstrip("\n").split(",") + [""])[1]
+        (self.fixes,) = self.take(f"animal,{self.name},fixes,", 1)
+        is_name = NAME.fullmatch(self.name) and len(self.name.encode(**{"errors": TEXT["errors"]})) <= 32
+        self.need(bool(is_name), "no name of an animal")
+        self.box = self.take(f"box,{self.name},", 4)
+        self.rows: Rows = []
+        self.take_rows(keeps_rows)
+        self.corners = self.polygon()
+        self.percents = [self.percent(level) for level in levels or self.levels_ahead()]
+        self.levels = [percent.level for percent in self.percents]
+        self.need(bool(self.levels), "no percent line")
+
+    def need(self, holds: bool, text: str) -> None:
+        if not holds:
+            self.lines.refuse(f"{self.name}: {text}")
+
+    def take(self, head: str, count: int) -> list[int]:
+        line = self.lines.line
+        numbers = self.lines.take(head, count)
+        self.write(line)
+        return numbers
+
+    def take_rows(self, keeps_rows: bool) -> None:
+        """The rows of the first 1, 2, .. fixes. The last is that of all."""
+        before, self.last = 0, [0, 0]
+        for n in range(1, self.fixes + 1):
+            second, corners, area = self.take(f"row,{self.name},{n},", 3)
+            self.need(second >= before and area >= self.last[1], "seconds or areas fall")
+            before, self.last = second, [corners, area]
+            if keeps_rows:
+                self.rows.append((second, corners, area))
+        self.need(self.last[0] > 0, "no corners")
+
+    def polygon(self) -> Corners:
+        """The corners of the polygon of all fixes, which has the box and the area of all."""
+        pairs = [self.take(f"corner,{self.name},{i},", 2) for i in range(1, self.last[0] + 1)]
+        corners = [(easting, northing) for easting, northing in pairs]
+        ends = [end(corner[axis] for corner in corners) for end in (min, max) for axis in (0, 1)]
+        self.need(ends == self.box, "the corners are not of the box")
+        self.need(min(corners) == corners[0], "the first corner is not the westernmost")
+        self.need(doubled_area(corners) == self.last[1], "the corners are not of the area")
+        self.need(is_convex(corners), "the corners are not those of a convex polygon")
+        return corners
+
+    def levels_ahead(self) -> Iterator[int]:
+        """The level of each percent line of the animal that comes next."""
+        while (found := LEVEL.fullmatch(self.lines.line)) and found[1] == self.name:
+            yield int(found[2])
+
+    def percent(self, level: int) -> Percent:
+        """Takes the percent line of this level."""
+        kept, corners, area = self.take(f"percent,{self.name},{level},", 3)
+        self.need(level <= 100 and kept == kept_count(self.fixes, level), f"{kept} fixes are not {level} percent")
+        self.need(area <= self.last[1] and 0 < corners <= kept, "no polygon of fixes that are kept")
+        self.need(kept < self.fixes or [corners, area] == self.last, "all are kept, but it is not the last row")
+        return Percent(level, kept, corners, area)
 
 
-def parse(text: str, where: str) -> Report:
-    """What a report says; refuses one that is cut off, or whose lines are not as the program writes them."""
-    lines = Lines(text, where)
-    (unit,) = lines.take(FORMS["unit"]) if lines.begins("unit,") else ("m",)
-    tables: dict[str, Table] = {}
-    while lines.begins("animal,"):
-        name, fixes = lines.take(FORMS["animal"])
-        if name in tables:
-            raise ReportError(f"{where} has the animal {name} twice")
-        tables[name] = table_of(lines, name, int(fixes))
-    levels = {tuple(percent.level for percent in table.percents) for table in tables.values()}
-    if len(levels) != 1:
-        raise ReportError(f"{where} has no animals" if not levels else f"{where} has other levels for some animals")
+def overlaps_of(lines: Lines, fixes: Mapping[str, int]) -> dict[tuple[str, str], int]:
+    """The lines of overlaps of these animals, behind which is the last line."""
+    counts = lines.overlaps(fixes)
+    lines.end(len(fixes))
+    return {(name, other): count for name, own in counts.items()
+            for other, count in zip((other for other in fixes if other != name), own)}
+
+
+def parse(lines: Lines) -> Report:
+    """What a report says."""
+    unit, tables = lines.unit(), dict[str, Table]()
+    levels: list[int] | None = None
+    while lines.line.startswith("animal,") or not tables:
+        animal = Animal(lines, levels, keeps_rows=True)
+        animal.need(animal.name not in tables, "it is there twice")
+        tables[animal.name], levels = Table(animal.rows, animal.corners, animal.percents), animal.levels
     return Report(unit, tables, overlaps_of(lines, {name: len(table.rows) for name, table in tables.items()}))
+
+
+def check_end(text: str, where: str) -> None:
+    """Refuses a report that does not end as one, of which this is the end."""
+    if END.search(text) is None:
+        raise ReportError(f"{one_line(where)} is cut off: its last line is not 'end,' with the number of animals")
+
+
+def lines_of(text: str, where: str) -> Lines:
+    """The lines of a report that was read."""
+    check_end(text, where)
+    return Lines(io.StringIO(text, newline="\n"), where)
+
+
+def read(path: str | os.PathLike[str]) -> Report:
+    """The report in a file."""
+    with open(path, "rb") as end:
+        end.seek(max(os.path.getsize(path) - 30, 0))
+        check_end(end.read().decode("latin-1"), str(path))
+    with open(path, **TEXT) as file:
+        return parse(Lines(file, str(path)))
 
 
 def kept_count(fixes: int, level: int) -> int:

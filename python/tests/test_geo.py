@@ -59,7 +59,7 @@ def without_first(shape):
 def test_rows_without_a_point_are_left_out():
     from shapely.geometry import Point
 
-    for shape in (None, Point()):
+    for shape in (None, Point(), Point(float("nan"), float("nan")), Point(float("nan"), 5134000)):
         with pytest.warns(HomeRangeNote, match="^1 records have no coordinates: left out"):
             assert home_range(without_first(shape)).summary()["fixes"].tolist() == [29] * 3
 
@@ -71,6 +71,18 @@ def test_another_shape_than_a_point_is_refused():
     with pytest.raises(FrameError, match="^row 0: point is a LineString and not a point"):
         home_range(frame)
     assert home_range(frame, use=[False] + [True] * 29).summary()["fixes"].tolist() == [29] * 3
+
+
+@pytest.mark.parametrize("crs", ["EPSG:32634", None])
+def test_points_bring_their_own_crs(crs):
+    with pytest.raises(FrameError, match="^crs: points bring their own CRS") as fault:
+        home_range(geo(crs), crs="EPSG:32633")
+    assert fault.value.kind == "option"
+
+
+def test_degrees_with_the_crs_of_metres_are_asked_about():
+    with pytest.warns(HomeRangeNote, match="^all fixes lie within 180 m by 90 m of the grid's corner"):
+        home_range(geo(points=[(15.8, 46.3), (15.9, 46.4)]))
 
 
 def test_points_in_decimetres_come_back_in_metres():

@@ -98,8 +98,8 @@ def test_where_the_program_is_looked_for(tmp_path, monkeypatch, stand_in):
 
 @pytest.mark.parametrize("change, said", [
     ("s/^end,1$//", "is cut off"),
-    ("s/^row,0,7,/row,0,8,/", "line 9 is 'row,0,8,.*, which does not fit there"),
-    ("/^box/d", "line 2 is 'row,0,1,"),
+    ("s/^row,0,7,/row,0,8,/", "line 9: 'row,0,8,.*, but 'row,0,7,'"),
+    ("/^box/d", "line 2: 'row,0,1,.*, but 'box,0,'"),
     ("s/,0,/,b,/", "reports another unit, other animals or fixes"),
 ])
 def test_a_report_that_does_not_fit_is_refused(stand_in, change, said):
@@ -109,7 +109,7 @@ def test_a_report_that_does_not_fit_is_refused(stand_in, change, said):
 
 def test_kept_fixes_that_are_not_those_of_the_report_are_refused(stand_in):
     """A program that reports the 95 per cent polygon of other fixes than the rule keeps."""
-    program = stand_in(f'"{real_program()}" "$@" | sed "s/^percent,0,95,19,\\([0-9]*\\),/percent,0,95,19,\\11,/"')
+    program = stand_in(f'"{real_program()}" "$@" | sed "s/^\\(percent,0,95,19,[0-9]*\\),.*/\\1,1/"')
     found = home_range(frame_of(a=POINTS), program=program)
     with pytest.raises(homerange.ReportError, match="the 95 per cent polygon of a is not that of the report"):
         found.corners(95)

@@ -113,17 +113,9 @@ def test_one_fix_two_equal_fixes_and_a_line_have_no_area():
         "one": "POINT (5 6)", "same": "POINT (7 7)", "line": "LINESTRING (0 0, 4 4)"}
     assert polygons["corners"].to_dict() == {"one": 1, "same": 1, "line": 2}
     assert (found.summary()["hectares"] == 0).all()
-    assert found.summary()["growth"].isna().all()
-
-
-def test_growth_is_what_the_last_tenth_added():
-    # Eighteen fixes at the corners of a rectangle of 2 ha, and then two that make it a square of 4 ha.
-    points = [(0, 0), (100, 0), (100, 200), (0, 200)] * 5
-    points[18:] = [(200, 0), (200, 200)]
-    growth = {count: home_range(frame_of(a=points[:count])).summary()["growth"].tolist() for count in (10, 18, 19, 20)}
-    # Of 19 fixes the last two are the tenth; the 19th makes it 3 ha: a corner is cut off.
-    assert growth == {10: [0.0] * 3, 18: [0.0] * 3, 19: [pytest.approx(1 / 3)] * 3, 20: [0.5] * 3}
-    assert home_range(frame_of(a=points[:9])).summary()["growth"].isna().all()
+    levelling = found.levelling()
+    assert levelling["verdict"].tolist() == ["too few fixes"] * 3
+    assert levelling.loc[:, "within_95_fix":"last_quarter"].isna().all(axis=None)
 
 
 def test_summary_has_times_and_counts():

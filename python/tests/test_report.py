@@ -49,6 +49,12 @@ def test_a_report_with_its_files(files):
     assert found.polygons(30).crs == "EPSG:32633"
 
 
+def test_a_file_without_a_used_fix_is_passed_over(files):
+    report, marked = report_of(files), files[0].with_name("marked.csv")
+    marked.write_text("animal,second,easting,northing,use\nhare,0,1,1,0\n")
+    assert read_report(report, files=[*files, marked]).animals == [*TRACKS]
+
+
 def test_a_report_in_decimetres(files):
     found = read_report(report_of(files, "--unit", "dm"))
     assert found.unit == "dm"
@@ -78,9 +84,15 @@ def test_files_of_other_fixes_are_refused(files):
 
 def test_fixes_in_other_places_are_refused(files):
     report = report_of(files)
-    files[1].write_text(files[1].read_text("utf-8").replace(f",{TRACKS['old boar'][3][0]},", ",1,"))
-    with pytest.raises(ReportError, match="old boar is not that of the report"):
-        read_report(report, files=files).corners(95)
+    text, points = files[1].read_text("utf-8"), TRACKS["old boar"]
+    files[1].write_text(text.replace(f",{points[3][0]},", ",1,"))
+    with pytest.raises(ReportError, match="the polygon of the file of old boar is not that of the report"):
+        read_report(report, files=files)
+    inner = next(point for point in nearest(points, 95) if point not in hull(points))
+    middle = "{},{}".format(*(sum(end[axis] for end in hull(points)) // len(hull(points)) for axis in (0, 1)))
+    files[1].write_text(text.replace("{},{}".format(*inner), middle))
+    with pytest.raises(ReportError, match="50 per cent polygon of old boar is not that of the report"):
+        read_report(report, files=files).corners(50)
 
 
 def changed(text, kind, change):
@@ -94,23 +106,26 @@ def changed(text, kind, change):
 @pytest.mark.parametrize("kind, change, said", [
     ("end", lambda line: [], "is cut off"),
     ("end", lambda line: ["end,2"], "is cut off"),
-    ("end", lambda line: [line, line], "line .* is 'end,2', which does not fit there"),
-    ("end", lambda line: ["row,vixen,1,1,1,1\n", line], "is 'row,vixen,1,1,1,1', which does not fit there"),
-    ("end", lambda line: ["end,3\n"], "line .* is 'end,3', which does not fit there"),
-    ("animal,vixen", lambda line: [], "has no animals|which does not fit there"),
-    ("animal,vixen", lambda line: ["animal,vixen,fixes,41\n"], "which does not fit there"),
-    ("animal,old boar", lambda line: ["animal,vixen,fixes,11\n"], "has the animal vixen twice"),
-    ("box", lambda line: [], "which does not fit there"),
-    ("row,vixen,3,", lambda line: [], "line 5 is 'row,vixen,4,"),
-    ("row,vixen,3,", lambda line: [line, line], "line 6 is 'row,vixen,3,"),
-    ("row,old boar,3,", lambda line: [line.replace("old boar", "vixen")], "is 'row,vixen,3,"),
-    ("row,vixen,3,", lambda line: ["row,vixen,3,-5,1,0\n"], "is 'row,vixen,3,-5"),
-    ("corner,vixen,2,", lambda line: [], "is 'corner,vixen,3,"),
-    ("percent,vixen,50,", lambda line: ["percent,vixen,50,21,3,9\n"], "vixen has 21 of 40 fixes at 50 per cent"),
-    ("percent,vixen,50,", lambda line: [], "has other levels for some animals"),
-    ("overlap,vixen", lambda line: [], "is 'overlap,old boar,vixen,"),
-    ("overlap,vixen", lambda line: ["overlap,vixen,old boar,41,40\n"], "is 'overlap,vixen,old boar,41,40'"),
-    ("overlap,vixen", lambda line: ["overlap,vixen,old boar,5,39\n"], "is 'overlap,vixen,old boar,5,39'"),
+    ("end", lambda line: [line, line], "line [0-9]*: a line behind the end"),
+    ("end", lambda line: ["row,vixen,1,1,1,1\n", line], "'row,vixen,1,1,1,1', but 'end,'"),
+    ("end", lambda line: ["end,3\n"], "the report is not of 2 animals"),
+    ("animal,vixen", lambda line: [], "line 1: 'box,vixen,.*, but 'animal,vixen,fixes,'"),
+    ("animal,vixen", lambda line: ["animal,vixen,fixes,41\n"], "but 'row,vixen,41,'"),
+    ("animal,old boar", lambda line: ["animal,vixen,fixes,11\n"], "but 'box,vixen,'"),
+    ("box", lambda line: [], "but 'box,vixen,'"),
+    ("box", lambda line: [line.replace("box,vixen,", "box,vixen,1")], "the corners are not of the box"),
+    ("row,vixen,3,", lambda line: [], "line 5: 'row,vixen,4,"),
+    ("row,vixen,3,", lambda line: [line, line], "line 6: 'row,vixen,3,"),
+    ("row,old boar,3,", lambda line: [line.replace("old boar", "vixen")], "'row,vixen,3,.*, but 'row,old boar,3,'"),
+    ("row,vixen,3,", lambda line: ["row,vixen,3,-5,1,0\n"], "'row,vixen,3,-5,1,0', but"),
+    ("row,vixen,40,", lambda line: [line[:-1] + "0\n"], "the corners are not of the area"),
+    ("corner,vixen,2,", lambda line: [], "'corner,vixen,3,.*, but 'corner,vixen,2,'"),
+    ("percent,vixen,50,", lambda line: ["percent,vixen,50,21,3,9\n"], "vixen: 21 fixes are not 50 percent"),
+    ("percent,vixen,100,", lambda line: [line[:-1] + "0\n"], "vixen: no polygon of fixes that are kept"),
+    ("percent,vixen,50,", lambda line: [], "'percent,old boar,50,.*, but 'percent,old boar,95,'"),
+    ("overlap,vixen", lambda line: [], "'overlap,old boar,vixen,.*, but 'overlap,vixen,old boar,'"),
+    ("overlap,vixen", lambda line: ["overlap,vixen,old boar,41,40\n"], "41 of 40 fixes, but vixen has 40"),
+    ("overlap,vixen", lambda line: ["overlap,vixen,old boar,5,39\n"], "5 of 39 fixes, but vixen has 40"),
 ])
 def test_a_report_that_is_not_whole_is_refused(files, kind, change, said):
     path = report_of(files)
@@ -130,7 +145,7 @@ def test_what_has_no_animals_is_no_report(tmp_path, text):
 def test_what_is_no_text_is_no_report(tmp_path):
     path = tmp_path / "report.txt"
     path.write_bytes("Jäger".encode("latin-1"))
-    with pytest.raises(ReportError, match="is no text in UTF-8"):
+    with pytest.raises(ReportError, match="is cut off"):
         read_report(path)
 
 

@@ -1,0 +1,345 @@
+"""Evidence of a report: a folder with all that is handed in, its checksums, and a record of the run. docs/EVIDENCE.md says
+what it shows, and how it is checked."""
+
+from __future__ import annotations
+
+import csv
+import hashlib
+import os
+import shlex
+import shutil
+import subprocess
+from datetime import datetime, timezone
+from pathlib import Path
+from typing import Any, Callable, Iterable, Iterator, NamedTuple, Sequence
+
+from .errors import FAULTS, UNPRINTABLE, ProgramError, ReportError, one_line, refuse
+from .program import MOST_ANIMALS, PACKAGE
+from .record import Record, difference_from_record, record_in
+from .report import TEXT, Animal, Lines
+
+CLONE = PACKAGE.parents[1] if PACKAGE.parent.name == "python" else None
+SOURCES = ["crates.txt", "HANDLES", *(f":(glob)crates/*/{part}/**" for part in ("src", "specs", "proofs")), "python/homerange",
+           "r/R", "release", "tools"]
+SUMS, ABOUT, REPORT, TRACKS = "SHA256SUMS", "evidence.txt", "report.txt", "tracks"
+
+
+class Program(NamedTuple):
+    """A program: its path, what it says of its version, and its checksum."""
+
+    path: str
+    version: str
+    checksum: str
+
+
+class Wish(NamedTuple):
+    """What a report is to be of."""
+
+    levels: str  # whole numbers between commas
+    unit: str | None  # None is that of the record of the split, or else metres
+    program: Program
+    more: Sequence[tuple[str, str]] = ()  # fields of the record of the run, where the tracks have no record of a split
+
+
+def checksum_of(path: str | os.PathLike[str]) -> str:
+    with open(path, "rb") as file:
+        return hashlib.file_digest(file, "sha256").hexdigest()
+
+
+def program_of(path: str) -> Program:
+    """The program at a path, which has to say that it is homerange."""
+    try:
+        said = subprocess.run([path, "--version"], stdin=subprocess.DEVNULL, capture_output=True)
+    except OSError as fault:
+        raise ProgramError(f"{path} does not run: {fault.strerror}") from fault
+    version = said.stdout.decode("utf-8", "replace").rstrip("\n")
+    if said.returncode != 0 or not version.startswith("homerange ") or UNPRINTABLE.search(version):
+        raise ProgramError(f"{path} is not homerange: its --version says {one_line(version)!r}")
+    return Program(path, version, checksum_of(path))
+
+
+def read_animal(path: Path) -> tuple[str, int]:
+    """The animal of a file, and how many of its records are used."""
+    with open(path, encoding="utf-8-sig", errors="surrogateescape", newline="") as file:
+        rows = csv.reader(file)
+        titles: list[str] = next(rows, [])
+        at_use = titles.index("use") if "use" in titles else None
+        names, used = set[str](), 0
+        for row in filter(None, rows):
+            names.add(row[0])
+            used += at_use is None or row[at_use:at_use + 1] == ["1"]
+    return (names.pop() if len(names) == 1 else "", used)
+
+
+def check_names(names: Iterable[str]) -> None:
+    """Refuses names that a list of checksums cannot have as they are."""
+    for name in names:
+        if UNPRINTABLE.search(name) or "\\" in name:
+            refuse(f"{name} has a backslash, a line end or a control character in its name: rename it", "name")
+
+
+def check_record(folder: Path, record: Record) -> None:
+    """Refuses tracks that are not those that the split made."""
+    files = {path.stem: path for path in folder.iterdir() if path.name.endswith(".csv")}
+    for name in sorted({*files}.symmetric_difference(record.tracks)):
+        what = "is not among the tracks" if name in record.tracks else "was not made by it"
+        refuse(f"{name}.csv {what}, by split.txt beside them: split the export again", "text")
+    for name, made in record.tracks.items():
+        if made.checksum is None:
+            refuse("split.txt has no checksums of the tracks, as older versions wrote it: split the export again", "text")
+        if made.checksum != checksum_of(files[name]):
+            refuse(f"{name}.csv was changed since it was split: split the export again", "text")
+
+
+def unit_of(wish: Wish, record: Record | None) -> str:
+    """The unit of the run, which has to be that of the record."""
+    unit = wish.unit or (record.unit if record else "m")
+    if record and unit != record.unit:
+        refuse(f"the tracks are in {record.unit}, by split.txt beside them, and not in {unit}: leave --unit out")
+    return unit
+
+
+def check_report(path: Path, unit: str, levels: str, animals: dict[str, int]) -> None:
+    """Refuses a report that is not whole, or of another unit, other levels, animals or numbers of fixes."""
+    fixes: dict[str, int] = {}
+    wanted = list(map(int, levels.split(",")))
+    with open(path, **TEXT) as file:
+        lines = Lines(file, str(path.name))
+        if lines.unit() != unit:
+            raise ReportError(f"{path.name} is of another unit than {unit}")
+        while lines.line.startswith("animal,") or not fixes:
+            animal = Animal(lines, None)
+            if animal.levels != wanted:
+                raise ReportError(f"{path.name} has other levels than {levels} for {one_line(animal.name)}")
+            fixes[animal.name] = animal.fixes
+        if fixes != animals:
+            name = sorted({*fixes.items()} ^ {*animals.items()})[0][0]
+            raise ReportError(f"{path.name} has {fixes.get(name, 0)} fixes of {one_line(name)}, and the tracks have "
+                              f"{animals.get(name, 0)}")
+        lines.overlaps(fixes)
+        lines.end(len(fixes))
+
+
+def run_once(program: str, words: Sequence[str], folder: Path) -> None:
+    """Has the program write its report into the folder."""
+    with open(folder / REPORT, "wb") as report:
+        run = subprocess.run([program, *words], cwd=folder, stdin=subprocess.DEVNULL, stdout=report, stderr=subprocess.PIPE)
+    if run.returncode != 0:
+        said = run.stderr.decode("utf-8", "replace").strip() or f"{program} ended with status {run.returncode}"
+        raise FAULTS.get(run.returncode, ProgramError)(one_line(said.splitlines()[-1]))
+
+
+def run_herd(program: str, options: Sequence[str], folder: Path) -> None:
+    """Has the scripts for herds make the report of many tracks."""
+    script = CLONE / "tools" / "herd" / "run.sh" if CLONE else None
+    if script is None or not script.is_file():
+        refuse(f"more than {MOST_ANIMALS} animals want tools/herd of homerange's repository: make the report by its run.sh, "
+               "and name the folder by --herd")
+    run = subprocess.run([script, TRACKS, "herd", *options], cwd=folder, env={**os.environ, "HOMERANGE": program},
+                         stdin=subprocess.DEVNULL, stdout=subprocess.PIPE, stderr=subprocess.PIPE)
+    if run.returncode != 0:
+        raise ProgramError(one_line(run.stderr.decode("utf-8", "replace").strip().split("\n")[-1]))
+    os.replace(folder / "herd" / REPORT, folder / REPORT)
+    shutil.rmtree(folder / "herd")
+
+
+def used_tracks(folder: Path) -> dict[str, tuple[str, int]]:
+    """The animal and the number of used fixes of each file of tracks that has some, by its name in the folder, in order of
+    names as bytes."""
+    names = sorted((path.name for path in (folder / TRACKS).iterdir() if path.name.endswith(".csv")), key=os.fsencode)
+    check_names(names)
+    found = {f"{TRACKS}/{name}": read_animal(folder / TRACKS / name) for name in names}
+    found = {name: animal for name, animal in found.items() if animal[1]}
+    if not found:
+        refuse("no file of tracks has a used fix", "empty")
+    return found
+
+
+def make_report(folder: Path, wish: Wish) -> None:
+    """Has the program report of the tracks in a folder, and writes the record of the run."""
+    record = record_in(folder / TRACKS)
+    if record:
+        check_record(folder / TRACKS, record)
+    unit, tracks = unit_of(wish, record), used_tracks(folder)
+    options = ["--percent", wish.levels, "--unit", unit]
+    before = {name: checksum_of(folder / name) for name in tracks}
+    words = [*options, "--", *tracks]
+    if len(tracks) > MOST_ANIMALS:
+        run_herd(wish.program.path, options, folder)
+    else:
+        run_once(wish.program.path, words, folder)
+    for name, checksum in before.items():
+        if checksum_of(folder / name) != checksum:
+            refuse(f"{name} changed while it was read", "text")
+    finish(folder, wish, words, unit, record)
+
+
+def finish(folder: Path, wish: Wish, words: Sequence[str], unit: str, record: Record | None) -> None:
+    """Looks whether a report is that of the tracks, and writes the record of the run."""
+    tracks, program = used_tracks(folder), wish.program
+    check_report(folder / REPORT, unit, wish.levels, dict(tracks.values()))
+    fault = record and difference_from_record(record, dict(tracks.values()))
+    if fault:
+        raise ReportError(fault)
+    if checksum_of(program.path) != program.checksum:
+        raise ProgramError(f"{program.path} changed while it ran")
+    log = Path(program.path).with_name("build.log")
+    if log.is_file():
+        shutil.copyfile(log, folder / "build.log")
+    lines = about_lines(wish, words, unit, len(tracks), record)
+    with open(folder / ABOUT, "x", **TEXT) as file:
+        file.writelines(f"{one_line(name)}: {one_line(value)}\n" for name, value in lines)
+
+
+def about_lines(
+    wish: Wish, words: Sequence[str], unit: str, animals: int, record: Record | None,
+) -> Iterator[tuple[str, str]]:
+    """The record of a run, fields by name."""
+    groups = -(-animals // 32)
+    yield "evidence", "1"
+    yield "made", datetime.now(timezone.utc).strftime("%Y-%m-%dT%H:%M:%SZ")
+    yield "program", wish.program.version
+    yield "program sha256", wish.program.checksum
+    yield "arguments", shlex.join(words)
+    yield "unit", unit
+    yield "levels", wish.levels
+    yield "runs", "1" if animals <= MOST_ANIMALS else f"{groups * (groups + 1) // 2} of groups of 32 animals"
+    yield "commit", commit_of_clone()
+    for kind in ("sources", "logic"):
+        yield kind, made_from(wish.program, kind)
+    if record:
+        yield "export", record.export
+        yield "export sha256", record.checksum
+    else:
+        yield from wish.more
+
+
+def made_from(program: Program, kind: str) -> str:
+    """A line of SOURCES beside the program: the checksum of what it was made from, or of the logic."""
+    path = Path(program.path).with_name("SOURCES")
+    lines = path.read_text("utf-8", errors="replace").split("\n") if path.is_file() else []
+    found = [line.removeprefix(f"{kind} ") for line in lines if line.startswith(f"{kind} ")]
+    return found[0] if found else "not known, since it does not stand beside the program"
+
+
+def git(*words: str) -> str | None:
+    """What git says in the clone; None where it fails."""
+    try:
+        run = subprocess.run(["git", "-C", str(CLONE), *words], stdin=subprocess.DEVNULL, capture_output=True, text=True)
+    except OSError:
+        return None
+    return run.stdout.rstrip("\n") if run.returncode == 0 else None
+
+
+def commit_of_clone() -> str:
+    """The commit of the clone that this package stands in, and whether what makes reports is not as it is there."""
+    if CLONE is None or git("rev-parse", "--show-toplevel") != str(CLONE):
+        return "not known, since git finds no clone here"
+    commit = git("rev-parse", "--verify", "-q", "HEAD")
+    changed = git("status", "--porcelain", "--untracked-files=all", "--", *SOURCES)
+    if commit is None or changed is None:
+        return "not known, since git does not say it"
+    return f"{commit}{', changed' * bool(changed)}"
+
+
+def write_sums(folder: Path) -> None:
+    """Writes the checksums of all files of a folder."""
+    paths = [path for path in folder.rglob("*") if not path.is_dir() and path != folder / SUMS]
+    names = sorted((path.relative_to(folder).as_posix() for path in paths), key=os.fsencode)
+    check_names(names)
+    with open(folder / SUMS, "x", **TEXT) as file:
+        file.writelines(f"{checksum_of(folder / name)}  {name}\n" for name in names)
+
+
+def copy_tracks(paths: Sequence[Path], folder: Path) -> None:
+    """Copies tracks, and the record of their split where all of them are of one."""
+    (folder / TRACKS).mkdir()
+    names: dict[str, Path] = {}
+    for path in paths:
+        if names.setdefault(path.name, path) != path:
+            refuse(f"{names[path.name]} and {path} have the same name", "name")
+        if not path.name.endswith(".csv"):
+            refuse(f"{path} is no track: its name does not end in .csv", "name")
+        shutil.copyfile(path, folder / TRACKS / path.name)
+    folders = {path.parent.resolve() for path in paths}
+    records = [each / "split.txt" for each in folders if (each / "split.txt").is_file()]
+    if records and len(folders) > 1:
+        refuse("the tracks are of several folders of which one has a record of its split: take those of one", "text")
+    for record in records:
+        shutil.copyfile(record, folder / TRACKS / "split.txt")
+
+
+def tracks_at(path: Path) -> list[Path]:
+    """A file, or the tracks of a folder."""
+    if not path.is_dir():
+        return [path]
+    return sorted((each for each in path.iterdir() if each.name.endswith(".csv")), key=os.fsencode)
+
+
+def new_folder(into: Path, fill: Callable[[Path], object]) -> None:
+    """Makes a folder that is there only once it is whole, with its checksums."""
+    if os.path.lexists(into):
+        refuse(f"{into} is there already: name another folder", "text")
+    part = into.with_name(f"{into.name}.part")
+    part.mkdir()
+    try:
+        fill(part)
+        write_sums(part)
+        part.rename(into)
+    except BaseException:
+        shutil.rmtree(part, ignore_errors=True)
+        raise
+
+
+def write_evidence(into: str | os.PathLike[str], paths: Sequence[str | os.PathLike[str]], wish: Wish) -> None:
+    """Makes the folder of a report of tracks: files, or folders of them."""
+    tracks = [each for path in paths for each in tracks_at(Path(path))]
+
+    def fill(folder: Path) -> None:
+        copy_tracks(tracks, folder)
+        make_report(folder, wish)
+
+    new_folder(Path(into), fill)
+
+
+def options_of_herd(words: Sequence[str]) -> dict[str, Any]:
+    """The levels and the unit among the options of a herd's runs."""
+    found = {"percent": "50,95,100", "unit": "m"}
+    rest = list(words)
+    while rest:
+        word = rest.pop(0)
+        name, has_value, value = word.removeprefix("--").partition("=")
+        if not has_value:
+            value = rest.pop(0) if rest else ""
+        found[name] = value
+    return found
+
+
+def write_herd_evidence(into: str | os.PathLike[str], out: Path) -> None:
+    """Makes the folder of the report of a herd, which tools/herd made in the folder OUT."""
+    def lines(path: Path) -> list[str]:
+        return path.read_text(encoding="utf-8", errors="surrogateescape").split("\n")[:-1]
+
+    groups = sorted((out / "groups").iterdir())
+    paths = [Path(line) for group in groups for line in lines(group)]
+    sums = [line.split(" ")[0] for group in groups for line in lines(out / "sums" / group.name)]
+    checksum, _, place = lines(out / "program")[0].partition("  ")
+    program = program_of(place)
+    if program.checksum != checksum:
+        raise ProgramError(f"{place} is not the program of the plan: call plan.sh")
+    words = lines(out / "options")
+    options = options_of_herd(words)
+
+    def fill(folder: Path) -> None:
+        copy_tracks(paths, folder)
+        for path, wanted in zip(paths, sums):
+            if checksum_of(folder / TRACKS / path.name) != wanted:
+                refuse(f"{path} is not as plan.sh found it: call plan.sh", "text")
+        record = record_in(folder / TRACKS)
+        if record:
+            check_record(folder / TRACKS, record)
+        wish = Wish(options["percent"], options["unit"], program)
+        shutil.copyfile(out / REPORT, folder / REPORT)
+        finish(folder, wish, [*words, "--", *used_tracks(folder)], unit_of(wish, record), record)
+
+    new_folder(Path(into), fill)

@@ -1,0 +1,133 @@
+"""Files of ranges, to hand in: tables, layers for a GIS, and with the page the whole folder of evidence."""
+
+from __future__ import annotations
+
+import os
+import shutil
+from collections import Counter
+from dataclasses import replace
+from importlib.util import find_spec
+from pathlib import Path
+from typing import Any, Iterator, Mapping
+
+from .errors import ReportError, refuse
+from .evidence import REPORT, TRACKS, Wish, checksum_of, copy_tracks, make_report, new_folder, program_of, used_tracks
+from .exports import clean_names, write_track
+from .frames import Tracks
+from .page import write_page
+from .program import find_program
+from .ranges import HomeRanges, read_report
+from .report import Report, read
+from .tracks import Track
+from .zones import zone_of_crs
+
+PLACES = dict.fromkeys(("days", "median_hours", "longest_hours", "last_tenth", "last_quarter"), 4)
+
+
+def with_times(table: Any, *titles: str) -> Any:
+    """The table with its times as text in UTC."""
+    times = {title: table[title].dt.tz_convert("UTC").dt.strftime("%Y-%m-%dT%H:%M:%SZ") for title in titles}
+    return table.assign(**times)
+
+
+def write_tables(ranges: HomeRanges, folder: Path) -> None:
+    """Writes summary.csv, animals.csv and overlaps.csv."""
+    # How many fixes were left out stands in animals.csv, with the reasons.
+    summary = with_times(ranges.summary().drop(columns="left_out"), "first", "last")
+    animals = with_times(ranges.overview(), "first", "last", "within_95_time").round(PLACES)
+    for table, name in ((summary, "summary.csv"), (animals, "animals.csv")):
+        table.to_csv(folder / name, index=False, lineterminator="\n")
+    ranges.overlap(share=True).round(4).to_csv(folder / "overlaps.csv", lineterminator="\n")
+
+
+def write_layers(ranges: HomeRanges, path: Path) -> Iterator[str]:
+    """Writes a layer for each level, with the polygons that have an area; says which have none. Wants geopandas."""
+    for level in ranges.levels:
+        polygons = ranges.polygons(level)
+        has_area = polygons["corners"] > 2
+        if not has_area.all():
+            names = ", ".join(polygons.loc[~has_area, "animal"])
+            yield f"not in {path.name}, since they have no area at {level} %: {names}"
+        if has_area.any():
+            polygons[has_area].to_file(path, driver="GPKG", layer=f"mcp_{level}")
+
+
+def fields_of(ranges: HomeRanges, renames: list[str]) -> list[tuple[str, str]]:
+    """What the record of the run says of fixes that have no record of a split, and of which animals have other names."""
+    zone = zone_of_crs(ranges.crs)
+    fields = {
+        "notes": "; ".join([*ranges.notes, *renames]), "zone": zone, "shift": "{},{}".format(*ranges.shift) if any(ranges.shift) else None,
+        "crs": str(ranges.crs) if ranges.crs is not None and zone is None else None}
+    return [(name, value) for name, value in fields.items() if value]
+
+
+def tracks_of(ranges: HomeRanges) -> Tracks:
+    """The fixes of ranges, which have to be known."""
+    if ranges.tracks is None:
+        refuse("evidence needs the fixes: read_report(path, files=..)")
+    return ranges.tracks
+
+
+def put_tracks(ranges: HomeRanges, tracks: Tracks, names: Mapping[str, str], folder: Path) -> None:
+    """Puts tracks into a folder: those of a frame as new files, else the files that were read, with the record of their
+    split."""
+    if ranges.files:
+        copy_tracks(ranges.files, folder)
+        if ranges.split is not None:
+            shutil.copyfile(ranges.split, folder / TRACKS / "split.txt")
+        return
+    (folder / TRACKS).mkdir()
+    for name, track in tracks.by_name.items():
+        seconds, eastings, northings = (track[title].tolist() for title in ("second", "easting", "northing"))
+        write_track(folder / TRACKS, names[name], Track(seconds, eastings, northings, [1] * len(track)), False)
+
+
+def renamed(report: Report, names: Mapping[str, str]) -> Report:
+    """The report with the names that files have."""
+    return Report(report.unit, {names[name]: table for name, table in report.tables.items()},
+                  {(names[name], names[other]): count for (name, other), count in report.overlaps.items()})
+
+
+def tracks_in_order(tracks: Tracks, names: Mapping[str, str], report: Report) -> Tracks:
+    """The tracks of a frame by the names that files have, in the order of the report."""
+    animal_of = {clean: name for name, clean in names.items()}
+    by_name = {clean: tracks.by_name[animal_of[clean]] for clean in report.tables}
+    left_out = {names[name]: count for name, count in tracks.left_out.items() if name in names}
+    reasons = Counter({(names[name], reason): count for (name, reason), count in tracks.reasons.items() if name in names})
+    return replace(tracks, by_name=by_name, left_out=left_out, reasons=reasons)
+
+
+def ranges_in(folder: Path, ranges: HomeRanges, tracks: Tracks, names: Mapping[str, str]) -> HomeRanges:
+    """The ranges of the report that was made in a folder, which has to have the numbers of these."""
+    report, split = read(folder / REPORT), folder / TRACKS / "split.txt"
+    if report != renamed(ranges.report, names):
+        raise ReportError("the program reports other numbers of these tracks than the ranges have: make them again")
+    if ranges.files:
+        return read_report(
+            folder / REPORT, files=[folder / name for name in used_tracks(folder)], crs=ranges.crs, tz=ranges.tz,
+            shift=ranges.shift, program=ranges.program, record=split if split.is_file() else None)
+    found = HomeRanges(report, tracks_in_order(tracks, names, report), crs=ranges.crs, tz=ranges.tz, program=ranges.program)
+    found.checksum = checksum_of(folder / REPORT)
+    return found
+
+
+def write_folder(ranges: HomeRanges, into: str | os.PathLike[str], page: Mapping[str, Any]) -> list[str]:
+    """Makes the folder of evidence of some ranges, whose page is written with these arguments; answers what there is to
+    say of it."""
+    tracks = tracks_of(ranges)
+    names = {name: name for name in ranges.animals} if ranges.files else clean_names(ranges.animals)
+    said = [f"animal '{name}' is named {clean}" for name, clean in names.items() if name != clean]
+    wish = Wish(",".join(map(str, ranges.levels)), ranges.unit, program_of(find_program(ranges.program)),
+                fields_of(ranges, list(said)))
+
+    def fill(folder: Path) -> None:
+        put_tracks(ranges, tracks, names, folder)
+        make_report(folder, wish)
+        found = ranges_in(folder, ranges, tracks, names)
+        write_tables(found, folder)
+        if find_spec("geopandas"):
+            said.extend(write_layers(found, folder / "ranges.gpkg"))
+        write_page(found, folder / "report.html", **page)
+
+    new_folder(Path(into), fill)
+    return said

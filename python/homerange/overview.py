@@ -1,0 +1,60 @@
+"""One row of facts for each animal, whole and exact: what became of its fixes, when they were, the areas, and whether the
+curve levelled off. HomeRanges.overview() makes a table of it, and the page is written from it."""
+
+from __future__ import annotations
+
+from collections import Counter
+from typing import Mapping, NamedTuple, Sequence
+
+from .exports import REASONS
+from .levelling import Levelling, levelling_of
+from .report import Percent, Table
+
+ALL_REASONS = (*REASONS, "use")  # use is an argument that left rows of a frame out
+
+
+class Row(NamedTuple):
+    """The facts of an animal. Times are seconds, areas doubled squares of the unit."""
+
+    animal: str
+    records: int | None  # fixes of the export; None where it is not known
+    left: Mapping[str, int]  # left out, by reason
+    used: int
+    first: int
+    last: int
+    median2: int | None  # twice the median of the intervals; None of one fix
+    longest: int | None
+    percents: Mapping[int, Percent]  # by level, in the order in which levels were given
+    levelling: Levelling
+    within_second: int | None  # the time of the fix from which on the area stayed within 95 per cent
+
+
+def twice_median(numbers: Sequence[int]) -> int:
+    """Twice the median, which is a whole number."""
+    order, middle = sorted(numbers), len(numbers) // 2
+    return 2 * order[middle] if len(order) % 2 else order[middle - 1] + order[middle]
+
+
+def row_of(name: str, table: Table, records: int | None, left: Mapping[str, int]) -> Row:
+    """The facts of an animal of a report."""
+    seconds = [second for second, _, _ in table.rows]
+    intervals = [later - former for former, later in zip(seconds, seconds[1:])]
+    levelling = levelling_of([area2 for _, _, area2 in table.rows])
+    return Row(
+        name, records, left, len(seconds), seconds[0], seconds[-1], twice_median(intervals) if intervals else None,
+        max(intervals, default=None), {percent.level: percent for percent in table.percents}, levelling,
+        seconds[levelling.within - 1] if levelling.within else None)
+
+
+def rows_of(tables: Mapping[str, Table], records: Mapping[str, int], left: Counter[tuple[str, str]]) -> list[Row]:
+    """The facts of all animals of a report."""
+    by_animal: dict[str, dict[str, int]] = {}
+    for (name, reason), count in sorted(left.items(), key=lambda item: ALL_REASONS.index(item[0][1])):
+        if count:
+            by_animal.setdefault(name, {})[reason] = count
+    return [row_of(name, table, records.get(name), by_animal.get(name, {})) for name, table in tables.items()]
+
+
+def reasons_of(rows: Sequence[Row]) -> list[str]:
+    """The reasons for which fixes were left out, in their order."""
+    return [reason for reason in ALL_REASONS if any(reason in row.left for row in rows)]

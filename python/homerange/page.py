@@ -1,0 +1,196 @@
+"""Writes the page of some ranges: one HTML file with nothing outside it and no script, which reads well on paper. Its
+text and its looks stand in page.html beside this module, with named places that are filled here."""
+
+from __future__ import annotations
+
+import hashlib
+import os
+import re
+import subprocess
+from collections import Counter
+from datetime import date, datetime
+from pathlib import Path
+from typing import Any, Mapping, Sequence
+
+from .asked import zone_of_time
+from .drawing import colour
+from .errors import ProgramError
+from .formats import Clock, day_text, escaped, listed, named
+from .overview import Row
+from .page_curves import Curve, curves
+from .page_map import STYLES, Maps, Point, Shape, maps
+from .page_tables import Overlaps, animals_table, without_range
+from .page_text import System, checksums, left_out, method, options_of, said, sentences, system_of, verify
+from .program import find_program
+from .ranges import HomeRanges, boundary_of
+
+TEMPLATE = Path(__file__).with_name("page.html")
+PLACE = re.compile(r"\{\{([a-z]+)\}\}")
+MOST_IN_KEY = 40
+FEW = 3  # animals whose curves are kept on one sheet
+LEAST = {"m": 100.0, "dm": 10.0}  # metres that a map is wide at least, whose fixes may all lie in one place
+
+
+def fill(template: str, places: Mapping[str, str]) -> str:
+    """The template with its places filled, once: what stands for a place in a user's text stays."""
+    return PLACE.sub(lambda found: places[found[1]], template)
+
+
+def shapes_of(ranges: HomeRanges, levels: Sequence[int]) -> list[Shape]:
+    """What is drawn of each animal."""
+    polygons = [ranges.corners(level) for level in levels]
+    found = []
+    for number, name in enumerate(ranges.animals, 1):
+        fixes = ranges.fixes(name)
+        points = [] if fixes is None else [(east, north) for east, north in fixes.tolist()]
+        found.append(Shape(number, [corners[name] for corners in polygons], points))
+    return found
+
+
+def rings_of(shape: Any) -> list[list[Point]]:
+    """The rings of a shape of shapely that has an area."""
+    if hasattr(shape, "geoms"):
+        return [ring for part in shape.geoms for ring in rings_of(part)]
+    if not hasattr(shape, "exterior"):
+        return []
+    return [[(x, y) for x, y, *_ in ring.coords] for ring in (shape.exterior, *shape.interiors)]
+
+
+def levels_drawn(ranges: HomeRanges) -> list[int]:
+    """The levels of the map from the highest on; without the fixes that of all is the only one that is known."""
+    return sorted(ranges.levels, reverse=True) if ranges.has_fixes else [100]
+
+
+def middle(polygon: Sequence[Point]) -> Point:
+    eastings, northings = zip(*polygon)
+    return (min(eastings) + max(eastings)) / 2, (min(northings) + max(northings)) / 2
+
+
+def swatch(kind: str, text: str) -> str:
+    """A piece of a line of the map, and what it is."""
+    drawn = f'<svg class="swatch" viewBox="0 0 34 11"><path class="{kind}" d="M1 1H33V10H1Z"/></svg>'
+    return f'<span class="line">{drawn}{text}</span>'
+
+
+def key(ranges: HomeRanges, boundary: str | None) -> str:
+    """What lines and numbers of the map are."""
+    found = [swatch(f"l{at % STYLES} c6", f"{level} % MCP") for at, level in enumerate(levels_drawn(ranges))]
+    if boundary is not None:
+        found.append(swatch("boundary", boundary))
+    if len(ranges.animals) > MOST_IN_KEY:
+        return "\n".join([*found, "<span>Numbers are those of the table.</span>"])
+    names = enumerate(ranges.animals, 1)
+    return "\n".join([*found, *(f'<span><b class="{colour(n)}">{n}</b>&#160;{named(name)}</span>' for n, name in names)])
+
+
+def ground(system: System, drawn: Maps, has_fixes: bool, has_boundary: bool) -> str:
+    """What is said below the map."""
+    found = [f"The grid is in metres. {system.difference}"]
+    if has_fixes:
+        found.append("Dots are fixes; of those that would cover each other one is drawn.")
+    if has_boundary and not drawn.has_boundary:
+        found.append("The boundary lies outside this map.")
+    if drawn.unseen:
+        numbers = ", ".join(map(str, drawn.unseen[:20])) + (", .." if len(drawn.unseen) > 20 else "")
+        found.append(f"Too small to be seen beside the others: {numbers}.")
+    return " ".join(found)
+
+
+def identity(program: Any) -> tuple[str, str | None]:
+    """What the program says that it is, and its checksum."""
+    try:
+        found = find_program(program)
+        run = subprocess.run([found, "--version"], stdin=subprocess.DEVNULL, capture_output=True)
+        said_version = run.stdout.decode("utf-8", errors="replace").strip()
+        return said_version or "homerange", hashlib.sha256(Path(found).read_bytes()).hexdigest()
+    except (OSError, ProgramError):
+        return "homerange", None
+
+
+def typed(**words: str | None) -> str:
+    """What was typed in."""
+    known = ((title.capitalize(), named(text)) for title, text in words.items() if text)
+    return "".join(f"<span>{title}: {text}</span> " for title, text in known)
+
+
+def period(rows: Sequence[Row], clock: Clock) -> str:
+    """From the first day of all to the last."""
+    first, last = min(row.first for row in rows), max(row.last for row in rows)
+    by = f"dates of {clock.zone}" if clock.is_calendar else "counted from the start that the files have"
+    return f"{clock.period(first, last)} ({escaped(by)})"
+
+
+def heading(animals: Sequence[str]) -> str:
+    return f"Home ranges of {listed(animals)}" if len(animals) < 4 else f"Home ranges of {len(animals)} animals"
+
+
+def source_of(ranges: HomeRanges) -> str:
+    """What the fixes were in."""
+    return "export" if ranges.record else "data"
+
+
+def left_of(ranges: HomeRanges, rows: Sequence[Row]) -> str:
+    """What was left out of the export, also of animals that have no range."""
+    if ranges.record is not None:
+        return left_out(ranges.record.left_out(), sum(ranges.record.of_export().values()), source_of(ranges))
+    if any(row.records is None for row in rows):
+        return "How many fixes were left out is not known."
+    left = Counter({(row.animal, reason): count for row in rows for reason, count in row.left.items()})
+    return left_out(left, sum(row.records or 0 for row in rows), source_of(ranges))
+
+
+def numbers(ranges: HomeRanges, rows: Sequence[Row], clock: Clock) -> dict[str, str]:
+    """The places with tables, sentences and curves."""
+    overlaps = Overlaps(rows, ranges.report.overlaps)
+    areas = [[area2 for _, _, area2 in table.rows] for table in ranges.report.tables.values()]
+    found = [Curve(n, own, row.levelling.within) for n, (own, row) in enumerate(zip(areas, rows), 1)]
+    return {
+        "period": period(rows, clock), "sentences": sentences(rows, clock, ranges.unit),
+        "animals": animals_table(rows, clock, ranges.unit, f"in the {source_of(ranges)}"),
+        "notes": without_range(rows, ranges.record.of_export()) if ranges.record else "",
+        "size": "whole" if len(rows) <= FEW else "long",
+        "curves": curves(found, list(map(named, ranges.animals)), ranges.unit),
+        "overlap": overlaps.sentence(), "overlaps": overlaps.table()}
+
+
+def drawn_map(ranges: HomeRanges, reserve: Any, reserve_name: str | None) -> tuple[dict[str, str], System]:
+    """The places with the map and what is said of it, and the reference system."""
+    shapes = shapes_of(ranges, levels_drawn(ranges))
+    rings = [] if reserve is None else rings_of(boundary_of(ranges, reserve))
+    system = system_of(ranges.crs, [middle(shape.polygons[0]) for shape in shapes])
+    drawn = maps(shapes, rings, escaped(system.text), LEAST[ranges.unit])
+    name = None if reserve is None else named(reserve_name) if reserve_name else "boundary"
+    return {"maps": "\n".join(drawn.drawings), "key": key(ranges, name),
+            "ground": ground(system, drawn, ranges.has_fixes, reserve is not None)}, system
+
+
+def write_page(
+    ranges: HomeRanges, path: str | os.PathLike[str], *, title: str | None = None, study: str | None = None,
+    species: str | None = None, by: str | None = None, reserve: Any = None, reserve_name: str | None = None,
+    tz: str | None = None, made: date | None = None,
+) -> None:
+    """Writes a page of ranges to read, to print and to hand in: one HTML file with nothing outside it.
+
+    path: the file, such as report.html, which is written over.
+    title, study, species, by: text for the head of the page.
+    reserve, reserve_name: a boundary for the map, as share_inside takes it, and what it is called.
+    tz: the time zone of dates; if left out, that of the ranges.
+    made: the day of making; if left out, today.
+    """
+    zone = tz or ranges.tz
+    day = made or datetime.now(zone_of_time(zone)).date()
+    rows = ranges.rows()
+    clock = Clock(zone, (second for row in rows for second in (row.first, row.last)))
+    version, program = identity(ranges.program)
+    places, system = drawn_map(ranges, reserve, reserve_name)
+    head = title or heading(ranges.animals)
+    lines = ranges.record.said if ranges.record else ranges.notes
+    text = (f"{method(version, system.text, ranges.unit, ranges.levels)} {left_of(ranges, rows)}"
+            f"{options_of(ranges.record)}{said(lines)}")
+    places.update(
+        numbers(ranges, rows, clock), title=escaped(head), heading=f"<bdi>{escaped(head)}</bdi>",
+        typed=typed(study=study, species=species, by=by), method=text,
+        made=f"Made on {day_text(day)} with {escaped(version)}.",
+        verify=verify(ranges.checksum), checksums=checksums(ranges.record, ranges.checksum, version, program))
+    page = fill(TEMPLATE.read_text("utf-8"), places)
+    Path(path).write_bytes(page.encode("utf-8", errors="replace"))

@@ -1,0 +1,170 @@
+"""The folder of evidence of ranges: its files, what the verifier of the repository says of them, and what is refused."""
+import hashlib
+import os
+import shutil
+import subprocess
+import sys
+from pathlib import Path
+
+import pandas
+import pytest
+from exact import cloud
+from frames import frame_of
+
+from homerange import FrameError, HomeRangeNote, ProgramError, ReportError, home_range, read_report
+from homerange.program import find_program
+
+TOOLS = Path(__file__).parents[2] / "tools"
+POINTS = {"vixen": cloud(1, 40), "a/b": cloud(2, 31), "Žiga Ä": cloud(3, 12)}
+
+
+def verify(folder, *words):
+    """The status of the verifier, and what it says."""
+    call = [sys.executable, TOOLS / "verify.py", folder, *words, "--program", find_program(None)]
+    found = subprocess.run(call, capture_output=True, text=True, encoding="utf-8")
+    return found.returncode, found.stdout
+
+
+def about_of(folder):
+    return dict(line.split(": ", 1) for line in (folder / "evidence.txt").read_text("utf-8").splitlines())
+
+
+@pytest.fixture
+def ranges():
+    frame = frame_of(**POINTS)
+    frame["visible"] = [at != 3 for at in range(len(frame))]
+    with pytest.warns(HomeRangeNote, match="1 outliers: left out"):
+        return home_range(frame, [95, 100], crs="EPSG:32633", tz="Europe/Ljubljana")
+
+
+def test_evidence_of_a_frame(ranges, tmp_path):
+    pytest.importorskip("geopandas")
+    folder = tmp_path / "hand-in"
+    with pytest.warns(HomeRangeNote, match="animal 'a/b' is named a_b"):
+        ranges.evidence(folder, title="Three animals", by="Maja")
+    names = sorted(path.relative_to(folder).as_posix() for path in folder.rglob("*") if path.is_file())
+    assert names == sorted([
+        "SHA256SUMS", "animals.csv", "evidence.txt", "overlaps.csv", "ranges.gpkg", "report.html", "report.txt", "summary.csv",
+        "tracks/a_b.csv", "tracks/vixen.csv", "tracks/Žiga Ä.csv"])
+    sums = (folder / "SHA256SUMS").read_text("utf-8").splitlines()
+    assert [line[66:] for line in sums] == sorted({*names} - {"SHA256SUMS"}, key=os.fsencode)
+    assert all(line[:64] == hashlib.sha256((folder / line[66:]).read_bytes()).hexdigest() for line in sums)
+    assert (folder / "tracks/vixen.csv").read_text().splitlines()[:2] == [
+        "animal,second,easting,northing", "vixen,{},{},{}".format(1709251200, *POINTS["vixen"][0])]
+    about = about_of(folder)
+    assert (about["unit"], about["levels"], about["zone"]) == ("m", "95,100", "33N")
+    assert about["arguments"] == "--percent 95,100 --unit m -- tracks/a_b.csv tracks/vixen.csv 'tracks/Žiga Ä.csv'"
+    assert about["notes"] == "; ".join([*ranges.notes, "animal 'a/b' is named a_b"])
+    assert not {"crs", "shift", "export"} & {*about}
+
+
+def test_the_verifier_holds_it_but_for_the_export(ranges, tmp_path):
+    with pytest.warns(HomeRangeNote, match="is named a_b"):
+        ranges.evidence(tmp_path / "hand-in")
+    status, said = verify(tmp_path / "hand-in")
+    assert status == 3, said
+    assert "did not hold" not in said
+    assert "not looked at: from what the tracks were made" in said
+    assert "held: run again the program makes the same report" in said
+    for name, old, new in (("report.txt", "animal,vixen", "animal,other"), ("evidence.txt", "zone: 33N", "place: 33N")):
+        path = tmp_path / "hand-in" / name
+        text = path.read_text("utf-8")
+        path.write_text(text.replace(old, new), "utf-8")
+        assert verify(tmp_path / "hand-in")[0] == 1
+        path.write_text(text, "utf-8")
+
+
+def test_tables_have_the_names_and_the_order_of_the_report(ranges, tmp_path):
+    with pytest.warns(HomeRangeNote, match="is named a_b"):
+        ranges.evidence(tmp_path / "hand-in")
+    found = pandas.read_csv(tmp_path / "hand-in" / "animals.csv")
+    assert found["animal"].tolist() == ["a_b", "vixen", "Žiga Ä"]
+    assert found[["records", "left_outlier", "used"]].values.tolist() == [[31, 0, 31], [40, 1, 39], [12, 0, 12]]
+    assert found["first"][0] == "2024-03-01T00:00:00Z"
+    summary = pandas.read_csv(tmp_path / "hand-in" / "summary.csv")
+    assert summary["hectares"].tolist() == [
+        ranges.hectares(name, level) for name in ("a/b", "vixen", "Žiga Ä") for level in (95, 100)]
+    page = (tmp_path / "hand-in" / "report.html").read_text("utf-8")
+    assert 'data-animal="a_b"' in page and "a/b" not in page.split("When the fixes")[0]
+
+
+def test_evidence_of_a_grid_of_its_own(tmp_path):
+    with pytest.warns(HomeRangeNote, match="shifted"):
+        found = home_range(frame_of(a=[(-100, 5), (50, 60), (40, 90)]), 100, unit="dm")
+    found.evidence(tmp_path / "hand-in")
+    about = about_of(tmp_path / "hand-in")
+    assert about["shift"] == "{},{}".format(*found.shift) and found.shift != (0, 0)
+    assert not {"zone", "crs"} & {*about}
+    assert verify(tmp_path / "hand-in")[0] == 3
+
+
+def test_layers_without_an_area_are_said(tmp_path):
+    pytest.importorskip("geopandas")
+    with pytest.warns(HomeRangeNote) as warned:
+        home_range(frame_of(a=cloud(1, 9), one=[(5, 6)]), 100).evidence(tmp_path / "hand-in")
+    assert [str(warning.message) for warning in warned if "not in" in str(warning.message)] == [
+        "not in ranges.gpkg, since they have no area at 100 %: one"]
+
+
+@pytest.fixture
+def split(tmp_path):
+    """The folder of tracks of the example of an export, with the report of it."""
+    export = TOOLS.parent / "examples" / "export.csv"
+    subprocess.run([sys.executable, TOOLS / "split.py", export], cwd=tmp_path, capture_output=True, check=True)
+    files = sorted((tmp_path / "tracks").glob("*.csv"))
+    report = subprocess.run([find_program(None), "--percent", "95,100", *files], capture_output=True, check=True).stdout
+    (tmp_path / "report.txt").write_bytes(report)
+    return export, files
+
+
+def test_evidence_of_a_report_and_its_files(split, tmp_path):
+    export, files = split
+    found = read_report(tmp_path / "report.txt", files=files[::-1], record=tmp_path / "tracks" / "split.txt")
+    found.evidence(tmp_path / "hand-in")
+    assert (tmp_path / "hand-in" / "report.txt").read_bytes() == (tmp_path / "report.txt").read_bytes()
+    assert about_of(tmp_path / "hand-in")["export"] == "export.csv"
+    status, said = verify(tmp_path / "hand-in", export)
+    assert status == 0, said
+
+
+def test_a_record_from_elsewhere_goes_with_the_files(split, tmp_path):
+    shutil.move(tmp_path / "tracks" / "split.txt", tmp_path / "record.txt")
+    found = read_report(tmp_path / "report.txt", files=split[1], record=tmp_path / "record.txt")
+    found.evidence(tmp_path / "hand-in")
+    assert verify(tmp_path / "hand-in", split[0])[0] == 0
+
+
+def refuses(call, fault, text, tmp_path):
+    """Whether a call is refused, in one line, and leaves nothing."""
+    with pytest.raises(fault, match=text) as refused:
+        call(tmp_path / "none")
+    assert "\n" not in str(refused.value)
+    assert not (tmp_path / "none").exists() and not (tmp_path / "none.part").exists()
+
+
+def test_what_is_refused_of_files(split, tmp_path):
+    record = tmp_path / "tracks" / "split.txt"
+    refuses(read_report(tmp_path / "report.txt").evidence, FrameError, "evidence needs the fixes", tmp_path)
+    found = read_report(tmp_path / "report.txt", files=split[1])
+    text = split[1][0].read_text()
+    split[1][0].write_text(text.replace(",560", ",561").replace(",562", ",563"))
+    refuses(found.evidence, FrameError, "was changed since it was split", tmp_path)
+    record.unlink()
+    refuses(found.evidence, ReportError, "reports other numbers of these tracks", tmp_path)
+
+
+def test_what_is_refused_of_frames_and_programs(ranges, tmp_path):
+    points = {"a/b": [(1, 2), (3, 4)], "a\\b": [(5, 6), (7, 8)]}
+    refuses(home_range(frame_of(**points)).evidence, FrameError, "would both be named a_b", tmp_path)
+    (tmp_path / "there").mkdir()
+    with pytest.raises(FrameError, match="is there already"):
+        ranges.evidence(tmp_path / "there")
+    ranges.program = "/bin/true"
+    refuses(ranges.evidence, ProgramError, "is not homerange", tmp_path)
+    program = tmp_path / "program"
+    program.write_text(f'#!/bin/sh\n[ "$1" = --version ] || echo "# more" >>{program}\nexec {find_program(None)} "$@"\n')
+    program.chmod(0o755)
+    ranges.program = program
+    refuses(ranges.evidence, ProgramError, "changed while it ran", tmp_path)
+    program.write_text(f'#!/bin/sh\n[ "$1" = --version ] || shift 2\nexec {find_program(None)} "$@"\n')
+    refuses(ranges.evidence, ReportError, "has other levels than 95,100", tmp_path)
