@@ -5,7 +5,7 @@ most_exact <- 2^53
 
 # The fixes of a table that are to be used: a data frame of row, animal, time, moment (seconds), easting and northing in
 # whole units of the grid, by animal and time; beside it the fixes that were left out by animal and reason, the CRS, how many
-# metres were added to coordinates, and the time zone.
+# metres were added to coordinates, the time zone, the UTM zone, and what was said.
 read_frame <- function(x, asked, use = NULL, crs = NULL) {
   check_frame(x)
   frame <- new_frame(x, asked, use, crs)
@@ -18,8 +18,9 @@ read_frame <- function(x, asked, use = NULL, crs = NULL) {
   if (!is.null(frame$zone_said)) say(said, NULL, frame$zone_said)
   count_unused(frame, said)
   check_zone_of_crs(tracks$zone, frame$crs)
-  list(fixes = fixes_of_tracks(frame, tracks), left_out = said$left, crs = crs_of_tracks(frame, tracks), shift = tracks$shift,
-       tz = clock_of(asked))
+  crs <- crs_of_tracks(frame, tracks)
+  list(fixes = fixes_of_tracks(frame, tracks), left_out = said$left, crs = crs, shift = tracks$shift, tz = clock_of(asked),
+       zone = if (is.null(tracks$zone)) zone_of_crs(crs) else tracks$zone, notes = said$lines)
 }
 
 check_frame <- function(x) {
@@ -43,7 +44,7 @@ new_frame <- function(x, asked, use, crs) {
   if (has_points && (!is.null(crs) || needs_columns(asked))) {
     refuse("option", "easting, northing, lon, lat, crs: an sf table brings its own coordinates and its own CRS")
   }
-  frame$table <- new_table(names(x), asked, has_points = has_points)
+  frame$table <- new_table(readable(names(x)), asked, has_points = has_points)
   frame$crs <- if (has_points) crs_of_points(x) else crs_of_columns(frame, crs)
   if (!length(frame$rows)) nothing_left()
   find_zone_of_time(frame)
@@ -70,19 +71,32 @@ given_truths <- function(x, use) {
   rep_len(found$values, nrow(x))
 }
 
-# Takes the time zone of the column of times, where none is named, and keeps what is to be said of it. What R has without a
-# zone is by the clock of the session.
+# Takes the time zone of the column of times, where none is named, and keeps what is to be said of it.
 find_zone_of_time <- function(frame) {
   column <- frame$table$columns$time
-  times <- if (length(column) == 1) frame$x[[column]]
-  if (!is.null(frame$asked$tz) || !inherits(times, "POSIXt")) return(invisible())
-  zone <- attr(times, "tzone")[1]
-  if (is.null(zone) || zone == "") zone <- Sys.timezone()
-  frame$asked$tz <- if (is.na(zone) || zone %in% c("GMT", "Etc/UTC")) "UTC" else zone
-  check_zone_of_time(frame$asked$tz)
-  if (frame$asked$tz != "UTC") {
-    frame$zone_said <- paste0("days and hours are those of ", frame$asked$tz, ", the zone of ", names(frame$x)[column])
+  if (length(column) != 1) return(invisible())
+  times <- frame$x[[column]]
+  named <- frame$asked$tz
+  if (!is.null(named)) {
+    is_bare <- !inherits(times, "POSIXt") && !is.numeric(times) && !inherits(times, "integer64")
+    if (is_bare && named != "UTC") {
+      frame$zone_said <- paste0("times of ", names(frame$x)[column], " without a zone are those of UTC, and days and hours those of ", named)
+    }
+  } else if (inherits(times, "POSIXt")) {
+    frame$asked$tz <- zone_of_times(times)
+    check_zone_of_time(frame$asked$tz)
+    if (frame$asked$tz != "UTC") {
+      frame$zone_said <- paste0("days and hours are those of ", frame$asked$tz, ", the zone of ", names(frame$x)[column])
+    }
   }
+}
+
+# The zone of date-times. What R has without one is by the clock of the session, whose TZ goes before what R remembers of it.
+zone_of_times <- function(times) {
+  zone <- c(attr(times, "tzone"), "")[1]
+  if (zone == "") zone <- Sys.getenv("TZ")
+  if (zone == "") zone <- Sys.timezone()
+  if (is.na(zone) || zone %in% c("GMT", "Etc/UTC")) "UTC" else zone
 }
 
 # The rows of a refusal, by their labels.
@@ -100,7 +114,7 @@ frame_cells <- function(frame) {
   cells <- lapply(wanted, function(at) {
     column <- chosen_cells(frame$x[[at]], frame$rows, title_of(table, at))
     if (at %in% table$columns$animal) cells_of_names(column, title_of(table, at)) else
-      cells_of_frame(column, title_of(table, at), kind_of_column(table, at))
+      cells_of_frame(column, title_of(table, at), kind_of_column(table, at), units_of_column(table, at))
   })
   names(cells) <- wanted
   if (inherits(frame$x, "sf")) cells[c("-1", "-2")] <- cells_of_points(sf::st_geometry(frame$x)[frame$rows])
@@ -113,24 +127,35 @@ chosen_cells <- function(column, rows, title) {
     refuse("columns", title, " is a column of ", class(column)[1], ", of which no cell can be read")
   }
   if (inherits(column, "POSIXlt")) column <- as.POSIXct(column)
-  if (inherits(column, "integer64")) structure(unclass(column)[rows], class = "integer64") else column[rows]
+  cells <- unclass(column)[rows]
+  # A class whose package is not loaded would be lost with R's own subset, and its unit with it.
+  attributes(cells) <- attributes(column)[intersect(c("class", "levels", "units", "tzone"), names(attributes(column)))]
+  cells
 }
+
+# Whether cells mean something else than the numbers or truths they are kept as. Text is text.
+has_own_class <- function(column) !is.character(column) && length(setdiff(oldClass(column), c("AsIs", "noquote"))) > 0
 
 # The kind of refusal of a column that cannot be read.
 kind_of_column <- function(table, at) {
   if (at %in% table$columns$time) "time" else if (at %in% table$marks) "mark" else "number"
 }
 
+# How many of a column's own unit each unit is, by its name. A dilution of precision has none, which is 1.
+units_of_column <- function(table, at) {
+  if (at %in% table$columns$grid) return(c(m = 1, km = 1000))
+  if (at %in% table$columns$degrees) c("\u00b0" = 1, degree = 1, arc_degree = 1) else c("1" = 1)
+}
+
 # The cells of a column: text, numbers, truths or moments.
-cells_of_frame <- function(column, title, kind) {
-  if (is.factor(column)) return(as.character(column))
+cells_of_frame <- function(column, title, kind, units_wanted) {
+  if (is.factor(column)) column <- as.character(column)
   if (inherits(column, "integer64")) return(as.numeric(digits_of_integer64(column)))
-  if (inherits(column, "units")) return(metres_of_units(column, title))
+  if (inherits(column, "units") && kind == "number") return(numbers_of_units(column, title, units_wanted))
   if (inherits(column, "POSIXct")) return(moments_of_seconds(as.numeric(column)))
   if (inherits(column, "Date")) return(moments_of_seconds(86400 * floor(as.numeric(column))))
-  is_plain <- !is.object(column) || inherits(column, c("AsIs", "noquote"))
-  if (is_plain && is.character(column)) return(in_utf8(as.vector(column)))
-  if (is_plain && (is.numeric(column) || is.logical(column))) return(as.vector(column))
+  if (is.character(column)) return(readable(as.vector(column)))
+  if (!has_own_class(column) && (is.numeric(column) || is.logical(column))) return(as.vector(unclass(column)))
   refuse(kind, title, " is ", class(column)[1], if (kind == "time") paste0(" and not ", wanted_time) else " and not a number")
 }
 
@@ -139,13 +164,17 @@ moments_of_seconds <- function(seconds) {
   structure(list(second = second, part = seconds - second), class = "moments")
 }
 
-# Columns of units in metres.
-metres_of_units <- function(column, title) {
+# Columns of units in the wanted one, which is the first.
+numbers_of_units <- function(column, title, wanted) {
   unit <- attr(column, "units")
-  scale <- c(m = 1, km = 1000)[paste(unit$numerator, collapse = " ")]
-  if (length(unit$denominator) || is.na(scale)) {
-    refuse("number", title, " is in ", paste(c(unit$numerator, if (length(unit$denominator)) c("/", unit$denominator)), collapse = " "),
-           " and not in metres: units::set_units(x[[\"", title, "\"]], \"m\")")
+  name <- paste(c(unit$numerator, if (length(unit$denominator)) c("/", unit$denominator)), collapse = " ")
+  scale <- wanted[if (name == "") "1" else name]
+  if (is.na(scale)) {
+    is_degree <- names(wanted)[1] == "m" && name %in% c("\u00b0", "degree", "arc_degree")
+    help <- if (is_degree) "name the columns of degrees by lon and lat, and zone" else
+      paste0("units::set_units(x[[\"", title, "\"]], \"", names(wanted)[1], "\")")
+    words <- c(m = "in metres", "\u00b0" = "in degrees", "1" = "without a unit")
+    refuse("number", title, " is in ", name, " and not ", words[[names(wanted)[1]]], ": ", help)
   }
   as.vector(unclass(column)) * scale[[1]]
 }
@@ -173,18 +202,29 @@ digits_of_integer64 <- function(column) {
 # Text in UTF-8. Bytes of no declared encoding are UTF-8 where they can be, and else of the locale. In one of ASCII alone,
 # such as that of a job without LANG, enc2utf8 would write them as <c3><bc>.
 in_utf8 <- function(text) {
-  is_bare <- Encoding(text) == "unknown"
-  Encoding(text[is_bare & validUTF8(text)]) <- "UTF-8"
-  is_known <- Encoding(text) != "unknown" | !is.na(iconv(text, "", "UTF-8"))
-  is_good <- is_known & validEnc(text)
-  text[is_good] <- enc2utf8(text[is_good])
+  is_plain <- Encoding(text) == "unknown" & validUTF8(text)
+  Encoding(text[is_plain]) <- "UTF-8"
+  if (all(is_plain)) return(text)
+  others <- text[!is_plain]
+  is_known <- Encoding(others) != "unknown" | !is.na(iconv(others, "", "UTF-8"))
+  is_good <- is_known & validEnc(others)
+  others[is_good] <- enc2utf8(others[is_good])
+  text[!is_plain] <- others
+  text
+}
+
+# Text in UTF-8, with <e4> for a byte that is none, of which R could not be asked anything.
+readable <- function(text) {
+  text <- in_utf8(text)
+  is_bad <- !is.na(text) & !validUTF8(text)
+  text[is_bad] <- iconv(text[is_bad], "UTF-8", "UTF-8", sub = "byte")
   text
 }
 
 # The names of animals as text, with what is wrong with each that cannot be one.
 cells_of_names <- function(column, title) {
   if (inherits(column, "integer64")) return(digits_of_integer64(column))
-  if (is.object(column) && !is.factor(column) && !inherits(column, c("AsIs", "noquote")) || is.complex(column)) {
+  if (has_own_class(column) && !is.factor(column) || is.complex(column)) {
     refuse("name", title, " is ", class(column)[1], ", which is no name")
   }
   if (is.numeric(column)) {
@@ -192,10 +232,13 @@ cells_of_names <- function(column, title) {
     why <- ifelse(is_lost, paste0(digits_of(column), ", a number that is not whole or has lost digits: read the column as text"), "")
     return(structure(ifelse(is.na(column), NA, digits_of(column)), why = why))
   }
-  text <- in_utf8(as.character(column))
-  is_bad <- !is.na(text) & (!validUTF8(text) | grepl("[\\x01-\\x1f\\x7f]", text, perl = TRUE, useBytes = TRUE))
+  column <- as.character(column)
+  kinds <- unique(column)
+  text <- in_utf8(kinds)
+  is_bad <- !is.na(text) & (!validUTF8(text) | has_control(text))
   shown <- paste0("'", ifelse(validUTF8(text), text, "?"), "', which has a control character or is no text in UTF-8")
-  structure(text, why = ifelse(is_bad, shown, ""))
+  place <- match(column, kinds)
+  structure(text[place], why = ifelse(is_bad, shown, "")[place])
 }
 
 # The eastings and northings of points, NA where there is none; the fault is that of the first other shape.
@@ -220,7 +263,15 @@ check_calendar <- function(frame) {
   if (kind == "second") {
     refuse("option", wished[1], ": times as numbers have no calendar: as.POSIXct(seconds, origin = \"1970-01-01\", tz = \"UTC\")")
   }
-  if (kind == "date" && "hours" %in% wished) refuse("option", "hours: the times are days, without an hour")
+  is_days <- kind == "date" || are_texts_of_days(frame)
+  if (is_days && "hours" %in% wished) refuse("option", "hours: the times are days, without an hour")
+}
+
+# Whether all times are text of a date alone.
+are_texts_of_days <- function(frame) {
+  column <- frame$table$columns$time
+  times <- if (length(column) == 1) frame$x[[column]]
+  (is.character(times) || is.factor(times)) && !anyNA(day_seconds(as.character(times[!is.na(times)])))
 }
 
 # Whether times are seconds since a start of one's own, days, or moments.

@@ -10,21 +10,20 @@ home_range <- function(x, levels = c(50, 95, 100), unit = "m", animal = NULL, ti
   asked <- new_asked(list(
     unit = unit, animal = titles_named(animal, "animal"), time = titles_named(time, "time"), easting = easting,
     northing = northing, months = checked_months(months), hours = checked_hours(hours), every = every, tz = tz, lon = lon,
-    lat = lat, name = name, zone = zone, skip_unnamed = isTRUE(skip_unnamed), sensor = words_of(sensor, "sensor"),
+    lat = lat, name = name, zone = zone, skip_unnamed = skip_unnamed, sensor = words_of(sensor, "sensor"),
     argos_class = words_of(argos_class, "argos_class"), argos = argos, max_dop = max_dop, dop = dop,
     fix_type = words_of(fix_type, "fix_type"), fix = fix, since = either(since, from, "since", "from"),
     until = either(until, to, "until", "to"), max_speed = max_speed
   ), is_frame = TRUE)
   check_asked(asked)
-  check_bounds(asked)
   homerange_program()  # refuses now, and not after all has been read, where there is none
   read <- read_frame(x, asked, use, crs)
   report <- in_folder(function(folder) {
     files <- write_tracks(read$fixes, folder)
-    run_all(files, unique(read$fixes$animal), c("--unit", unit, "--percent", levels), isTRUE(progress))
+    run_all(files, unique(read$fixes$animal), c("--unit", asked$unit, "--percent", levels), isTRUE(progress))
   })
   if (!identical(report$rows$second, read$fixes$moment)) refuse("check", "the report has not the times of the fixes")
-  new_home_range(report, read$fixes$time, read$fixes, read$left_out, read$crs, read$shift)
+  new_home_range(report, read$fixes$time, read$fixes, read$left_out, read$crs, read$shift, read$zone, read$notes, read$tz)
 }
 
 # Levels as the program takes them.
@@ -63,11 +62,6 @@ either <- function(new, old, name, old_name) {
   if (is.null(new)) old else new
 }
 
-# Refuses bounds that are no times before a table is read.
-check_bounds <- function(asked) {
-  for (option in c("since", "until")) if (!is.null(asked[[option]])) second_of_bound(asked[[option]], option, clock_of(asked))
-}
-
 # Refuses arguments that there are not.
 check_dots <- function(...) {
   if (...length() == 0) return(invisible())
@@ -75,14 +69,16 @@ check_dots <- function(...) {
   refuse("option", if (is.null(name) || is.na(name) || name == "") "there is an argument too many" else paste("there is no argument", name))
 }
 
-# An object of a report's tables, the time of each row, and what else is known. Coordinates are those of the program, to
-# which the shift, in metres, was added.
-new_home_range <- function(report, time, fixes = NULL, left_out = NULL, crs = NULL, shift = c(0, 0)) {
+# An object of a report's tables, the time of each row, and what else is known, such as the UTM zone and what was said.
+# Coordinates are those of the program, to which the shift, in metres, was added.
+new_home_range <- function(report, time, fixes = NULL, left_out = NULL, crs = NULL, shift = c(0, 0), zone = NULL,
+                           notes = NULL, tz = "UTC") {
   diag(report$overlaps) <- report$animals$fixes
   report$rows$time <- time
   structure(list(
     unit = report$unit, animals = report$animals[c("animal", "fixes")], rows = report$rows, corners = report$corners,
-    percents = report$percents, overlaps = report$overlaps, fixes = fixes, left_out = left_out, crs = crs, shift = shift
+    percents = report$percents, overlaps = report$overlaps, fixes = fixes, left_out = left_out, crs = crs, shift = shift,
+    zone = zone, notes = notes, tz = tz
   ), class = "home_range")
 }
 

@@ -77,5 +77,7 @@ read_report <- function(file, start = NULL) {
   counts <- matrix(NA_real_, length(animals), length(animals), dimnames = list(animals, animals))
   report$overlaps <- put_overlaps(counts, report$overlaps)
   seconds <- report$rows$second
-  new_home_range(report, time = if (is.null(start)) seconds else start + seconds)
+  ranges <- new_home_range(report, time = if (is.null(start)) seconds else start + seconds)
+  ranges$checksum <- checksum_of(file)
+  ranges
 }

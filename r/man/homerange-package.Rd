@@ -13,8 +13,10 @@ package itself is tested, and not proved.
 
 \code{\link{home_range}} makes home ranges from a table, \code{\link{read_report}} reads them from a report.
 \code{\link[=summary.home_range]{summary}}, \code{\link{curve}}, \code{\link{overlap}} and \code{\link{polygons}} give
-tables and polygons of them, \code{\link{share_inside}} their share in a reserve, \code{\link[=plot.home_range]{plot}} draws
-them. \code{\link{read_export}} reads exports of Movebank and of collars. \code{\link{homerange_program}} says which
+tables and polygons of them, \code{\link{levelling}} says whether areas levelled off, \code{\link{share_inside}} gives their
+share in a reserve, \code{\link[=plot.home_range]{plot}} draws
+them. \code{\link{write_page}} writes a page of all this, and \code{\link{evidence}} makes a folder to hand in.
+\code{\link{read_export}} reads exports of Movebank and of collars. \code{\link{homerange_program}} says which
 program is run. \code{vignette("homerange")} goes from an export to a map.
 }
 \section{Errors}{

@@ -58,20 +58,7 @@ test_that("one fix, two equal fixes and two fixes have no area", {
   expect_equal(areas$hectares, rep(0, 6))
   expect_equal(areas$corners, c(1, 1, 1, 1, 1, 2))
   expect_equal(areas$kept, c(1, 1, 1, 2, 1, 2))
-  expect_identical(areas$growth, rep(NA_real_, 6))
   expect_equal(polygons(ranges)$one, cbind(easting = 5, northing = 6))
   expect_equal(polygons(ranges)$two, cbind(easting = c(1, 4), northing = c(1, 5)))
   expect_equal(overlap(ranges)["one", ], c(one = 1, same = 0, two = 0))
-})
-
-test_that("growth is the share of the last tenth of the fixes", {
-  skip_without_program()
-  # Of 11 fixes the last tenth, rounded up, is two. Nine fixes make a square of 10 m, the last a triangle on top of it.
-  corners <- rbind(cbind(c(0, 10, 10, 0), c(0, 0, 10, 10)), matrix(5, 6, 2), c(5, 20))
-  fixes <- data.frame(animal = "a", second = 1:11, easting = corners[, 1], northing = corners[, 2])
-  expect_equal(summary(quietly(home_range(fixes, levels = 100)))$growth, 50 / 150)
-  # The triangle's fix is the ninth, before the last tenth.
-  fixes$second[11] <- 8.5
-  expect_equal(summary(quietly(home_range(fixes, levels = 100)))$growth, 0)
-  expect_identical(summary(quietly(home_range(fixes[1:9, ], levels = 100)))$growth, NA_real_)
 })

@@ -6,11 +6,11 @@ test_that("a home range prints in about ten lines", {
   expect_identical(capture.output(print(ranges)), c(
     "Home ranges of 3 animals (minimum convex polygons)",
     "180 fixes in whole metres, 2024-05-01 to 2024-05-02 05:30:00",
-    "Areas in hectares by percent level; growth in the last tenth of the fixes:",
-    " animal fixes  50 %  95 % 100 % growth",
-    "    fox    60 17.36 50.73 55.79  0.0 %",
-    " badger    60  0.00 32.14 40.51 13.2 %",
-    "  otter    60 17.32 37.84 48.24  0.0 %"
+    "Areas in hectares by percent level, and whether they levelled off with more fixes:",
+    " animal fixes  50 %  95 % 100 %         curve",
+    "    fox    60 17.36 50.73 55.79  levelled off",
+    " badger    60  0.00 32.14 40.51 still growing",
+    "  otter    60 17.32 37.84 48.24  levelled off"
   ))
 })
 

@@ -1,0 +1,121 @@
+# The sentences of the page: one for each animal, the method as it may stand in a report, and what was handed in.
+
+most_sentences <- 40
+most_said <- 12
+phrases_of_reasons <- c(
+  animal = "of no animal", coordinates = "without coordinates", zero = "with longitude and latitude 0", sensor = "of other sensors",
+  outlier = "marked as outliers in the export", class = "of other Argos classes",
+  "no dop" = "without a dilution of precision (DOP)", dop = "with a DOP above the limit", type = "of other types of fixes",
+  before = "before the period", after = "after the period", grid = "marked as outliers and off the grid",
+  speed = "faster than the limit", months = "in other months", hours = "at other hours", every = "not the first in their interval",
+  use = "not in use, as the data said"
+)
+
+# The reference system of ranges whose middles are given: how it is written, and by how much areas on its grid differ.
+system_of_page <- function(ranges, middles) {
+  unknown <- "How areas on this grid differ from those on the ground is not known."
+  zone <- if (is.null(ranges$zone)) zone_of_crs(ranges$crs) else ranges$zone
+  if (!is.null(zone)) {
+    return(list(text = sprintf("EPSG:%.0f (WGS 84 / UTM zone %s)", code_of_zone(zone), zone),
+                difference = difference_text(scale_of_zone(middles[, 1]))))
+  }
+  if (is.null(ranges$crs)) return(list(text = "reference system not known", difference = unknown))
+  scale <- scale_of_crs(ranges$crs)
+  code <- ranges$crs$epsg
+  list(text = if (is.na(code)) ranges$crs$Name else sprintf("EPSG:%d (%s)", code, ranges$crs$Name),
+       difference = difference_text(apply(middles, 1, function(at) scale(at[1], at[2]))))
+}
+
+# By how much areas differ, of the least and the greatest areal scale.
+difference_text <- function(scales) {
+  ends <- sprintf("%+.2f", 100 * (range(scales) - 1))
+  ends[ends %in% c("+0.00", "-0.00")] <- "0.00"
+  paste0("Areas on the grid differ from those on the ground by ", paste(unique(ends), collapse = " to "), " % here.")
+}
+
+# The level that sentences name: 95, else the highest.
+level_of_sentence <- function(row) if (95 %in% row$percents$level) 95 else max(row$percents$level)
+
+percent_of <- function(row, level) row$percents[row$percents$level == level, ]
+
+# What there is to say of an animal.
+sentence_of_animal <- function(row, clock, unit) {
+  level <- level_of_sentence(row)
+  percent <- percent_of(row, level)
+  kept <- paste0(if (percent$kept < row$used) paste(in_digits(percent$kept), "of "), fixes_text(row$used))
+  area <- if (percent$area2 > 0) area_with_sign(percent$area2, unit) else "has no area"
+  paste0(in_bdi(row$animal), ": ", level, " % MCP ", area, ", ", kept, ", ", period_text(clock, row$first, row$last))
+}
+
+# A sentence for each animal, of many one for all.
+sentences_of_animals <- function(rows, clock, unit) {
+  number <- length(rows)
+  if (number <= most_sentences) {
+    lines <- vapply(rows, function(row) paste0("<li>", sentence_of_animal(row, clock, unit), "</li>"), "")
+    return(paste0("<ul class=\"", if (number > 6) "two" else "one", "\">\n", paste(lines, collapse = "\n"), "\n</ul>"))
+  }
+  level <- level_of_sentence(rows[[1]])
+  area2 <- vapply(rows, function(row) percent_of(row, level)$area2, 0)
+  places <- order(area2)
+  least <- places[1]
+  most <- places[number]
+  end_of <- function(at) paste0(area_with_sign(area2[at], unit), " (", in_bdi(rows[[at]]$animal), ")")
+  paste0("<p>", in_digits(number), " animals: ", level, " % MCP from ", end_of(least), " to ", end_of(most),
+         "; half of them have ", area_with_sign(area2[places[(number - 1) %/% 2 + 1]], unit), " or less.</p>")
+}
+
+# What was left out of all fixes.
+left_out_text <- function(rows) {
+  if (anyNA(vapply(rows, function(row) as.numeric(row$records), 0))) return("How many fixes were left out is not known.")
+  records <- sum(vapply(rows, `[[`, 0, "records"))
+  totals <- Reduce(`+`, lapply(rows, `[[`, "left"))
+  if (!length(totals)) return(paste0("No fix of the data was left out (", fixes_text(records), ")."))
+  reasons <- reasons_of_all[match(names(rows[[1]]$left), paste0("left_", gsub(" ", "_", reasons_of_all)))]
+  paste0("Of ", in_digits(records), " fixes of the data ", in_digits(sum(totals)), " were left out: ",
+         words_listed(paste(vapply(totals, in_digits, ""), phrases_of_reasons[reasons])), ".")
+}
+
+# What was said when fixes were read, but for lines on one animal and on files.
+said_text <- function(lines) {
+  own <- lines[!grepl("records of |columns: | animals are in ", lines)]
+  if (!length(own)) return("")
+  shown <- paste0("\u201c", as_html(utils::head(own, most_said)), "\u201d", collapse = "; ")
+  more <- if (length(own) > most_said) paste0("; and ", length(own) - most_said, " lines more")
+  paste0(" When the fixes were read this was said: ", shown, more, ".")
+}
+
+# How ranges were made, whatever the animals.
+method_text <- function(version, system, unit, levels) {
+  percents <- words_listed(paste(sort(levels, decreasing = TRUE), "%"))
+  paste0(
+    "Home ranges are minimum convex polygons (MCP; Mohr 1947) of ", percents, " of the fixes, computed by ",
+    as_html(version), " from coordinates in whole ", units_known[[unit]]$name, ", ", as_html(system), ". Of n fixes, the polygon ",
+    "at p % has the p per cent of n, rounded up to whole fixes, that lie nearest to the arithmetic mean of all (of ",
+    "fixes as near, the earlier). Areas are those on the grid. Here they are rounded, halves up, to whole hectares, ",
+    "below 100 hectares to three digits, and below 1 hectare they are in square metres. Whether an animal was ",
+    "followed for long enough was judged by the area of all fixes after each fix (incremental area analysis, Harris ",
+    "et al. 1990): a range levelled off where there are 30 fixes or more and the last quarter of them added less than ",
+    "5 % of the final area; it is still growing where that added 5 % or more; with fewer than 30 fixes, or ",
+    "without an area, nothing is said. ",
+    "&#8216;95 % since&#8217; is the first fix from which on the area stayed within 95 % of the final one."
+  )
+}
+
+# How all that is handed in is checked.
+verify_text <- function(report) {
+  if (is.null(report)) {
+    return("Sums are SHA-256. No files of fixes and no report were kept, so this page alone cannot be verified.")
+  }
+  paste0("Sums are SHA-256. This checks the folder that is handed in, and says what held and what was not looked ",
+         "at, in a clone of homerange: <code>python3 tools/verify.py FOLDER EXPORT</code>")
+}
+
+# The checksums of what the page stands on.
+checksums_table <- function(report, version, program) {
+  values <- c(export_sha256 = "not known, since no record of a split was named",
+              report_sha256 = if (is.null(report)) "none was kept: the ranges were made of a data frame" else report,
+              program_sha256 = if (is.null(program)) "not known, since the program was not found" else program)
+  names <- c("", if (is.null(report)) "" else "report.txt", as_html(version))
+  paste0("<tr><th>", c("Export", "Report", "Program"), "</th><td>", names, "</td><td class=\"sum\" data-field=\"", names(values),
+         "\">", as_html(values), "</td></tr>", collapse = "\n")
+}

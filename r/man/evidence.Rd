@@ -1,0 +1,47 @@
+\name{evidence}
+\alias{evidence}
+\title{A Folder to Hand In}
+\description{
+Makes a new folder with all that an authority needs to check home ranges: the fixes, the report that the program makes of
+them, a record of the run, tables, polygons, a page and checksums.
+}
+\usage{
+evidence(x, folder, ...)
+}
+\arguments{
+\item{x}{a home range, from \code{\link{home_range}}.}
+\item{folder}{the name of the folder. One that is there is refused.}
+\item{...}{arguments of \code{\link{write_page}}, such as \code{title}.}
+}
+\details{
+The program is run again, on the files in the folder, and its report has to have the numbers of \code{x}. The files are
+\tabular{ll}{
+\code{SHA256SUMS} \tab the checksum of each other file \cr
+\code{evidence.txt} \tab the record of the run, a field a line: the program with its version and checksum, arguments, unit,
+  levels, and what was said when the table was read \cr
+\code{report.txt} \tab the report \cr
+\code{tracks} \tab the fixes, a file for each animal \cr
+\code{summary.csv} \tab for each animal and level fixes, corners and hectares \cr
+\code{animals.csv} \tab for each animal what was left out and why, times, intervals, hectares, and \code{\link{levelling}} \cr
+\code{overlaps.csv} \tab which share of the fixes of the row's animal lie in the polygon of the column's \cr
+\code{ranges.gpkg} \tab with the package sf a layer of polygons for each level, such as \code{mcp_95} \cr
+\code{report.html} \tab the page, to read and to print \cr
+\code{build.log} \tab where the program was built, what the prover said
+}
+\code{tools/verify.py} of homerange's repository checks such a folder: that no file was changed, that the program makes the
+same report again, and that another method computes each of its numbers. Whether the table was right nobody can see from it.
+
+In names of files and animals \code{/}, \code{\\}, comma, double quote and control characters are \code{_}, a point at the
+start too, and what is over 32 bytes is cut off; two names that come out the same are refused. It wants \code{sha256sum}.
+}
+\value{The name of the folder, invisibly.}
+\seealso{\code{\link{write_page}}, \code{\link{levelling}}}
+\examples{
+found <- tryCatch(nzchar(homerange_program()), homerange_program_error = function(fault) FALSE)
+if (found) {
+  folder <- file.path(tempdir(), "hand-in")
+  evidence(home_range(deer), folder)
+  list.files(folder)
+  unlink(folder, recursive = TRUE)
+}
+}

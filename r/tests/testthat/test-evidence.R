@@ -1,0 +1,171 @@
+# The folder that is handed in: its files, tables by hand, what the verifier of the repository says, and what is refused.
+
+# Three animals whose tables can be worked out by hand, one of them with a name that no file has.
+fixes_by_hand <- function() {
+  fixes <- data.frame(animal = c(rep("old/boar", 5), "vixen", "vixen", "one"),
+                      time = as.POSIXct("2024-05-01", tz = "UTC") + 1800 * c(0, 1, 2, 4, 9, 0, 1, 3),
+                      easting = c(562000, 562200, 562200, 562000, 562900, 562050, 562400, 562100),
+                      northing = c(5134000, 5134000, 5134200, 5134200, 5134900, 5134050, 5134400, 5134100))
+  fixes$visible <- fixes$easting < 562900
+  fixes
+}
+
+ranges_by_hand <- function(levels = c(100, 75)) {
+  skip_without_program()
+  quietly(home_range(fixes_by_hand(), levels = levels, zone = if (requireNamespace("sf", quietly = TRUE)) "33N"))
+}
+
+# Evidence in a folder that is gone when the test ends.
+local_evidence <- function(ranges, frame = parent.frame()) {
+  folder <- file.path(local_folder(frame), "hand-in")
+  quietly(evidence(ranges, folder))
+  folder
+}
+
+about_of <- function(folder) {
+  lines <- readLines(file.path(folder, "evidence.txt"), encoding = "UTF-8")
+  `names<-`(sub("^[^:]*: ", "", lines), sub(": .*", "", lines))
+}
+
+# What the verifier says, with its status.
+verified <- function(folder) {
+  named <- Sys.getenv("HOMERANGE_VERIFIER")
+  verifier <- if (nzchar(named)) named else file.path(dirname(dirname(homerange_program())), "tools", "verify.py")
+  skip_if_not(nzchar(Sys.which("python3")) && file.exists(verifier), "the verifier of the repository")
+  words <- shQuote(c(verifier, folder, "--program", homerange_program()))
+  suppressWarnings(system2("python3", words, stdout = TRUE, env = "PYTHONDONTWRITEBYTECODE=1"))
+}
+
+test_that("evidence has fixes, report, record, tables and checksums", {
+  ranges <- ranges_by_hand()
+  folder <- local_evidence(ranges)
+  files <- setdiff(list.files(folder, recursive = TRUE), "ranges.gpkg")
+  wanted <- c("SHA256SUMS", "animals.csv", "evidence.txt", "overlaps.csv", "report.html", "report.txt",
+              "summary.csv", "tracks/old_boar.csv", "tracks/one.csv", "tracks/vixen.csv")
+  expect_setequal(files, wanted)
+  expect_identical(file.exists(file.path(folder, "ranges.gpkg")), requireNamespace("sf", quietly = TRUE))
+  expect_identical(system(paste("cd", shQuote(folder), "&& sha256sum -c --strict --quiet SHA256SUMS")), 0L)
+  sums <- readLines(file.path(folder, "SHA256SUMS"))
+  expect_identical(substring(sums, 67), sort(setdiff(list.files(folder, recursive = TRUE), "SHA256SUMS"), method = "radix"))
+  expect_identical(readLines(file.path(folder, "tracks", "vixen.csv")),
+                   c("animal,second,easting,northing", "vixen,1714521600,562050,5134050", "vixen,1714523400,562400,5134400"))
+  about <- about_of(folder)
+  expect_identical(about[["arguments"]],
+                   "--percent 100,75 --unit m -- tracks/old_boar.csv tracks/one.csv tracks/vixen.csv")
+  expect_match(about[["program"]], "^homerange [0-9]")
+  expect_match(about[["made"]], "^20[0-9-]{8}T[0-9:]{8}Z$")
+  expect_identical(about[c("evidence", "unit", "levels", "runs")], c(evidence = "1", unit = "m", levels = "100,75", runs = "1"))
+  expect_match(about[["notes"]], "1 outliers: left out; ", fixed = TRUE)
+  expect_match(about[["notes"]], "is named old_boar$")
+  expect_false(any(c("export", "shift", "crs") %in% names(about)))
+})
+
+test_that("its tables are those worked out by hand", {
+  folder <- local_evidence(ranges_by_hand())
+  expect_identical(readLines(file.path(folder, "summary.csv")), c(
+    "animal,first,last,fixes,level,kept,corners,hectares",
+    "old_boar,2024-05-01T00:00:00Z,2024-05-01T02:00:00Z,4,100,4,4,4.0",
+    "old_boar,2024-05-01T00:00:00Z,2024-05-01T02:00:00Z,4,75,3,3,2.0",
+    "one,2024-05-01T01:30:00Z,2024-05-01T01:30:00Z,1,100,1,1,0.0",
+    "one,2024-05-01T01:30:00Z,2024-05-01T01:30:00Z,1,75,1,1,0.0",
+    "vixen,2024-05-01T00:00:00Z,2024-05-01T00:30:00Z,2,100,2,2,0.0",
+    "vixen,2024-05-01T00:00:00Z,2024-05-01T00:30:00Z,2,75,2,2,0.0"
+  ))
+  # The square of the boar has half of its area after three fixes, and all of it after the fourth, the last.
+  expect_identical(readLines(file.path(folder, "animals.csv")), c(
+    paste0("animal,records,left_outlier,used,first,last,days,median_hours,longest_hours,hectares_100,hectares_75,",
+           "within_95_fix,within_95_time,last_tenth,last_quarter,verdict"),
+    paste0("old_boar,5,1,4,2024-05-01T00:00:00Z,2024-05-01T02:00:00Z,0.0833,0.5,1.0,4.0,2.0,",
+           "4,2024-05-01T02:00:00Z,0.5,0.5,too few fixes"),
+    "one,1,0,1,2024-05-01T01:30:00Z,2024-05-01T01:30:00Z,0.0,,,0.0,0.0,,,,,too few fixes",
+    "vixen,2,0,2,2024-05-01T00:00:00Z,2024-05-01T00:30:00Z,0.0208,0.5,0.5,0.0,0.0,,,,,too few fixes"
+  ))
+  # One fix of the vixen lies in the square, and the one of `one`; that and a corner of the square lie on the vixen's line.
+  expect_identical(readLines(file.path(folder, "overlaps.csv")), c(
+    "fixes_of,old_boar,one,vixen", "old_boar,1.0,0.0,0.25", "one,1.0,1.0,1.0", "vixen,0.5,0.0,1.0"
+  ))
+})
+
+test_that("numbers are written with the fewest decimals", {
+  expect_identical(decimal_text(c(0, 1, 9, 10, 123400000, 99999, NA), 5), c("0.0", "1e-05", "9e-05", "0.0001", "1234.0", "0.99999", ""))
+  expect_identical(decimal_text(c(1, 5000, 12345678), 4), c("0.0001", "0.5", "1234.5678"))
+  expect_identical(hectares_text(list(unit = "dm"), c(1, 500, 4000000, 2000001)), c("5e-07", "0.00025", "2.0", "1.0000005"))
+  expect_identical(seconds_text(c(0, NA, 9223372036, 9223372037)),
+                   c("1970-01-01T00:00:00Z", "", "2262-04-11T23:47:16Z", ""))
+})
+
+test_that("layers have the polygons with an area", {
+  skip_if_not_installed("sf")
+  ranges <- ranges_by_hand()
+  expect_message(evidence(ranges, folder <- file.path(local_folder(), "hand-in")),
+                 "not in ranges.gpkg, since they have no area at 75 %: one, vixen", fixed = TRUE)
+  path <- file.path(folder, "ranges.gpkg")
+  expect_identical(sf::st_layers(path)$name, c("mcp_100", "mcp_75"))
+  layer <- sf::st_read(path, "mcp_75", quiet = TRUE)
+  expect_identical(as.list(sf::st_drop_geometry(layer)),
+                   list(animal = "old_boar", level = 75L, kept = 3L, corners = 3L, hectares = 2))
+  expect_equal(as.numeric(sf::st_area(layer)), 20000)
+  expect_identical(sf::st_crs(layer)$epsg, 32633L)
+  expect_identical(about_of(folder)[["zone"]], "33N")
+})
+
+test_that("the verifier holds it, but for the export", {
+  skip_without_program()
+  said <- verified(local_evidence(ranges_by_hand()))
+  expect_identical(attr(said, "status"), 3L)
+  expect_false(any(startsWith(said, "did not hold")))
+  expect_true("held: run again the program makes the same report, byte for byte" %in% said)
+  folder <- local_evidence(ranges_by_hand())
+  cat("more\n", file = file.path(folder, "summary.csv"), append = TRUE)
+  expect_identical(attr(verified(folder), "status"), 1L)
+})
+
+test_that("the verifier holds odd names, decimetres, grids of one's own, and more animals than a run takes", {
+  skip_without_program()
+  odd <- rbind(walk("\u017diga \u00c4, it's", 40, 1, at = c(-50, 20)), walk("a b", 9, 2, at = c(0, 0)), walk("a", 9, 3, at = c(9, 9)))
+  odd$easting <- odd$easting + 0.1
+  folder <- local_evidence(quietly(home_range(odd, levels = c(33, 95), unit = "dm")))
+  expect_match(about_of(folder)[["shift"]], "^[0-9]+,[0-9]+$")
+  expect_match(about_of(folder)[["arguments"]],
+               "-- 'tracks/a b.csv' tracks/a.csv 'tracks/\u017diga \u00c4_ it'\"'\"'s.csv'", fixed = TRUE)
+  expect_identical(attr(verified(folder), "status"), 3L)
+  many <- do.call(rbind, lapply(1:70, function(at) walk(paste0("deer", at), 5, at)))
+  folder <- local_evidence(quietly(home_range(many, levels = 95)))
+  expect_identical(about_of(folder)[["runs"]], "6 of groups of 32 animals")
+  expect_identical(attr(verified(folder), "status"), 3L)
+})
+
+test_that("what cannot be right is refused, and leaves nothing", {
+  ranges <- ranges_by_hand()
+  folder <- local_folder()
+  into <- file.path(folder, "hand-in")
+  report <- read_report(system.file("extdata", "report.txt", package = "homerange"))
+  expect_error(evidence(1, into), "a home range is wanted", class = "homerange_option_error")
+  expect_error(evidence(report, into), "evidence needs the fixes", class = "homerange_option_error")
+  expect_error(evidence(ranges, ""), "a new folder is wanted", class = "homerange_option_error")
+  expect_error(evidence(ranges, folder), "is there already", class = "homerange_text_error")
+  same <- fixes_by_hand()
+  same$animal[6:7] <- "old\\boar"
+  expect_error(evidence(quietly(home_range(same)), into), "would both be named old_boar", class = "homerange_name_error")
+  expect_length(list.files(folder), 0)
+})
+
+test_that("programs that lie or change are refused", {
+  ranges <- ranges_by_hand()
+  real <- shQuote(homerange_program())
+  into <- file.path(local_folder(), "hand-in")
+  refused <- function(script, text, class) {
+    local_program(c(paste("[ \"$1\" != --version ] || exec", real, "--version"), script))
+    expect_error(evidence(ranges, into), text, class = class)
+    expect_length(list.files(dirname(into)), 0)
+  }
+  refused(paste(real, "\"$@\" | sed 's/^percent,old_boar,75,3,3,40000/percent,old_boar,75,3,3,40001/'"), "reports other numbers",
+          "homerange_check_error")
+  refused(paste(real, "\"$@\" | sed '$d'"), "is cut off", "homerange_report_error")
+  refused(c(paste(real, "\"$@\""), "echo 'vixen,1,1,1' >>tracks/vixen.csv"), "tracks/vixen.csv changed while it was read",
+          "homerange_text_error")
+  refused(c(paste(real, "\"$@\""), "echo '# more' >>\"$0\""), "changed while it ran", "homerange_program_error")
+  refused("exit 3", "ended with status 3|no more", "homerange_memory_error")
+  local_program("exit 0")
+  expect_error(evidence(ranges, into), "is not homerange", class = "homerange_program_error")
+})
