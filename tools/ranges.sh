@@ -2,13 +2,16 @@
 # ranges.sh [OPTION ..] EXPORT INTO: from an export, of Movebank or of a collar, to what a plan needs, in the new folder
 # INTO:
 #
-#   tracks              a file for each animal, by split.py
-#   report.txt          what homerange reports of them
-#   report.txt.sha256   the checksums of the program, the report and the tracks, by evidence.sh; of more than 64
-#                       animals, which are several runs (herd/run.sh), it is SHA256SUMS, those of all files
-#   summary.csv, overlaps.csv, ranges.gpkg, curves.png, ranges.png     by ranges.py, of the report and the tracks
+#   tracks         a file for each animal, by split.py, and the record of their split
+#   report.txt     what homerange reports of them; of more than 64 animals it is made of several runs (herd/run.sh)
+#   evidence.txt   the record of the run, by evidence.py
+#   animals.csv, summary.csv, overlaps.csv, ranges.gpkg, curves.png, ranges.png, report.html     by ranges.py, of the
+#                  report and the tracks
+#   SHA256SUMS     the checksums of all these: verify.py holds the folder to them, and to the export
 #
-# The options are those of split.py but --into, and --percent of homerange.
+# The options are those of split.py but --into, --percent of homerange, and for the page report.html --title, --study,
+# --species and --by, each with a text, --over FILE (a boundary for its map), and --clock ZONE, by whose clock it has
+# dates; without that it is the zone of --tz, with which times are read.
 # HOMERANGE names another program than that of program.sh. Needs geopandas and matplotlib. A folder that is there is
 # refused, and a call that fails leaves none. The status is 0 where all was made, 2 where options are wrong, else 1.
 set -eu
@@ -27,14 +30,14 @@ wrong() {
 is_option() {
     case ${1#--} in
         mark | skip-unnamed | percent | unit | zone | sensor | from | animal | name | time | time-format | tz | lon | lat | \
-            easting | northing | na | skip-lines | encoding | argos-class | argos | max-dop | dop | fix-type | fix | since | \
-            until | max-speed | every) ;;
+            easting | northing | na | skip-lines | encoding | argos-class | argos | max-dop | dop | fix-type | fix | \
+            since | until | max-speed | every | title | study | species | by | over | clock) ;;
         *) return 1 ;;
     esac
 }
 
 # What is left in the arguments is for split.py, once the options were gone through, and the last two arguments taken.
-unit=m levels=50,95,100 left=$#
+levels=50,95,100 title='' study='' species='' by='' over='' clock='' left=$#
 while [ "$left" -gt 2 ]; do
     case $1 in
         --mark | --skip-unnamed) option=$1 used=1 ;;
@@ -47,7 +50,13 @@ while [ "$left" -gt 2 ]; do
     left=$((left - used))
     case $option in
         --percent=*) levels=${option#*=} ;;
-        --unit=*) unit=${option#*=} && set -- "$@" "$option" ;;
+        --title=*) title=${option#*=} ;;
+        --study=*) study=${option#*=} ;;
+        --species=*) species=${option#*=} ;;
+        --by=*) by=${option#*=} ;;
+        --over=*) over=${option#*=} ;;
+        --clock=*) clock=${option#*=} ;;
+        --tz=*) clock=${clock:-${option#*=}} && set -- "$@" "$option" ;;
         *) set -- "$@" "$option" ;;
     esac
 done
@@ -56,18 +65,22 @@ done
 export=$(readlink -f -- "$1")
 into=${2%/}
 shift 2
+if [ -n "$over" ]; then
+    [ -r "$over" ] || fail "$over cannot be read"
+    over=$(readlink -f -- "$over")
+fi
 
 tools=$(cd "$(dirname "$0")" && pwd)
 python3 -c 'import importlib.util as u; exit(not (u.find_spec("geopandas") and u.find_spec("matplotlib")))' ||
     fail 'it needs geopandas and matplotlib: apt-get install python3-geopandas python3-matplotlib'
-# What is set names the program for evidence.sh too, from within the folder.
+# The program's name holds from within the folder too.
 if [ -n "${HOMERANGE:-}" ]; then
     program=$(command -v "$HOMERANGE") || fail "there is no program $HOMERANGE"
-    HOMERANGE=$(readlink -f -- "$program")
-    program=$HOMERANGE
 else
     program=$("$tools/program.sh") || fail 'there is no program'
 fi
+HOMERANGE=$(readlink -f -- "$program")
+export HOMERANGE
 
 [ ! -e "$into" ] || fail "$into is there already: name another folder"
 mkdir "$into.part" 2>/dev/null ||
@@ -95,20 +108,8 @@ zone=$(zone_of_tracks)
 [ -n "$zone" ] || echo 'ranges.sh: no UTM zone is known: ranges.gpkg has no reference system' >&2
 rm said
 
-# Names that begin with a point are none of split.py's.
-set -- tracks/*.csv
-if [ $# -le 64 ]; then
-    "$tools/evidence.sh" report.txt --percent "$levels" --unit "$unit" "$@"
-    # Where the sidecar names the folder, it is the one at the end.
-    half="# folder: $part" whole="# folder: $into" \
-        awk '$0 == ENVIRON["half"] { $0 = ENVIRON["whole"] } { print }' report.txt.sha256 >sidecar
-    mv sidecar report.txt.sha256
-else
-    echo "ranges.sh: $# animals are several runs: checksums are in SHA256SUMS, and not in report.txt.sha256" >&2
-    HOMERANGE=$program "$tools/herd/run.sh" tracks herd --percent "$levels" --unit "$unit"
-    mv herd/report.txt report.txt
-    rm -r herd
-fi
-HOMERANGE=$program python3 "$tools/ranges.py" ${zone:+--zone "$zone"} .
-[ $# -le 64 ] || sha256sum -- "$program" ./*.* tracks/* >SHA256SUMS
+python3 "$tools/evidence.py" --report . --percent "$levels"
+python3 "$tools/ranges.py" ${zone:+"--zone=$zone"} ${title:+"--title=$title"} ${study:+"--study=$study"} \
+    ${species:+"--species=$species"} ${by:+"--by=$by"} ${over:+"--over=$over"} ${clock:+"--tz=$clock"} .
+python3 "$tools/evidence.py" --sums .
 mv -T "$part" "$into"

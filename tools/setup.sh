@@ -7,6 +7,7 @@ export DEBIAN_FRONTEND=noninteractive
 # Before this no package is found.
 apt-get -q update
 apt-get -q -y --no-install-recommends install \
-    fuse3 gcc libc6-dev gnuplot-nox man-db munge mypy pandoc python3 python3-fusepy python3-geopandas \
-    python3-matplotlib python3-pandas python3-pyproj python3-pytest python3-scipy python3-shapely r-base-core \
-    r-cran-knitr r-cran-rmarkdown r-cran-sf r-cran-testthat r-cran-xml2 shellcheck slurm-wlm snakemake
+    chromium fonts-dejavu-core fuse3 gcc iproute2 libc6-dev gnuplot-nox man-db munge mypy openssh-client openssl pandoc poppler-utils python3 \
+    python3-fusepy python3-geopandas python3-matplotlib python3-pandas python3-pyproj python3-pytest python3-scipy \
+    python3-shapely r-base-core r-cran-knitr r-cran-rmarkdown r-cran-sf r-cran-testthat r-cran-xml2 shellcheck \
+    slurm-wlm snakemake

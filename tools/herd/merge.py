@@ -1,19 +1,34 @@
 #!/usr/bin/env python3
 """merge.py OUT: OUT/report.txt, one report of the runs of a herd, as homerange would write it of all files.
 
-Each report of a run is read by its grammar (reports.py). All are to be of the groups that plan.sh wrote, in one unit and
+Each report of a run is read by its grammar (python/homerange/report.py). All are to be of the groups that plan.sh wrote, in one unit and
 of the same levels; each animal is to stand in one of them, and an overlap that several have is to be the same in all.
-Where split.py made the tracks, animals and numbers of fixes are to be those of its record.
+Where split.py made the tracks, animals and numbers of fixes are to be those of its record. Each run is to be of the program,
+the options and the tracks of the plan, and each track is to be as plan.sh found it.
 What is not so is said in one line, with status 1, and there is no OUT/report.txt then."""
+import hashlib
 import sys
+from contextlib import contextmanager
 from itertools import chain, combinations_with_replacement
 from pathlib import Path
 
-from reports import TEXT, Refusal, Report, Table, need
-
 sys.path.insert(0, str(Path(__file__).resolve().parents[2] / "python"))
 
-from homerange.exports import difference_from_record, read_record
+from homerange.errors import HomeRangeError, ReportError, one_line
+from homerange.record import difference_from_record, record_in
+from homerange.report import TEXT, Animal, Lines
+
+
+def need(holds, text):
+    if not holds:
+        raise ReportError(one_line(text))
+
+
+@contextmanager
+def report_of(path):
+    """The lines of a run's report."""
+    with open(path, **TEXT) as file:
+        yield Lines(file, str(path))
 
 
 def lines_of(path):
@@ -34,9 +49,39 @@ def read_groups(out):
 def check_record(out, animals):
     """Refuses animals, and numbers of fixes, that are not those of the record beside the tracks, where there is one."""
     folders = {Path(line).parent for group in (out / "groups").iterdir() for line in lines_of(group)}
-    for record in filter(None, map(read_record, sorted(folders))):
+    for record in filter(None, map(record_in, sorted(folders))):
         fault = difference_from_record(record, animals)
         need(fault is None or len(folders) > 1, f"{out}: {fault}")
+
+
+def sum_of(path):
+    """The line that sha256sum has for a file."""
+    with open(path, "rb") as file:
+        checksum = hashlib.file_digest(file, "sha256").hexdigest()
+    plain = path.replace("\\", "\\\\")
+    return f"{chr(92) * (plain != path)}{checksum}  {plain}"
+
+
+def check_tracks(out, group):
+    """Refuses a group one of whose tracks is not as plan.sh found it."""
+    sums = lines_of(out / "sums" / group)
+    paths = lines_of(out / "groups" / group)
+    need(len(sums) == len(paths), f"{out / 'sums' / group}: other files than in the group: call plan.sh")
+    for path, wanted in zip(paths, sums):
+        need(sum_of(path) == wanted, f"{path} is not as plan.sh found it: call plan.sh")
+
+
+def key_of(out, groups):
+    """What step.sh writes beside what it made of these groups."""
+    program = (out / "program").read_bytes().split(b" ")[0] + b"\n"
+    parts = [program, (out / "options").read_bytes(), *((out / "sums" / group).read_bytes() for group in groups)]
+    return hashlib.sha256(b"".join(parts)).hexdigest()
+
+
+def check_run(out, made, *groups):
+    """Refuses a run that was made of something else than is planned."""
+    need(lines_of(out / made.with_suffix(".key")) == [key_of(out, groups)],
+         f"{out / made} was made of other tracks or options, or by another program: call step.sh")
 
 
 class Herd:
@@ -52,24 +97,24 @@ class Herd:
     def read_group(self, group):
         """Hands on the lines of a group's animals, and keeps their overlaps."""
         animals = self.animals[group] = {}
-        with Report(self.out / "reports" / f"{group}.txt") as report:
+        with report_of(self.out / "reports" / f"{group}.txt") as report:
             unit = report.unit()
-            need(self.unit in (None, unit), f"{report.path}: another unit than in the groups before")
-            if self.unit is None:
-                self.unit = unit
-                self.write(unit)
+            need(self.unit in (None, unit), f"{report.where}: another unit than in the groups before")
+            if self.unit is None and unit == "dm":
+                self.write("unit,dm\n")
+            self.unit = unit
             for _ in range(self.files[group]):
-                table = Table(report, self.levels, self.write)
-                need(table.name not in self.counts, f"{report.path}: {table.name} is there twice")
-                animals[table.name], self.levels = table.fixes, table.levels
-                self.counts[table.name] = {}
+                animal = Animal(report, self.levels, self.write)
+                need(animal.name not in self.counts, f"{report.where}: {animal.name} is there twice")
+                animals[animal.name], self.levels = animal.fixes, animal.levels
+                self.counts[animal.name] = {}
             for name, counts in report.overlaps(animals).items():
                 self.counts[name][group] = counts
             report.end(self.files[group])
 
     def read_pair(self, first, second):
         """Keeps the overlaps of two groups' animals, where those within a group are what the group has."""
-        with Report(self.out / "pairs" / f"{first}-{second}.txt") as report:
+        with report_of(self.out / "pairs" / f"{first}-{second}.txt") as report:
             counts = report.overlaps(self.animals[first] | self.animals[second])
             report.end(self.files[first] + self.files[second])
         others = self.files[first]
@@ -79,7 +124,7 @@ class Herd:
         ):
             for name in self.animals[group]:
                 same = counts[name][own] == self.counts[name][group]
-                need(same, f"{report.path}: {name} has other overlaps than in group {group}")
+                need(same, f"{report.where}: {name} has other overlaps than in group {group}")
                 self.counts[name][other] = counts[name][cross]
 
     def write_overlaps(self, group, names):
@@ -97,8 +142,11 @@ class Herd:
         check_record(self.out, {name: fixes for animals in self.animals.values() for name, fixes in animals.items()})
         names = list(self.counts)
         for number, group in enumerate(self.files):
+            check_tracks(self.out, group)
+            check_run(self.out, Path("reports", f"{group}.txt"), group)
             for other in list(self.files)[number + 1:]:
                 self.read_pair(group, other)
+                check_run(self.out, Path("pairs", f"{group}-{other}.txt"), group, other)
             self.write_overlaps(group, names)
         self.write(f"end,{len(names)}\n")
         return len(names)
@@ -114,9 +162,9 @@ def main():
         with part.open("w", **TEXT) as file:
             animals = Herd(out, file.write).merge()
         part.rename(report)
-    except (Refusal, OSError) as fault:
+    except (HomeRangeError, OSError) as fault:
         part.unlink(missing_ok=True)
-        text = str(fault) if isinstance(fault, Refusal) else f"{fault.filename or part}: {fault.strerror}"
+        text = f"{fault.filename or part}: {fault.strerror}" if isinstance(fault, OSError) else str(fault)
         sys.exit("merge.py: " + text.encode(errors="surrogateescape").decode(errors="replace"))
     print(f"merge.py: {animals} animals, {animals * (animals - 1)} overlaps", file=sys.stderr)
 

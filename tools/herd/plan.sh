@@ -1,10 +1,11 @@
 #!/bin/sh
 # plan.sh TRACKS OUT [OPTION ..]: what a herd's runs are to be.
 #
-# Writes OUT/groups/NNNN, the files TRACKS/*.csv in groups of at most 32, one per line; OUT/options, the options of
-# homerange, one per line; OUT/program, the checksum and the name of the program, which HOMERANGE names (if left out,
-# homerange); and OUT/steps, the runs, one per line: 'A A' for the tables of group A, 'A B' for the overlaps of groups A
-# and B. What has not changed is left as it is, so that a run that stands is not made again. OUT/report.txt is removed.
+# Writes OUT/groups/NNNN, the files TRACKS/*.csv in groups of at most 32, one per line; OUT/sums/NNNN, their checksums;
+# OUT/options, the options of homerange, one per line; OUT/program, the checksum and the name of the program, which
+# HOMERANGE names (if left out, homerange); and OUT/steps, the runs, one per line: 'A A' for the tables of group A, 'A B'
+# for the overlaps of groups A and B. A run that stands is made again where one of these is another, whatever times files
+# have. OUT/report.txt is removed.
 set -eu
 LC_ALL=C
 export LC_ALL
@@ -18,12 +19,12 @@ program=$(command -v "${HOMERANGE:-homerange}") ||
     fail "there is no program ${HOMERANGE:-homerange}: HOMERANGE has to name it"
 program=$(readlink -f "$program")
 tracks=$(cd "$1" && pwd)
-mkdir -p "$2/groups" "$2/reports" "$2/pairs"
+mkdir -p "$2/groups" "$2/sums" "$2/reports" "$2/pairs"
 cd "$2"
 shift 2
 rm -f report.txt
 
-# Puts standard input into a file, if the file is not that already.
+# Puts standard input into a file, if the file is not that already: by times of files Snakemake tells what is new.
 keep() {
     cat >"$1.part"
     cmp -s "$1.part" "$1" || cp "$1.part" "$1"
@@ -40,9 +41,14 @@ for group in groups.part/*; do
     keep "groups/${group##*/}" <"$group"
 done
 for group in groups/*; do
-    [ -f "groups.part/${group##*/}" ] || rm "$group"
+    [ -f "groups.part/${group##*/}" ] || rm -f "$group" "sums/${group##*/}"
 done
 rm -r groups.part
+for group in groups/*; do
+    tr '\n' '\0' <"$group" | xargs -0 sha256sum -- >sums.part || fail 'a track cannot be read'
+    keep "sums/${group##*/}" <sums.part
+done
+rm sums.part
 for option; do
     printf '%s\n' "$option"
 done | keep options

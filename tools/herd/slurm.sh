@@ -3,7 +3,7 @@
 # each of which makes its share of the runs one after the other, and a job behind them that merges, if all went well.
 #
 # OPTION .. are those of sbatch, for both, such as --partition=short. A run gets a minute and 500 MB, the merge an hour
-# and 4 GB. What jobs say is in OUT/logs. The last line is the number of the merge's job. Where a job failed or was
+# and 4 GB, unless --time and --mem say otherwise. What jobs say is in OUT/logs. The last line is the number of the merge's job. Where a job failed or was
 # killed, this is called again, and goes on where it was: runs that stand are not made again.
 set -eu
 here=$(cd "$(dirname "$0")" && pwd)
@@ -34,8 +34,9 @@ merge() {
     printf '#!/bin/sh\nexec "%s" .\n' "$here/merge.py"
 }
 
-array=$(share | submit "$@" --job-name=herd --array="0-$((jobs - 1))" --mem=500 --time="$((runs / jobs + 2))" \
+# Of an option that stands twice sbatch takes the last.
+array=$(share | submit --mem=500 --time="$((runs / jobs + 2))" "$@" --job-name=herd --array="0-$((jobs - 1))" \
     --output='logs/%A-%a.log')
 echo "slurm.sh: $runs runs in $jobs jobs: $array" >&2
-merge | submit "$@" --job-name=merge --dependency="afterok:$array" --kill-on-invalid-dep=yes --mem=4000 --time=60 \
+merge | submit --mem=4000 --time=60 "$@" --job-name=merge --dependency="afterok:$array" --kill-on-invalid-dep=yes \
     --output='logs/%j.log'

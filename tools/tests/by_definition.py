@@ -10,20 +10,50 @@ for tests: what they expect is made by this and never by the program. Whole numb
   earlier, where k is p n / 100, rounded up. Distances are compared as squares of n times what they are.
 - An overlap is the number of one animal's fixes that the points of another cover.
 
-Of a few points the polygon is found by trying all triangles and all orders. More are wrapped, as check.py does (Jarvis
-1973); a table goes on from the polygon of the fixes before, by two facts: a covered point leaves a polygon as it is, and
-a polygon has the same polygon with a further point as all points before have."""
+Of a few points the polygon is found by trying all triangles and all orders. More are wrapped (Jarvis 1973); a
+table goes on from the polygon of the fixes before, by two facts: a covered point leaves a polygon as it is, and a polygon
+has the same polygon with a further point as all points before have."""
 
 import argparse
+import csv
 import itertools
-import pathlib
 import sys
 
-sys.path.append(str(pathlib.Path(__file__).resolve().parents[1]))
-
-from check import area2, distance, read, turn, wrap  # noqa: E402
-
 FEW = 7
+
+
+def turn(a, b, c):
+    return (b[0] - a[0]) * (c[1] - a[1]) - (b[1] - a[1]) * (c[0] - a[0])
+
+
+def distance(a, b):
+    return (a[0] - b[0]) ** 2 + (a[1] - b[1]) ** 2
+
+
+def area2(corners):
+    return sum(a[0] * b[1] - b[0] * a[1] for a, b in zip(corners, corners[1:] + corners[:1]))
+
+
+def wrap(points):
+    """The corners of the points, counterclockwise from the westernmost, of two such the southern: from each go to the one
+    that has no other on its right, and so on."""
+    corners = [min(points)]
+    while True:
+        at, best = corners[-1], corners[0]
+        for point in points:
+            side = turn(at, best, point)
+            if best == at or side < 0 or side == 0 and distance(at, point) > distance(at, best):
+                best = point
+        if best == corners[0]:
+            return corners
+        corners.append(best)
+
+
+def read(path):
+    """The animal of a file, and the seconds and points of its used fixes."""
+    with open(path, encoding="utf-8-sig", newline="") as file:
+        rows = [row for row in csv.DictReader(file) if row.get("use", "1") == "1"]
+    return rows[0]["animal"], [(int(row["second"]), (int(row["easting"]), int(row["northing"]))) for row in rows]
 
 
 def is_on(place, a, b):

@@ -32,13 +32,13 @@ finds() {
     holds "a report changed by $1" [ $? -eq 1 ]
     holds "a report changed by $1: the line" grep -q -- "$2" said
 }
-finds 's/^row,fox,7,/row,fox,7,1/' '^line 9 is row,fox,7,1'
-finds 's/^overlap,fox,otter,/&1/' 'is overlap,fox,otter,1'
-finds '/^corner,otter,3,/d' 'and not corner,otter,3,'
-finds 's/^percent,fox,99,59/&0/' 'is percent,fox,99,590,'
-finds '$d' 'is missing, and not end,3'
-finds '$s/$/\nend,3/' 'is end,3, and not there'
-finds '5s/^/unit,dm\n/' '^line 5 is unit,dm'
+finds 's/^row,fox,7,/row,fox,7,1/' "^line 9 is 'row,fox,7,1"
+finds 's/^overlap,fox,otter,/&1/' "is 'overlap,fox,otter,1"
+finds '/^corner,otter,3,/d' "; 'corner,otter,3,"
+finds 's/^percent,fox,99,59/&0/' "is 'percent,fox,99,590,"
+finds '$d' "is not there; 'end,3' is wanted"
+finds '$s/$/\nend,3/' "is 'end,3'; nothing is wanted"
+finds '5s/^/unit,dm\n/' "^line 5 is 'unit,dm'"
 
 # What only what was asked for can show: a unit that was put before all lines, and a level that no animal has.
 {
@@ -55,22 +55,32 @@ holds 'a level that is missing' \
     is_refused "$tools/check.py" --percent 1,50,95,99,100 fewer fox.csv badger.csv otter.csv
 
 if is_here Rscript 'check.R'; then
-    Rscript "$tools/check.R" direct fox.csv badger.csv >said
+    Rscript "$tools/check.R" direct fox.csv badger.csv otter.csv >said
+    count=$(wc -l <direct)
     holds 'a report is checked by R' cmp said - <<END
 in metres, at the levels 1,50,95,99,100
-fox 59 of 59 rows and 5 of 5 percent lines agree
-badger 100 of 100 rows and 5 of 5 percent lines agree
+$count of $count lines agree; the report has $count
 END
+    holds 'R: edges are checked' sh -c "'$HOMERANGE' a.csv b.csv >edges && Rscript '$tools/check.R' edges a.csv b.csv"
     holds 'decimetres are checked by R' Rscript "$tools/check.R" --unit dm --percent 95,50 decimetres fox.csv otter.csv
     holds 'R: a unit that was not asked for' is_refused Rscript "$tools/check.R" --unit m marked fox.csv
     holds 'R: a level that is missing' is_refused Rscript "$tools/check.R" --percent 1,50,95,99,100 fewer fox.csv
-    # The number, the second, the corners and the area of a row; what a level keeps; a unit below the first line.
+    # Each kind of line, an animal that was invented, and what stands behind the end.
     for change in 's/^row,fox,7,/row,fox,70,/' 's/^row,fox,7,\([0-9]*\)/&1/' 's/^\(row,fox,7,[0-9]*,\)[0-9]*/\19/' \
-        's/^row,fox,7,.*/&0/' '/^row,fox,7,/d' 's/^\(percent,fox,99,\)59/\158/' '5s/^/unit,dm\n/'; do
+        's/^row,fox,7,.*/&0/' '/^row,fox,7,/d' 's/^\(percent,fox,99,\)59/\158/' '5s/^/unit,dm\n/' 's/^box,fox,/&1/' \
+        's/^corner,otter,2,/&1/' 's/^overlap,fox,otter,/&1/' 's/^animal,fox/animal,dog/' 's/^end,3/end,7/' '$s/$/\nend,3/' \
+        's/$/\r/'; do
         sed "$change" direct >changed
         cmp -s direct changed && holds "a change by $change" false
-        holds "R: a report changed by $change" is_refused Rscript "$tools/check.R" changed fox.csv badger.csv
+        holds "R: a report changed by $change" is_refused Rscript "$tools/check.R" changed fox.csv badger.csv otter.csv
     done
+    printf %s "$(cat direct)" >unended
+    holds 'R: no last line end' is_refused Rscript "$tools/check.R" unended fox.csv badger.csv otter.csv
+    printf '%s\n' animal,second,easting,northing w,0,0,0 w,1,130000000,0 w,2,0,130000000 >wide.csv
+    "$HOMERANGE" --unit dm wide.csv >wide
+    Rscript "$tools/check.R" wide wide.csv 2>errors
+    holds 'R: numbers that are not exact are said' [ $? -eq 3 ]
+    holds 'wide numbers are checked' "$tools/check.py" wide wide.csv
     for fixes in 'a,0,5,5' 'a,0,5,5 a,1,5,5' 'a,0,5,5 a,1,6,6 a,2,8,8 a,3,7,7'; do
         # shellcheck disable=SC2086
         printf '%s\n' animal,second,easting,northing $fixes >few.csv
@@ -79,4 +89,25 @@ END
         holds "$fixes" "$tools/check.py" direct few.csv
     done
 fi
+
+# What is no report or no file is refused in one line.
+: >empty
+printf 'J\344ger\n' >latin
+printf '%s\n' animal,time,x,y a,0,0,0 >titles.csv
+one_line() {
+    ! "$tools/check.py" "$@" >said 2>errors && [ "$(wc -l <errors)" -eq 1 ] && ! grep -q Traceback errors
+}
+for report in empty latin direct; do
+    holds "no report or no track: $report" one_line "$report" titles.csv
+    holds "no levels: $report" one_line --percent 0 "$report" fox.csv
+done
+holds 'an empty report' one_line empty fox.csv
+holds 'no levels that are numbers' one_line --percent 95,abc direct fox.csv
+
+# Names with separators of lines that are none of CSV, and line ends of another system.
+printf 'animal,second,easting,northing\na\342\200\250b\302\205,0,5,5\n' >separated.csv
+"$HOMERANGE" separated.csv >separated
+holds 'separators of lines in a name' "$tools/check.py" separated separated.csv
+sed 's/$/\r/' separated >returns
+holds 'line ends of another system in a report' is_refused "$tools/check.py" returns separated.csv
 cd "$work" || exit 1

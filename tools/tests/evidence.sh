@@ -1,45 +1,193 @@
-# Tests the evidence of a run.
+# Tests the evidence of a run: what evidence.py writes, and what it refuses; and that verify.py holds it to what it says.
 # shellcheck shell=sh disable=SC2154,SC2016
 
-rm -rf tracks evidence
-mkdir evidence tracks
-cp "$top"/examples/fox.csv "$top"/examples/otter.csv "$top"/examples/badger.csv tracks
-head -n 61 "$top/examples/fox.csv" | sed '1s/$/,use/; 2,$s/$/,1/; 9s/1$/0/' >tracks/fox.csv
-# What split.py would have left beside the tracks, even without its last line end.
-printf '%s\n' 'export collar.csv 9f86d081' 'unit m' 'zone 33N' 'split: 2 records have no coordinates: left out' >tracks/split.txt
-truncate -s -1 tracks/split.txt
-report=evidence/report.txt
-holds 'evidence of a run' "$tools/evidence.sh" $report --percent 95,50 --unit=dm tracks/fox.csv 'tracks/otter.csv'
-"$HOMERANGE" --unit dm --percent 95,50 tracks/fox.csv tracks/otter.csv >direct
-holds 'its report is that of homerange' cmp direct $report
-holds 'its checksums hold' sha256sum -c $report.sha256
-holds 'its arguments' grep -qxF "# arguments: '--percent' '95,50' '--unit=dm' 'tracks/fox.csv' 'tracks/otter.csv'" $report.sha256
-for file in "$HOMERANGE" $report tracks/fox.csv tracks/otter.csv tracks/split.txt; do
-    holds "a checksum of $file" grep -qF "$(sha256sum "$file")" $report.sha256
-done
-holds 'no further checksums' [ "$(grep -vc '^#' $report.sha256)" -eq 5 ]
-holds 'the record of the split' [ "$(sed -n 's/^# split: //p' $report.sha256)" = "$(cat tracks/split.txt)" ]
-holds 'its folder' grep -qxF "# folder: $work" $report.sha256
-for known in commit sources logic; do
-    holds "no $known of a named program" grep -qx "# $known: not known, since HOMERANGE named the program" $report.sha256
-done
-holds 'no line of a sidecar is empty' is_refused grep -q -e '^$' -e '^# [a-z]*: *$' $report.sha256
-rm -rf copy
-mkdir copy
-cp -R evidence tracks copy
-holds 'checksums hold in a copy of the folder' sh -c "cd copy && sha256sum -c $report.sha256"
-sed -i '3s/33N/32N/' copy/tracks/split.txt
-holds 'a changed record of the split is found' is_refused sh -c "cd copy && sha256sum -c $report.sha256"
-holds 'a report is not written over' is_refused "$tools/evidence.sh" $report tracks/fox.csv
-holds 'no file, no evidence' is_refused "$tools/evidence.sh" evidence/none --unit dm
-echo 'fox,9,9' >>tracks/fox.csv
-holds 'a changed file is found' is_refused sha256sum -c $report.sha256
-holds 'a refused file, no evidence' is_refused "$tools/evidence.sh" evidence/none tracks/fox.csv
-holds 'nothing is left of refused runs' [ "$(ls evidence)" = "report.txt
-report.txt.sha256" ]
+make=$tools/evidence.py
+rm -rf proof
+mkdir proof
+cd proof || exit 1
 
-# A program whose input changes while it runs.
-printf '#!/bin/sh\n"%s" "$@"\necho >>tracks/otter.csv\n' "$HOMERANGE" >changing
-chmod +x changing
-holds 'a file changes in a run, no evidence' is_refused env HOMERANGE=./changing "$tools/evidence.sh" evidence/none tracks/otter.csv
-holds 'nothing is left of that run' [ ! -e evidence/none ]
+# Whether this command is refused with a line that has this text, and leaves no folder.
+refuses_evidence() {
+    wanted=$1
+    shift
+    if "$@" >out 2>errors; then holds "refused: $wanted" false; fi
+    holds "said: $wanted" grep -qF -- "$wanted" errors
+    holds "one line: $wanted" [ "$(wc -l <errors)" -eq 1 ]
+    holds "nothing is left: $wanted" [ ! -e none ]
+    holds "nothing half is left: $wanted" [ ! -e none.part ]
+}
+verify() {
+    PYTHONDONTWRITEBYTECODE=1 python3 "$tools/verify.py" "$@" >said
+}
+
+python3 "$tools/split.py" "$top/examples/export.csv" 2>messages
+holds 'evidence of a run' "$make" --percent 95,50 first tracks
+holds 'its files' [ "$(cd first && find . -type f | LC_ALL=C sort)" = './SHA256SUMS
+./evidence.txt
+./report.txt
+./tracks/old boar.csv
+./tracks/split.txt
+./tracks/vixen.csv' ]
+"$HOMERANGE" --percent 95,50 'tracks/old boar.csv' tracks/vixen.csv >direct
+holds 'its report is that of homerange' cmp direct first/report.txt
+holds 'its checksums hold' sh -c 'cd first && sha256sum -c --strict SHA256SUMS'
+holds 'all files but that of the checksums' [ "$(wc -l <first/SHA256SUMS)" -eq 5 ]
+cat >wanted <<END
+evidence: 1
+program: $("$HOMERANGE" --version)
+program sha256: $(sha256sum <"$HOMERANGE" | cut -c -64)
+arguments: --percent 95,50 --unit m -- 'tracks/old boar.csv' tracks/vixen.csv
+unit: m
+levels: 95,50
+runs: 1
+export: export.csv
+export sha256: $(sha256sum <"$top/examples/export.csv" | cut -c -64)
+END
+grep -v -e ^made: -e ^commit: -e ^sources: -e ^logic: first/evidence.txt >about
+holds 'the record of the run' cmp wanted about
+holds 'its date' grep -qxE 'made: 20[0-9]{2}-[0-9]{2}-[0-9]{2}T[0-9]{2}:[0-9]{2}:[0-9]{2}Z' first/evidence.txt
+sh -c "cd first && '$HOMERANGE' $(sed -n 's/^arguments: //p' first/evidence.txt)" >again
+holds 'a shell takes the arguments back' cmp again first/report.txt
+holds 'it is verified' verify first "$top/examples/export.csv" --program "$HOMERANGE"
+holds 'all of it was looked at' grep -qx 'verify.py: 7 held, 0 did not, 0 not looked at' said
+for unknown in 'who made the run, and when' 'whether the export is what'; do
+    holds "what nobody can know is said: $unknown" grep -q "^not known: $unknown" said
+done
+verify first --program "$HOMERANGE"
+holds 'without the export that is said, with a status' [ $? -eq 3 ]
+holds 'what was not looked at' grep -q '^not looked at: whether the tracks are those of an export' said
+
+# Files by name, without a record; a fix that is left out, and an animal without one that is used.
+head -n 61 "$top/examples/fox.csv" | sed '1s/$/,use/; 2,$s/$/,1/; 9s/1$/0/' >fox.csv
+printf '%s\n' animal,second,easting,northing,use hare,0,1,1,0 >hare.csv
+holds 'evidence of files' "$make" --unit dm files fox.csv hare.csv "$top/examples/otter.csv"
+holds 'files that are used' grep -qx 'arguments: --percent 50,95,100 --unit dm -- tracks/fox.csv tracks/otter.csv' files/evidence.txt
+verify files --program "$HOMERANGE"
+holds 'files without an export: what can be said holds' is_refused grep '^did not hold' said
+holds 'files without an export' grep -qx 'not looked at: from what the tracks were made: there is no record of a split' said
+
+# What is refused.
+refuses_evidence 'the tracks are in m, by split.txt beside them, and not in dm' "$make" --unit dm none tracks
+refuses_evidence 'first is there already' "$make" first tracks
+refuses_evidence 'level 1 is not a whole number' "$make" --percent 0 none tracks
+refuses_evidence 'no file of tracks has a used fix' "$make" none hare.csv
+refuses_evidence 'have the same name' "$make" none fox.csv "$top/examples/fox.csv"
+refuses_evidence 'give the folder to make' "$make"
+refuses_evidence 'give the tracks' "$make" none
+cp -r tracks changed
+sed -i '2s/5/6/' changed/vixen.csv
+refuses_evidence 'vixen.csv was changed since it was split' "$make" none changed
+rm changed/vixen.csv
+refuses_evidence 'vixen.csv is not among the tracks' "$make" none changed
+cp tracks/vixen.csv changed
+cp "$top/examples/fox.csv" changed
+refuses_evidence 'fox.csv was not made by it' "$make" none changed
+cp -r tracks older
+sed -i '/^tool,/d; s/^\(track,.*\),[0-9a-f]*$/\1/' older/split.txt
+refuses_evidence 'as older versions wrote it' "$make" none older
+cp fox.csv 'a\b.csv'
+refuses_evidence 'has a backslash' "$make" none 'a\b.csv'
+printf '%s\n' animal,second,easting,northing fox,9,9 >short.csv
+refuses_evidence 'short.csv' "$make" none short.csv
+refuses_evidence 'is not homerange: its --version says' env HOMERANGE=/bin/true "$make" none tracks
+refuses_evidence 'there is no program' env HOMERANGE=./nothing "$make" none tracks
+
+# Programs that lie: nothing, a report that is cut off, of another unit, without a level, of fewer fixes; one that changes a
+# track, and one that changes itself.
+liar() {
+    printf '#!/bin/sh\n[ "$1" != --version ] || exec "%s" --version\n%s\n' "$HOMERANGE" "$1" >liar
+    chmod +x liar
+}
+real="\"$HOMERANGE\" \"\$@\""
+for lie in "exit 0|but 'animal,,fixes,'" "$real >all; sed '\$d' all|'', but 'end,'" "echo unit,dm; $real|another unit than m" \
+    "$real | grep -v ,95,|has other levels than 50,95,100" "\"$HOMERANGE\" --percent 50,95,100 tracks/vixen.csv|0 fixes of old boar" \
+    "$real; echo >>tracks/vixen.csv|tracks/vixen.csv changed while it was read" "$real; echo >>'$work/proof/liar'|changed while it ran"; do
+    liar "${lie%|*}"
+    refuses_evidence "${lie##*|}" env HOMERANGE=./liar "$make" none tracks
+done
+
+# Many animals, of whose runs one report is made; and the report of a herd that was made before.
+python3 "$top/examples/simulate.py" deer 70 6
+holds 'evidence of 70 animals' "$make" --percent 95,50 many deer
+holds 'its runs' grep -qx 'runs: 6 of groups of 32 animals' many/evidence.txt
+verify many --program "$HOMERANGE"
+holds '70 animals are verified' grep -qx 'held: run again the program makes the same report, byte for byte' said
+holds 'the herd of 70 animals runs' "$tools/herd/run.sh" deer herd --percent 95,50
+holds 'evidence of a herd' "$make" --herd herd herds
+holds 'it has the same report' cmp many/report.txt herds/report.txt
+holds 'it has the same arguments' [ "$(grep ^arguments: herds/evidence.txt | sed 's/ -- / --unit m -- /')" = "$(grep ^arguments: many/evidence.txt)" ]
+verify herds --program "$HOMERANGE"
+holds 'the evidence of a herd is verified' is_refused grep '^did not hold' said
+cp deer/deer00001.csv deer/deer00001.before
+sed -i '3s/5/6/' deer/deer00001.csv
+refuses_evidence 'deer00001.csv is not as plan.sh found it' "$make" --herd herd none
+mv deer/deer00001.before deer/deer00001.csv
+rm herd/report.txt
+refuses_evidence 'herd/report.txt: No such file' "$make" --herd herd none
+
+# A signature and stamps of time beside the list, and another file there; where there is no list.
+cp -r first signed
+cd signed || exit 1
+if is_here ssh-keygen 'a signature'; then
+    ssh-keygen -q -t ed25519 -N '' -C maja@park.example -f ../key
+    printf 'maja@park.example %s\n' "$(cut -d ' ' -f 1,2 ../key.pub)" >../signers
+    ssh-keygen -q -Y sign -f ../key -n homerange SHA256SUMS 2>../errors
+    holds 'a signature is good' sh -c 'ssh-keygen -Y verify -f ../signers -I maja@park.example -n homerange \
+        -s SHA256SUMS.sig <SHA256SUMS'
+    sed '1s/^./x/' SHA256SUMS >../edited
+    holds 'a signature of another list is not' is_refused sh -c 'ssh-keygen -Y verify -f ../signers \
+        -I maja@park.example -n homerange -s SHA256SUMS.sig <../edited'
+fi
+if is_here openssl 'a stamp of time'; then
+    # A service of time stamps of our own.
+    openssl req -x509 -newkey rsa:2048 -nodes -keyout ../service.key -out ../service.pem -subj /CN=stamps -days 2 \
+        -addext extendedKeyUsage=critical,timeStamping 2>../errors
+    printf '%s\n' '[tsa]' default_tsa=own '[own]' serial=../serial default_policy=1.2.3 digests=sha256 signer_digest=sha256 \
+        signer_cert=../service.pem signer_key=../service.key crypto_device=builtin >../service.cnf
+    openssl ts -query -data SHA256SUMS -sha256 -cert -out SHA256SUMS.tsq 2>../errors
+    openssl ts -reply -config ../service.cnf -section own -queryfile SHA256SUMS.tsq -out SHA256SUMS.tsr 2>../errors
+    holds 'a stamp of time holds' openssl ts -verify -data SHA256SUMS -in SHA256SUMS.tsr -CAfile ../service.pem
+    holds 'a stamp of another list does not' is_refused openssl ts -verify -data evidence.txt -in SHA256SUMS.tsr \
+        -CAfile ../service.pem
+fi
+cd .. || exit 1
+holds 'they may lie beside the list' verify signed "$top/examples/export.csv" --program "$HOMERANGE"
+holds 'whose they are is not known' grep -q '^not known: whose SHA256SUMS.sig is' said
+: >signed/SHA256SUMS.old
+holds 'another file may not' is_refused verify signed "$top/examples/export.csv" --program "$HOMERANGE"
+rm first/SHA256SUMS
+verify first
+holds 'a folder without a list is refused' grep -q '^did not hold: there is no SHA256SUMS in first' said
+
+# The list of checksums that older versions wrote beside a report, as they wrote it.
+mkdir -p before/tracks
+cp tracks/*.csv before/tracks
+cd before || exit 1
+"$HOMERANGE" --percent 95,50 tracks/vixen.csv 'tracks/old boar.csv' >report.txt
+{
+    echo "# arguments: '--percent' '95,50' 'tracks/vixen.csv' 'tracks/old boar.csv'"
+    printf '# %s\n' 'made: 2026-11-26T13:44:51Z' 'folder: /home/maja/plan' 'commit: 9d2ae27' 'split: unit,m'
+    sha256sum "$HOMERANGE" report.txt tracks/vixen.csv 'tracks/old boar.csv'
+} >report.txt.sha256
+cd .. || exit 1
+verify before --program "$HOMERANGE"
+holds 'an older list: what is not looked at' [ $? -eq 3 ]
+holds 'an older list: all else held' grep -qx 'verify.py: 5 held, 0 did not, 1 not looked at' said
+sed -i 's/^# split: unit,m/# split: unit,dm/' before/report.txt.sha256
+holds 'an older list of another unit' is_refused verify before --program "$HOMERANGE"
+holds 'its unit is said' grep -q '^did not hold: the tracks are of unit,dm' said
+sed -i "s/^# split: unit,dm/# split: unit,m/; s/^# arg.*/# arguments: '--percent' '95,50' '\/home\/tracks\/vixen.csv'/" before/report.txt.sha256
+verify before --program "$HOMERANGE"
+holds 'an older list of names from the root' grep -q '^did not hold: the arguments name /home/tracks/vixen.csv' said
+sed -i '$d' before/report.txt.sha256
+sed -i "s/^# arg.*/# arguments: '--percent' '95,50' 'tracks\/vixen.csv' 'tracks\/old boar.csv'/" before/report.txt.sha256
+verify before --program "$HOMERANGE"
+holds 'an older list without a track' grep -q '^did not hold: tracks/old boar.csv has no checksum' said
+
+# What forgers could do.
+PYTHONDONTWRITEBYTECODE=1 python3 "$tools/tests/forgeries.py" "$HOMERANGE" >forged 2>&1
+holds 'all forgeries were tried' [ "$(grep -c '^ok ' forged)" -ge 60 ]
+while read -r how name; do
+    holds "forgery $name" [ "$how" = ok ]
+done <forged
+cd "$work" || exit 1

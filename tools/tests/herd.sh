@@ -44,17 +44,36 @@ echo '# Changed.' >>another
 holds 'a changed program is no longer that of the plan' is_refused "$tools/herd/step.sh" herd 0000 0000
 holds 'a herd runs by the program of before' $herd
 
-# An input that changes while it is read is read again by the next call.
+# An input that changes while it is read.
 printf '#!/bin/sh\n"%s" "$@"\necho "deer00000,99999999,552000,5124000" >>%s\n' "$HOMERANGE" \
     "$work/tracks/deer00000.csv" >changing
 chmod +x changing
 HOMERANGE=./changing "$tools/herd/plan.sh" tracks herd
-holds 'a step whose input changes' "$tools/herd/step.sh" herd 0000 0000
-sed -i "1c$(sha256sum "$HOMERANGE")" herd/program
-touch -d '1 hour ago' herd/program
+holds 'a step whose input changes is refused' is_refused "$tools/herd/step.sh" herd 0000 0000
+holds 'nothing of it stands' [ ! -e herd/reports/0000.key ]
 "$HOMERANGE" tracks/*.csv >direct
 holds 'a herd runs after that' $herd
 holds 'an input that changed in a run is run again' cmp direct herd/report.txt
+
+# A track that was corrected and has an older time, as rsync, unzip and cp -p leave it.
+sed '5s/,[0-9]*$/,1/' tracks/deer00001.csv >corrected
+touch -d '1 year ago' corrected
+cp -p corrected tracks/deer00001.csv
+holds 'a merge sees that a track is another' is_refused "$tools/herd/merge.py" herd
+holds 'a herd runs with a corrected track of an older time' $herd
+"$HOMERANGE" tracks/*.csv >direct
+holds 'a corrected track is run again' cmp direct herd/report.txt
+
+# The same bytes under a new time are not run again.
+mark=$(stat -c %y herd/reports/0000.txt)
+touch tracks/*.csv
+holds 'a herd runs with new times' $herd
+holds 'a new time alone makes no run' [ "$(stat -c %y herd/reports/0000.txt)" = "$mark" ]
+
+# A run of other options than those of the plan, whose key stayed.
+"$tools/herd/plan.sh" tracks herd --percent 90
+holds 'a merge of runs of another plan is refused' is_refused "$tools/herd/merge.py" herd
+holds 'a herd runs by the plan of before' $herd
 
 # Blanks, and a name in another script of bytes.
 mkdir 'two words'

@@ -21,13 +21,28 @@ rm -rf r_package
 mkdir r_package
 cd r_package || exit 1
 holds 'its presets are those of the package for Python' cmp "$top/r/inst/extdata/collars.csv" "$top/python/homerange/collars.csv"
+holds 'its template of the page is that of the package for Python' \
+    cmp "$top/r/inst/extdata/page.html" "$top/python/homerange/page.html"
 if is_r_ready; then
     holds 'the package for R is built' R CMD build "$top/r"
-    holds 'the package for R is checked' env _R_CHECK_FORCE_SUGGESTS_=false R CMD check --no-manual homerange_*.tar.gz
+    holds 'the package for R is checked' env _R_CHECK_FORCE_SUGGESTS_=false HOMERANGE_VERIFIER="$tools/verify.py" \
+        R CMD check --no-manual homerange_*.tar.gz
     holds 'the check of the package has nothing to say' grep -qx 'Status: OK' homerange.Rcheck/00check.log
     holds 'its tests found the program' grep -q 'FAIL 0 | WARN 0 | SKIP 0 ' homerange.Rcheck/tests/testthat.Rout
     page=homerange.Rcheck/homerange/doc/homerange.html
     holds 'its vignette has two pictures' [ "$(grep -c 'src="data:image/png' $page)" -eq 2 ]
+    if python3 -c 'import geopandas, pandas' 2>errors; then
+        "$HOMERANGE" "$top"/examples/fox.csv "$top"/examples/badger.csv "$top"/examples/otter.csv >report.txt
+        holds 'its evidence and its page' env R_LIBS="$PWD/homerange.Rcheck" Rscript -e 'library(homerange)
+            write.csv(deer, "deer.csv", row.names = FALSE)
+            day <- as.Date("2026-11-26")
+            evidence(home_range(deer), "by_r", title = "<b> & deer", made = day)
+            write_page(read_report("report.txt"), "by_r.html", made = day)'
+        holds 'they are those of the package for Python, byte for byte' \
+            env PYTHONDONTWRITEBYTECODE=1 python3 "$tools/tests/same_pages.py" .
+    else
+        skip "pages of both packages: $(tail -n 1 errors)"
+    fi
     cp -r "$top/r/tests/." "$top/r/vignettes/homerange.Rmd" .
     holds 'its tests skip what wants the program' without_program testthat.R
     holds 'its vignette is made without the program' without_program -e 'rmarkdown::render("homerange.Rmd", quiet = TRUE)'

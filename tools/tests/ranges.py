@@ -1,4 +1,4 @@
-"""ranges.py FOLDER EPSG UNITS LEVELS FIXES: whether the tables and layers in the folder are those of the fixes, lines
+"""ranges.py FOLDER EPSG UNITS LEVELS FIXES: whether the tables, layers and the page in the folder are those of the fixes, lines
 of an animal, an easting and a northing, of which so many units are a metre."""
 import csv
 import sys
@@ -7,6 +7,7 @@ from pathlib import Path
 import geopandas
 import pandas
 from exact import area2, covers, hull, nearest
+from pages import Page, area, share
 
 
 def read_tracks(path):
@@ -51,6 +52,20 @@ def check_overlaps(folder, tracks):
                 assert overlaps.loc[name, other] == round(share, 4), (name, other)
 
 
+def check_page(folder, units, levels, tracks):
+    page = Page(folder / "report.html")
+    assert {*page.animals} == {*tracks}
+    for name, points in tracks.items():
+        assert page.animals[name]["used"] == str(len(points))
+        for level in levels:
+            assert page.animals[name][f"hectares_{level}"] == area(area2(hull(nearest(points, level))), units), (name, level)
+    for (name, other), text in page.overlaps.items():
+        corners = hull(tracks[other])
+        if len(corners) > 2:
+            count = sum(covers(corners, point) for point in tracks[name])
+            assert text == share(count, len(tracks[name])), (name, other)
+
+
 def main():
     folder, epsg, units, levels, fixes = Path(sys.argv[1]), int(sys.argv[2]), int(sys.argv[3]), sys.argv[4], sys.argv[5]
     tracks, levels = read_tracks(fixes), [int(level) for level in levels.split(",")]
@@ -58,6 +73,7 @@ def main():
     for level in levels:
         check_layer(folder, epsg, units, level, tracks)
     check_overlaps(folder, tracks)
+    check_page(folder, units, levels, tracks)
     for picture in ("curves.png", "ranges.png"):
         assert (folder / picture).read_bytes().startswith(b"\x89PNG")
 

@@ -7,6 +7,11 @@ are_ranges() {
     PYTHONDONTWRITEBYTECODE=1 PYTHONPATH="$top/python/tests" python3 "$tools/tests/ranges.py" "$@"
 }
 
+# Whether all of a folder holds that was made of an export.
+verify_ranges() {
+    PYTHONDONTWRITEBYTECODE=1 python3 "$tools/verify.py" "$@" --program "$HOMERANGE" >verified
+}
+
 # Whether this command is refused with this status, in a line that has this text, and leave nothing.
 refuses_ranges() {
     status=$1
@@ -27,16 +32,26 @@ if python3 -c 'import geopandas, matplotlib, pandas' 2>errors; then
 
     # Rounded by hand from examples/export.csv; one fix of the vixen has no coordinates.
     holds 'ranges of an export' "$make" "$top/examples/export.csv" plan/first
-    holds 'its files' [ "$(ls plan/first)" = "curves.png
+    holds 'its files' [ "$(LC_ALL=C ls plan/first)" = "SHA256SUMS
+animals.csv
+curves.png
+evidence.txt
 overlaps.csv
 ranges.gpkg
 ranges.png
+report.html
 report.txt
-report.txt.sha256
 summary.csv
 tracks" ]
-    holds 'its checksums hold in the folder' sh -c 'cd plan/first && sha256sum -c report.txt.sha256'
-    holds 'its sidecar names no half folder' is_refused grep -F first.part plan/first/report.txt.sha256
+    holds 'its checksums hold in the folder' sh -c 'cd plan/first && sha256sum -c --strict SHA256SUMS'
+    holds 'no file names the half folder' is_refused grep -rF first.part plan/first
+    holds 'it is verified' verify_ranges plan/first "$top/examples/export.csv"
+    holds 'all of it was looked at' grep -qx 'verify.py: 11 held, 0 did not, 0 not looked at' verified
+    for part in 'summary.csv, animals.csv and overlaps.csv are what' 'the layers of ranges.gpkg have' \
+        'the tables and sentences of report.html have' 'unit (m) and levels (50,95,100) are the same in summary.csv'; do
+        holds "it is said: $part" grep -qF "held: $part" verified
+    done
+    holds 'it is said what nobody computes' grep -q '^not known: whether what was typed into report.html' verified
     "$HOMERANGE" plan/first/tracks/*.csv >direct
     holds 'its report is that of homerange' cmp direct plan/first/report.txt
     cat >plan/fixes <<END
@@ -52,12 +67,47 @@ END
     holds 'its numbers' are_ranges plan/first 32633 1 50,95,100 plan/fixes
     printf '%s\n' 'fixes_of,old boar,vixen' 'old boar,1.0,0.0' 'vixen,0.0,1.0' >wanted
     holds 'its overlaps' cmp wanted plan/first/overlaps.csv
+    # By hand of the rows, as 1 - 4539 / 40548 for what the last fix of the vixen added.
+    cat >wanted <<END
+animal,records,left_coordinates,used,first,last,days,median_hours,longest_hours,hectares_50,hectares_95,\
+hectares_100,within_95_fix,within_95_time,last_tenth,last_quarter,verdict
+old boar,4,0,4,2024-05-01T00:00:02Z,2024-05-01T01:30:09Z,0.0626,0.5008,0.5017,0.0,2.8184,2.8184,4,\
+2024-05-01T01:30:09Z,0.4602,0.4602,too few fixes
+vixen,5,1,4,2024-05-01T00:00:10Z,2024-05-01T02:00:05Z,0.0833,0.5008,0.9994,0.0,2.0274,2.0274,4,\
+2024-05-01T02:00:05Z,0.8881,0.8881,too few fixes
+END
+    holds 'its animals' cmp wanted plan/first/animals.csv
+
+    # What is typed in, a boundary, and the zone of dates: the fixes of the boar begin at 2 in the morning of summer time.
+    cat >plan/wood.geojson <<'END'
+{"type": "FeatureCollection", "features": [{"type": "Feature", "properties": {}, "geometry": {"type": "Polygon",
+"coordinates": [[[15.80, 46.35], [15.82, 46.35], [15.82, 46.36], [15.80, 46.36], [15.80, 46.35]]]}}]}
+END
+    holds 'ranges with a page of ones own' "$make" --title 'Boar & "vixen"' --study="--wood's" --species 'Sus scrofa, <i>Vulpes' \
+        --by Ana --over plan/wood.geojson --clock Pacific/Honolulu "$top/examples/export.csv" plan/page
+    holds 'the page has what was typed in' python3 -c '
+import pathlib, sys
+sys.path.insert(0, sys.argv[1])
+from pages import Page
+page = Page(pathlib.Path("plan/page/report.html"))
+assert page.all("h1") == ["Boar & \"vixen\""]
+for text in ("Study: --wood'"'"'s", "Species: Sus scrofa, <i>Vulpes", "By: Ana", "wood"):
+    assert text in page.text, text
+assert page.animals["old boar"]["first"] == "30 Apr 2024"
+assert page.fields["period"] == "30 Apr 2024 (dates of Pacific/Honolulu)"
+assert page.animals["vixen"]["left_coordinates"] == "1"
+assert ("class", "boundary") in page.attributes' "$top/python/tests"
+    holds 'the page is verified' verify_ranges plan/page "$top/examples/export.csv"
+    holds 'the page has the checksum of its report' grep -qF "$(sha256sum <plan/page/report.txt | cut -c 1-64)" plan/page/report.html
+    holds 'the page has the checksum of the export' \
+        grep -qF "$(sha256sum <"$top/examples/export.csv" | cut -c 1-64)" plan/page/report.html
 
     # Another zone, from longitude and latitude; decimetres; other levels; marked outliers; the southern half.
     if python3 -c 'import pyproj' 2>errors; then
         holds 'ranges in another zone' "$make" --zone 34N --percent=100 "$top/examples/export.csv" plan/zone
         sed 1d -s plan/zone/tracks/*.csv | cut -d, -f1,3,4 >plan/fixes
         holds 'numbers in another zone' are_ranges plan/zone 32634 1 100 plan/fixes
+        holds 'another zone is verified' verify_ranges plan/zone "$top/examples/export.csv"
     else
         skip 'ranges in another zone: no pyproj'
     fi
@@ -73,6 +123,7 @@ END
     printf 'NA,%s\n' 5620000,81340001 5621000,81340000 5621000,81341000 5620000,81341000 >plan/fixes
     holds 'numbers in decimetres' are_ranges plan/south 32723 10 75,100 plan/fixes
     holds 'marks stay' grep -qx 'NA,[0-9]*,6621000,81341000,0' plan/south/tracks/NA.csv
+    holds 'decimetres and marks are verified' verify_ranges plan/south plan/export.csv
 
     # More animals than a run takes.
     awk 'BEGIN {
@@ -84,8 +135,8 @@ END
     sed 1d plan/export.csv | cut -d, -f1,3,4 >plan/fixes
     holds 'numbers of 70 animals' are_ranges plan/herd 32633 1 80 plan/fixes
     holds 'checksums of 70 animals' sh -c 'cd plan/herd && sha256sum -c SHA256SUMS'
-    holds 'a checksum of each file' [ "$(wc -l <plan/herd/SHA256SUMS)" -eq $(($(find plan/herd -type f | wc -l))) ]
-    holds 'no checksums of one run' [ ! -e plan/herd/report.txt.sha256 ]
+    holds 'a checksum of each file' [ "$(wc -l <plan/herd/SHA256SUMS)" -eq $(($(find plan/herd -type f | wc -l) - 1)) ]
+    holds '70 animals are verified' verify_ranges plan/herd plan/export.csv
 
     # A name that begins with a point is an animal like others.
     printf '%s\n' animal,second,easting,northing .hidden,0,562000,5134000 .hidden,1,562100,5134000 \
@@ -103,6 +154,7 @@ boar,1.0" ]
     holds 'its corners are where they were' python3 -c 'import geopandas
 corners = geopandas.read_file("plan/local/ranges.gpkg").geometry[0].exterior.coords
 assert {*corners} == {(-300, -400), (-200, -400), (-200, -300)}, [*corners]'
+    holds 'a local grid is verified' verify_ranges plan/local plan/export.csv
 
     # An export of a collar, and its filter.
     {
@@ -114,7 +166,38 @@ assert {*corners} == {(-300, -400), (-200, -400), (-200, -300)}, [*corners]'
     if python3 -c 'import pyproj' 2>errors; then
         holds 'ranges of a collar' "$make" --from vectronic --max-dop 4 --percent=100 plan/export.csv plan/collar
         holds 'its filter' grep -qx 'animal,Vesna,fixes,3' plan/collar/report.txt
+        holds 'ranges of a collar are verified' verify_ranges plan/collar plan/export.csv
     fi
+
+    # Odd names, more levels than one table has room for, an animal without an area, and one with marked outliers alone.
+    {
+        echo individual-local-identifier,timestamp,utm-easting,utm-northing,utm-zone,visible
+        for name in '"Vesna, the old"' 'فهد' '<b>' '"a ""quoted"" one"' "it's &amp;" '{{title}}' 007 \
+            "$(printf 'turned \342\200\256')"; do
+            for day in 1 2 3 4 5; do
+                echo "$name,2023-12-3$((day % 2)) 0$day:00:00,56$((day * 3 % 10))10$day,513$((day * 7 % 10))00$day,33N,true"
+            done
+            echo "$name,2024-01-01 00:00:00,561000,5130000,33N,false"
+        done
+        echo 'one fix,2024-05-01 00:00:00,562000,5134000,33N,true'
+        echo 'none,2024-05-01 00:00:00,562000,5134000,33N,false'
+    } >plan/export.csv
+    holds 'ranges of odd names' "$make" --mark --percent 1,20,35,50,75,90,95,100 plan/export.csv plan/odd
+    holds 'odd names are verified' verify_ranges plan/odd plan/export.csv
+    holds 'an animal with marked outliers alone has no range' \
+        grep -q 'is used (fixes of the export): <bdi>none</bdi> (1)' plan/odd/report.html
+
+    # What is no file of a hand-in; tables, layers and the page as forgers could change them.
+    echo 'seen by the authority' >plan/odd/seal.txt
+    (cd plan/odd && sha256sum seal.txt >>SHA256SUMS)
+    verify_ranges plan/odd plan/export.csv
+    holds 'a file that no step knows is not looked at' [ $? -eq 3 ]
+    holds 'it is named' grep -qx 'not looked at: what seal.txt has: no step knows such a file' verified
+    PYTHONDONTWRITEBYTECODE=1 python3 "$tools/tests/forged_tables.py" "$HOMERANGE" >plan/forged 2>&1
+    holds 'all tables, layers and pages were forged' [ "$(grep -c '^ok ' plan/forged)" -ge 45 ]
+    while read -r how name; do
+        holds "forgery: $name" [ "$how" = ok ]
+    done <plan/forged
 
     # Tracks that are not those of the split.
     cp -r plan/points plan/changed
@@ -129,6 +212,8 @@ assert {*corners} == {(-300, -400), (-200, -400), (-200, -300)}, [*corners]'
     export=$top/examples/export.csv
     refuses_ranges 2 'the export and the folder to make are wanted' "$make" "$export"
     refuses_ranges 2 '--depth=9 is no option' "$make" --depth=9 "$export" plan/none
+    refuses_ranges 1 'plan/nothing.gpkg cannot be read' "$make" --over plan/nothing.gpkg "$export" plan/none
+    refuses_ranges 1 "tz='Mars' is no time zone" "$make" --clock Mars "$export" plan/none
     refuses_ranges 2 'invalid choice' "$make" --unit km "$export" plan/none
     refuses_ranges 1 'plan/nothing.csv cannot be read' "$make" plan/nothing.csv plan/none
     printf '%s\n' animal,second,x a,1,2 >plan/export.csv
@@ -140,11 +225,11 @@ assert {*corners} == {(-300, -400), (-200, -400), (-200, -300)}, [*corners]'
     refuses_ranges 1 'another call is at work, or was killed' "$make" "$export" plan/other
     holds 'what another call makes is left' [ -d plan/other.part ]
     # The report of a program whose percent polygons are not those of the rule.
-    printf '#!/bin/sh\n"%s" "$@" | sed "s/^percent,vixen,50,2,2,0/&1/"\n' "$HOMERANGE" >plan/changing
+    printf '#!/bin/sh\n"%s" "$@" | sed "s/^percent,vixen,50,2,2,0/percent,vixen,50,2,1,0/"\n' "$HOMERANGE" >plan/changing
     chmod +x plan/changing
     refuses_ranges 1 'the 50 per cent polygon of vixen is not that of the report' \
         env HOMERANGE=plan/changing "$make" "$export" plan/none
-    holds 'what was there is left' sh -c 'cd plan/first && sha256sum -c report.txt.sha256'
+    holds 'what was there is left' sh -c 'cd plan/first && sha256sum -c --strict SHA256SUMS'
 else
     skip "ranges of an export: $(tail -n 1 errors)"
 fi

@@ -5,7 +5,7 @@
 rm -rf house stand-in
 mkdir house stand-in
 # A copy of what the program is built from, and of what runs it.
-(cd "$top" && find crates.txt HANDLES homerange release tools docs/homerange.1 crates/*/src crates/*/specs \
+(cd "$top" && find crates.txt HANDLES homerange python/homerange release tools docs/homerange.1 crates/*/src crates/*/specs \
     crates/*/proofs crates/homerange/std* -type f -print0 | xargs -0 cp --parents -t "$work/house") 2>/dev/null
 cat >stand-in/rt <<'END'
 #!/bin/sh
@@ -17,13 +17,14 @@ esac
 echo "$*" >"$STAND_IN/words"
 [ ! -e "$STAND_IN/fails" ] || { echo 'rt: FAILED: range_plane'; exit 1; }
 mkdir -p crates/homerange/out
-printf '#!/bin/sh\necho "built: $*"\n' >crates/homerange/out/homerange
+printf '#!/bin/sh\n[ "$1" != --version ] || exec echo "homerange built: $*"\nexec "%s" "$@"\n' "$RELEASED" \
+    >crates/homerange/out/homerange
 chmod +x crates/homerange/out/homerange
 echo 'rt: homerange proved'
 echo '1 passed, 0 failed'
 END
 chmod +x stand-in/rt
-export STAND_IN="$work/stand-in"
+export STAND_IN="$work/stand-in" RELEASED="$HOMERANGE"
 
 # Whether the house's program writes this of the version, after it told something with this text, or nothing. It is
 # called in the house, or in this folder by this name.
@@ -41,33 +42,45 @@ holds 'the release answers at once' answers "$version" ''
 holds 'it answers in a folder of the house' answers "$version" '' house/tools ../homerange
 holds 'it answers in the folder above' answers "$version" '' . house/homerange
 printf '%s\n' animal,second,easting,northing a,0,1,1 >one.csv
-holds 'evidence of the release' env -u HOMERANGE house/tools/evidence.sh released.txt one.csv
-holds 'its sources and logic' [ "$(sed 's/^/# /; s/ /: /2' "$top/release/SOURCES")" = "$(grep -e '^# sources' -e '^# logic' released.txt.sha256)" ]
-holds 'its checksums hold' sha256sum -c released.txt.sha256
-holds 'no log of a build' [ ! -e released.txt.build.log ]
-holds 'no commit outside git' grep -qx '# commit: not known, since git finds no clone here' released.txt.sha256
+rm -rf released cloned built new none
+
+# Evidence of one track in this folder, by the house's program.
+evidence() {
+    holds "$1" env -u HOMERANGE PATH="$work/stand-in:$PATH" house/tools/evidence.py "$2" one.csv
+    holds "$1: its checksums hold" sh -c "cd $2 && sha256sum -c --strict SHA256SUMS"
+}
+evidence 'evidence of the release' released
+holds 'its sources and logic' [ "$(sed 's/ /: /' "$top/release/SOURCES")" = "$(grep -e '^sources' -e '^logic' released/evidence.txt)" ]
+holds 'no log of a build' [ ! -e released/build.log ]
+holds 'no commit outside git' grep -qx 'commit: not known, since git finds no clone here' released/evidence.txt
 git -C house init -q
-echo out/ >house/.git/info/exclude
+printf '%s\n' out/ __pycache__/ >house/.git/info/exclude
 git -C house add .
 git -C house -c user.name=Den -c user.email=den@example.org commit -q -m 'A house'
-holds 'evidence in a clone' env -u HOMERANGE house/tools/evidence.sh cloned.txt one.csv
-holds 'its commit' grep -qx "# commit: $(git -C house rev-parse HEAD)" cloned.txt.sha256
+mkdir -p house/crates/homerange/out/src && : >house/crates/homerange/out/src/lib.rt
+evidence 'evidence in a clone' cloned
+holds 'its commit, which what a build leaves does not change' \
+    grep -qx "commit: $(git -C house rev-parse HEAD)" cloned/evidence.txt
+rm -r house/crates/homerange/out
 holds 'a release of another logic and program does not pass' is_refused checked
 rm -rf house/out
 printf '\n// An edit.\n' >>house/crates/range_plane/src/lib.rt
-holds 'an edit is not answered by the release' answers 'built: --version' 'homerange: homerange proved'
-holds 'what was built answers the next call' answers 'built: --version' ''
-holds 'evidence of what was built' env -u HOMERANGE PATH="$work/stand-in:$PATH" house/tools/evidence.sh built.txt one.csv
-holds 'its log' grep -qx 'rt: homerange proved' built.txt.build.log
-holds 'checksums of what was built hold' sha256sum -c built.txt.sha256
-holds 'an edited source is a change' grep -q '^# commit: .*, changed$' built.txt.sha256
+holds 'an edit is not answered by the release' answers 'homerange built: --version' 'homerange: homerange proved'
+holds 'what was built answers the next call' answers 'homerange built: --version' ''
+evidence 'evidence of what was built' built
+holds 'its log' grep -qx 'rt: homerange proved' built/build.log
+holds 'an edited source is a change' grep -q '^commit: .*, changed$' built/evidence.txt
 git -C house stash -q
-echo '// New.' >house/crates/range_plane/src/new.rt
-holds 'evidence beside a new source' env -u HOMERANGE PATH="$work/stand-in:$PATH" house/tools/evidence.sh new.txt one.csv
-holds 'a new source is a change' grep -q '^# commit: .*, changed$' new.txt.sha256
+for file in crates/range_plane/src/new.rt tools/new.py python/homerange/new.py; do
+    echo '# New.' >"house/$file"
+    rm -rf new
+    evidence "evidence beside a new $file" new
+    holds "a new $file is a change" grep -q '^commit: .*, changed$' new/evidence.txt
+    [ "$file" = crates/range_plane/src/new.rt ] || rm "house/$file"
+done
 sed -i '/^logic/d' house/out/SOURCES
-holds 'evidence without a logic' env -u HOMERANGE PATH="$work/stand-in:$PATH" house/tools/evidence.sh none.txt one.csv
-holds 'no logic is said' grep -qx '# logic: not known, since it does not stand beside the program' none.txt.sha256
+evidence 'evidence without a logic' none
+holds 'no logic is said' grep -qx 'logic: not known, since it does not stand beside the program' none/evidence.txt
 rm house/crates/range_plane/src/new.rt
 git -C house stash pop -q
 holds 'a release of other sources does not pass' is_refused checked
@@ -81,9 +94,9 @@ rm stand-in/fails house/crates/range_plane/src/lib.rt house/crates/range_words/s
 rm -rf house/out
 holds 'sources as they were are answered by the release' answers "$version" ''
 export HOMERANGE_BUILD=1
-holds 'a build that is asked for' answers 'built: --version' 'building the proved program'
+holds 'a build that is asked for' answers 'homerange built: --version' 'building the proved program'
 unset HOMERANGE_BUILD
-holds 'what was built goes before the release' answers 'built: --version' ''
+holds 'what was built goes before the release' answers 'homerange built: --version' ''
 for words in 'ci --anew' ci; do
     holds "a build anew by $words" env PATH="$work/stand-in:$PATH" house/tools/build.sh --anew
     holds "$words was called" [ "$(cat stand-in/words)" = "$words" ]
@@ -92,7 +105,7 @@ done
 rm stand-in/old
 rm -rf house/out
 printf '#!/none\n' >house/release/homerange
-holds 'a release that does not run here' answers 'built: --version' 'the release does not run on this machine'
+holds 'a release that does not run here' answers 'homerange built: --version' 'the release does not run on this machine'
 holds 'a release with a changed byte does not pass' is_refused checked
 
 # A release that is made anew passes, until a byte of it, of its checksums or of the manual page changes.

@@ -1,4 +1,5 @@
-# Tests the runs of a herd by Slurm, on a node of this machine (slurm_node.py), as an array and by Snakemake.
+# Tests the runs of a herd by Slurm, on a node of this machine (slurm_node.py), as an array and by Snakemake; and on three
+# nodes, of which one fails.
 # shellcheck shell=sh disable=SC2154,SC2016
 
 # Waits until a command holds, at most three minutes.
@@ -16,6 +17,9 @@ are_begun() {
 }
 are_over() {
     [ -z "$(squeue --noheader)" ]
+}
+is_down() {
+    [ "$(sinfo --noheader --Node --format=%t | grep -c down)" -eq 1 ]
 }
 
 # A program that waits for the file `go` in the herd's folder before it runs. Its file there has its number.
@@ -84,27 +88,65 @@ test_snakemake() {
     holds 'a herd of 40 by Slurm is one direct run' cmp direct herd/report.txt
 }
 
-# A Slurm of this machine, which ends with the file `conf` that names its configuration.
-if is_here slurmctld 'herds by Slurm' && is_here munged 'herds by Slurm'; then
-    rm -f conf
-    timeout 1800 python3 "$tools/tests/slurm_node.py" \
-        sh -c 'echo "$SLURM_CONF" >conf; while [ -e conf ]; do sleep 0.2; done' 2>why &
+# A herd of 320 over three nodes, of which one is unplugged while its jobs run: Slurm gives these to the others.
+test_nodes() {
+    rm -rf tracks herd alone
+    python3 "$top/examples/simulate.py" tracks 320 20
+    HOMERANGE=./patient "$tools/herd/plan.sh" tracks herd
+    holds 'a herd goes to three nodes' "$tools/herd/slurm.sh" herd 6 --requeue
+    holds 'six jobs run at once' wait_for are_begun 6
+    holds 'on each of the three nodes' [ "$(squeue --noheader --states=running --format=%N | sort -u | wc -l)" -eq 3 ]
+    # shellcheck disable=SC2086
+    set -- $NODE_SPACES
+    ip netns pids "$2" | xargs kill -9
+    touch herd/go
+    holds 'the node is down' wait_for is_down
+    # Jobs that are given back wait two minutes, unless they are told not to.
+    for job in $(squeue --noheader --array --states=pending --format=%i); do
+        scontrol update JobId="$job" StartTime=now
+    done
+    holds 'the jobs are over' wait_for are_over
+    HOMERANGE=./patient JOBS=4 "$tools/herd/run.sh" tracks alone 2>messages &
+    alone=$!
+    wait_for [ -d alone/groups ]
+    touch alone/go
+    wait $alone
+    holds 'a herd over three nodes, of which one failed, is that of one machine' cmp alone/report.txt herd/report.txt
+}
+
+# Runs tests beside a Slurm of this machine, with these options of slurm_node.py; it ends with the file `conf`, which names
+# its configuration and its namespaces.
+beside_slurm() {
+    tests=$1
+    shift
+    rm -f conf spaces
+    # shellcheck disable=SC2016
+    timeout 1800 python3 "$tools/tests/slurm_node.py" "$@" \
+        sh -c 'echo "$NODE_SPACES" >spaces; echo "$SLURM_CONF" >conf; while [ -e conf ]; do sleep 0.2; done' 2>why &
     node=$!
-    is_up_or_over() {
-        [ -s conf ] || ! kill -0 "$node"
-    }
     wait_for is_up_or_over
     if [ -s conf ]; then
         USER=${USER:-$(id -un)}
-        SLURM_CONF=$(cat conf)
+        SLURM_CONF=$(cat conf) NODE_SPACES=$(cat spaces)
         export USER SLURM_CONF
         write_patient
-        test_array
-        ! is_here snakemake 'herds by Snakemake and Slurm' || test_snakemake
+        $tests
         unset SLURM_CONF
         rm conf
     else
         skip "herds by Slurm: $(cat why)"
     fi
     wait $node
+}
+is_up_or_over() {
+    [ -s conf ] || ! kill -0 "$node"
+}
+test_one() {
+    test_array
+    ! is_here snakemake 'herds by Snakemake and Slurm' || test_snakemake
+}
+
+if is_here slurmctld 'herds by Slurm' && is_here munged 'herds by Slurm'; then
+    beside_slurm test_one
+    ! is_here ip 'herds by Slurm on three nodes' || beside_slurm test_nodes --nodes 3
 fi

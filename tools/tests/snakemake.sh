@@ -26,7 +26,7 @@ wait_until() {
     done
 }
 is_over() {
-    ! ls 'my herd'/*/*.begun >listed
+    ! ls 'my herd'/*/*.part >listed
 }
 
 if is_here snakemake 'herds by Snakemake'; then
@@ -53,8 +53,10 @@ if is_here snakemake 'herds by Snakemake'; then
     holds 'the new herd by Snakemake is one direct run' cmp direct 'my herd/report.txt'
     holds 'the new program made each run' [ "$(wc -l <called)" -eq 3 ]
 
-    # A rerun that fails.
+    # A track that changed and was not planned, and one that is planned and cannot be right.
     sed -i 's/deer00040/deer00000/' 'my tracks/deer00040.csv'
+    fails 'a track that is not as planned' 'step.sh: a track of groups 0001 and 0001 is not as plan.sh found it' --cores 2
+    HOMERANGE=./another plan --percent 90
     fails 'a rerun that fails by Snakemake' 'step.sh: the run of groups 0000 and 0001 failed' --cores 2
     rm 'my tracks/deer00040.csv'
 

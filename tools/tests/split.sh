@@ -32,14 +32,15 @@ split_to() {
         [ "$status" -eq 0 ] || holds "$by makes no file" [ ! -e "$work/$by/tracks" ]
     done
     [ "$splitters" = python ] || holds "both say and make the same: $(tail -n 1 "$work/r/messages")" \
-        diff -r "$work/python" "$work/r"
+        diff -r -I '^tool,' "$work/python" "$work/r"
 }
 
-# Whether each made this file of what is on standard input.
+# Whether each made this file of what is on standard input. By what a record was made is other for each of them.
 makes() {
     cat >"$work/wanted"
     for by in $splitters; do
-        holds "$by makes $1" cmp "$work/wanted" "$work/$by/tracks/$1"
+        grep -v '^tool,' "$work/$by/tracks/$1" >"$work/made"
+        holds "$by makes $1" cmp "$work/wanted" "$work/made"
     done
 }
 

@@ -85,21 +85,23 @@ says "argument --unit: invalid choice: 'km' (choose from 'm', 'dm')"
 echo "$head_line" | split_to 2 --bogus
 says 'unrecognized arguments: --bogus'
 
-# The record of a split: the export and its checksum, the unit, the zone, and what was said.
+# The record of a split: the export and its checksum, the unit, the zone, the options, what was said, what was left out,
+# the tracks and their checksums, and by what it was made.
 printf '%s\n' "$head_line" 'a/b,2024-05-01 00:30:00,500001,2,33N,' 'a/b,2024-05-01 00:40:00,,,,' |
-    split_to 0 --unit dm
+    split_to 0 --unit dm --na '\N' --tz UTC
 makes split.txt <<END
-export,../export.csv
+export,export.csv
 sha256,$(sha256sum <"$work/export.csv" | cut -c -64)
 unit,dm
 zone,33N
+option,na,\\\\N
+option,tz,UTC
 said,1 records have no coordinates: left out
 said,UTM coordinates are those of the export; zone: 33N 1
 said,columns: individual-local-identifier, timestamp, utm-easting, utm-northing; 1 animals, box 0.000 by 0.000 km
 said,animal 'a/b' is named a_b
-said,1 fixes of 1 animals are in tracks, in dm
 left,a_b,1,coordinates
-track,a_b,1,1
+track,a_b,1,1,$(printf 'animal,second,easting,northing\na_b,1714523400,5000010,20\n' | sha256sum | cut -c -64)
 END
 
 # What was read from a pipe has its own checksum; names of files are UTF-8 in whatever locale; a folder without a name.

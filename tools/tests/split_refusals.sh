@@ -30,3 +30,13 @@ refuses "animals 'a/b' and 'a_b' would both be named a_b" "$head_line" 'a/b,2024
     'a_b,2024-05-01 00:30:00,1,2,33N,' 'a_b,2024-05-01 00:30:00,1,2,33N,'
 refuses 'a quote has no end' "$head_line" 'a,2024-05-01 00:30:00,1,2,33N,"tall' 'b,2024-05-01 00:30:00,1,2,33N,'
 refuses 'no fix is left' "$head_line" 'a,2024-05-01 00:30:00,,,33N,'
+printf '%s\n' 'time,x,y' '2024-05-01,1,2' | split_to 2 --name ''
+says '--name: a name without control characters is wanted'
+# Its number is written out, which R would write as 1e+05.
+{
+    echo 'id,time,x,y'
+    yes 'a,2024-05-01,562000,5134000' | head -n 99999
+    echo 'a,?,562000,5134000'
+} | split_to 1
+says "record 100000: time is '?' and not a time"
+refuses "the table has '<?xml version=" "<?xml version=\"1.0\"?>$(printf '<trkpt>%.0s' 1 2 3 4 5 6 7 8 9)"

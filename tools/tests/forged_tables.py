@@ -1,0 +1,332 @@
+#!/usr/bin/env python3
+"""forged_tables.py PROGRAM: whether tools/verify.py finds what was forged in tables, layers and the page.
+
+A folder is made by tools/ranges.sh of an export of two animals, by PROGRAM. Each forgery changes it, with all checksums
+made anew, and names what verify.py has to say did not hold; where it names nothing, nobody can know. Prints 'ok NAME' or
+'failed NAME: ..' for each. Needs what ranges.sh needs."""
+import os
+import re
+import sqlite3
+import struct
+import sys
+from contextlib import closing
+from pathlib import Path
+
+from forgeries import TOOLS, Hand, collected, export_text, try_all
+
+FORGERIES = {}
+forgery = collected(FORGERIES)
+CSV_END = re.compile(rb"(?<=,)[^,\n]+(?=\n)")
+
+
+class Maker(Hand):
+    """One who forges what ranges.sh made."""
+
+    def __init__(self, program, room, export):
+        self.program, self.room, self.export, self.folder = program, room, room / "export.csv", room / "hand-in"
+        self.export.write_text(export)
+        os.environ["HOMERANGE"] = str(program)
+        self.call("sh", TOOLS / "ranges.sh", "--title", "Wolves", "export.csv", "hand-in")
+
+    def sealed_sub(self, name, old, new, count=1):
+        self.sub(name, old, new, count)
+        self.seal()
+
+    def sealed_sql(self, *statements):
+        """Changes ranges.gpkg, whose triggers want functions that are not there."""
+        with closing(sqlite3.connect(self.path("ranges.gpkg"))) as base:
+            for name, in base.execute("SELECT name FROM sqlite_master WHERE type = 'trigger'").fetchall():
+                base.execute(f'DROP TRIGGER "{name}"')
+            for statement, *values in statements:
+                assert base.execute(statement, values).rowcount != 0, statement
+            base.commit()
+        self.seal()
+
+    def shape(self, layer, animal):
+        with closing(sqlite3.connect(self.path("ranges.gpkg"))) as base:
+            return base.execute(f"SELECT geom FROM {layer} WHERE animal = ?", (animal,)).fetchone()[0]
+
+
+def moved(shape, by):
+    """A polygon, all of whose corners but the first and the last are elsewhere, and its box with them."""
+    head, box, start, corners = shape[:8], [*struct.unpack("<4d", shape[8:40])], shape[40:53], shape[53:]
+    numbers = [*struct.unpack(f"<{len(corners) // 8}d", corners)]
+    numbers[3] += by
+    box[2:] = min(numbers[1::2]), max(numbers[1::2])
+    return head + struct.pack("<4d", *box) + start + struct.pack(f"<{len(numbers)}d", *numbers)
+
+
+@forgery("an area in summary.csv", "summary.csv is not what another method computes: line 3 is 'Bor,.*,1.25'; 'Bor,")
+def _(hand):
+    hand.sealed_sub("summary.csv", "^(Bor,.*,95,.*),[0-9.]+$", r"\1,1.25")
+
+
+@forgery("areas in summary.csv in square metres", "summary.csv is not what another method computes: line 2 is")
+def _(hand):
+    hand.edit("summary.csv", lambda text: CSV_END.sub(lambda found: b"%r" % (1e4 * float(found[0]))
+                                                      if found[0] != b"hectares" else found[0], text))
+    hand.seal()
+
+
+@forgery("a level in summary.csv", "summary.csv is not what another method computes: line 3 is")
+def _(hand):
+    hand.sealed_sub("summary.csv", ",95,", ",96,")
+
+
+@forgery("line ends of another system in summary.csv", "summary.csv is not what another method computes: line 1 is")
+def _(hand):
+    hand.sealed_sub("summary.csv", "\n", "\r\n", 0)
+
+
+@forgery("a share in overlaps.csv", "overlaps.csv is not what another method computes: line 2 is 'Bor,1.0,0.875'; 'Bor,1.0,0")
+def _(hand):
+    hand.sealed_sub("overlaps.csv", "^(Bor,1.0),.*", r"\1,0.875")
+
+
+@forgery("a row of animals.csv is taken out", "animals.csv is not what another method computes: line 2 is 'Vesna,")
+def _(hand):
+    hand.sealed_sub("animals.csv", "^Bor,.*\n", "")
+
+
+@forgery("a verdict in animals.csv", "animals.csv is not what another method computes: line [23] is .*levelled")
+def _(hand):
+    hand.sealed_sub("animals.csv", "still growing$", "levelled off")
+
+
+@forgery("what was left out in animals.csv", "animals.csv is not what another method computes: line 2 is 'Bor,60,0,")
+def _(hand):
+    hand.sealed_sub("animals.csv", "^Bor,60,3,", "Bor,60,0,")
+
+
+@forgery("a table is taken out, and stays listed", "overlaps.csv is in SHA256SUMS and not there")
+def _(hand):
+    hand.path("overlaps.csv").unlink()
+
+
+@forgery("a table is not handed in")
+def _(hand):
+    hand.path("overlaps.csv").unlink()
+    hand.seal()
+
+
+@forgery("a corner in ranges.gpkg is moved", "the polygon of Vesna in the layer mcp_95 of ranges.gpkg has other corners")
+def _(hand):
+    hand.sealed_sql(("UPDATE mcp_95 SET geom = ? WHERE animal = 'Vesna'", moved(hand.shape("mcp_95", "Vesna"), -300)))
+
+
+@forgery("a corner in ranges.gpkg is moved by a millimetre", "the polygon of Bor in the layer mcp_100 of ranges.gpkg has other")
+def _(hand):
+    hand.sealed_sql(("UPDATE mcp_100 SET geom = ? WHERE animal = 'Bor'", moved(hand.shape("mcp_100", "Bor"), 0.001)))
+
+
+@forgery("two polygons in ranges.gpkg change places", "the polygon of Bor in the layer mcp_50 of ranges.gpkg has other corners")
+def _(hand):
+    hand.sealed_sql(("UPDATE mcp_50 SET geom = ? WHERE animal = 'Bor'", hand.shape("mcp_50", "Vesna")),
+                    ("UPDATE mcp_50 SET geom = ? WHERE animal = 'Vesna'", hand.shape("mcp_50", "Bor")))
+
+
+@forgery("an area in ranges.gpkg",
+         "the polygon of Bor in the layer mcp_95 of ranges.gpkg has level, kept, corners and hectares")
+def _(hand):
+    hand.sealed_sql(("UPDATE mcp_95 SET hectares = 12.5 WHERE animal = 'Bor'",))
+
+
+@forgery("a polygon is taken out of ranges.gpkg", "the layer mcp_95 of ranges.gpkg has other animals than those with an area")
+def _(hand):
+    hand.sealed_sql(("DELETE FROM mcp_95 WHERE animal = 'Bor'",))
+
+
+@forgery("a column is added to ranges.gpkg", "the layer mcp_95 of ranges.gpkg has other columns than")
+def _(hand):
+    hand.sealed_sql(("ALTER TABLE mcp_95 ADD COLUMN area_ha REAL DEFAULT 12.5",))
+
+
+@forgery("a layer of ranges.gpkg is renamed",
+         r"ranges.gpkg has other layers \(mcp_100, mcp_50, mcp_99\) than mcp_100, mcp_50, mcp_95")
+def _(hand):
+    hand.sealed_sql(("ALTER TABLE mcp_95 RENAME TO mcp_99",),
+                    ("UPDATE gpkg_contents SET table_name = 'mcp_99' WHERE table_name = 'mcp_95'",),
+                    ("UPDATE gpkg_geometry_columns SET table_name = 'mcp_99' WHERE table_name = 'mcp_95'",))
+
+
+@forgery("two layers of ranges.gpkg change names", "the polygon of Bor in the layer mcp_(50|100) of ranges.gpkg has level")
+def _(hand):
+    hand.sealed_sql(*((f"ALTER TABLE {old} RENAME TO {new}",) for old, new in (
+        ("mcp_50", "mcp_0"), ("mcp_100", "mcp_50"), ("mcp_0", "mcp_100"))))
+
+
+@forgery("the number of a zone in ranges.gpkg",
+         "the layer mcp_50 of ranges.gpkg has another reference system than that of zone 33N")
+def _(hand):
+    hand.sealed_sql(("UPDATE gpkg_spatial_ref_sys SET organization_coordsys_id = 32634 WHERE srs_id = 32633",))
+
+
+@forgery("the definition of a zone in ranges.gpkg", "has another reference system than that of zone 33N")
+def _(hand):
+    hand.sealed_sql(("UPDATE gpkg_spatial_ref_sys SET definition = replace(definition, '0.9996', '0.9') WHERE srs_id = 32633",))
+
+
+@forgery("a journal beside ranges.gpkg", "ranges.gpkg-wal lies beside ranges.gpkg")
+def _(hand):
+    hand.path("ranges.gpkg-wal").write_bytes(b"x")
+    hand.seal()
+
+
+@forgery("ranges.gpkg is no base", "ranges.gpkg cannot be read")
+def _(hand):
+    hand.edit("ranges.gpkg", lambda content: content[:3000])
+    hand.seal()
+
+
+@forgery("hectares in a cell of report.html", "report.html has '7.5' as hectares_95 of Bor; '[0-9.]+' is wanted")
+def _(hand):
+    hand.sealed_sub("report.html", '(<td data-field="hectares_95">)[^<]+', r"\g<1>7.5")
+
+
+@forgery("hectares in a sentence of report.html",
+         "report.html has 'Bor: 95 % MCP 7.5 ha, .*' as sentence; 'Bor: 95 % MCP .*' is wanted")
+def _(hand):
+    hand.sealed_sub("report.html", "(<li><bdi>Bor</bdi>: 95 % MCP )[0-9.,]+", r"\g<1>7.5")
+
+
+@forgery("a unit in a cell of report.html", "report.html has '.* km2' as hectares_50 of Bor; ")
+def _(hand):
+    hand.sealed_sub("report.html", '(<td data-field="hectares_50">[^<]+)', r"\1 km2")
+
+
+@forgery("the unit of coordinates in report.html",
+         "report.html has '.. .* in whole decimetres, .*' as paragraph; '.. .* in whole metres, ")
+def _(hand):
+    hand.sealed_sub("report.html", "in whole metres", "in whole decimetres")
+
+
+@forgery("what was left out in a sentence of report.html",
+         "report.html has '.*left out: 5 marked as .*' as paragraph; '.*left out: 6 marked as ")
+def _(hand):
+    hand.sealed_sub("report.html", "left out: 6 marked", "left out: 5 marked")
+
+
+@forgery("a word beside the day in report.html",
+         "report.html has '.*Made on 1 May 2026, seen by .*' as paragraph; '.*Made on .. with")
+def _(hand):
+    hand.sealed_sub("report.html", "Made on [^<]* with", "Made on 1 May 2026, seen by the authority, with")
+
+
+@forgery("another day of report.html")
+def _(hand):
+    hand.sealed_sub("report.html", "Made on [^<]* with", "Made on 1 May 2026 with")
+
+
+@forgery("the grid and the ground in report.html",
+         "report.html has '.*on the ground by 3.00 % here.*' as paragraph; '.*on the ground by -0.0")
+def _(hand):
+    hand.sealed_sub("report.html", "by -0.0[0-9] % here", "by 3.00 % here")
+
+
+@forgery("two levels in the headings of report.html", "report.html has '100 %' as heading; '95 %' is wanted")
+def _(hand):
+    hand.sealed_sub("report.html", "<th>95 %</th><th>100 %</th>", "<th>100 %</th><th>95 %</th>")
+
+
+@forgery("names that are shown in report.html", "report.html has 'Vesna' as name of Bor; 'Bor' is wanted")
+def _(hand):
+    hand.sealed_sub("report.html", "<th><bdi>Bor</bdi></th>", "<th><bdi>Vesna</bdi></th>")
+
+
+@forgery("names in the attributes of report.html", "report.html has '1' as number of Vesna; number of Bor '1' is wanted")
+def _(hand):
+    hand.edit("report.html", lambda text: text.replace(b'<tr data-animal="Bor"', b'<tr data-animal="x"').replace(
+        b'<tr data-animal="Vesna"', b'<tr data-animal="Bor"').replace(b'<tr data-animal="x"', b'<tr data-animal="Vesna"'))
+    hand.seal()
+
+
+@forgery("names above the curves of report.html", "report.html has '1 Vesna: .*' as what stands above a curve; '1 Bor: ")
+def _(hand):
+    hand.sealed_sub("report.html", "(<figcaption><b class=.c0.>1</b> <bdi>)Bor", r"\1Vesna")
+
+
+@forgery("names below the map of report.html",
+         "report.html has '100 % MCP 95 % MCP 50 % MCP 1.*Vesna 2.*Vesna' as paragraph; '100")
+def _(hand):
+    hand.sealed_sub("report.html", "(1</b>&#160;<bdi>)Bor", r"\1Vesna")
+
+
+@forgery("a date in report.html", "report.html has '1 Jan 2020' as first of Bor; '20 Sep 2024' is wanted")
+def _(hand):
+    hand.sealed_sub("report.html", '(data-field="first">)[^<]+', r"\g<1>1 Jan 2020")
+
+
+@forgery("an overlap in report.html", "report.html has '1 .2.xa0%.' as the fixes of Bor in the range of Vesna; '")
+def _(hand):
+    hand.sealed_sub("report.html", '(data-animal="Bor" data-other="Vesna">)[^<]+', r"\g<1>1 (2&#160;%)")
+
+
+@forgery("a checksum in report.html", "report.html has '0000.*' as export_sha256; '[0-9a-f]{64}' is wanted")
+def _(hand):
+    hand.sealed_sub("report.html", '(data-field="export_sha256">)[0-9a-f]+', r"\g<1>" + 64 * "0")
+
+
+@forgery("the sentence on limits in report.html",
+         "report.html has 'Proved: all of this page.' as paragraph; 'Proved: the numbers follow")
+def _(hand):
+    hand.sealed_sub("report.html", "Proved: the numbers follow from the files.*</p>", "Proved: all of this page.</p>")
+
+
+@forgery("a sentence is added to report.html",
+         "report.html has 'Seen by the authority.' as paragraph; heading 'Animals' is wanted")
+def _(hand):
+    hand.sealed_sub("report.html", "</ul>", "</ul><p>Seen by the authority.</p>")
+
+
+@forgery("a script in report.html", "report.html is no page of homerange: it has a script")
+def _(hand):
+    hand.sealed_sub("report.html", "</body>", "<script>document.title = 1</script></body>")
+
+
+@forgery("a picture from elsewhere in report.html", "report.html is no page of homerange: it has a img")
+def _(hand):
+    hand.sealed_sub("report.html", "</body>", '<img src="https://park.example/seal.png"></body>')
+
+
+@forgery("what a click does in report.html", "report.html is no page of homerange: its p has onclick")
+def _(hand):
+    hand.sealed_sub("report.html", '<p class="typed"', '<p onclick="alert(1)" class="typed"')
+
+
+@forgery("a cell of report.html is hidden", "report.html is no page of homerange: its td has style")
+def _(hand):
+    hand.sealed_sub("report.html", '<td data-field="hectares_95"', '<td style="display: none" data-field="hectares_95"')
+
+
+@forgery("another style of report.html", "report.html has another style than the pages of this clone")
+def _(hand):
+    hand.sealed_sub("report.html", "</style>", '[data-field="hectares_95"]::after { content: "9"; }</style>')
+
+
+@forgery("a comment in report.html", "report.html is no page of homerange: it has a comment")
+def _(hand):
+    hand.sealed_sub("report.html", "<body>", "<body><!-- seen -->")
+
+
+@forgery("text in a drawing of report.html that leaves it", "report.html is no page of homerange: it has a p within a drawing")
+def _(hand):
+    hand.sealed_sub("report.html", '<path class="rim"', '<p>7.5 ha</p><path class="rim"')
+
+
+@forgery("the page of another run", "report.html has")
+def _(hand):
+    other = hand.room / "other"
+    other.mkdir()
+    page = Maker(hand.program, other, export_text(9)).path("report.html").read_bytes()
+    hand.path("report.html").write_bytes(page)
+    hand.seal()
+
+
+@forgery("another title of report.html")
+def _(hand):
+    hand.sealed_sub("report.html", "Wolves", "Wolves of the park", 0)
+
+
+if __name__ == "__main__":
+    program = Path(sys.argv[1]).resolve()
+    try_all(lambda room: Maker(program, room, export_text(6)), FORGERIES)

@@ -1,0 +1,540 @@
+#!/usr/bin/env python3
+"""forgeries.py PROGRAM: whether tools/verify.py says of each forged folder what can be known of it.
+
+A folder of evidence is made of an export of two animals, by PROGRAM. Each forgery changes it as one who hands it in could,
+with all checksums made anew where that is said, and names what verify.py has to say did not hold; where it names nothing,
+nobody can know, and verify.py has to say so. Prints 'ok NAME' or 'failed NAME: ..' for each."""
+import random
+import re
+import shutil
+import subprocess
+import sys
+import tempfile
+from datetime import datetime, timedelta
+from pathlib import Path
+
+TOOLS = Path(__file__).resolve().parents[1]
+TITLES = "individual-local-identifier,timestamp,utm-easting,utm-northing,utm-zone,visible\n"
+SUM = re.compile("[0-9a-f]{64}")
+HOMOGLYPH = "Vеsna"  # its second letter is Cyrillic
+
+
+def export_text(seed):
+    """An export of two wolves, of which each twentieth fix is marked as an outlier."""
+    draw, lines = random.Random(seed), []
+    for name, east in (("Bor", 561000), ("Vesna", 562500)):
+        moment, place = datetime(2024, 9, 20), [east, 5134000]
+        for number in range(60):
+            moment += timedelta(hours=3, seconds=draw.randrange(60))
+            place = [end + draw.randrange(-400, 401) for end in place]
+            lines.append(f"{name},{moment},{place[0]},{place[1]},33N,{'false' if number % 20 == 7 else 'true'}\n")
+    return TITLES + "".join(lines)
+
+
+def checksum(path):
+    said = subprocess.run(["sha256sum"], stdin=open(path, "rb"), stdout=subprocess.PIPE, check=True, text=True)
+    return SUM.search(said.stdout)[0]
+
+
+class Hand:
+    """One who forges: a folder, and what it was made of."""
+
+    def __init__(self, program, room, export, options=()):
+        self.program, self.room, self.export, self.folder = program, room, room / "export.csv", room / "hand-in"
+        self.export.write_text(export)
+        self.call(sys.executable, TOOLS / "split.py", *options, "--into", "tracks", "export.csv")
+        self.call(sys.executable, TOOLS / "evidence.py", "hand-in", "tracks")
+
+    def call(self, *words, folder=None):
+        run = subprocess.run(list(map(str, words)), cwd=folder or self.room, stdout=subprocess.PIPE, stderr=subprocess.PIPE)
+        if run.returncode != 0:
+            raise SystemExit(f"forgeries.py: {words} said {run.stderr.decode()}")
+        return run.stdout
+
+    def path(self, name):
+        return self.folder / name
+
+    def edit(self, name, change):
+        """Changes the bytes of a file, which have to be others then."""
+        before = self.path(name).read_bytes()
+        after = change(before)
+        assert after != before, f"{name} did not change"
+        self.path(name).write_bytes(after)
+
+    def sub(self, name, old, new, count=1):
+        self.edit(name, lambda content: re.sub(old.encode(), new.encode(), content, count=count, flags=re.M))
+
+    def seal(self):
+        """All checksums anew: in split.txt those of the tracks, in SHA256SUMS those of all files."""
+        record = self.path("tracks/split.txt")
+        if record.is_file():
+            lines = record.read_text("utf-8").split("\n")
+            for at, line in enumerate(lines):
+                path = self.path(f"tracks/{line.split(',')[1]}.csv") if line.startswith("track,") else None
+                if path and path.is_file():
+                    rows = path.read_bytes().count(b"\n") - 1
+                    lines[at] = f"track,{path.stem},{rows},{rows - path.read_bytes().count(b',0' + bytes([10]))},{checksum(path)}" \
+                        if b",use" in path.read_bytes()[:60] else f"track,{path.stem},{rows},{rows},{checksum(path)}"
+            record.write_text("\n".join(lines), "utf-8")
+        paths = sorted(path for path in self.folder.rglob("*") if path.is_file() and path.name != "SHA256SUMS")
+        self.path("SHA256SUMS").write_text("".join(f"{checksum(path)}  {path.relative_to(self.folder)}\n" for path in paths))
+
+    def run(self, *words):
+        """Runs the program over the tracks as they are now, and writes the report."""
+        files = sorted(f"tracks/{path.name}" for path in self.path("tracks").glob("*.csv"))
+        words = words or ("--percent", "50,95,100", "--unit", "m")
+        self.path("report.txt").write_bytes(self.call(self.program, *words, "--", *files, folder=self.folder))
+        listed = " ".join(f"'{name}'" if "'" not in name and re.search("[^a-zA-Z0-9/.]", name) else name for name in files)
+        about = re.sub("(?m)^arguments: .*", f"arguments: {' '.join(words)} -- {listed}", self.path("evidence.txt").read_text())
+        self.path("evidence.txt").write_text(about)
+
+    def sealed_run(self, *words):
+        self.run(*words)
+        self.seal()
+
+    def verdict(self, *words):
+        """What verify.py says, and its status."""
+        run = subprocess.run([sys.executable, TOOLS / "verify.py", self.folder, self.export, "--program", self.program, *words],
+                             stdout=subprocess.PIPE, stderr=subprocess.STDOUT, text=True)
+        return run.returncode, run.stdout
+
+
+def collected(forgeries):
+    """What names forgeries, and keeps them in a dictionary."""
+    def forgery(name, *failing):
+        """Names a forgery, with parts of what has to be said not to hold; none where it can't be known."""
+        def keep(forge):
+            forgeries[name] = (forge, failing)
+            return forge
+        return keep
+    return forgery
+
+
+FORGERIES = {}
+forgery = collected(FORGERIES)
+
+
+@forgery("01 a fix is moved", "tracks/Bor.csv was changed since", "Bor.csv is not the file", "another track of Bor")
+def _(hand):
+    hand.sub("tracks/Bor.csv", "^(Bor,[0-9]+),[0-9]+", r"\1,561234")
+
+
+@forgery("02 a fix is moved, run again and sealed", "another record|another track of Bor")
+def _(hand):
+    hand.sub("tracks/Bor.csv", "^(Bor,[0-9]+),[0-9]+", r"\1,561234")
+    hand.sealed_run()
+
+
+def mark_unused(hand):
+    """A column use, which leaves one fix out."""
+    lines = hand.path("tracks/Bor.csv").read_text().split("\n")
+    marked = [lines[0] + ",use", *(f"{line},{int(at != 5)}" for at, line in enumerate(lines[1:-1])), ""]
+    hand.path("tracks/Bor.csv").write_text("\n".join(marked))
+
+
+@forgery("03 a fix is marked as not used", "tracks/Bor.csv was changed since")
+def _(hand):
+    mark_unused(hand)
+
+
+@forgery("04 a fix is marked as not used, run again and sealed", "another record|another track of Bor")
+def _(hand):
+    mark_unused(hand)
+    hand.sealed_run()
+
+
+@forgery("05 an animal is cut from the report", "report.txt was changed since", "not what another method computes")
+def _(hand):
+    hand.edit("report.txt", lambda text: b"\n".join(line for line in text.split(b"\n") if b"Vesna" not in line))
+
+
+@forgery("06 an animal is dropped, and all made anew", "another record|another track")
+def _(hand):
+    hand.path("tracks/Vesna.csv").unlink()
+    hand.sub("tracks/split.txt", "^track,Vesna,.*\n", "")
+    hand.sealed_run()
+
+
+@forgery("07 unit,dm above the report", "report.txt was changed since", "the report is in another unit")
+def _(hand):
+    hand.edit("report.txt", lambda text: b"unit,dm\n" + text)
+
+
+@forgery("08 tracks in metres run in decimetres", "the tracks are in m, by split.txt, and the run was made in dm")
+def _(hand):
+    hand.sub("evidence.txt", "^unit: m", "unit: dm")
+    hand.sealed_run("--percent", "50,95,100", "--unit", "dm")
+
+
+@forgery("09 a level is cut from the report", "report.txt was changed since", "not what another method computes")
+def _(hand):
+    hand.sub("report.txt", "^percent,[A-Za-z]*,95,.*\n", "", 0)
+
+
+@forgery("10 a true run of other levels")
+def _(hand):
+    hand.sub("evidence.txt", "^levels: .*", "levels: 95,100")
+    hand.sealed_run("--percent", "95,100", "--unit", "m")
+
+
+@forgery("11 an area by another program, sealed", "run again the program makes another report", "not what another method")
+def _(hand):
+    hand.sub("report.txt", "^(row,Bor,30,[0-9]+,[0-9]+),[0-9]+", r"\1,123456")
+    hand.seal()
+
+
+@forgery("12 another date, sealed")
+def _(hand):
+    hand.sub("evidence.txt", "^made: 2", "made: 1")
+    hand.seal()
+
+
+@forgery("13 another commit, sealed")
+def _(hand):
+    hand.sub("evidence.txt", "^commit: .*", "commit: " + 40 * "d")
+    hand.seal()
+
+
+@forgery("14 the export is taken out of the record of the run, sealed", "evidence.txt names another export than split.txt")
+def _(hand):
+    hand.sub("evidence.txt", "^export.*\n", "", 0)
+    hand.seal()
+
+
+@forgery("15 a checksum is taken out, and its track edited", "tracks/Bor.csv is there and not in SHA256SUMS")
+def _(hand):
+    hand.sub("tracks/Bor.csv", "^(Bor,[0-9]+),[0-9]+", r"\1,561234")
+    hand.sub("SHA256SUMS", "^.*tracks/Bor.csv\n", "")
+
+
+@forgery("16 a checksum is made a comment, and its track edited", "line [0-9]* of SHA256SUMS is no checksum and name")
+def _(hand):
+    hand.sub("tracks/Bor.csv", "^(Bor,[0-9]+),[0-9]+", r"\1,561234")
+    hand.sub("SHA256SUMS", "^(.*tracks/Bor.csv)", r"# \1")
+
+
+@forgery("17 the export is edited afterwards", "export.csv has not the checksum of the export")
+def _(hand):
+    hand.export.write_text(hand.export.read_text().replace("5134", "5135", 1))
+
+
+def anew(hand, export):
+    """Hands in what an edited export comes to."""
+    shutil.rmtree(hand.folder)
+    shutil.rmtree(hand.room / "tracks")
+    hand.__init__(hand.program, hand.room, export)
+
+
+@forgery("18 the export is edited before all")
+def _(hand):
+    anew(hand, re.sub("^(Bor,[^,]*),[0-9]+", r"\1,561234", hand.export.read_text(), count=1, flags=re.M))
+
+
+@forgery("19 rows of the export are marked as outliers before all")
+def _(hand):
+    anew(hand, hand.export.read_text().replace(",true", ",false", 40))
+
+
+@forgery("20 the checksum of another program, sealed", "the program of the record has the checksum 0000")
+def _(hand):
+    hand.sub("evidence.txt", "^program sha256: .*", "program sha256: " + 64 * "0")
+    hand.seal()
+
+
+def swapped(text):
+    lines = text.split(b"\n")
+    return b"\n".join([*lines[:10], lines[11], lines[10], *lines[12:]])
+
+
+@forgery("21 two lines of the report are swapped", "report.txt was changed since", "run again the program makes another")
+def _(hand):
+    hand.edit("report.txt", swapped)
+
+
+@forgery("22 two lines of the report are swapped, sealed", "run again the program makes another", "line 11 is")
+def _(hand):
+    hand.edit("report.txt", swapped)
+    hand.seal()
+
+
+@forgery("23 the animals of the report change places, sealed", "run again the program makes another", "another method")
+def _(hand):
+    lines = hand.path("report.txt").read_bytes().split(b"\n")
+    at = next(place for place, line in enumerate(lines) if line.startswith(b"animal,Vesna"))
+    end = next(place for place, line in enumerate(lines) if line.startswith(b"overlap,"))
+    hand.path("report.txt").write_bytes(b"\n".join([*lines[at:end], *lines[:at], *lines[end:]]))
+    hand.seal()
+
+
+@forgery("24 the report is cut off, sealed", "run again the program makes another", "another method")
+def _(hand):
+    hand.edit("report.txt", lambda text: text[:-40])
+    hand.seal()
+
+
+@forgery("25 an overlap is changed, sealed", "run again the program makes another", "another method")
+def _(hand):
+    hand.sub("report.txt", "^(overlap,Bor,Vesna),[0-9]+", r"\1,1")
+    hand.seal()
+
+
+@forgery("26 a box is changed, sealed", "run again the program makes another", "another method")
+def _(hand):
+    hand.sub("report.txt", "^(box,Bor),[0-9]+", r"\1,1")
+    hand.seal()
+
+
+@forgery("27 a corner is changed, sealed", "run again the program makes another", "another method")
+def _(hand):
+    hand.sub("report.txt", "^(corner,Bor,2),[0-9]+", r"\1,1")
+    hand.seal()
+
+
+@forgery("28 a second is changed, sealed", "run again the program makes another", "another method")
+def _(hand):
+    hand.sub("report.txt", "^(row,Bor,2),[0-9]+", r"\1,1726800001")
+    hand.seal()
+
+
+@forgery("29 another zone in the record, sealed", "another record than split.txt")
+def _(hand):
+    hand.sub("tracks/split.txt", "^zone,33N", "zone,34N")
+    hand.seal()
+
+
+def shift(hand, column, by):
+    """Adds to a column of all tracks."""
+    for path in hand.path("tracks").glob("*.csv"):
+        rows = [line.split(",") for line in path.read_text().split("\n")[:-1]]
+        for row in rows[1:]:
+            row[column] = str(int(row[column]) + by)
+        path.write_text("".join(",".join(row) + "\n" for row in rows))
+
+
+@forgery("30 all is 100 km elsewhere, run again and sealed", "another track|another record")
+def _(hand):
+    shift(hand, 2, 100_000)
+    hand.sealed_run()
+
+
+@forgery("31 all is half a year later, run again and sealed", "another track|another record")
+def _(hand):
+    shift(hand, 1, 15_000_000)
+    hand.sealed_run()
+
+
+@forgery("32 each fix is there twice, run again and sealed", "another track|another record")
+def _(hand):
+    for path in hand.path("tracks").glob("*.csv"):
+        lines = path.read_text().split("\n")[:-1]
+        path.write_text("".join(f"{line}\n" * (2 if at else 1) for at, line in enumerate(lines)))
+    hand.sealed_run()
+
+
+@forgery("33 the animals change names, run again and sealed", "another track|another record")
+def _(hand):
+    for path, other in (("Bor", "Vesna"), ("Vesna", "Bor")):
+        hand.sub(f"tracks/{path}.csv", f"^{path},", f"{other},", 0)
+    hand.path("tracks/Bor.csv").rename(hand.path("tracks/x"))
+    hand.path("tracks/Vesna.csv").rename(hand.path("tracks/Bor.csv"))
+    hand.path("tracks/x").rename(hand.path("tracks/Vesna.csv"))
+    hand.sealed_run()
+
+
+@forgery("34 the files change names, run again and sealed", "another track|another record")
+def _(hand):
+    hand.path("tracks/Bor.csv").rename(hand.path("tracks/x"))
+    hand.path("tracks/Vesna.csv").rename(hand.path("tracks/Bor.csv"))
+    hand.path("tracks/x").rename(hand.path("tracks/Vesna.csv"))
+    hand.sealed_run()
+
+
+@forgery("35 line ends of another system in the report", "report.txt was changed since")
+def _(hand):
+    hand.edit("report.txt", lambda text: text.replace(b"\n", b"\r\n"))
+
+
+@forgery("36 line ends of another system in the report, sealed", "run again the program makes another", "line 1 is")
+def _(hand):
+    hand.edit("report.txt", lambda text: text.replace(b"\n", b"\r\n"))
+    hand.seal()
+
+
+@forgery("37 line ends of another system in the tracks, run again and sealed", "another track|another record")
+def _(hand):
+    for name in ("Bor", "Vesna"):
+        hand.edit(f"tracks/{name}.csv", lambda text: text.replace(b"\n", b"\r\n"))
+    hand.sealed_run()
+
+
+@forgery("38 a byte 0 in the report, sealed", "run again the program makes another", "another method")
+def _(hand):
+    hand.sub("report.txt", "^row,Bor,3,", "row,Bor,3\0,")
+    hand.seal()
+
+
+@forgery("39 a letter that looks the same in the report, sealed", "run again the program makes another", "another method")
+def _(hand):
+    hand.sub("report.txt", "Vesna", HOMOGLYPH, 0)
+    hand.seal()
+
+
+@forgery("40 a letter that looks the same everywhere, run again and sealed", "another track|another record|split.txt")
+def _(hand):
+    hand.sub("tracks/Vesna.csv", "Vesna", HOMOGLYPH, 0)
+    hand.path("tracks/Vesna.csv").rename(hand.path(f"tracks/{HOMOGLYPH}.csv"))
+    hand.sub("tracks/split.txt", "Vesna", HOMOGLYPH, 0)
+    hand.sealed_run()
+
+
+@forgery("41 a line behind the end, sealed", "run again the program makes another", "another method")
+def _(hand):
+    hand.edit("report.txt", lambda text: text + b"end,2\n")
+    hand.seal()
+
+
+@forgery("42 a form feed for a line end, sealed", "run again the program makes another", "another method")
+def _(hand):
+    hand.edit("report.txt", lambda text: text.replace(b"\n", b"\f", 1))
+    hand.seal()
+
+
+@forgery("43 no last line end, sealed", "run again the program makes another", "its last line has no end")
+def _(hand):
+    hand.edit("report.txt", lambda text: text[:-1])
+    hand.seal()
+
+
+@forgery("44 a track is missing", "tracks/Vesna.csv is in SHA256SUMS and not there")
+def _(hand):
+    hand.path("tracks/Vesna.csv").unlink()
+
+
+@forgery("45 the report is missing", "report.txt is in SHA256SUMS and not there")
+def _(hand):
+    hand.path("report.txt").unlink()
+
+
+@forgery("46 line ends of another system in the checksums", "SHA256SUMS has line ends of another system")
+def _(hand):
+    hand.edit("SHA256SUMS", lambda text: text.replace(b"\n", b"\r\n"))
+
+
+@forgery("47 the checksums end behind the first", "is there and not in SHA256SUMS")
+def _(hand):
+    hand.edit("SHA256SUMS", lambda text: text.split(b"\n")[0] + b"\n")
+
+
+@forgery("48 what was left out is taken out of the record, sealed", "another record than split.txt")
+def _(hand):
+    hand.sub("tracks/split.txt", "^(said,6 outliers.*|left,.*)\n", "", 0)
+    hand.seal()
+
+
+@forgery("49 the record of the split is taken away and a fix moved, run again and sealed", "no record of a split")
+def _(hand):
+    hand.path("tracks/split.txt").unlink()
+    hand.sub("evidence.txt", "^export.*\n", "", 0)
+    hand.sub("tracks/Bor.csv", "^(Bor,[0-9]+),[0-9]+", r"\1,561234")
+    hand.sealed_run()
+
+
+@forgery("50 a true run of fewer levels, in another order")
+def _(hand):
+    hand.sub("evidence.txt", "^levels: .*", "levels: 100,50")
+    hand.sealed_run("--percent", "100,50", "--unit", "m")
+
+
+@forgery("51 the arguments stand twice in the record of the run, sealed", "is no field that stands there once")
+def _(hand):
+    hand.sub("evidence.txt", "^(arguments: .*)", r"\1\narguments: --percent 100 -- tracks/Bor.csv")
+    hand.seal()
+
+
+@forgery("52 an untrue remark in the record of the run, sealed", "is no field that stands there once")
+def _(hand):
+    hand.edit("evidence.txt", lambda text: text + b"checked: by the authority\n")
+    hand.seal()
+
+
+@forgery("53 another program, and the release named in a remark, sealed", "is no field", "the program of the record|is no field")
+def _(hand):
+    release = SUM.search(hand.path("evidence.txt").read_text().split("program sha256")[1])[0]
+    hand.sub("evidence.txt", "^program sha256: .*", "program sha256: " + 64 * "0" + f"\n# {release}  homerange")
+    hand.seal()
+
+
+@forgery("54 tracks in decimetres run in metres", "the tracks are in dm, by split.txt, and the run was made in m")
+def _(hand):
+    hand.sub("tracks/split.txt", "^unit,m", "unit,dm")
+    hand.seal()
+
+
+@forgery("55 another program made the report, and is named", "the program of the record has", "run again", "another method")
+def _(hand):
+    liar = hand.room / "liar"
+    liar.write_text(f'#!/bin/sh\n"{hand.program}" "$@" | sed "s/^percent,Bor,100.*/percent,Bor,100,57,3,9/"\n')
+    liar.chmod(0o755)
+    hand.path("report.txt").write_bytes(hand.call(liar, "--", "tracks/Bor.csv", "tracks/Vesna.csv", folder=hand.folder))
+    hand.sub("evidence.txt", "^program sha256: .*", f"program sha256: {checksum(liar)}")
+    hand.seal()
+
+
+@forgery("56 names from the root, and a track edited", "which is not a file in the folder")
+def _(hand):
+    hand.sub("SHA256SUMS", "  tracks/", f"  {hand.room}/tracks/", 0)
+    hand.sub("tracks/Bor.csv", "^(Bor,[0-9]+),[0-9]+", r"\1,561234")
+
+
+@forgery("57 an animal is invented, sealed", "run again the program makes another", "another method")
+def _(hand):
+    text = hand.path("report.txt").read_bytes()
+    own = b"\n".join(line for line in text.split(b"\n") if b"Bor" in line and not line.startswith(b"overlap,"))
+    hand.path("report.txt").write_bytes(own.replace(b"Bor", b"Zlata") + b"\n" + text.replace(b"end,2", b"end,7"))
+    hand.seal()
+
+
+@forgery("58 a file that is not listed is put beside the others", "maps/ranges.png is there and not in SHA256SUMS")
+def _(hand):
+    hand.path("maps").mkdir()
+    hand.path("maps/ranges.png").write_bytes(b"x")
+
+
+@forgery("59 a track is a link to a file elsewhere", "tracks/Bor.csv is no plain file")
+def _(hand):
+    hand.path("tracks/Bor.csv").rename(hand.room / "elsewhere.csv")
+    hand.path("tracks/Bor.csv").symlink_to(hand.room / "elsewhere.csv")
+
+
+def fault_of(hand, failing):
+    """How verify.py does not say what is wanted; None where it does."""
+    status, said = hand.verdict()
+    failed = [line for line in said.split("\n") if line.startswith("did not hold: ")]
+    if "Traceback" in said or status not in (0, 1) or (status == 1) != bool(failed):
+        return f"status {status}: {said}"
+    if not failing:
+        return None if status == 0 and "not known: who made the run" in said else f"status {status}: {said}"
+    unsaid = [text for text in failing if not any(re.search(text, line) for line in failed)]
+    return f"{unsaid} is not said, but {failed}" if unsaid else None
+
+
+def try_all(make, forgeries):
+    """Tries forgeries, each in a copy of the folder that is made in a room."""
+    with tempfile.TemporaryDirectory() as base:
+        room = Path(base, "room")
+        room.mkdir()
+        honest = make(room)
+        status, said = honest.verdict()
+        print("ok an honest folder" if status == 0 else f"failed an honest folder: {said!r}")
+        shutil.copytree(room, Path(base, "kept"))
+        for name, (forge, failing) in forgeries.items():
+            shutil.rmtree(room)
+            shutil.copytree(Path(base, "kept"), room)
+            forge(honest)
+            fault = fault_of(honest, failing)
+            print(f"failed {name}: {fault!r}" if fault else f"ok {name}", flush=True)
+
+
+if __name__ == "__main__":
+    program = Path(sys.argv[1]).resolve()
+    try_all(lambda room: Hand(program, room, export_text(4)), FORGERIES)

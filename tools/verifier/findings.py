@@ -1,0 +1,42 @@
+"""What a verifier finds: sentences that held, that did not hold, and that were not looked at."""
+
+
+class Findings:
+    """Sentences, printed as they are found."""
+
+    def __init__(self, write=print):
+        self.write, self.counts = write, {"held": 0, "did not hold": 0, "not looked at": 0}
+
+    def say(self, how, text):
+        self.counts[how] += 1
+        self.write(f"{how}: {one_line(text)}")
+
+    def held(self, text):
+        self.say("held", text)
+
+    def failed(self, text):
+        self.say("did not hold", text)
+
+    def unseen(self, text):
+        self.say("not looked at", text)
+
+    def note(self, text):
+        """Says what nobody can know from what was handed in."""
+        self.write(f"not known: {one_line(text)}")
+
+    def hold(self, fault, text):
+        """Says the sentence where there is no fault, and else the fault."""
+        if fault:
+            self.failed(fault)
+        else:
+            self.held(text)
+        return not fault
+
+    def status(self):
+        """0 where all held, 1 where something did not, 3 where something was not looked at."""
+        return 1 if self.counts["did not hold"] else 3 if self.counts["not looked at"] else 0
+
+
+def one_line(text):
+    """A text with what could change how it is shown written out."""
+    return "".join(sign if sign.isprintable() else ascii(sign)[1:-1] for sign in str(text))

@@ -1,0 +1,163 @@
+"""The folder that was handed in: its checksums, its record of the run, and the record of the split."""
+import hashlib
+import re
+import shlex
+from pathlib import PurePosixPath
+
+from lines import Fault
+
+SUMS = "SHA256SUMS"
+SIGNATURES = (".sig", ".tsq", ".tsr")  # of files that may lie beside the list: its signature, and stamps of time
+SUM = re.compile("([0-9a-f]{64})  (.+)")
+FIELDS = ["evidence", "made", "program", "program sha256", "arguments", "unit", "levels", "runs", "commit", "sources", "logic"]
+OF_EXPORT = ["export", "export sha256"]
+WITHOUT_EXPORT = ["notes", "zone", "shift", "crs"]  # of fixes that were no export, each where it is known
+SHIFT = re.compile("(-?[0-9]+),(-?[0-9]+)")
+LEVELS = re.compile("[0-9]+(,[0-9]+)*")
+
+
+def checksum_of(path):
+    with open(path, "rb") as file:
+        return hashlib.file_digest(file, "sha256").hexdigest()
+
+
+def text_of(path):
+    return path.read_bytes().decode("utf-8", "surrogateescape")
+
+
+def lines_of(path):
+    """The lines of a text, each of which ends in a line feed."""
+    lines = text_of(path).split("\n")
+    if lines.pop():
+        raise Fault(f"the last line of {path.name} has no end")
+    if any("\r" in line for line in lines):
+        raise Fault(f"{path.name} has line ends of another system")
+    return lines
+
+
+def is_within(name):
+    """Whether a name is a plain one of a file in the folder: relative, and without a way out of it."""
+    path = PurePosixPath(name)
+    parts = name.split("/")
+    return not (path.is_absolute() or "\\" in name or ":" in parts[0] or {"", ".", ".."} & {*parts})
+
+
+def sums_of(path):
+    """The checksums of a list, by name."""
+    sums = {}
+    for number, line in enumerate(lines_of(path), 1):
+        found = SUM.fullmatch(line)
+        if not found:
+            raise Fault(f"line {number} of {path.name} is no checksum and name")
+        if found[2] in sums:
+            raise Fault(f"{path.name} has {found[2]} twice")
+        if not is_within(found[2]):
+            raise Fault(f"{path.name} names {found[2]}, which is not a file in the folder: such a name is never looked at in a copy")
+        sums[found[2]] = found[1]
+    return sums
+
+
+def check_sums(folder, sums, list_name):
+    """What is wrong with the files of a folder, which has to have those of the list and no other."""
+    there = {path.relative_to(folder).as_posix(): path for path in folder.rglob("*") if not path.is_dir() or path.is_symlink()}
+    for name in (list_name, *(list_name + ending for ending in SIGNATURES)):
+        there.pop(name, None)
+    for name in sorted({*there} | {*sums}):
+        if name not in there:
+            return f"{name} is in {list_name} and not there"
+        if name not in sums:
+            return f"{name} is there and not in {list_name}"
+        if there[name].is_symlink() or not there[name].is_file():
+            return f"{name} is no plain file"
+        if checksum_of(there[name]) != sums[name]:
+            return f"{name} was changed since {list_name} was written"
+    return None
+
+
+def about_of(path):
+    """The record of a run: fields by name."""
+    about = {}
+    for number, line in enumerate(lines_of(path), 1):
+        name, colon, value = line.partition(": ")
+        if not colon or name in about or name not in (*FIELDS, *OF_EXPORT, *WITHOUT_EXPORT):
+            raise Fault(f"line {number} of {path.name} is no field that stands there once")
+        about[name] = value
+    missing = [name for name in FIELDS if name not in about]
+    names, known = list(about), [OF_EXPORT, [name for name in WITHOUT_EXPORT if name in about]]
+    if names[:len(FIELDS)] != FIELDS or names[len(FIELDS):] not in known:
+        raise Fault(f"{path.name} has not all fields in their order" + (f": there is no {missing[0]}" if missing else ""))
+    if not LEVELS.fullmatch(about["levels"]) or about["unit"] not in ("m", "dm") or about["evidence"] != "1":
+        raise Fault(f"{path.name} has no levels or no unit of homerange")
+    return about
+
+
+def words_of(about):
+    """What the arguments of a run come to: levels, unit and files."""
+    try:
+        words = shlex.split(about["arguments"])
+    except ValueError:
+        raise Fault("the arguments in evidence.txt are no words of a shell") from None
+    if "--" not in words:
+        raise Fault("the arguments in evidence.txt name no files behind --")
+    options, files = words[:words.index("--")], words[words.index("--") + 1:]
+    found = {"--percent": "50,95,100", "--unit": "m"}
+    while options:
+        name, has_value, value = options.pop(0).partition("=")
+        if not has_value:
+            value = options.pop(0) if options else ""
+        found[name] = value
+    return found["--percent"], found["--unit"], files
+
+
+class Split:
+    """The record of a split, by the lines of docs/TABLES.md, The record."""
+
+    def __init__(self, path):
+        self.lines = lines_of(path)
+        fields = [line.partition(",") for line in self.lines]
+        self.single = {kind: rest for kind, _, rest in fields if kind in ("export", "sha256", "unit", "zone", "shift")}
+        self.options = [rest.partition(",") for kind, _, rest in fields if kind == "option"]
+        self.tracks, self.left = {}, []
+        for kind, _, rest in fields:
+            if kind == "track":
+                name, _, numbers = rest.partition(",")
+                self.tracks[name] = numbers.split(",")
+            elif kind == "left":
+                self.left.append(rest.split(","))
+        if any(len(fields) != 3 or not fields[1].isdecimal() for fields in self.left):
+            raise Fault("split.txt has a line 'left' without an animal, a number and a reason")
+        if not {"export", "sha256", "unit", "zone"} <= {*self.single}:
+            raise Fault("split.txt has not the lines of a record")
+
+    def words(self):
+        """The options as words of a command."""
+        words = [f"--unit={self.single['unit']}"]
+        for name, has_value, value in self.options:
+            words.append(f"--{name}={unescaped(value)}" if has_value else f"--{name}")
+        return words
+
+    def left_of(self, name):
+        """How many fixes of an animal were left out, by reason."""
+        return {reason: int(count) for animal, count, reason in self.left if animal == name and int(count)}
+
+    @property
+    def zone(self):
+        """The UTM zone; None where it is not known."""
+        return None if self.single["zone"] == "none" else self.single["zone"]
+
+    @property
+    def shift(self):
+        """By how many metres coordinates were shifted."""
+        found = SHIFT.fullmatch(self.single.get("shift", "0,0"))
+        if not found:
+            raise Fault("split.txt has a line 'shift' that is not two whole numbers")
+        return int(found[1]), int(found[2])
+
+    def shared(self):
+        """The lines that are the same whoever splits."""
+        return [line for line in self.lines if not line.startswith("tool,")]
+
+
+def unescaped(text):
+    return re.sub(r"\\(\\|x[0-9a-f]{2}|u[0-9a-f]{4})",
+                  lambda found: "\\" if found[1] == "\\" else chr(int(found[1][1:], 16)), text)

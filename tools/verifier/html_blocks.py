@@ -1,0 +1,119 @@
+"""What a page of HTML shows, as a list of pieces of text; and refuses what could show more, or other things: scripts, what
+is fetched, comments, and tags or attributes that no page of homerange has."""
+import re
+from html.parser import HTMLParser
+from typing import NamedTuple
+
+from lines import Fault
+
+BLOCKS = {"title", "style", "h1", "h2", "p", "li", "th", "td", "figcaption"}
+WITHIN = {"bdi", "span", "b", "code", "br"}  # in the text of a piece
+AROUND = {"html", "head", "body", "header", "section", "div", "ul", "table", "thead", "tbody", "tr", "figure"}
+DRAWN = {"svg", "g", "path", "circle", "text"}
+VOID = {"meta", "br"}
+CLOSED = {"path", "circle"}  # those that close themselves
+ATTRIBUTES = set(
+    "lang charset http-equiv content name class id rowspan colspan data-zone data-animal data-field data-other viewbox "
+    "role aria-label d x y cx cy r width height font-size text-anchor transform".split())
+BLANKS = re.compile("[ \t\n\r\f]+")
+
+
+class Block(NamedTuple):
+    """A piece of text: its tag, what it is of (in a table the animal and the field), and the text."""
+
+    tag: str
+    of: str
+    text: str
+
+
+class Blocks(HTMLParser):
+    """The pieces of a page in their order; text of drawings is none."""
+
+    def __init__(self, text, name):
+        super().__init__(convert_charrefs=True)
+        self.name, self.found, self.open, self.zone = name, [], [], None
+        self.animal = self.block = None
+        self.feed(text)
+        self.close()
+        if self.open:
+            self.refuse(f"its {self.open[-1]} is not closed")
+
+    def refuse(self, what):
+        raise Fault(f"{self.name} is no page of homerange: {what}")
+
+    def handle_decl(self, decl):
+        if decl != "DOCTYPE html" or self.open or self.found:
+            self.refuse("it has another declaration than that of HTML")
+
+    def handle_comment(self, data):
+        self.refuse("it has a comment")
+
+    def handle_pi(self, data):
+        self.refuse("it has an instruction")
+
+    def unknown_decl(self, data):
+        self.refuse("it has an unknown declaration")
+
+    def check(self, tag, attributes):
+        """Refuses what a page does not have."""
+        if tag not in BLOCKS | WITHIN | AROUND | DRAWN | VOID:
+            self.refuse(f"it has a {tag}")
+        is_drawing = "svg" in self.open
+        if (tag in DRAWN - {"svg"}) != (is_drawing and tag != "svg"):
+            self.refuse(f"it has a {tag} {'within' if is_drawing else 'outside'} a drawing")
+        names = [name for name, _ in attributes]
+        odd = [name for name in names if name not in ATTRIBUTES or names.count(name) > 1]
+        if odd:
+            self.refuse(f"its {tag} has {odd[0]}")
+
+    def handle_starttag(self, tag, attributes):
+        self.check(tag, attributes)
+        known = dict(attributes)
+        if tag == "meta":
+            self.found.append(Block(tag, "", str(attributes)))
+        elif tag == "br" and self.block:
+            self.block[2] += " "
+        elif tag == "tr":
+            self.animal = known.get("data-animal")
+        elif tag == "table" and known.get("id") == "animals":
+            self.zone = known.get("data-zone")
+        elif tag in BLOCKS:
+            if self.block:
+                self.refuse(f"it has a {tag} in a {self.block[0]}")
+            self.block = [tag, self.place(tag, known), ""]
+        if tag not in VOID:
+            self.open.append(tag)
+
+    def place(self, tag, known):
+        """What a piece is of."""
+        if "data-other" in known:
+            return f"the fixes of {known.get('data-animal')} in the range of {known['data-other']}"
+        field = known.get("data-field", "name" if tag == "th" and self.animal is not None else "")
+        return f"{field} of {self.animal}" if self.animal is not None else field
+
+    def handle_startendtag(self, tag, attributes):
+        self.check(tag, attributes)
+        if tag not in CLOSED:
+            self.refuse(f"its {tag} closes itself")
+
+    def handle_endtag(self, tag):
+        if not self.open or self.open.pop() != tag:
+            self.refuse(f"its {tag} closes what is not open")
+        if tag == "tr":
+            self.animal = None
+        if self.block and tag == self.block[0]:
+            self.found.append(Block(tag, self.block[1], blanked(self.block[2])))
+            self.block = None
+
+    def handle_data(self, text):
+        if "svg" in self.open:
+            return
+        if self.block:
+            self.block[2] += text
+        elif text.strip():
+            self.found.append(Block("", "", blanked(text)))
+
+
+def blanked(text):
+    """The text with one blank for several."""
+    return BLANKS.sub(" ", text).strip(" ")

@@ -1,0 +1,96 @@
+"""The sentences of the page on how ranges were made: its method, what was left out, and how areas on the grid differ from
+those on the ground."""
+from collections import Counter
+from math import cosh
+
+from facts import PER_METRE, REASONS
+from folder import unescaped
+from shown import fixes, listed, number, text_of
+
+UNITS = {"m": "metres", "dm": "decimetres"}
+PHRASES = {
+    "animal": "of no animal", "coordinates": "without coordinates", "zero": "with longitude and latitude 0",
+    "sensor": "of other sensors", "outlier": "marked as outliers in the export", "class": "of other Argos classes",
+    "no dop": "without a dilution of precision (DOP)", "dop": "with a DOP above the limit",
+    "type": "of other types of fixes", "before": "before the period", "after": "after the period",
+    "grid": "marked as outliers and off the grid", "speed": "faster than the limit", "months": "in other months",
+    "hours": "at other hours", "every": "not the first in their interval", "use": "not in use, as the data said"}
+MOST_SAID = 12
+NOT_SAID = ("records of ", "columns: ", " animals are in ")
+SCALE, EARTH = 0.9996, 6_371_008.8  # of UTM in the middle of a zone, and the mean radius in metres
+RULE = (
+    "Of n fixes, the polygon at p % has the p per cent of n, rounded up to whole fixes, that lie nearest to the arithmetic mean "
+    "of all (of fixes as near, the earlier). Areas are those on the grid. Here they are rounded, halves up, to whole hectares, "
+    "below 100 hectares to three digits, and below 1 hectare they are in square metres. Whether an animal was followed for long "
+    "enough was judged by the area of all fixes after each fix (incremental area analysis, Harris et al. 1990): a range "
+    "levelled off where there are 30 fixes or more and the last quarter of them added less than 5 % of the final area; it is "
+    "still growing where that added 5 % or more; with fewer than 30 fixes, or without an area, nothing is said. "
+    "\u201895 % since\u2019 is the first fix from which on the area stayed within 95 % of the final one.")
+
+
+def records_of(split):
+    """How many records of the export each animal has."""
+    found = Counter({name: int(numbers[0]) for name, numbers in split.tracks.items()} if split else {})
+    for name, count, _ in split.left if split else ():
+        found[name] += int(count)
+    return found
+
+
+def left_out(animals, split):
+    """What was left out of all fixes; without a record of the split, of those in the tracks."""
+    totals = Counter()
+    for name, count, reason in split.left if split else ():
+        totals[reason] += int(count)
+    for records, used, *_ in split.tracks.values() if split else ():
+        totals["outlier"] += int(records) - int(used)
+    if not split:
+        for animal in animals:
+            totals.update(animal.left)
+    records = sum(records_of(split).values()) if split else sum(animal.records for animal in animals)
+    source, gone = "export" if split else "data", sum(totals.values())
+    if not gone:
+        return f"No fix of the {source} was left out ({fixes(records)})."
+    reasons = listed([f"{number(totals[reason])} {PHRASES[reason]}" for reason in REASONS if totals[reason]])
+    return f"Of {number(records)} fixes of the {source} {number(gone)} were left out: {reasons}."
+
+
+def options_of(split):
+    """The options of the split."""
+    if not split or not split.options:
+        return ""
+    words = (" ".join(filter(None, (name, unescaped(value)))) for name, _, value in split.options)
+    return f" Options of the split: {text_of(', '.join(words))}."
+
+
+def said_of(split):
+    """What was said when the export was split, but for lines on one animal and on files."""
+    lines = [line.removeprefix("said,") for line in split.lines if line.startswith("said,")] if split else []
+    own = [line for line in lines if not any(part in line for part in NOT_SAID)]
+    if not own:
+        return ""
+    texts = "; ".join(f"\u201c{text_of(line)}\u201d" for line in own[:MOST_SAID])
+    more = f"; and {len(own) - MOST_SAID} lines more" if len(own) > MOST_SAID else ""
+    return f" When the fixes were read this was said: {texts}{more}."
+
+
+def method(animals, run, system):
+    """How ranges were made, and what was left out."""
+    percents = listed([f"{level} %" for level in sorted(run.levels, reverse=True)])
+    return (f"Home ranges are minimum convex polygons (MCP; Mohr 1947) of {percents} of the fixes, computed by {run.program} "
+            f"from coordinates in whole {UNITS[run.unit]}, {system}. {RULE} {left_out(animals, run.split)}{options_of(run.split)}"
+            f"{said_of(run.split)}")
+
+
+def ground(animals, run):
+    """By how much areas on the grid of a zone differ from those on the ground, on the sphere, in the middle of the highest
+    polygons."""
+    if not run.split or not run.split.zone:
+        return "How areas on this grid differ from those on the ground is not known."
+    ends, scale, shift = [], PER_METRE[run.unit], run.split.shift[0]
+    for animal in animals:
+        eastings = [east / scale - shift for east, _ in animal.percents[max(run.levels)].hull.corners()]
+        middle = (min(eastings) + max(eastings)) / 2
+        ends.append((SCALE * cosh((middle - 500_000) / (SCALE * EARTH))) ** 2)
+    least, most = (f"{100 * (end - 1):+.2f}" for end in (min(ends), max(ends)))
+    text = " to ".join(dict.fromkeys("0.00" if end in ("+0.00", "-0.00") else end for end in (least, most)))
+    return f"Areas on the grid differ from those on the ground by {text} % here."

@@ -1,0 +1,289 @@
+"""The page report.html, held to what is computed: each piece of its text has to be the one that is wanted, where the template
+python/homerange/page.html has those that all pages share. What was typed in, the day, the map and the curves cannot be
+computed, and stand for anything."""
+import re
+from itertools import combinations, zip_longest
+from os.path import commonprefix
+
+import shown
+from facts import reasons_of
+from html_blocks import Block, Blocks, blanked
+from lines import Fault
+from method import ground, method, records_of
+
+FREE, DAY, DRAWN = "\0", "\1", "\2"  # any text, a date, and what is said of the map's drawing
+FORMS = {
+    FREE: ".*", DAY: "[0-9]{1,2} [A-Z][a-z]{2} [0-9]{4}",
+    DRAWN: r"Dots are fixes; of those that would cover each other one is drawn\.( The boundary lies outside this map\.)?"
+           r"( Too small to be seen beside the others: [0-9, ]+(, \.\.)?\.)?"}
+FORM = re.compile("([\0\1\2])")
+PLACE = re.compile(r"\{\{([a-z]+)\}\}")
+WIDEST = 10  # reasons, and levels counted twice, for which one table has room
+MOST_SENTENCES, MOST_IN_KEY, MOST_IN_SQUARE, MOST_PAIRS = 40, 40, 12, 60
+MOST_SAID = 120
+KINDS = {"title": "title", "h1": "title", "h2": "heading", "p": "paragraph", "li": "sentence", "th": "heading", "td": "cell",
+         "figcaption": "what stands above a curve", "meta": "head", "style": "style"}
+HEADINGS = {
+    "animal": "no animal", "coordinates": "no place", "zero": "at 0, 0", "sensor": "other sensor",
+    "outlier": "marked outlier", "class": "Argos class", "no dop": "no DOP", "dop": "DOP too great",
+    "type": "type of fix", "before": "before period", "after": "after period", "grid": "off the grid",
+    "speed": "too fast", "months": "other months", "hours": "other hours", "every": "interval", "use": "not in use"}
+
+
+def th(*texts):
+    return [Block("th", "", text) for text in texts]
+
+
+class Wanted:
+    """The pieces of the page of some animals. The run has unit, levels, program with its checksum, that of the report,
+    and the record of the split (None where there is none)."""
+
+    def __init__(self, animals, counts, run, zone):
+        self.animals, self.counts, self.run = animals, counts, run
+        self.names = [shown.text_of(animal.name) for animal in animals]
+        self.clock = shown.Clock(zone, [second for animal in animals for second in (animal.first, animal.last)])
+        self.meeting = [pair for pair in combinations(range(len(animals)), 2) if counts[pair] or counts[pair[::-1]]]
+
+    def texts(self):
+        """What stands in the text of pieces."""
+        first, last = min(animal.first for animal in self.animals), max(animal.last for animal in self.animals)
+        by = f"dates of {self.clock.zone}" if self.clock.is_calendar else "counted from the start that the files have"
+        return {
+            "title": FREE, "heading": FREE, "typed": FREE, "notes": self.notes(), "key": self.key(),
+            "period": f"{self.clock.period(first, last)} ({by})", "made": f"Made on {DAY} with {self.run.program}.",
+            "overlap": self.overlap_sentence(), "verify": (
+                "Sums are SHA-256. This checks the folder that is handed in, and says what held and what was not looked at, in "
+                "a clone of homerange: python3 tools/verify.py FOLDER EXPORT"),
+            "method": method(self.animals, self.run, self.system()),
+            "ground": f"The grid is in metres. {ground(self.animals, self.run) if self.run.split else FREE} {DRAWN}"}
+
+    def system(self):
+        """The reference system; that of tracks without a record is not known."""
+        split = self.run.split
+        if split is None:
+            return FREE
+        code = f"{326 if split.zone.endswith('N') else 327}{split.zone[:-1]:0>2}" if split.zone else ""
+        return f"EPSG:{code} (WGS 84 / UTM zone {split.zone})" if code else "reference system not known"
+
+    def notes(self):
+        """Which animals of the export have no range."""
+        known, records = {animal.name for animal in self.animals}, records_of(self.run.split)
+        names = sorted(name for name in records if name and name not in known)
+        if not names:
+            return ""
+        texts = shown.listed([f"{shown.text_of(name)} ({shown.number(records[name])})" for name in names[:20]])
+        more = f", and {len(names) - 20} more" if len(names) > 20 else ""
+        return f"Without a range, since none of their fixes is used (fixes of the export): {texts}{more}."
+
+    def key(self):
+        """What lines and numbers of the map are; a boundary's name may stand between both."""
+        lines = " ".join(f"{level} % MCP" for level in sorted(self.run.levels, reverse=True))
+        if len(self.animals) > MOST_IN_KEY:
+            return f"{lines}{FREE} Numbers are those of the table."
+        names = " ".join(f"{number}\u00a0{name}" for number, name in enumerate(self.names, 1))
+        return f"{lines}{FREE} {names}"
+
+    def pieces(self):
+        """What stands for several pieces, or for none."""
+        return {"sentences": self.sentences(), "animals": self.table(), "maps": [], "curves": self.captions(),
+                "overlaps": self.overlaps(), "checksums": self.checksums()}
+
+    def sentences(self):
+        """What is said of each animal, of many in one sentence."""
+        level = 95 if 95 in self.run.levels else max(self.run.levels)
+        areas = [animal.percents[level].hull.area2 for animal in self.animals]
+        if len(areas) > MOST_SENTENCES:
+            order = sorted(range(len(areas)), key=areas.__getitem__)
+            least, middle, most = (order[at] for at in (0, (len(areas) - 1) // 2, -1))
+            ends = " to ".join(f"{self.area(areas[at])} ({self.names[at]})" for at in (least, most))
+            return [Block("p", "", f"{shown.number(len(areas))} animals: {level} % MCP from {ends}; half of them have "
+                          f"{self.area(areas[middle])} or less.")]
+        found = []
+        for animal, name, area2 in zip(self.animals, self.names, areas):
+            kept = animal.percents[level].kept
+            of = f"{shown.number(kept)} of " if kept < animal.used else ""
+            found.append(Block("li", "", blanked(
+                f"{name}: {level} % MCP {self.area(area2) if area2 else 'has no area'}, {of}{shown.fixes(animal.used)}, "
+                f"{self.clock.period(animal.first, animal.last)}")))
+        return found
+
+    def area(self, area2):
+        return shown.area(area2, self.run.unit)
+
+    def table(self):
+        """The table of the animals; many levels have one of their own."""
+        levels, reasons = self.run.levels, reasons_of(self.animals)
+        is_one = 2 * len(levels) + len(reasons) <= WIDEST
+        percents = [f"{level} %" for level in levels]
+        found = th(
+            "", "Animal", "in the export" if self.run.split else "in the data", *["Left out"] * bool(reasons), "used", "First",
+            "Last", "Days", "Interval", *["MCP, ha"] * is_one, "Area curve", "95 % since",
+            *(HEADINGS[reason] for reason in reasons), "median", "longest", *(percents if is_one else ()), "",
+            "last quarter", "fix", "date")
+        for animal, name in zip(self.animals, self.names):
+            fields = {**self.facts(animal, reasons), **(self.areas(animal) if is_one else {}), **self.curve(animal)}
+            found += self.row(animal, name, fields)
+        if not is_one:
+            found += th("", "Animal", "MCP, ha", *percents)
+            for animal, name in zip(self.animals, self.names):
+                found += self.row(animal, name, self.areas(animal))
+        return found
+
+    def row(self, animal, name, fields):
+        cells = [Block("td", f"{field} of {animal.name}", text) for field, text in fields.items()]
+        number = Block("td", f"number of {animal.name}", str(animal.number))
+        return [number, Block("th", f"name of {animal.name}", blanked(name)), *cells]
+
+    def facts(self, animal, reasons):
+        """What became of the fixes of an animal, and when they were."""
+        lengths = animal.intervals
+        return {
+            "records": shown.number(animal.records),
+            **{f"left_{reason.replace(' ', '_')}": shown.number(animal.left.get(reason, 0)) for reason in reasons},
+            "used": shown.number(animal.used), "first": self.clock.date(animal.first), "last": self.clock.date(animal.last),
+            "days": shown.days(animal.last - animal.first),
+            "median_interval": shown.interval(shown.Fraction(animal.median2, 2) if lengths else None),
+            "longest_interval": shown.interval(lengths[-1] if lengths else None)}
+
+    def areas(self, animal):
+        return {f"hectares_{level}": shown.hectares(animal.percents[level].hull.area2, self.run.unit)
+                for level in self.run.levels}
+
+    def curve(self, animal):
+        """What the curve of an animal says."""
+        within = animal.within
+        return {
+            "levelled": animal.verdict, "last_quarter": shown.share(animal.quarter, animal.area2),
+            "within_95_fix": shown.number(within) if within else shown.NOTHING,
+            "within_95_date": self.clock.date(animal.seconds[within - 1]) if within else shown.NOTHING}
+
+    def captions(self):
+        """What stands above each curve: of many animals less."""
+        found = []
+        for animal, name in zip(self.animals, self.names):
+            area, count = self.area(animal.area2), f", {shown.fixes(animal.used)}"
+            text = f"{area}{count}" if len(self.animals) <= 40 else area
+            found.append(Block("figcaption", "", blanked(
+                f"{animal.number} {name}: {text}" if len(self.animals) <= 12 else f"{animal.number} {text}")))
+        return found
+
+    def count(self, one, other):
+        return shown.count_in_range(self.counts[one, other], self.animals[one].used)
+
+    def rank(self, pair):
+        """Pairs of whom one has the greater share of its fixes with the other come first, compared in millionths."""
+        shares = [10 ** 6 * self.counts[one, other] // self.animals[one].used for one, other in (pair, pair[::-1])]
+        return -max(shares), pair
+
+    def overlap_sentence(self):
+        """What all pairs come to, and which meet most."""
+        pairs = len(self.animals) * (len(self.animals) - 1) // 2
+        if not pairs:
+            return "There is one animal, and so no overlap."
+        if not self.meeting:
+            return f"No animal has a fix in the range of another ({shown.number(pairs)} pairs)."
+        one, other = min(self.meeting, key=self.rank)
+        if self.counts[one, other] * self.animals[other].used < self.counts[other, one] * self.animals[one].used:
+            one, other = other, one
+        return blanked(
+            f"Pairs of animals that meet: {shown.number(len(self.meeting))} of {shown.number(pairs)} (a fix of one lies in the "
+            f"100 % polygon of the other, its edges included). Most of all {self.names[one]}: "
+            f"{self.count(one, other)} of its {shown.fixes(self.animals[one].used)} in the range of {self.names[other]}.")
+
+    def overlaps(self):
+        """All pairs of few animals, those that meet of many."""
+        if not self.meeting:
+            return []
+        return self.square() if len(self.animals) <= MOST_IN_SQUARE else self.pairs()
+
+    def square(self):
+        everyone = range(len(self.animals))
+        found = [Block("p", "", "Rows: whose fixes. Columns: in the range of the animal with this number.")]
+        found += th("", "Fixes of", *(str(animal.number) for animal in self.animals))
+        for one in everyone:
+            found += self.title(one)
+            found += [Block("td", "", shown.NOTHING) if one == other else self.overlap(one, other) for other in everyone]
+        return found
+
+    def pairs(self):
+        chosen = sorted(self.meeting, key=self.rank)[:MOST_PAIRS]
+        more = "" if len(chosen) == len(self.meeting) else f" The {MOST_PAIRS} pairs with the greatest shares are here."
+        found = [Block("p", "", f"Pairs are sorted by the greater of both shares.{more}")]
+        found += th("", "A", "", "B", "fixes of A in the range of B", "fixes of B in the range of A")
+        for one, other in chosen:
+            found += [*self.title(one), *self.title(other), self.overlap(one, other), self.overlap(other, one)]
+        return found
+
+    def title(self, one):
+        return [Block("td", "", str(self.animals[one].number)), *th(blanked(self.names[one]))]
+
+    def overlap(self, one, other):
+        of = f"the fixes of {self.animals[one].name} in the range of {self.animals[other].name}"
+        return Block("td", of, self.count(one, other))
+
+    def checksums(self):
+        """The checksums of what the page stands on."""
+        split = self.run.split
+        export = (shown.text_of(split.single["export"]), split.single["sha256"]) if split else (
+            "", "not known, since no record of a split was named")
+        rows = [("Export", *export, "export_sha256"), ("Report", "report.txt", self.run.report_sum, "report_sha256"),
+                ("Program", self.run.program, self.run.program_sum, "program_sha256")]
+        return [block for title, name, checksum, field in rows
+                for block in (*th(title), Block("td", "", blanked(name)), Block("td", field, checksum))]
+
+    def blocks(self, template):
+        """All pieces of the page, in the order of the template."""
+        texts, pieces = self.texts(), self.pieces()
+        for block in template:
+            if not block.tag:
+                yield from pieces[PLACE.fullmatch(block.text)[1]]
+            elif block.tag == "style":
+                yield block
+            else:
+                yield block._replace(text=blanked(PLACE.sub(lambda found: texts[found[1]], block.text)))
+
+
+def is_wanted(block, wish):
+    """Whether a piece is the one that is wanted."""
+    if block is None or wish is None or block[:2] != wish[:2]:
+        return False
+    parts = (FORMS.get(part) or re.escape(part) for part in FORM.split(wish.text))
+    return block.text == wish.text or re.fullmatch("".join(parts), block.text, re.DOTALL) is not None
+
+
+def place_of(block):
+    """Where a piece stands, in words."""
+    return block.of or KINDS.get(block.tag, "text")
+
+
+def said(block, first=0):
+    """The text of a piece as what is said has it, from where it is not as it was wanted."""
+    text = FORM.sub("..", block.text)
+    before, after = ".. " if first else "", " .." if len(text) > first + MOST_SAID else ""
+    return repr(before + text[first:first + MOST_SAID] + after)
+
+
+def difference(page, template, animals, counts, run):
+    """How the pieces of a page are not those that are wanted; None where they are."""
+    if page.zone is None:
+        raise Fault(f"{page.name} has no table of animals with the zone of its dates")
+    wanted = Wanted(animals, counts, run, page.zone).blocks(template.found)
+    for block, wish in zip_longest(page.found, wanted):
+        if not is_wanted(block, wish):
+            if block and wish and block.tag == wish.tag == "style":
+                return f"{page.name} has another style than the pages of this clone: it could show other things than it has"
+            if not block or not wish:
+                return f"{page.name} has {said(block) + ' too much' if block else 'an end where ' + said(wish) + ' is wanted'}"
+            of = "" if place_of(block) == place_of(wish) else f"{place_of(wish)} "
+            same = commonprefix([block.text, wish.text])
+            first = same.rfind(" ", 0, max(0, len(same) - MOST_SAID // 2)) + 1
+            return f"{page.name} has {said(block, first)} as {place_of(block)}; {of}{said(wish, first)} is wanted"
+    return None
+
+
+def page_of(path):
+    """The pieces of a page, or of the template."""
+    try:
+        return Blocks(path.read_bytes().decode("utf-8"), path.name)
+    except UnicodeDecodeError:
+        raise Fault(f"{path.name} is no text of UTF-8") from None
