@@ -19,11 +19,14 @@ command -v python3 >/dev/null || {
 LANG=${LANG:-C.UTF-8}
 export LANG
 [ $# -gt 0 ] || set -- "$("$tools/program.sh")" || exit
-HOMERANGE=$(readlink -f -- "$1")
-export HOMERANGE
-shift
 work=$(mktemp -d)
 trap 'rm -rf "$work"' EXIT
+# In a folder of its own: where it was built, a log lies beside it, which evidence takes along.
+mkdir "$work/program"
+cp -- "$1" "$work/program/homerange" || exit
+HOMERANGE=$(readlink -f -- "$work/program/homerange")
+export HOMERANGE
+shift
 touch "$work/passed" "$work/failed" "$work/skipped"
 
 # Counts a test with this name, passed where the command holds. Counts stand in files, since it may run in a pipe.

@@ -43,9 +43,9 @@ def test_evidence_of_a_frame(ranges, tmp_path):
     with pytest.warns(HomeRangeNote, match="animal 'a/b' is named a_b"):
         ranges.evidence(folder, title="Three animals", by="Maja")
     names = sorted(path.relative_to(folder).as_posix() for path in folder.rglob("*") if path.is_file())
-    assert names == sorted([
+    assert {*names} - {"build.log"} == {
         "SHA256SUMS", "animals.csv", "evidence.txt", "overlaps.csv", "ranges.gpkg", "report.html", "report.txt", "summary.csv",
-        "tracks/a_b.csv", "tracks/vixen.csv", "tracks/Žiga Ä.csv"])
+        "tracks/a_b.csv", "tracks/vixen.csv", "tracks/Žiga Ä.csv"}
     sums = (folder / "SHA256SUMS").read_text("utf-8").splitlines()
     assert [line[66:] for line in sums] == sorted({*names} - {"SHA256SUMS"}, key=os.fsencode)
     assert all(line[:64] == hashlib.sha256((folder / line[66:]).read_bytes()).hexdigest() for line in sums)
@@ -56,6 +56,15 @@ def test_evidence_of_a_frame(ranges, tmp_path):
     assert about["arguments"] == "--percent 95,100 --unit m -- tracks/a_b.csv tracks/vixen.csv 'tracks/Žiga Ä.csv'"
     assert about["notes"] == "; ".join([*ranges.notes, "animal 'a/b' is named a_b"])
     assert not {"crs", "shift", "export"} & {*about}
+
+
+def test_the_log_of_a_program_that_was_built_here_goes_with_it(tmp_path, monkeypatch):
+    built = shutil.copy(find_program(None), tmp_path)
+    (tmp_path / "build.log").write_text("rt: homerange proved\n")
+    monkeypatch.setenv("HOMERANGE", str(built))
+    home_range(frame_of(a=cloud(1, 9)), 100).evidence(tmp_path / "hand-in")
+    assert (tmp_path / "hand-in" / "build.log").read_text() == "rt: homerange proved\n"
+    assert "  build.log\n" in (tmp_path / "hand-in" / "SHA256SUMS").read_text()
 
 
 def test_the_verifier_holds_it_but_for_the_export(ranges, tmp_path):

@@ -57,6 +57,15 @@ verify first --program "$HOMERANGE"
 holds 'without the export that is said, with a status' [ $? -eq 3 ]
 holds 'what was not looked at' grep -q '^not looked at: whether the tracks are those of an export' said
 
+# A program that was built on this machine goes with what the prover said of it.
+mkdir built
+cp "$HOMERANGE" built
+echo 'rt: homerange proved' >built/build.log
+holds 'evidence by a program that was built here' env HOMERANGE=built/homerange "$make" --percent 95,50 second tracks
+holds 'the log of its build' cmp built/build.log second/build.log
+holds 'the log is in the list of checksums' grep -q '  build.log$' second/SHA256SUMS
+holds 'it is verified, with the log' verify second "$top/examples/export.csv" --program "$HOMERANGE"
+
 # Files by name, without a record; a fix that is left out, and an animal without one that is used.
 head -n 61 "$top/examples/fox.csv" | sed '1s/$/,use/; 2,$s/$/,1/; 9s/1$/0/' >fox.csv
 printf '%s\n' animal,second,easting,northing,use hare,0,1,1,0 >hare.csv

@@ -39,7 +39,7 @@ verified <- function(folder) {
 test_that("evidence has fixes, report, record, tables and checksums", {
   ranges <- ranges_by_hand()
   folder <- local_evidence(ranges)
-  files <- setdiff(list.files(folder, recursive = TRUE), "ranges.gpkg")
+  files <- setdiff(list.files(folder, recursive = TRUE), c("ranges.gpkg", "build.log"))
   wanted <- c("SHA256SUMS", "animals.csv", "evidence.txt", "overlaps.csv", "report.html", "report.txt",
               "summary.csv", "tracks/old_boar.csv", "tracks/one.csv", "tracks/vixen.csv")
   expect_setequal(files, wanted)
@@ -58,6 +58,19 @@ test_that("evidence has fixes, report, record, tables and checksums", {
   expect_match(about[["notes"]], "1 outliers: left out; ", fixed = TRUE)
   expect_match(about[["notes"]], "is named old_boar$")
   expect_false(any(c("export", "shift", "crs") %in% names(about)))
+})
+
+test_that("the log of a program that was built here goes with it", {
+  skip_without_program()
+  built <- local_folder()
+  named <- Sys.getenv("HOMERANGE", NA)
+  file.copy(homerange_program(), file.path(built, "homerange"))
+  writeLines("rt: homerange proved", file.path(built, "build.log"))
+  Sys.setenv(HOMERANGE = file.path(built, "homerange"))
+  on.exit(if (is.na(named)) Sys.unsetenv("HOMERANGE") else Sys.setenv(HOMERANGE = named))
+  folder <- local_evidence(ranges_by_hand())
+  expect_identical(readLines(file.path(folder, "build.log")), "rt: homerange proved")
+  expect_true(any(endsWith(readLines(file.path(folder, "SHA256SUMS")), "  build.log")))
 })
 
 test_that("its tables are those worked out by hand", {
