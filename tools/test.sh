@@ -22,9 +22,9 @@ export LANG
 work=$(mktemp -d)
 trap 'rm -rf "$work"' EXIT
 # In a folder of its own: where it was built, a log lies beside it, which evidence takes along.
-mkdir "$work/program"
-cp -- "$1" "$work/program/homerange" || exit
-HOMERANGE=$(readlink -f -- "$work/program/homerange")
+mkdir "$work/tried"
+cp -- "$1" "$work/tried/homerange" || exit
+HOMERANGE=$(readlink -f -- "$work/tried/homerange")
 export HOMERANGE
 shift
 touch "$work/passed" "$work/failed" "$work/skipped"
