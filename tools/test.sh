@@ -3,10 +3,11 @@
 #
 #     tools/test.sh [PROGRAM [PART ..]]
 #
-# PROGRAM is the program (if left out, that of tools/program.sh), and a PART a file of tools/tests without its `.sh` (if
-# left out, all). Needs python3 and sha256sum. Tests that need something else are skipped where it is not there, and said
-# so: all of it is installed by tools/setup.sh. The last line is 'N passed, M failed', with ', K skipped' behind it where
-# some were; the status is 0 where none failed.
+# PROGRAM is the program (if left out, that of tools/program.sh), and a PART a file of tools/tests without its `.sh`. If
+# parts are left out all are run, as many at once as there are processors; those whose names begin with the same word are
+# run one after the other, in one folder. Needs python3 and sha256sum. Tests that need something else are skipped where
+# it is not there, and said so: all of it is installed by tools/setup.sh. The last line is 'N passed, M failed', with
+# ', K skipped' behind it where some were; the status is 0 where none failed.
 set -u
 tools=$(cd "$(dirname "$0")" && pwd)
 # shellcheck disable=SC2034
@@ -21,13 +22,6 @@ export LANG
 [ $# -gt 0 ] || set -- "$("$tools/program.sh")" || exit
 work=$(mktemp -d)
 trap 'rm -rf "$work"' EXIT
-# In a folder of its own: where it was built, a log lies beside it, which evidence takes along.
-mkdir "$work/tried"
-cp -- "$1" "$work/tried/homerange" || exit
-HOMERANGE=$(readlink -f -- "$work/tried/homerange")
-export HOMERANGE
-shift
-touch "$work/passed" "$work/failed" "$work/skipped"
 
 # Counts a test with this name, passed where the command holds. Counts stand in files, since it may run in a pipe.
 holds() {
@@ -60,18 +54,52 @@ is_refused() {
     ! "$@"
 }
 
-if [ $# -eq 0 ]; then
+# Runs the parts whose names begin with each word, and says of each what it comes to and how long it took.
+run_all() {
     for part in "$tools"/tests/*.sh; do
         part=${part##*/}
-        set -- "$@" "${part%.sh}"
+        part=${part%.sh}
+        echo "$part" >>"$work/${part%%_*}.parts"
     done
+    # shellcheck disable=SC2016
+    (cd "$work" && ls -- *.parts) | xargs -P "$(nproc)" -I '{}' sh -c '
+        begin=$(date +%s) of=$3/$4
+        "$1" "$2" $(cat "$of") >"$of.said" 2>&1
+        sed \$d "$of.said"
+        echo "${4%.parts}: $(tail -n 1 "$of.said"), $(($(date +%s) - begin)) s"
+    ' sh "$0" "$1" "$work" '{}' || :
+}
+
+# How many tests of all parts the last lines count with this word.
+count_all() {
+    tail -q -n 1 "$work"/*.said | sed -n "s/.*\b\([0-9][0-9]*\) $1.*/\1/p" | awk '{ n += $1 } END { print n + 0 }'
+}
+
+# Says how many tests passed, failed and were skipped.
+report() {
+    said="$1 passed, $2 failed"
+    [ "$3" -eq 0 ] || said="$said, $3 skipped"
+    echo "$said"
+    [ "$2" -eq 0 ]
+}
+
+if [ $# -eq 1 ]; then
+    run_all "$1"
+    # A part that was ended counts nothing.
+    lost=$(tail -q -n 1 "$work"/*.said | grep -vc 'passed, [0-9]* failed')
+    report "$(count_all passed)" "$(($(count_all failed) + lost))" "$(count_all skipped)"
+    exit
 fi
+# In a folder of its own: where it was built, a log lies beside it, which evidence takes along.
+mkdir "$work/tried"
+cp -- "$1" "$work/tried/homerange" || exit
+HOMERANGE=$(readlink -f -- "$work/tried/homerange")
+export HOMERANGE
+shift
+touch "$work/passed" "$work/failed" "$work/skipped"
 for part in "$@"; do
     cd "$work" || exit 1
     # shellcheck source=/dev/null
     . "$tools/tests/$part.sh"
 done
-said="$(wc -l <"$work/passed") passed, $(wc -l <"$work/failed") failed"
-[ ! -s "$work/skipped" ] || said="$said, $(wc -l <"$work/skipped") skipped"
-echo "$said"
-[ ! -s "$work/failed" ]
+report "$(wc -l <"$work/passed")" "$(wc -l <"$work/failed")" "$(wc -l <"$work/skipped")"
