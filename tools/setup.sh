@@ -1,13 +1,30 @@
 #!/bin/sh
-# setup.sh: installs, as root, what ./test uses of Debian's packages, beside the toolchain.
+# setup.sh [--missing]: installs, as root, what ./test uses of Debian's packages, beside the toolchain. With --missing it
+# installs nothing, and prints in one line those that are not installed.
 #
 # Packages of Python are for Debian's own, /usr/bin/python3.
 set -eu
+packages='chromium fonts-dejavu-core fuse3 gcc iproute2 libc6-dev gnuplot-nox man-db munge mypy openssh-client openssl
+pandoc poppler-utils python3 python3-fusepy python3-geopandas python3-matplotlib python3-pandas python3-pyproj
+python3-pytest python3-scipy python3-shapely r-base-core r-cran-knitr r-cran-rmarkdown r-cran-sf r-cran-testthat
+r-cran-xml2 shellcheck slurm-wlm snakemake'
+case $*: in
+    :) ;;
+    --missing:)
+        missing=''
+        for package in $packages; do
+            [ "$(dpkg-query -W -f '${db:Status-Status}' "$package" 2>/dev/null)" = installed ] || missing="$missing $package"
+        done
+        echo "${missing# }"
+        exit
+        ;;
+    *)
+        echo 'setup.sh: it takes --missing alone' >&2
+        exit 2
+        ;;
+esac
 export DEBIAN_FRONTEND=noninteractive
 # Before this no package is found.
 apt-get -q update
-apt-get -q -y --no-install-recommends install \
-    chromium fonts-dejavu-core fuse3 gcc iproute2 libc6-dev gnuplot-nox man-db munge mypy openssh-client openssl pandoc poppler-utils python3 \
-    python3-fusepy python3-geopandas python3-matplotlib python3-pandas python3-pyproj python3-pytest python3-scipy \
-    python3-shapely r-base-core r-cran-knitr r-cran-rmarkdown r-cran-sf r-cran-testthat r-cran-xml2 shellcheck \
-    slurm-wlm snakemake
+# shellcheck disable=SC2086
+apt-get -q -y --no-install-recommends install $packages

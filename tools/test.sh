@@ -66,7 +66,7 @@ run_all() {
         begin=$(date +%s) of=$3/$4
         "$1" "$2" $(cat "$of") >"$of.said" 2>&1
         sed \$d "$of.said"
-        echo "${4%.parts}: $(tail -n 1 "$of.said"), $(($(date +%s) - begin)) s"
+        echo "$(head -n 1 "$of"): $(tail -n 1 "$of.said"), $(($(date +%s) - begin)) s"
     ' sh "$0" "$1" "$work" '{}' || :
 }
 
