@@ -1,6 +1,7 @@
 """The cases in which the whole program is timed beside plain Rust on one thread, and their files.
 
-Plain Rust has its chains of corners as sorted vectors or as trees. What all programs write is compared, byte for byte.
+Plain Rust has its chains of corners as sorted vectors or as trees, and reads fields by itself, or by the crate csv (with
+trees for curves). What all programs write is compared, byte for byte.
 """
 
 import filecmp
@@ -17,6 +18,7 @@ CURVES = {"curve": (227264, timing.METRES), "fine-curve": (900000, timing.DECIME
 EIGHT = tuple(f"part{i}" for i in range(8))
 HERD = tuple(f"herd{i}" for i in range(64))
 PEERS = {"vectors": (), "trees": ("--trees",)}
+BY_CSV = "csv"
 
 
 @dataclass(frozen=True)
@@ -63,13 +65,14 @@ def make_files(maker, names, folder):
     programs.output([maker, "tracks", folder], "")
 
 
-def commands_of(case, proved, plain):
-    """The command of the proved program, and those of its peers, by name."""
+def commands_of(case, proved, plain, by_csv):
+    """The command of the proved program, and those of its peers, by name; the last is that of the crate csv."""
     cores = sorted(os.sched_getaffinity(0))[: case.cores]
     start = ["taskset", "-c", ",".join(map(str, cores))] if case.cores else []
     arguments = [*case.options, *(f"{name}.csv" for name in case.files)]
     peers = {peer: [*start, plain, *PEERS[peer], *arguments] for peer in case.peers}
-    return {"homerange": [*start, proved, *case.own, *arguments], **peers}
+    chains = PEERS["trees" if "curve" in case.name else "vectors"]
+    return {"homerange": [*start, proved, *case.own, *arguments], **peers, BY_CSV: [*start, by_csv, *chains, *arguments]}
 
 
 def compare(case, commands, folder):

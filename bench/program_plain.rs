@@ -14,6 +14,11 @@
 // - An overlap tries the boxes, then for each fix the box, the core, and a binary search in both chains.
 // - Digits are made by hand, two at a time. All texts are made before the first is written, each at once.
 // All arithmetic is exact. One thread does not read ahead, so waiting for a disk adds to its time.
+//
+// With the feature `csv` the crate of that name reads the fields, quoted ones too, as homerange's proved port of it does;
+// all else is the same.
+#![allow(unexpected_cfgs)]
+#![cfg_attr(feature = "csv", allow(dead_code, unused_imports))]
 
 use std::cmp::Reverse;
 use std::collections::{BTreeSet, HashSet};
@@ -336,11 +341,15 @@ fn number(bytes: &mut Iter<u8>, limit: u64, end: u8) -> Option<u64> {
     (end == b'\n' && value <= limit).then_some(value)
 }
 
+fn is_name(name: &[u8]) -> bool {
+    (1..=32).contains(&name.len()) && !name.iter().any(|b| b.is_ascii_control() || *b == b'"')
+}
+
 // The name of a first record.
+#[cfg(not(feature = "csv"))]
 fn name_of(bytes: &[u8]) -> Option<&[u8]> {
     let name = &bytes[..bytes.iter().position(|byte| *byte == b',')?];
-    let is_name = (1..=32).contains(&name.len()) && !name.iter().any(|b| b.is_ascii_control() || *b == b'"');
-    is_name.then_some(name)
+    is_name(name).then_some(name)
 }
 
 // What is known of an animal within its file.
@@ -365,6 +374,7 @@ impl<C: Chain> Reading<C> {
     }
 
     // Takes whole lines. None where one breaks a rule.
+    #[cfg(not(feature = "csv"))]
     fn take(&mut self, lines: &[u8]) -> Option<()> {
         let mut bytes = lines.iter();
         while !bytes.as_slice().is_empty() {
@@ -374,6 +384,19 @@ impl<C: Chain> Reading<C> {
             let n = number(&mut bytes, self.limit, b'\n')? as i32;
             self.add(second, Point { n, e });
         }
+        Some(())
+    }
+
+    // Takes a record of the crate csv. None where it breaks a rule.
+    #[cfg(feature = "csv")]
+    fn take(&mut self, record: &csv::ByteRecord) -> Option<()> {
+        let field = |at: usize, limit| number(&mut record.get(at)?.iter(), limit, b'\n');
+        if record.len() != 4 || record[0] != self.name[..] {
+            return None;
+        }
+        let second = field(1, SECONDS).filter(|second| *second >= self.last)?;
+        let (e, n) = (field(2, self.limit)? as i32, field(3, self.limit)? as i32);
+        self.add(second, Point { n, e });
         Some(())
     }
 
@@ -398,8 +421,27 @@ impl<C: Chain> Reading<C> {
     }
 }
 
+// The track of a file, its rows written, read by the crate csv. None where a record breaks a rule.
+#[cfg(feature = "csv")]
+fn track_of<C: Chain>(file: File, limit: u64) -> Option<Track> {
+    let mut reader = csv::ReaderBuilder::new().has_headers(false).flexible(true).from_reader(file);
+    let (mut record, mut reading) = (csv::ByteRecord::new(), None);
+    reader.read_byte_record(&mut record).ok()?;
+    let header = HEADER[..HEADER.len() - 1].split(|byte| *byte == b',');
+    record.iter().eq(header).then_some(())?;
+    while reader.read_byte_record(&mut record).ok()? {
+        if reading.is_none() {
+            let name = record.get(0).filter(|name| is_name(name))?;
+            reading = Some(Reading::<C>::new(name, limit));
+        }
+        reading.as_mut()?.take(&record)?;
+    }
+    reading?.into_track()
+}
+
 // The track of a file, its rows written, read in blocks; a line that a block cuts goes to the start of the next. None
 // where a line breaks a rule, or is as long as a block.
+#[cfg(not(feature = "csv"))]
 fn track_of<C: Chain>(mut file: File, limit: u64) -> Option<Track> {
     let mut header = [0; HEADER.len()];
     file.read_exact(&mut header).ok().filter(|_| header == HEADER)?;

@@ -6,7 +6,8 @@ stops where they differ. Then they are run in turns, since a machine's pace wand
 Of a part a time is the least of all runs, each of which makes several passes over marks and percent polygons. Of the
 whole program it is the median of the turns, from start to end, with the report sent to /dev/null; beside it stand the
 medians of the processor's time, its own and the system's, and, of homerange, of the most memory that a run held. The
-ratios are those of the time and of the processor's time to the plain way that took the least time, which is named.
+ratios are those of the time and of the processor's time to the plain way that took the least time, which is named, and
+then to plain Rust whose fields the crate csv reads, as the proved port of it does homerange's.
 Behind the table stands the share of the processors' time that other machines took meanwhile, builds included.
 """
 
@@ -46,7 +47,7 @@ ROWS = {
 CASES = (*(case for part in parts.PARTS for case in part.cases), *program.CASES)
 HEAD = (
     "| What | ms | user, ms | system, ms | MB | plain Rust, ms | user, ms | system, ms | ratio | of processor time |"
-    "\n|---|---|---|---|---|---|---|---|---|---|"
+    " with csv, ms | ratio | of processor time |\n|---|---|---|---|---|---|---|---|---|---|---|---|---|"
 )
 
 
@@ -73,7 +74,12 @@ def built(path, crate, *arguments):
     return pathlib.Path(path).resolve() if path else programs.proved(crate, *arguments)
 
 
-def row(case, ours, plain):
+def ratios(ours, plain):
+    """Of the time and of the processor's time, where that is known."""
+    return [f"{ours[0] / plain[0]:.2f}", f"{sum(ours[1:3]) / sum(plain[1:3]):.2f}" if ours[1:] else ""]
+
+
+def row(case, ours, plain, by_csv=None):
     """A line of the table: what ours and each plain way took, the time alone or all four numbers."""
     way = min(plain, key=plain.get)
     digits = 0 if ours[0] >= 100 else 1
@@ -81,7 +87,8 @@ def row(case, ours, plain):
     cells += [""] * (4 - len(cells))
     cells += [f"{plain[way][0]:.{digits}f}, {way}", *(f"{x:.0f}" for x in plain[way][1:3])]
     cells += [""] * (7 - len(cells))
-    cells += [f"{ours[0] / plain[way][0]:.2f}", f"{sum(ours[1:3]) / sum(plain[way][1:3]):.2f}" if ours[1:] else ""]
+    cells += ratios(ours, plain[way])
+    cells += [f"{by_csv[0]:.{digits}f}", *ratios(ours, by_csv)] if by_csv else [""] * 3
     return f"| {ROWS.get(case, case)} | {' | '.join(cells)} |"
 
 
@@ -96,19 +103,19 @@ def time_parts(wanted, options, plain):
             print(case if options.compare else row(case, (ours,), {way: (ms,) for way, ms in took.items()}), flush=True)
 
 
-def time_programs(cases, options, plain, folder):
+def time_programs(cases, options, plain, by_csv, folder):
     proved = built(options.homerange, "homerange", "--help")
     files = {name for case in cases for name in case.files}
     timing.apart(program.make_files, plain("program_files.rs"), files, folder)
     for case in cases:
-        commands = program.commands_of(case, proved, plain("program_plain.rs"))
+        commands = program.commands_of(case, proved, plain("program_plain.rs"), by_csv("program_plain.rs"))
         program.compare(case, commands, folder)
         if options.compare:
             print(case.name, flush=True)
             continue
         found = dict(zip(commands, timing.medians(list(commands.values()), folder, options.runs or case.turns)))
-        ours = found.pop("homerange")
-        print(row(case.name, ours, found), flush=True)
+        ours, with_csv = found.pop("homerange"), found.pop(program.BY_CSV)
+        print(row(case.name, ours, found, with_csv), flush=True)
 
 
 def main():
@@ -122,7 +129,8 @@ def main():
         if len(whole) < len(wanted):
             timing.apart(time_parts, set(wanted), options, plain)
         if whole:
-            time_programs(whole, options, plain, folder)
+            by_csv = functools.cache(functools.partial(programs.plain_by_csv, folder=folder))
+            time_programs(whole, options, plain, by_csv, folder)
     if not options.compare:
         print(timing.stolen_since(began))
 
