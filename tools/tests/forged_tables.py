@@ -4,33 +4,23 @@
 A folder is made by tools/ranges.sh of an export of two animals, by PROGRAM. Each forgery changes it, with all checksums
 made anew, and names what verify.py has to say did not hold; where it names nothing, nobody can know. Prints 'ok NAME' or
 'failed NAME: ..' for each. Needs what ranges.sh needs."""
-import os
 import re
 import sqlite3
 import struct
 import sys
 from contextlib import closing
-from pathlib import Path
 
-from forgeries import TOOLS, Hand, collected, export_text, try_all
+from forging import TOOLS, Forgeries, Hand, export_text, try_all
 
-FORGERIES = {}
-forgery = collected(FORGERIES)
+forgery = Forgeries()
 CSV_END = re.compile(rb"(?<=,)[^,\n]+(?=\n)")
 
 
 class Maker(Hand):
     """One who forges what ranges.sh made."""
 
-    def __init__(self, program, room, export):
-        self.program, self.room, self.export, self.folder = program, room, room / "export.csv", room / "hand-in"
-        self.export.write_text(export)
-        os.environ["HOMERANGE"] = str(program)
+    def make(self):
         self.call("sh", TOOLS / "ranges.sh", "--title", "Wolves", "export.csv", "hand-in")
-
-    def sealed_sub(self, name, old, new, count=1):
-        self.sub(name, old, new, count)
-        self.seal()
 
     def sealed_sql(self, *statements):
         """Changes ranges.gpkg, whose triggers want functions that are not there."""
@@ -328,5 +318,4 @@ def _(hand):
 
 
 if __name__ == "__main__":
-    program = Path(sys.argv[1]).resolve()
-    try_all(lambda room: Maker(program, room, export_text(6)), FORGERIES)
+    try_all(Maker, sys.argv[1], 6, forgery)

@@ -4,80 +4,22 @@
 A folder of evidence is made of an export of two animals, by PROGRAM. Each forgery changes it as one who hands it in could,
 with all checksums made anew where that is said, and names what verify.py has to say did not hold; where it names nothing,
 nobody can know, and verify.py has to say so. Prints 'ok NAME' or 'failed NAME: ..' for each."""
-import random
 import re
 import shutil
-import subprocess
 import sys
-import tempfile
-from datetime import datetime, timedelta
-from pathlib import Path
 
-TOOLS = Path(__file__).resolve().parents[1]
-TITLES = "individual-local-identifier,timestamp,utm-easting,utm-northing,utm-zone,visible\n"
-SUM = re.compile("[0-9a-f]{64}")
+from forging import SUM, TOOLS, Forgeries, Hand, checksum, try_all
+
 HOMOGLYPH = "Vеsna"  # its second letter is Cyrillic
+forgery = Forgeries()
 
 
-def export_text(seed):
-    """An export of two wolves, of which each twentieth fix is marked as an outlier."""
-    draw, lines = random.Random(seed), []
-    for name, east in (("Bor", 561000), ("Vesna", 562500)):
-        moment, place = datetime(2024, 9, 20), [east, 5134000]
-        for number in range(60):
-            moment += timedelta(hours=3, seconds=draw.randrange(60))
-            place = [end + draw.randrange(-400, 401) for end in place]
-            lines.append(f"{name},{moment},{place[0]},{place[1]},33N,{'false' if number % 20 == 7 else 'true'}\n")
-    return TITLES + "".join(lines)
+class Runner(Hand):
+    """One who forges what evidence.py made."""
 
-
-def checksum(path):
-    said = subprocess.run(["sha256sum"], stdin=open(path, "rb"), stdout=subprocess.PIPE, check=True, text=True)
-    return SUM.search(said.stdout)[0]
-
-
-class Hand:
-    """One who forges: a folder, and what it was made of."""
-
-    def __init__(self, program, room, export, options=()):
-        self.program, self.room, self.export, self.folder = program, room, room / "export.csv", room / "hand-in"
-        self.export.write_text(export)
-        self.call(sys.executable, TOOLS / "split.py", *options, "--into", "tracks", "export.csv")
+    def make(self):
+        self.call(sys.executable, TOOLS / "split.py", "--into", "tracks", "export.csv")
         self.call(sys.executable, TOOLS / "evidence.py", "hand-in", "tracks")
-
-    def call(self, *words, folder=None):
-        run = subprocess.run(list(map(str, words)), cwd=folder or self.room, stdout=subprocess.PIPE, stderr=subprocess.PIPE)
-        if run.returncode != 0:
-            raise SystemExit(f"forgeries.py: {words} said {run.stderr.decode()}")
-        return run.stdout
-
-    def path(self, name):
-        return self.folder / name
-
-    def edit(self, name, change):
-        """Changes the bytes of a file, which have to be others then."""
-        before = self.path(name).read_bytes()
-        after = change(before)
-        assert after != before, f"{name} did not change"
-        self.path(name).write_bytes(after)
-
-    def sub(self, name, old, new, count=1):
-        self.edit(name, lambda content: re.sub(old.encode(), new.encode(), content, count=count, flags=re.M))
-
-    def seal(self):
-        """All checksums anew: in split.txt those of the tracks, in SHA256SUMS those of all files."""
-        record = self.path("tracks/split.txt")
-        if record.is_file():
-            lines = record.read_text("utf-8").split("\n")
-            for at, line in enumerate(lines):
-                path = self.path(f"tracks/{line.split(',')[1]}.csv") if line.startswith("track,") else None
-                if path and path.is_file():
-                    rows = path.read_bytes().count(b"\n") - 1
-                    lines[at] = f"track,{path.stem},{rows},{rows - path.read_bytes().count(b',0' + bytes([10]))},{checksum(path)}" \
-                        if b",use" in path.read_bytes()[:60] else f"track,{path.stem},{rows},{rows},{checksum(path)}"
-            record.write_text("\n".join(lines), "utf-8")
-        paths = sorted(path for path in self.folder.rglob("*") if path.is_file() and path.name != "SHA256SUMS")
-        self.path("SHA256SUMS").write_text("".join(f"{checksum(path)}  {path.relative_to(self.folder)}\n" for path in paths))
 
     def run(self, *words):
         """Runs the program over the tracks as they are now, and writes the report."""
@@ -91,27 +33,6 @@ class Hand:
     def sealed_run(self, *words):
         self.run(*words)
         self.seal()
-
-    def verdict(self, *words):
-        """What verify.py says, and its status."""
-        run = subprocess.run([sys.executable, TOOLS / "verify.py", self.folder, self.export, "--program", self.program, *words],
-                             stdout=subprocess.PIPE, stderr=subprocess.STDOUT, text=True)
-        return run.returncode, run.stdout
-
-
-def collected(forgeries):
-    """What names forgeries, and keeps them in a dictionary."""
-    def forgery(name, *failing):
-        """Names a forgery, with parts of what has to be said not to hold; none where it can't be known."""
-        def keep(forge):
-            forgeries[name] = (forge, failing)
-            return forge
-        return keep
-    return forgery
-
-
-FORGERIES = {}
-forgery = collected(FORGERIES)
 
 
 @forgery("01 a fix is moved", "tracks/Bor.csv was changed since", "Bor.csv is not the file", "another track of Bor")
@@ -222,7 +143,7 @@ def anew(hand, export):
     """Hands in what an edited export comes to."""
     shutil.rmtree(hand.folder)
     shutil.rmtree(hand.room / "tracks")
-    hand.__init__(hand.program, hand.room, export)
+    hand.hand_in(export)
 
 
 @forgery("18 the export is edited before all")
@@ -506,35 +427,5 @@ def _(hand):
     hand.path("tracks/Bor.csv").symlink_to(hand.room / "elsewhere.csv")
 
 
-def fault_of(hand, failing):
-    """How verify.py does not say what is wanted; None where it does."""
-    status, said = hand.verdict()
-    failed = [line for line in said.split("\n") if line.startswith("did not hold: ")]
-    if "Traceback" in said or status not in (0, 1) or (status == 1) != bool(failed):
-        return f"status {status}: {said}"
-    if not failing:
-        return None if status == 0 and "not known: who made the run" in said else f"status {status}: {said}"
-    unsaid = [text for text in failing if not any(re.search(text, line) for line in failed)]
-    return f"{unsaid} is not said, but {failed}" if unsaid else None
-
-
-def try_all(make, forgeries):
-    """Tries forgeries, each in a copy of the folder that is made in a room."""
-    with tempfile.TemporaryDirectory() as base:
-        room = Path(base, "room")
-        room.mkdir()
-        honest = make(room)
-        status, said = honest.verdict()
-        print("ok an honest folder" if status == 0 else f"failed an honest folder: {said!r}")
-        shutil.copytree(room, Path(base, "kept"))
-        for name, (forge, failing) in forgeries.items():
-            shutil.rmtree(room)
-            shutil.copytree(Path(base, "kept"), room)
-            forge(honest)
-            fault = fault_of(honest, failing)
-            print(f"failed {name}: {fault!r}" if fault else f"ok {name}", flush=True)
-
-
 if __name__ == "__main__":
-    program = Path(sys.argv[1]).resolve()
-    try_all(lambda room: Hand(program, room, export_text(4)), FORGERIES)
+    try_all(Runner, sys.argv[1], 4, forgery)

@@ -1,0 +1,144 @@
+"""What forgeries.py and forged_tables.py share: one who hands in a folder and forges it, the forgeries by their names, and
+how each is tried in a folder of its own and held to what tools/verify.py says of it."""
+import os
+import random
+import re
+import shutil
+import subprocess
+import sys
+import tempfile
+from datetime import datetime, timedelta
+from pathlib import Path
+
+TOOLS = Path(__file__).resolve().parents[1]
+TITLES = "individual-local-identifier,timestamp,utm-easting,utm-northing,utm-zone,visible\n"
+SUM = re.compile("[0-9a-f]{64}")
+
+
+def export_text(seed):
+    """An export of two wolves, of which each twentieth fix is marked as an outlier."""
+    draw, lines = random.Random(seed), []
+    for name, east in (("Bor", 561000), ("Vesna", 562500)):
+        moment, place = datetime(2024, 9, 20), [east, 5134000]
+        for number in range(60):
+            moment += timedelta(hours=3, seconds=draw.randrange(60))
+            place = [end + draw.randrange(-400, 401) for end in place]
+            lines.append(f"{name},{moment},{place[0]},{place[1]},33N,{'false' if number % 20 == 7 else 'true'}\n")
+    return TITLES + "".join(lines)
+
+
+def checksum(path):
+    said = subprocess.run(["sha256sum"], stdin=open(path, "rb"), stdout=subprocess.PIPE, check=True, text=True)
+    return SUM.search(said.stdout)[0]
+
+
+def line_of_track(line, folder):
+    """A line of split.txt as the track that it names has it now."""
+    path = folder / f"{line.split(',')[1]}.csv" if line.startswith("track,") else None
+    if path is None or not path.is_file():
+        return line
+    content = path.read_bytes()
+    rows = content.count(b"\n") - 1
+    left_out = content.count(b",0\n") if b",use" in content[:60] else 0
+    return f"track,{path.stem},{rows},{rows - left_out},{checksum(path)}"
+
+
+class Hand:
+    """One who forges: a folder that was handed in, and what it was made of. A subclass says how it is made."""
+
+    def __init__(self, program, room, export):
+        self.program, self.room, self.export, self.folder = program, room, room / "export.csv", room / "hand-in"
+        self.hand_in(export)
+
+    def hand_in(self, export):
+        """Makes the folder of the text of an export."""
+        self.export.write_text(export)
+        self.make()
+
+    def call(self, *words, folder=None):
+        run = subprocess.run(list(map(str, words)), cwd=folder or self.room, stdout=subprocess.PIPE, stderr=subprocess.PIPE,
+                             env={**os.environ, "HOMERANGE": str(self.program)})
+        if run.returncode != 0:
+            raise SystemExit(f"{Path(sys.argv[0]).name}: {words} said {run.stderr.decode()}")
+        return run.stdout
+
+    def path(self, name):
+        return self.folder / name
+
+    def edit(self, name, change):
+        """Changes the bytes of a file, which have to be others then."""
+        before = self.path(name).read_bytes()
+        after = change(before)
+        assert after != before, f"{name} did not change"
+        self.path(name).write_bytes(after)
+
+    def sub(self, name, old, new, count=1):
+        self.edit(name, lambda content: re.sub(old.encode(), new.encode(), content, count=count, flags=re.M))
+
+    def seal(self):
+        """All checksums anew: in split.txt those of the tracks, in SHA256SUMS those of all files."""
+        record = self.path("tracks/split.txt")
+        if record.is_file():
+            lines = record.read_text("utf-8").split("\n")
+            record.write_text("\n".join(line_of_track(line, record.parent) for line in lines), "utf-8")
+        paths = sorted(path for path in self.folder.rglob("*") if path.is_file() and path.name != "SHA256SUMS")
+        self.path("SHA256SUMS").write_text("".join(f"{checksum(path)}  {path.relative_to(self.folder)}\n" for path in paths))
+
+    def sealed_edit(self, name, change):
+        self.edit(name, change)
+        self.seal()
+
+    def sealed_sub(self, name, old, new, count=1):
+        self.sub(name, old, new, count)
+        self.seal()
+
+    def verdict(self):
+        """What verify.py says, and its status."""
+        run = subprocess.run([sys.executable, TOOLS / "verify.py", self.folder, self.export, "--program", self.program],
+                             stdout=subprocess.PIPE, stderr=subprocess.STDOUT, text=True)
+        return run.returncode, run.stdout
+
+
+class Forgeries(dict):
+    """By their names forgeries, each with parts of what has to be said not to hold; none where it can't be known."""
+
+    def __call__(self, name, *failing):
+        """Keeps the function below it by this name."""
+        def keep(forge):
+            assert name not in self, f"{name} stands there twice"
+            self[name] = (forge, failing)
+            return forge
+        return keep
+
+    def sealed(self, name, *failing, file, old, new, count=1):
+        """Keeps a forgery that puts other text into a file, with all checksums made anew."""
+        self(name, *failing)(lambda hand: hand.sealed_sub(file, old, new, count))
+
+
+def fault_of(hand, failing):
+    """How verify.py does not say what is wanted; None where it does."""
+    status, said = hand.verdict()
+    failed = [line for line in said.split("\n") if line.startswith("did not hold: ")]
+    if "Traceback" in said or status not in (0, 1) or (status == 1) != bool(failed):
+        return f"status {status}: {said}"
+    if not failing:
+        return None if status == 0 and "not known: who made the run" in said else f"status {status}: {said}"
+    unsaid = [text for text in failing if not any(re.search(text, line) for line in failed)]
+    return f"{unsaid} is not said, but {failed}" if unsaid else None
+
+
+def try_all(kind, program, seed, forgeries):
+    """Tries forgeries, each in a copy of what one of this kind hands in, made by a program of the export of a seed."""
+    with tempfile.TemporaryDirectory() as base:
+        room = Path(base, "room")
+        room.mkdir()
+        honest = kind(Path(program).resolve(), room, export_text(seed))
+        status, said = honest.verdict()
+        print("ok an honest folder" if status == 0 else f"failed an honest folder: {said!r}")
+        shutil.copytree(room, Path(base, "kept"))
+        for name, (forge, failing) in forgeries.items():
+            shutil.rmtree(room)
+            shutil.copytree(Path(base, "kept"), room)
+            forge(honest)
+            fault = fault_of(honest, failing)
+            print(f"failed {name}: {fault!r}" if fault else f"ok {name}", flush=True)
