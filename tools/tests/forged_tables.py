@@ -46,46 +46,29 @@ def moved(shape, by):
     return head + struct.pack("<4d", *box) + start + struct.pack(f"<{len(numbers)}d", *numbers)
 
 
-@forgery("an area in summary.csv", "summary.csv is not what another method computes: line 3 is 'Bor,.*,1.25'; 'Bor,")
-def _(hand):
-    hand.sealed_sub("summary.csv", "^(Bor,.*,95,.*),[0-9.]+$", r"\1,1.25")
+forgery.sealed("an area in summary.csv", "summary.csv is not what another method computes: line 3 is 'Bor,.*,1.25'; 'Bor,",
+               file="summary.csv", old="^(Bor,.*,95,.*),[0-9.]+$", new=r"\1,1.25")
 
 
 @forgery("areas in summary.csv in square metres", "summary.csv is not what another method computes: line 2 is")
 def _(hand):
-    hand.edit("summary.csv", lambda text: CSV_END.sub(lambda found: b"%r" % (1e4 * float(found[0]))
-                                                      if found[0] != b"hectares" else found[0], text))
-    hand.seal()
+    hand.sealed_edit("summary.csv", lambda text: CSV_END.sub(
+        lambda found: found[0] if found[0] == b"hectares" else b"%r" % (1e4 * float(found[0])), text))
 
 
-@forgery("a level in summary.csv", "summary.csv is not what another method computes: line 3 is")
-def _(hand):
-    hand.sealed_sub("summary.csv", ",95,", ",96,")
-
-
-@forgery("line ends of another system in summary.csv", "summary.csv is not what another method computes: line 1 is")
-def _(hand):
-    hand.sealed_sub("summary.csv", "\n", "\r\n", 0)
-
-
-@forgery("a share in overlaps.csv", "overlaps.csv is not what another method computes: line 2 is 'Bor,1.0,0.875'; 'Bor,1.0,0")
-def _(hand):
-    hand.sealed_sub("overlaps.csv", "^(Bor,1.0),.*", r"\1,0.875")
-
-
-@forgery("a row of animals.csv is taken out", "animals.csv is not what another method computes: line 2 is 'Vesna,")
-def _(hand):
-    hand.sealed_sub("animals.csv", "^Bor,.*\n", "")
-
-
-@forgery("a verdict in animals.csv", "animals.csv is not what another method computes: line [23] is .*levelled")
-def _(hand):
-    hand.sealed_sub("animals.csv", "still growing$", "levelled off")
-
-
-@forgery("what was left out in animals.csv", "animals.csv is not what another method computes: line 2 is 'Bor,60,0,")
-def _(hand):
-    hand.sealed_sub("animals.csv", "^Bor,60,3,", "Bor,60,0,")
+forgery.sealed("a level in summary.csv", "summary.csv is not what another method computes: line 3 is",
+               file="summary.csv", old=",95,", new=",96,")
+forgery.sealed("line ends of another system in summary.csv", "summary.csv is not what another method computes: line 1 is",
+               file="summary.csv", old="\n", new="\r\n", count=0)
+forgery.sealed("a share in overlaps.csv",
+               "overlaps.csv is not what another method computes: line 2 is 'Bor,1.0,0.875'; 'Bor,1.0,0",
+               file="overlaps.csv", old="^(Bor,1.0),.*", new=r"\1,0.875")
+forgery.sealed("a row of animals.csv is taken out", "animals.csv is not what another method computes: line 2 is 'Vesna,",
+               file="animals.csv", old="^Bor,.*\n", new="")
+forgery.sealed("a verdict in animals.csv", "animals.csv is not what another method computes: line [23] is .*levelled",
+               file="animals.csv", old="still growing$", new="levelled off")
+forgery.sealed("what was left out in animals.csv", "animals.csv is not what another method computes: line 2 is 'Bor,60,0,",
+               file="animals.csv", old="^Bor,60,3,", new="Bor,60,0,")
 
 
 @forgery("a table is taken out, and stays listed", "overlaps.csv is in SHA256SUMS and not there")
@@ -164,143 +147,73 @@ def _(hand):
 
 @forgery("ranges.gpkg is no base", "ranges.gpkg cannot be read")
 def _(hand):
-    hand.edit("ranges.gpkg", lambda content: content[:3000])
-    hand.seal()
+    hand.sealed_edit("ranges.gpkg", lambda content: content[:3000])
 
 
-@forgery("hectares in a cell of report.html", "report.html has '7.5' as hectares_95 of Bor; '[0-9.]+' is wanted")
-def _(hand):
-    hand.sealed_sub("report.html", '(<td data-field="hectares_95">)[^<]+', r"\g<1>7.5")
-
-
-@forgery("hectares in a sentence of report.html",
-         "report.html has 'Bor: 95 % MCP 7.5 ha, .*' as sentence; 'Bor: 95 % MCP .*' is wanted")
-def _(hand):
-    hand.sealed_sub("report.html", "(<li><bdi>Bor</bdi>: 95 % MCP )[0-9.,]+", r"\g<1>7.5")
-
-
-@forgery("a unit in a cell of report.html", "report.html has '.* km2' as hectares_50 of Bor; ")
-def _(hand):
-    hand.sealed_sub("report.html", '(<td data-field="hectares_50">[^<]+)', r"\1 km2")
-
-
-@forgery("the unit of coordinates in report.html",
-         "report.html has '.. .* in whole decimetres, .*' as paragraph; '.. .* in whole metres, ")
-def _(hand):
-    hand.sealed_sub("report.html", "in whole metres", "in whole decimetres")
-
-
-@forgery("what was left out in a sentence of report.html",
-         "report.html has '.*left out: 5 marked as .*' as paragraph; '.*left out: 6 marked as ")
-def _(hand):
-    hand.sealed_sub("report.html", "left out: 6 marked", "left out: 5 marked")
-
-
-@forgery("a word beside the day in report.html",
-         "report.html has '.*Made on 1 May 2026, seen by .*' as paragraph; '.*Made on .. with")
-def _(hand):
-    hand.sealed_sub("report.html", "Made on [^<]* with", "Made on 1 May 2026, seen by the authority, with")
-
-
-@forgery("another day of report.html")
-def _(hand):
-    hand.sealed_sub("report.html", "Made on [^<]* with", "Made on 1 May 2026 with")
-
-
-@forgery("the grid and the ground in report.html",
-         "report.html has '.*on the ground by 3.00 % here.*' as paragraph; '.*on the ground by -0.0")
-def _(hand):
-    hand.sealed_sub("report.html", "by -0.0[0-9] % here", "by 3.00 % here")
-
-
-@forgery("two levels in the headings of report.html", "report.html has '100 %' as heading; '95 %' is wanted")
-def _(hand):
-    hand.sealed_sub("report.html", "<th>95 %</th><th>100 %</th>", "<th>100 %</th><th>95 %</th>")
-
-
-@forgery("names that are shown in report.html", "report.html has 'Vesna' as name of Bor; 'Bor' is wanted")
-def _(hand):
-    hand.sealed_sub("report.html", "<th><bdi>Bor</bdi></th>", "<th><bdi>Vesna</bdi></th>")
+forgery.sealed("hectares in a cell of report.html", "report.html has '7.5' as hectares_95 of Bor; '[0-9.]+' is wanted",
+               file="report.html", old='(<td data-field="hectares_95">)[^<]+', new=r"\g<1>7.5")
+forgery.sealed("hectares in a sentence of report.html",
+               "report.html has 'Bor: 95 % MCP 7.5 ha, .*' as sentence; 'Bor: 95 % MCP .*' is wanted",
+               file="report.html", old="(<li><bdi>Bor</bdi>: 95 % MCP )[0-9.,]+", new=r"\g<1>7.5")
+forgery.sealed("a unit in a cell of report.html", "report.html has '.* km2' as hectares_50 of Bor; ",
+               file="report.html", old='(<td data-field="hectares_50">[^<]+)', new=r"\1 km2")
+forgery.sealed("the unit of coordinates in report.html",
+               "report.html has '.. .* in whole decimetres, .*' as paragraph; '.. .* in whole metres, ",
+               file="report.html", old="in whole metres", new="in whole decimetres")
+forgery.sealed("what was left out in a sentence of report.html",
+               "report.html has '.*left out: 5 marked as .*' as paragraph; '.*left out: 6 marked as ",
+               file="report.html", old="left out: 6 marked", new="left out: 5 marked")
+forgery.sealed("a word beside the day in report.html",
+               "report.html has '.*Made on 1 May 2026, seen by .*' as paragraph; '.*Made on .. with",
+               file="report.html", old="Made on [^<]* with", new="Made on 1 May 2026, seen by the authority, with")
+forgery.sealed("another day of report.html", file="report.html", old="Made on [^<]* with", new="Made on 1 May 2026 with")
+forgery.sealed("the grid and the ground in report.html",
+               "report.html has '.*on the ground by 3.00 % here.*' as paragraph; '.*on the ground by -0.0",
+               file="report.html", old="by -0.0[0-9] % here", new="by 3.00 % here")
+forgery.sealed("two levels in the headings of report.html", "report.html has '100 %' as heading; '95 %' is wanted",
+               file="report.html", old="<th>95 %</th><th>100 %</th>", new="<th>100 %</th><th>95 %</th>")
+forgery.sealed("names that are shown in report.html", "report.html has 'Vesna' as name of Bor; 'Bor' is wanted",
+               file="report.html", old="<th><bdi>Bor</bdi></th>", new="<th><bdi>Vesna</bdi></th>")
 
 
 @forgery("names in the attributes of report.html", "report.html has '1' as number of Vesna; number of Bor '1' is wanted")
 def _(hand):
-    hand.edit("report.html", lambda text: text.replace(b'<tr data-animal="Bor"', b'<tr data-animal="x"').replace(
+    hand.sealed_edit("report.html", lambda text: text.replace(b'<tr data-animal="Bor"', b'<tr data-animal="x"').replace(
         b'<tr data-animal="Vesna"', b'<tr data-animal="Bor"').replace(b'<tr data-animal="x"', b'<tr data-animal="Vesna"'))
-    hand.seal()
 
 
-@forgery("names above the curves of report.html", "report.html has '1 Vesna: .*' as what stands above a curve; '1 Bor: ")
-def _(hand):
-    hand.sealed_sub("report.html", "(<figcaption><b class=.c0.>1</b> <bdi>)Bor", r"\1Vesna")
-
-
-@forgery("names below the map of report.html",
-         "report.html has '100 % MCP 95 % MCP 50 % MCP 1.*Vesna 2.*Vesna' as paragraph; '100")
-def _(hand):
-    hand.sealed_sub("report.html", "(1</b>&#160;<bdi>)Bor", r"\1Vesna")
-
-
-@forgery("a date in report.html", "report.html has '1 Jan 2020' as first of Bor; '20 Sep 2024' is wanted")
-def _(hand):
-    hand.sealed_sub("report.html", '(data-field="first">)[^<]+', r"\g<1>1 Jan 2020")
-
-
-@forgery("an overlap in report.html", "report.html has '1 .2.xa0%.' as the fixes of Bor in the range of Vesna; '")
-def _(hand):
-    hand.sealed_sub("report.html", '(data-animal="Bor" data-other="Vesna">)[^<]+', r"\g<1>1 (2&#160;%)")
-
-
-@forgery("a checksum in report.html", "report.html has '0000.*' as export_sha256; '[0-9a-f]{64}' is wanted")
-def _(hand):
-    hand.sealed_sub("report.html", '(data-field="export_sha256">)[0-9a-f]+', r"\g<1>" + 64 * "0")
-
-
-@forgery("the sentence on limits in report.html",
-         "report.html has 'Proved: all of this page.' as paragraph; 'Proved: the numbers follow")
-def _(hand):
-    hand.sealed_sub("report.html", "Proved: the numbers follow from the files.*</p>", "Proved: all of this page.</p>")
-
-
-@forgery("a sentence is added to report.html",
-         "report.html has 'Seen by the authority.' as paragraph; heading 'Animals' is wanted")
-def _(hand):
-    hand.sealed_sub("report.html", "</ul>", "</ul><p>Seen by the authority.</p>")
-
-
-@forgery("a script in report.html", "report.html is no page of homerange: it has a script")
-def _(hand):
-    hand.sealed_sub("report.html", "</body>", "<script>document.title = 1</script></body>")
-
-
-@forgery("a picture from elsewhere in report.html", "report.html is no page of homerange: it has a img")
-def _(hand):
-    hand.sealed_sub("report.html", "</body>", '<img src="https://park.example/seal.png"></body>')
-
-
-@forgery("what a click does in report.html", "report.html is no page of homerange: its p has onclick")
-def _(hand):
-    hand.sealed_sub("report.html", '<p class="typed"', '<p onclick="alert(1)" class="typed"')
-
-
-@forgery("a cell of report.html is hidden", "report.html is no page of homerange: its td has style")
-def _(hand):
-    hand.sealed_sub("report.html", '<td data-field="hectares_95"', '<td style="display: none" data-field="hectares_95"')
-
-
-@forgery("another style of report.html", "report.html has another style than the pages of this clone")
-def _(hand):
-    hand.sealed_sub("report.html", "</style>", '[data-field="hectares_95"]::after { content: "9"; }</style>')
-
-
-@forgery("a comment in report.html", "report.html is no page of homerange: it has a comment")
-def _(hand):
-    hand.sealed_sub("report.html", "<body>", "<body><!-- seen -->")
-
-
-@forgery("text in a drawing of report.html that leaves it", "report.html is no page of homerange: it has a p within a drawing")
-def _(hand):
-    hand.sealed_sub("report.html", '<path class="rim"', '<p>7.5 ha</p><path class="rim"')
+forgery.sealed("names above the curves of report.html", "report.html has '1 Vesna: .*' as what stands above a curve; '1 Bor: ",
+               file="report.html", old="(<figcaption><b class=.c0.>1</b> <bdi>)Bor", new=r"\1Vesna")
+forgery.sealed("names below the map of report.html",
+               "report.html has '100 % MCP 95 % MCP 50 % MCP 1.*Vesna 2.*Vesna' as paragraph; '100",
+               file="report.html", old="(1</b>&#160;<bdi>)Bor", new=r"\1Vesna")
+forgery.sealed("a date in report.html", "report.html has '1 Jan 2020' as first of Bor; '20 Sep 2024' is wanted",
+               file="report.html", old='(data-field="first">)[^<]+', new=r"\g<1>1 Jan 2020")
+forgery.sealed("an overlap in report.html", "report.html has '1 .2.xa0%.' as the fixes of Bor in the range of Vesna; '",
+               file="report.html", old='(data-animal="Bor" data-other="Vesna">)[^<]+', new=r"\g<1>1 (2&#160;%)")
+forgery.sealed("a checksum in report.html", "report.html has '0000.*' as export_sha256; '[0-9a-f]{64}' is wanted",
+               file="report.html", old='(data-field="export_sha256">)[0-9a-f]+', new=r"\g<1>" + 64 * "0")
+forgery.sealed("the sentence on limits in report.html",
+               "report.html has 'Proved: all of this page.' as paragraph; 'Proved: the numbers follow",
+               file="report.html", old="Proved: the numbers follow from the files.*</p>", new="Proved: all of this page.</p>")
+forgery.sealed("a sentence is added to report.html",
+               "report.html has 'Seen by the authority.' as paragraph; heading 'Animals' is wanted",
+               file="report.html", old="</ul>", new="</ul><p>Seen by the authority.</p>")
+forgery.sealed("a script in report.html", "report.html is no page of homerange: it has a script",
+               file="report.html", old="</body>", new="<script>document.title = 1</script></body>")
+forgery.sealed("a picture from elsewhere in report.html", "report.html is no page of homerange: it has a img",
+               file="report.html", old="</body>", new='<img src="https://park.example/seal.png"></body>')
+forgery.sealed("what a click does in report.html", "report.html is no page of homerange: its p has onclick",
+               file="report.html", old='<p class="typed"', new='<p onclick="alert(1)" class="typed"')
+forgery.sealed("a cell of report.html is hidden", "report.html is no page of homerange: its td has style",
+               file="report.html", old='<td data-field="hectares_95"', new='<td style="display: none" data-field="hectares_95"')
+forgery.sealed("another style of report.html", "report.html has another style than the pages of this clone",
+               file="report.html", old="</style>", new='[data-field="hectares_95"]::after { content: "9"; }</style>')
+forgery.sealed("a comment in report.html", "report.html is no page of homerange: it has a comment",
+               file="report.html", old="<body>", new="<body><!-- seen -->")
+forgery.sealed("text in a drawing of report.html that leaves it",
+               "report.html is no page of homerange: it has a p within a drawing",
+               file="report.html", old='<path class="rim"', new='<p>7.5 ha</p><path class="rim"')
 
 
 @forgery("the page of another run", "report.html has")
@@ -312,9 +225,7 @@ def _(hand):
     hand.seal()
 
 
-@forgery("another title of report.html")
-def _(hand):
-    hand.sealed_sub("report.html", "Wolves", "Wolves of the park", 0)
+forgery.sealed("another title of report.html", file="report.html", old="Wolves", new="Wolves of the park", count=0)
 
 
 if __name__ == "__main__":

@@ -35,14 +35,18 @@ class Runner(Hand):
         self.seal()
 
 
+def move_fix(hand):
+    hand.sub("tracks/Bor.csv", "^(Bor,[0-9]+),[0-9]+", r"\1,561234")
+
+
 @forgery("01 a fix is moved", "tracks/Bor.csv was changed since", "Bor.csv is not the file", "another track of Bor")
 def _(hand):
-    hand.sub("tracks/Bor.csv", "^(Bor,[0-9]+),[0-9]+", r"\1,561234")
+    move_fix(hand)
 
 
 @forgery("02 a fix is moved, run again and sealed", "another record|another track of Bor")
 def _(hand):
-    hand.sub("tracks/Bor.csv", "^(Bor,[0-9]+),[0-9]+", r"\1,561234")
+    move_fix(hand)
     hand.sealed_run()
 
 
@@ -92,45 +96,34 @@ def _(hand):
     hand.sub("report.txt", "^percent,[A-Za-z]*,95,.*\n", "", 0)
 
 
+def run_of_levels(hand, levels):
+    hand.sub("evidence.txt", "^levels: .*", f"levels: {levels}")
+    hand.sealed_run("--percent", levels, "--unit", "m")
+
+
 @forgery("10 a true run of other levels")
 def _(hand):
-    hand.sub("evidence.txt", "^levels: .*", "levels: 95,100")
-    hand.sealed_run("--percent", "95,100", "--unit", "m")
+    run_of_levels(hand, "95,100")
 
 
-@forgery("11 an area by another program, sealed", "run again the program makes another report", "not what another method")
-def _(hand):
-    hand.sub("report.txt", "^(row,Bor,30,[0-9]+,[0-9]+),[0-9]+", r"\1,123456")
-    hand.seal()
-
-
-@forgery("12 another date, sealed")
-def _(hand):
-    hand.sub("evidence.txt", "^made: 2", "made: 1")
-    hand.seal()
-
-
-@forgery("13 another commit, sealed")
-def _(hand):
-    hand.sub("evidence.txt", "^commit: .*", "commit: " + 40 * "d")
-    hand.seal()
-
-
-@forgery("14 the export is taken out of the record of the run, sealed", "evidence.txt names another export than split.txt")
-def _(hand):
-    hand.sub("evidence.txt", "^export.*\n", "", 0)
-    hand.seal()
+forgery.sealed("11 an area by another program, sealed", "run again the program makes another report", "not what another method",
+               file="report.txt", old="^(row,Bor,30,[0-9]+,[0-9]+),[0-9]+", new=r"\1,123456")
+forgery.sealed("12 another date, sealed", file="evidence.txt", old="^made: 2", new="made: 1")
+forgery.sealed("13 another commit, sealed", file="evidence.txt", old="^commit: .*", new="commit: " + 40 * "d")
+forgery.sealed("14 the export is taken out of the record of the run, sealed",
+               "evidence.txt names another export than split.txt",
+               file="evidence.txt", old="^export.*\n", new="", count=0)
 
 
 @forgery("15 a checksum is taken out, and its track edited", "tracks/Bor.csv is there and not in SHA256SUMS")
 def _(hand):
-    hand.sub("tracks/Bor.csv", "^(Bor,[0-9]+),[0-9]+", r"\1,561234")
+    move_fix(hand)
     hand.sub("SHA256SUMS", "^.*tracks/Bor.csv\n", "")
 
 
 @forgery("16 a checksum is made a comment, and its track edited", "line [0-9]* of SHA256SUMS is no checksum and name")
 def _(hand):
-    hand.sub("tracks/Bor.csv", "^(Bor,[0-9]+),[0-9]+", r"\1,561234")
+    move_fix(hand)
     hand.sub("SHA256SUMS", "^(.*tracks/Bor.csv)", r"# \1")
 
 
@@ -156,10 +149,8 @@ def _(hand):
     anew(hand, hand.export.read_text().replace(",true", ",false", 40))
 
 
-@forgery("20 the checksum of another program, sealed", "the program of the record has the checksum 0000")
-def _(hand):
-    hand.sub("evidence.txt", "^program sha256: .*", "program sha256: " + 64 * "0")
-    hand.seal()
+forgery.sealed("20 the checksum of another program, sealed", "the program of the record has the checksum 0000",
+               file="evidence.txt", old="^program sha256: .*", new="program sha256: " + 64 * "0")
 
 
 def swapped(text):
@@ -174,8 +165,7 @@ def _(hand):
 
 @forgery("22 two lines of the report are swapped, sealed", "run again the program makes another", "line 11 is")
 def _(hand):
-    hand.edit("report.txt", swapped)
-    hand.seal()
+    hand.sealed_edit("report.txt", swapped)
 
 
 @forgery("23 the animals of the report change places, sealed", "run again the program makes another", "another method")
@@ -189,38 +179,19 @@ def _(hand):
 
 @forgery("24 the report is cut off, sealed", "run again the program makes another", "another method")
 def _(hand):
-    hand.edit("report.txt", lambda text: text[:-40])
-    hand.seal()
+    hand.sealed_edit("report.txt", lambda text: text[:-40])
 
 
-@forgery("25 an overlap is changed, sealed", "run again the program makes another", "another method")
-def _(hand):
-    hand.sub("report.txt", "^(overlap,Bor,Vesna),[0-9]+", r"\1,1")
-    hand.seal()
-
-
-@forgery("26 a box is changed, sealed", "run again the program makes another", "another method")
-def _(hand):
-    hand.sub("report.txt", "^(box,Bor),[0-9]+", r"\1,1")
-    hand.seal()
-
-
-@forgery("27 a corner is changed, sealed", "run again the program makes another", "another method")
-def _(hand):
-    hand.sub("report.txt", "^(corner,Bor,2),[0-9]+", r"\1,1")
-    hand.seal()
-
-
-@forgery("28 a second is changed, sealed", "run again the program makes another", "another method")
-def _(hand):
-    hand.sub("report.txt", "^(row,Bor,2),[0-9]+", r"\1,1726800001")
-    hand.seal()
-
-
-@forgery("29 another zone in the record, sealed", "another record than split.txt")
-def _(hand):
-    hand.sub("tracks/split.txt", "^zone,33N", "zone,34N")
-    hand.seal()
+forgery.sealed("25 an overlap is changed, sealed", "run again the program makes another", "another method",
+               file="report.txt", old="^(overlap,Bor,Vesna),[0-9]+", new=r"\1,1")
+forgery.sealed("26 a box is changed, sealed", "run again the program makes another", "another method",
+               file="report.txt", old="^(box,Bor),[0-9]+", new=r"\1,1")
+forgery.sealed("27 a corner is changed, sealed", "run again the program makes another", "another method",
+               file="report.txt", old="^(corner,Bor,2),[0-9]+", new=r"\1,1")
+forgery.sealed("28 a second is changed, sealed", "run again the program makes another", "another method",
+               file="report.txt", old="^(row,Bor,2),[0-9]+", new=r"\1,1726800001")
+forgery.sealed("29 another zone in the record, sealed", "another record than split.txt",
+               file="tracks/split.txt", old="^zone,33N", new="zone,34N")
 
 
 def shift(hand, column, by):
@@ -252,21 +223,24 @@ def _(hand):
     hand.sealed_run()
 
 
+def exchange_files(hand):
+    """Gives each track the name of the other's file."""
+    hand.path("tracks/Bor.csv").rename(hand.path("tracks/x"))
+    hand.path("tracks/Vesna.csv").rename(hand.path("tracks/Bor.csv"))
+    hand.path("tracks/x").rename(hand.path("tracks/Vesna.csv"))
+
+
 @forgery("33 the animals change names, run again and sealed", "another track|another record")
 def _(hand):
     for path, other in (("Bor", "Vesna"), ("Vesna", "Bor")):
         hand.sub(f"tracks/{path}.csv", f"^{path},", f"{other},", 0)
-    hand.path("tracks/Bor.csv").rename(hand.path("tracks/x"))
-    hand.path("tracks/Vesna.csv").rename(hand.path("tracks/Bor.csv"))
-    hand.path("tracks/x").rename(hand.path("tracks/Vesna.csv"))
+    exchange_files(hand)
     hand.sealed_run()
 
 
 @forgery("34 the files change names, run again and sealed", "another track|another record")
 def _(hand):
-    hand.path("tracks/Bor.csv").rename(hand.path("tracks/x"))
-    hand.path("tracks/Vesna.csv").rename(hand.path("tracks/Bor.csv"))
-    hand.path("tracks/x").rename(hand.path("tracks/Vesna.csv"))
+    exchange_files(hand)
     hand.sealed_run()
 
 
@@ -277,8 +251,7 @@ def _(hand):
 
 @forgery("36 line ends of another system in the report, sealed", "run again the program makes another", "line 1 is")
 def _(hand):
-    hand.edit("report.txt", lambda text: text.replace(b"\n", b"\r\n"))
-    hand.seal()
+    hand.sealed_edit("report.txt", lambda text: text.replace(b"\n", b"\r\n"))
 
 
 @forgery("37 line ends of another system in the tracks, run again and sealed", "another track|another record")
@@ -288,16 +261,10 @@ def _(hand):
     hand.sealed_run()
 
 
-@forgery("38 a byte 0 in the report, sealed", "run again the program makes another", "another method")
-def _(hand):
-    hand.sub("report.txt", "^row,Bor,3,", "row,Bor,3\0,")
-    hand.seal()
-
-
-@forgery("39 a letter that looks the same in the report, sealed", "run again the program makes another", "another method")
-def _(hand):
-    hand.sub("report.txt", "Vesna", HOMOGLYPH, 0)
-    hand.seal()
+forgery.sealed("38 a byte 0 in the report, sealed", "run again the program makes another", "another method",
+               file="report.txt", old="^row,Bor,3,", new="row,Bor,3\0,")
+forgery.sealed("39 a letter that looks the same in the report, sealed", "run again the program makes another", "another method",
+               file="report.txt", old="Vesna", new=HOMOGLYPH, count=0)
 
 
 @forgery("40 a letter that looks the same everywhere, run again and sealed", "another track|another record|split.txt")
@@ -310,20 +277,17 @@ def _(hand):
 
 @forgery("41 a line behind the end, sealed", "run again the program makes another", "another method")
 def _(hand):
-    hand.edit("report.txt", lambda text: text + b"end,2\n")
-    hand.seal()
+    hand.sealed_edit("report.txt", lambda text: text + b"end,2\n")
 
 
 @forgery("42 a form feed for a line end, sealed", "run again the program makes another", "another method")
 def _(hand):
-    hand.edit("report.txt", lambda text: text.replace(b"\n", b"\f", 1))
-    hand.seal()
+    hand.sealed_edit("report.txt", lambda text: text.replace(b"\n", b"\f", 1))
 
 
 @forgery("43 no last line end, sealed", "run again the program makes another", "its last line has no end")
 def _(hand):
-    hand.edit("report.txt", lambda text: text[:-1])
-    hand.seal()
+    hand.sealed_edit("report.txt", lambda text: text[:-1])
 
 
 @forgery("44 a track is missing", "tracks/Vesna.csv is in SHA256SUMS and not there")
@@ -346,49 +310,40 @@ def _(hand):
     hand.edit("SHA256SUMS", lambda text: text.split(b"\n")[0] + b"\n")
 
 
-@forgery("48 what was left out is taken out of the record, sealed", "another record than split.txt")
-def _(hand):
-    hand.sub("tracks/split.txt", "^(said,6 outliers.*|left,.*)\n", "", 0)
-    hand.seal()
+forgery.sealed("48 what was left out is taken out of the record, sealed", "another record than split.txt",
+               file="tracks/split.txt", old="^(said,6 outliers.*|left,.*)\n", new="", count=0)
 
 
 @forgery("49 the record of the split is taken away and a fix moved, run again and sealed", "no record of a split")
 def _(hand):
     hand.path("tracks/split.txt").unlink()
     hand.sub("evidence.txt", "^export.*\n", "", 0)
-    hand.sub("tracks/Bor.csv", "^(Bor,[0-9]+),[0-9]+", r"\1,561234")
+    move_fix(hand)
     hand.sealed_run()
 
 
 @forgery("50 a true run of fewer levels, in another order")
 def _(hand):
-    hand.sub("evidence.txt", "^levels: .*", "levels: 100,50")
-    hand.sealed_run("--percent", "100,50", "--unit", "m")
+    run_of_levels(hand, "100,50")
 
 
-@forgery("51 the arguments stand twice in the record of the run, sealed", "is no field that stands there once")
-def _(hand):
-    hand.sub("evidence.txt", "^(arguments: .*)", r"\1\narguments: --percent 100 -- tracks/Bor.csv")
-    hand.seal()
+forgery.sealed("51 the arguments stand twice in the record of the run, sealed", "is no field that stands there once",
+               file="evidence.txt", old="^(arguments: .*)", new=r"\1\narguments: --percent 100 -- tracks/Bor.csv")
 
 
 @forgery("52 an untrue remark in the record of the run, sealed", "is no field that stands there once")
 def _(hand):
-    hand.edit("evidence.txt", lambda text: text + b"checked: by the authority\n")
-    hand.seal()
+    hand.sealed_edit("evidence.txt", lambda text: text + b"checked: by the authority\n")
 
 
-@forgery("53 another program, and the release named in a remark, sealed", "is no field", "the program of the record|is no field")
+@forgery("53 another program, and the release named in a remark, sealed", "is no field")
 def _(hand):
     release = SUM.search(hand.path("evidence.txt").read_text().split("program sha256")[1])[0]
-    hand.sub("evidence.txt", "^program sha256: .*", "program sha256: " + 64 * "0" + f"\n# {release}  homerange")
-    hand.seal()
+    hand.sealed_sub("evidence.txt", "^program sha256: .*", "program sha256: " + 64 * "0" + f"\n# {release}  homerange")
 
 
-@forgery("54 tracks in decimetres run in metres", "the tracks are in dm, by split.txt, and the run was made in m")
-def _(hand):
-    hand.sub("tracks/split.txt", "^unit,m", "unit,dm")
-    hand.seal()
+forgery.sealed("54 tracks in decimetres run in metres", "the tracks are in dm, by split.txt, and the run was made in m",
+               file="tracks/split.txt", old="^unit,m", new="unit,dm")
 
 
 @forgery("55 another program made the report, and is named", "the program of the record has", "run again", "another method")
@@ -397,14 +352,13 @@ def _(hand):
     liar.write_text(f'#!/bin/sh\n"{hand.program}" "$@" | sed "s/^percent,Bor,100.*/percent,Bor,100,57,3,9/"\n')
     liar.chmod(0o755)
     hand.path("report.txt").write_bytes(hand.call(liar, "--", "tracks/Bor.csv", "tracks/Vesna.csv", folder=hand.folder))
-    hand.sub("evidence.txt", "^program sha256: .*", f"program sha256: {checksum(liar)}")
-    hand.seal()
+    hand.sealed_sub("evidence.txt", "^program sha256: .*", f"program sha256: {checksum(liar)}")
 
 
 @forgery("56 names from the root, and a track edited", "which is not a file in the folder")
 def _(hand):
     hand.sub("SHA256SUMS", "  tracks/", f"  {hand.room}/tracks/", 0)
-    hand.sub("tracks/Bor.csv", "^(Bor,[0-9]+),[0-9]+", r"\1,561234")
+    move_fix(hand)
 
 
 @forgery("57 an animal is invented, sealed", "run again the program makes another", "another method")
