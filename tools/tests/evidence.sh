@@ -48,6 +48,11 @@ holds 'the record of the run' cmp wanted about
 holds 'its date' grep -qxE 'made: 20[0-9]{2}-[0-9]{2}-[0-9]{2}T[0-9]{2}:[0-9]{2}:[0-9]{2}Z' first/evidence.txt
 sh -c "cd first && '$HOMERANGE' $(sed -n 's/^arguments: //p' first/evidence.txt)" >again
 holds 'a shell takes the arguments back' cmp again first/report.txt
+holds 'so does xargs, as the page has it' sh -c "cd first && sed -n 's/^arguments: //p' evidence.txt | xargs '$HOMERANGE' | cmp - report.txt"
+cut -d, -f2- "$top/examples/export.csv" >fetched.csv
+python3 "$tools/split.py" --into mine fetched.csv 2>messages
+holds 'an export of other columns has the same tracks, and a record of its own' [ "$(diff -r mine first/tracks | grep '^<' | cut -d, -f1)" = '< export
+< sha256' ]
 holds 'it is verified' verify first "$top/examples/export.csv" --program "$HOMERANGE"
 holds 'all of it was looked at' grep -qx 'verify.py: 7 held, 0 did not, 0 not looked at' said
 for unknown in 'who made the run, and when' 'whether the export is what'; do

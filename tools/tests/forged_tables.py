@@ -226,6 +226,12 @@ def _(hand):
 
 
 forgery.sealed("another title of report.html", file="report.html", old="Wolves", new="Wolves of the park", count=0)
+forgery.sealed("a drawing in report.html", file="report.html", old='(<path class="rim" d="M)', new=r"\g<1>9")
+
+
+@forgery("a picture")
+def _(hand):
+    hand.sealed_edit("ranges.png", lambda content: content + b"x")
 
 
 if __name__ == "__main__":
