@@ -312,7 +312,9 @@ def check_scale(herd: Herd, places: Places, scale: zones.Scale, shown: Callable[
             found.append((scale(*means), shown(name)))
     worst, name = max(found, key=lambda pair: abs(pair[0] - 1), default=(1.0, ""))
     text = f"areas of {name} are {abs(worst - 1) * 100:.2f} % too {'great' if worst > 1 else 'small'} on this grid"
-    if abs(worst - 1) > zones.REFUSED:
+    if not isfinite(worst):
+        text = f"the fixes of {name} have no place on this grid"
+    if not abs(worst - 1) <= zones.REFUSED:
         refuse(f"{text}: take a zone or a reference system of the place", "scale")
     if abs(worst - 1) > zones.TOLD:
         herd.said.say(text)

@@ -213,6 +213,13 @@ def test_a_reference_system_of_wrong_areas_is_refused(code, scale):
         home_range(columns, crs=code)
 
 
+def test_places_off_a_reference_system_are_refused():
+    pytest.importorskip("pyproj")
+    with pytest.raises(FrameError, match="the fixes of a have no place on this grid: take a zone") as fault:
+        home_range(frame_of(a=[(46_000_000, 26_000_000), (46_000_100, 26_000_000)]), crs=3035)
+    assert fault.value.kind == "scale"
+
+
 def test_equal_areas_are_taken():
     geopandas = pytest.importorskip("geopandas")
     points = geopandas.GeoDataFrame(frame_of(a=SQUARE)[["animal", "timestamp"]], crs=32633, geometry=geopandas.points_from_xy(

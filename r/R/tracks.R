@@ -59,10 +59,12 @@ check_scale <- function(herd, places, scale) {
   animal <- as_groups(herd$records$animal[used])
   means <- lapply(list(places$east, places$north), function(side) tapply(side[used], animal, mean))
   scales <- mapply(scale, means[[1]], means[[2]])
+  scales[!is.finite(scales)] <- Inf
   worst <- which.max(abs(scales - 1))
   away <- scales[[worst]] - 1
-  text <- paste0("areas of ", said_name(herd, as.integer(levels(animal)[worst])), " are ", sprintf("%.2f", 100 * abs(away)),
-                 " % too ", if (away > 0) "great" else "small", " on this grid")
+  name <- said_name(herd, as.integer(levels(animal)[worst]))
+  text <- if (is.infinite(away)) paste0("the fixes of ", name, " have no place on this grid") else
+    paste0("areas of ", name, " are ", sprintf("%.2f", 100 * abs(away)), " % too ", if (away > 0) "great" else "small", " on this grid")
   if (abs(away) > scale_refused) refuse("scale", text, ": take a zone or a reference system of the place")
   if (abs(away) > scale_told) say(herd$said, NULL, text)
 }

@@ -180,6 +180,8 @@ test_that("a reference system of wrong areas is refused", {
     expect_error(quietly(home_range(sf::st_transform(points, as.numeric(code)))), message, class = "homerange_scale_error")
   }
   expect_error(quietly(home_range(sf::st_transform(points, 3034))), "too small on this grid", class = "homerange_scale_error")
+  expect_error(quietly(home_range(transform(square(), x = x + 46000000), crs = 3035)), "the fixes of hare have no place on this grid",
+               class = "homerange_scale_error")
   equal <- quietly(home_range(sf::st_transform(points, 3035)))
   expect_equal(summary(equal)$hectares[3], 4, tolerance = 0.02)
   # The areal scale against that of the sphere in UTM, which it is near to.
