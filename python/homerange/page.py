@@ -47,13 +47,21 @@ def shapes_of(ranges: HomeRanges, levels: Sequence[int]) -> list[Shape]:
     return found
 
 
+def in_order(ring: Sequence[Point]) -> list[Point]:
+    """The points of a ring, each once, from the westernmost on, of two such the southern, towards the more western of both
+    beside it: shapes say neither where a ring begins nor which comes first."""
+    first = ring.index(min(ring))
+    points = [*ring[first:-1], *ring[:first]]
+    return points if points[1] < points[-1] else [points[0], *points[:0:-1]]
+
+
 def rings_of(shape: Any) -> list[list[Point]]:
-    """The rings of a shape of shapely that has an area."""
+    """The rings of a shape of shapely that has an area, in the order of their points."""
     if hasattr(shape, "geoms"):
-        return [ring for part in shape.geoms for ring in rings_of(part)]
+        return sorted(ring for part in shape.geoms for ring in rings_of(part))
     if not hasattr(shape, "exterior"):
         return []
-    return [[(x, y) for x, y, *_ in ring.coords] for ring in (shape.exterior, *shape.interiors)]
+    return sorted(in_order([(x, y) for x, y, *_ in ring.coords]) for ring in (shape.exterior, *shape.interiors))
 
 
 def levels_drawn(ranges: HomeRanges) -> list[int]:

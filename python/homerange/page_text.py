@@ -2,6 +2,7 @@
 
 from __future__ import annotations
 
+import warnings
 from collections import Counter
 from typing import Any, Mapping, NamedTuple, Sequence
 
@@ -44,15 +45,23 @@ def system_of(crs: Any, middles: Sequence[tuple[float, float]]) -> System:
 
 
 def name_of_crs(crs: Any) -> str:
-    """The code and the name of a reference system; those of UTM are written alike in all languages."""
+    """The code and the name of a reference system, or how it is defined where it has neither; those of UTM are written
+    alike in all languages."""
     from pyproj import CRS
 
     system = CRS.from_user_input(crs)
-    authority = system.to_authority()
-    if authority is None:
-        return str(system.name)
-    code = ":".join(authority)
+    own = system.to_json_dict().get("id")
+    if own is None:
+        return definition_of(system) if system.name == "unknown" else str(system.name)
+    code = f"{own['authority']}:{own['code']}"
     return f"{code} (WGS 84 / UTM zone {UTM[code]})" if code in UTM else f"{code} ({system.name})"
+
+
+def definition_of(system: Any) -> str:
+    """A reference system as PROJ has it in one line, without the datum's grids, of which it warns."""
+    with warnings.catch_warnings():
+        warnings.simplefilter("ignore")
+        return str(system.to_proj4()).removesuffix(" +type=crs")
 
 
 def difference(scales: Sequence[float]) -> str:

@@ -16,7 +16,7 @@ write_page <- function(x, path, title = NULL, study = NULL, species = NULL, by =
   clock <- new_clock(zone, ends)
   program <- tryCatch(identity_of(homerange_program()), homerange_program_error = function(fault) list(version = "homerange"))
   drawn <- places_of_map(x, reserve, reserve_name)
-  head <- if (is.null(title)) heading_of_page(x$animals$animal) else title
+  head <- if (is_given(title)) title else heading_of_page(x$animals$animal)
   day <- as.POSIXlt(if (is.null(made)) as.POSIXlt(Sys.time(), tz = zone) else made)
   places <- c(drawn$places, places_of_numbers(x, rows, clock), list(
     title = as_html(head), heading = in_bdi(head), typed = typed_text(c(Study = study, Species = species, By = by)),
@@ -37,6 +37,9 @@ fill_template <- function(template, places) {
   regmatches(template, found) <- list(unlist(places[names]))
   template
 }
+
+# Whether a text was typed in.
+is_given <- function(text) !is.null(text) && nzchar(text)
 
 heading_of_page <- function(animals) {
   number <- length(animals)
@@ -82,22 +85,38 @@ shapes_of_page <- function(x) {
 
 # The rings of a boundary.
 rings_of_boundary <- function(shape) {
-  if (inherits(shape, "POLYGON")) return(lapply(unclass(shape), function(ring) ring[, 1:2]))
-  if (inherits(shape, "MULTIPOLYGON")) return(lapply(unlist(unclass(shape), recursive = FALSE), function(ring) ring[, 1:2]))
+  if (inherits(shape, "POLYGON")) return(lapply(unclass(shape), ring_in_order))
+  if (inherits(shape, "MULTIPOLYGON")) return(lapply(unlist(unclass(shape), recursive = FALSE), ring_in_order))
   if (is.list(shape)) unlist(lapply(shape, rings_of_boundary), recursive = FALSE)
+}
+
+# The points of a ring, each once, from the westernmost on, of two such the southern, towards the more western of both beside
+# it: shapes say neither where a ring begins nor which comes first.
+ring_in_order <- function(ring) {
+  points <- ring[-1, 1:2]
+  first <- order(points[, 1], points[, 2])[1]
+  points <- points[(first + seq_len(nrow(points)) - 2) %% nrow(points) + 1, ]
+  ends <- c(2, nrow(points))
+  if (order(points[ends, 1], points[ends, 2])[1] == 1) points else points[c(1, rev(seq_len(nrow(points))[-1])), ]
+}
+
+# The rings of a boundary in the order of their first two points.
+rings_in_order <- function(rings) {
+  starts <- vapply(rings, function(ring) c(t(ring[1:2, ])), c(0, 0, 0, 0))
+  rings[order(starts[1, ], starts[2, ], starts[3, ], starts[4, ])]
 }
 
 # The places with the map and what is said of it, and how the reference system is written.
 places_of_map <- function(x, reserve, reserve_name) {
   shapes <- shapes_of_page(x)
-  rings <- if (!is.null(reserve)) rings_of_boundary(boundary_of(x, reserve))
+  rings <- if (!is.null(reserve)) rings_in_order(rings_of_boundary(boundary_of(x, reserve)))
   middles <- do.call(rbind, lapply(shapes, function(shape) {
     box <- box_of(shape$polygons[[1]])
     c((box[1] + box[3]) / 2, (box[2] + box[4]) / 2)
   }))
   system <- system_of_page(x, middles)
   drawn <- page_maps(shapes, rings, as_html(system$text), least_of_map[[x$unit]])
-  name <- if (!is.null(reserve)) if (is.null(reserve_name)) "boundary" else in_bdi(reserve_name)
+  name <- if (!is.null(reserve)) if (is_given(reserve_name)) in_bdi(reserve_name) else "boundary"
   list(system = system$text, places = list(
     maps = paste(drawn$drawings, collapse = "\n"), key = key_of_map(x, name),
     ground = ground_text(system, drawn, !is.null(x$fixes), !is.null(reserve))

@@ -120,8 +120,8 @@ pairs_that_meet <- function(counts, fixes) {
   pairs <- which(upper.tri(counts) & (counts > 0 | t(counts) > 0), arr.ind = TRUE)
   one <- pairs[, 1]
   other <- pairs[, 2]
-  greater <- pmax(1e6 * counts[cbind(one, other)] %/% fixes[one], 1e6 * counts[cbind(other, one)] %/% fixes[other])
-  unname(pairs[order(-greater, one, other), , drop = FALSE])
+  share_of <- function(own, others) (1e6 * counts[cbind(own, others)]) %/% fixes[own]
+  unname(pairs[order(-pmax(share_of(one, other), share_of(other, one)), one, other), , drop = FALSE])
 }
 
 count_with_share <- function(count, fixes) {

@@ -21,9 +21,15 @@ system_of_page <- function(ranges, middles) {
   }
   if (is.null(ranges$crs)) return(list(text = "reference system not known", difference = unknown))
   scale <- scale_of_crs(ranges$crs)
-  code <- ranges$crs$epsg
-  list(text = if (is.na(code)) ranges$crs$Name else sprintf("EPSG:%d (%s)", code, ranges$crs$Name),
-       difference = difference_text(apply(middles, 1, function(at) scale(at[1], at[2]))))
+  list(text = name_of_crs(ranges$crs), difference = difference_text(apply(middles, 1, function(at) scale(at[1], at[2]))))
+}
+
+# The code and the name of a reference system, or how it is defined where it has neither.
+name_of_crs <- function(crs) {
+  own <- "^.*ID\\[\"([^\"]+)\",\"?([^]\"]+)\"?\\]\\]$"
+  wkt <- gsub("\\s*\n\\s*", "", crs$wkt)
+  if (grepl(own, wkt)) return(paste0(sub(own, "\\1:\\2", wkt), " (", crs$Name, ")"))
+  if (crs$Name == "unknown") crs$proj4string else crs$Name
 }
 
 # By how much areas differ, of the least and the greatest areal scale.
