@@ -33,13 +33,11 @@ if is_r_ready; then
     holds 'its vignette has two pictures' [ "$(grep -c 'src="data:image/png' $page)" -eq 2 ]
     if python3 -c 'import geopandas, pandas' 2>errors; then
         "$HOMERANGE" "$top"/examples/fox.csv "$top"/examples/badger.csv "$top"/examples/otter.csv >report.txt
-        holds 'its evidence and its page' env R_LIBS="$PWD/homerange.Rcheck" Rscript -e 'library(homerange)
-            write.csv(deer, "deer.csv", row.names = FALSE)
-            day <- as.Date("2026-11-26")
-            evidence(home_range(deer), "by_r", title = "<b> & deer", made = day)
-            write_page(read_report("report.txt"), "by_r.html", made = day)'
-        holds 'they are those of the package for Python, byte for byte' \
-            env PYTHONDONTWRITEBYTECODE=1 python3 "$tools/tests/same_pages.py" .
+        holds 'cases of pages' python3 "$tools/tests/same_pages.py" make .
+        mkdir by_r by_python
+        holds 'its evidence and its page' env R_LIBS="$PWD/homerange.Rcheck" Rscript "$tools/tests/same_pages.R" .
+        holds 'they are those of the package for Python, byte for byte, and hold' \
+            env PYTHONDONTWRITEBYTECODE=1 python3 "$tools/tests/same_pages.py" hold .
     else
         skip "pages of both packages: $(tail -n 1 errors)"
     fi

@@ -1,23 +1,140 @@
-"""same_pages.py FOLDER: of deer.csv and report.txt in a folder the evidence and the page that the package for R makes in
-by_r and by_r.html; it makes those of the package for Python, and says which files are not the same bytes."""
+"""same_pages.py make FOLDER, and same_pages.py hold FOLDER: whether the packages for R and for Python make the same bytes of
+the same ranges, and a page that tools/verify.py holds, which shares no code with either.
+
+The first writes cases into a folder: fixes, and cases.csv, which says with what same_pages.R makes their evidence, in by_r.
+The second makes that of the package for Python, in by_python, and prints what does not hold. HOMERANGE is the program."""
+import csv
+import os
+import random
+import shutil
+import subprocess
 import sys
+import tempfile
 import warnings
 from datetime import date
 from pathlib import Path
 
-sys.path.insert(0, str(Path(__file__).resolve().parents[2] / "python"))
+TOOLS = Path(__file__).resolve().parents[1]
+sys.path.insert(0, str(TOOLS.parent / "python"))
 
-import pandas
+TITLES = ["name", "levels", "unit", "crs", "tz", "title", "study", "boundary", "boundary_crs", "boundary_name"]
+TABLES = ("report.html", "summary.csv", "animals.csv", "overlaps.csv")
+FILES = ("report.txt", *TABLES)
+ODD = ("<script>", "a & b", "it's", "فهد", "אבא", "\U0001f98a", "x  y", "{{title}}", "turned \u202e", "NA", "007", "c\\d", "%s", "Č")
+WOOD = ("MULTIPOLYGON (((560500 5133600, 561700 5133600, 561700 5134800, 560500 5134800, 560500 5133600), (560800 5133800, "
+        "560800 5134100, 561100 5134100, 561100 5133800, 560800 5133800)), ((562000 5133000, 562400 5133000, 562400 5133400, "
+        "562000 5133400, 562000 5133000)))")
+VALLEY = "POLYGON ((15.79 46.35, 15.81 46.35, 15.81 46.37, 15.79 46.37, 15.79 46.35))"
+GRID = "+proj=tmerc +lat_0=0 +lon_0=15 +k=0.9999 +x_0=500000 +y_0=0 +ellps=bessel +units=m +no_defs"
 
-from homerange import home_range, read_report, write_page
 
-FILES = ("report.txt", "report.html", "summary.csv", "animals.csv", "overlaps.csv")
+def walks(names, steps, at, apart=400, part=0.0):
+    """Fixes of animals that walk from places in rows of seven, so far apart."""
+    draw, rows = random.Random(len(names)), []
+    for number, name in enumerate(names):
+        second, place = 1714521600, [at[0] + apart * (number % 7), at[1] + apart * (number // 7)]
+        for _ in range(steps):
+            second += draw.randrange(600, 20_000)
+            place = [end + draw.randrange(-60, 61) for end in place]
+            rows.append([name, second, *(end + part for end in place)])
+    return rows
 
-folder = Path(sys.argv[1])
-day = date(2026, 11, 26)
-warnings.simplefilter("ignore")
-home_range(pandas.read_csv(folder / "deer.csv")).evidence(folder / "by_python", title="<b> & deer", made=day)
-write_page(read_report(folder / "report.txt"), folder / "by_python.html", made=day)
-pairs = [("by_r.html", "by_python.html"), *((f"by_r/{name}", f"by_python/{name}") for name in FILES)]
-others = [one for one, other in pairs if (folder / one).read_bytes() != (folder / other).read_bytes()]
-sys.exit(f"not the same bytes: {', '.join(others)}" if others else 0)
+
+def cases():
+    """Of each case its fixes, and what is not as usual."""
+    here = (561_000, 5_134_000)
+    yield walks(["fox"], 40, here), {"name": "one"}
+    yield walks(["a", "b"], 40, here), {
+        "name": "boundary", "crs": "EPSG:32633", "boundary": WOOD, "boundary_crs": "EPSG:32633",
+        "boundary_name": '<wood> & "x"', "title": "<script>alert('x')</script> {{maps}} \\1 \u202e",
+        "study": "a\nb \ufeff שלום"}
+    yield walks(["a", "b", "c"], 40, here, 60_000, 0.3), {
+        "name": "details", "unit": "dm", "crs": "EPSG:32633", "boundary": VALLEY, "boundary_crs": "EPSG:4326"}
+    yield walks(["a", "b"], 40, (4_600_000, 2_600_000)), {"name": "europe", "crs": "EPSG:3035", "levels": "100,50"}
+    yield walks(["a", "b"], 40, (700_000, 6_877_000)), {"name": "france", "crs": "EPSG:2154"}
+    yield walks(["a", "b"], 40, (500_000, 100_000)), {"name": "slovenia", "crs": "EPSG:3794", "tz": "Europe/Ljubljana"}
+    yield walks(["a", "b"], 40, (500_000, 1_800_000)), {"name": "america", "crs": "ESRI:102003", "levels": "7"}
+    yield walks(["a", "b"], 40, here), {"name": "no code", "crs": GRID}
+    yield walks(["a", "b"], 40, (-300, -400)), {"name": "local", "levels": "1,20,33,50,66,75,90,100"}
+    yield walks(ODD, 35, here), {"name": "odd", "crs": "EPSG:32633"}
+    yield walks([f"n{number:02} <i>&'x" for number in range(30)], 35, here), {"name": "thirty", "crs": "EPSG:32633"}
+    yield walks([f"n{number:02}" for number in range(70)], 12, here), {"name": "seventy", "crs": "EPSG:32633"}
+
+
+def make(folder):
+    """Writes the cases."""
+    rows = []
+    for fixes, words in cases():
+        rows.append({"levels": "50,95,100", "unit": "m", "tz": "UTC", **words})
+        with open(folder / f"{words['name']}.csv", "w", encoding="utf-8", newline="") as file:
+            csv.writer(file).writerows([["animal", "second", "easting", "northing"], *fixes])
+    with open(folder / "cases.csv", "w", encoding="utf-8", newline="") as file:
+        writer = csv.DictWriter(file, TITLES)
+        writer.writeheader()
+        writer.writerows(rows)
+
+
+def make_by_python(folder, own):
+    """The evidence of a case."""
+    import geopandas
+    import pandas
+
+    from homerange import home_range
+
+    fixes = pandas.read_csv(folder / f"{own['name']}.csv", dtype={"animal": str}, keep_default_na=False)
+    levels = [int(level) for level in own["levels"].split(",")]
+    ranges = home_range(fixes, levels=levels, unit=own["unit"], crs=own["crs"] or None, tz=own["tz"])
+    wood = geopandas.GeoSeries.from_wkt([own["boundary"]], crs=own["boundary_crs"]) if own["boundary"] else None
+    ranges.evidence(
+        folder / "by_python" / own["name"], title=own["title"], study=own["study"], reserve=wood,
+        reserve_name=own["boundary_name"], made=date(2026, 11, 26))
+
+
+def fault_of_page(folder, own):
+    """What the verifier says of the page and the tables, as of files of fixes without a record, where they do not hold. Of
+    lines that were said of a data frame it knows nothing."""
+    if "this was said" in (folder / "report.html").read_text("utf-8"):
+        return None
+    with tempfile.TemporaryDirectory() as room:
+        shutil.copytree(folder / "tracks", Path(room, "tracks"))
+        words = ["--percent", own["levels"], "--unit", own["unit"]]
+        subprocess.run([TOOLS / "evidence.py", "--report", room, *words], check=True)
+        for name in TABLES:
+            shutil.copy(folder / name, room)
+        subprocess.run([TOOLS / "evidence.py", "--sums", room], check=True)
+        run = subprocess.run(
+            [TOOLS / "verify.py", room, "--program", os.environ["HOMERANGE"]], stdout=subprocess.PIPE, text=True)
+    held = [line for line in run.stdout.split("\n") if line.startswith("held: the tables and sentences of report.html")]
+    return None if run.returncode == 3 and held else run.stdout
+
+
+def other_files(folder, names):
+    """Which files of both packages are not the same bytes."""
+    return [name for name in names if (folder / "by_r" / name).read_bytes() != (folder / "by_python" / name).read_bytes()]
+
+
+def hold(folder):
+    """Prints what does not hold, and answers whether something does not."""
+    from homerange import home_range, read_report, write_page
+    import pandas
+
+    warnings.simplefilter("ignore")
+    with open(folder / "cases.csv", encoding="utf-8", newline="") as file:
+        known = list(csv.DictReader(file))
+    for own in known:
+        make_by_python(folder, own)
+    day, by_python = date(2026, 11, 26), folder / "by_python"
+    home_range(pandas.read_csv(folder / "deer.csv")).evidence(by_python / "deer", title="<b> & deer", made=day)
+    write_page(read_report(folder / "report.txt"), by_python / "report.html", made=day)
+    names = [*(own["name"] for own in known), "deer"]
+    faults = [f"not the same bytes: {name}" for name in other_files(folder, [
+        "report.html", *(f"{name}/{file}" for name in names for file in FILES)])]
+    pages = [(own["name"], fault_of_page(folder / "by_r" / own["name"], own)) for own in known]
+    faults += [f"the page {name} does not hold: {fault}" for name, fault in pages if fault]
+    print("\n".join(faults))
+    return bool(faults)
+
+
+if __name__ == "__main__":
+    folder = Path(sys.argv[2])
+    sys.exit(make(folder) if sys.argv[1] == "make" else hold(folder))
