@@ -131,8 +131,8 @@ class Verification:
         elif self.split and (about.get("export"), about.get("export sha256")) != (
                 self.split.single["export"], self.split.single["sha256"]):
             fault = "evidence.txt names another export than split.txt"
-        self.findings.hold(fault, f"unit ({unit}) and levels ({levels}) are the same in the record of the run, the report and "
-                           "the record of the split")
+        places = listed(["the record of the run", "the report", *["the record of the split"] * bool(self.split)])
+        self.findings.hold(fault, f"unit ({unit}) and levels ({levels}) are the same in {places}")
 
     def tracks(self):
         """The files of the folder, those of the run, and those of the split."""
@@ -249,8 +249,8 @@ class Verification:
         if not wrong:
             self.alike.extend(names)
             are = "is" if len(names) == 1 else "are"
-            self.findings.held(f"{listed(names)} {are} what another method computes of the tracks and the record of the split, "
-                               "byte for byte")
+            source = "the tracks and the record of the split" if self.split else "the tracks"
+            self.findings.held(f"{listed(names)} {are} what another method computes of {source}, byte for byte")
 
     def layers(self):
         if LAYERS not in self.listed or self.is_unknown(LAYERS):
