@@ -71,7 +71,7 @@ if [ -n "$over" ]; then
 fi
 
 tools=$(cd "$(dirname "$0")" && pwd)
-python3 -c 'import importlib.util as u; exit(not (u.find_spec("geopandas") and u.find_spec("matplotlib")))' ||
+python3 -c 'import importlib.util as u; exit(not (u.find_spec("geopandas") and u.find_spec("matplotlib")))' 2>/dev/null ||
     fail 'it needs geopandas and matplotlib: apt-get install python3-geopandas python3-matplotlib'
 # The program's name holds from within the folder too.
 if [ -n "${HOMERANGE:-}" ]; then

@@ -7,6 +7,7 @@ from frames import frame_of
 
 from homerange import FrameError, home_range, write_page
 from homerange.drawing import counts_of, step_of
+from homerange.page import in_order
 from homerange.page_curves import Axes, Curve, steps
 from homerange.page_map import WIDTH, Frame, Numbers, Shape, maps, outlines, overlaps, thinned
 
@@ -107,6 +108,11 @@ def test_the_steps_of_a_curve():
     assert steps(curve, axes) == f"M{x[1]} {axes.bottom:.1f}H{x[3]}V{axes.y(50):.1f}H{x[5]}V6.0H{x[5]}"
     many = Curve(1, list(range(100_000)), 95_000)
     assert len(steps(many, Axes(many, 100, 60, True))) < 20_000
+
+
+def test_a_ring_begins_in_the_west_whichever_way_it_went():
+    ring = [(2, 0), (2, 2), (0, 2), (0, 0), (2, 0)]
+    assert in_order(ring) == in_order(ring[::-1]) == [(0, 0), (0, 2), (2, 2), (2, 0)]
 
 
 def test_a_boundary_is_drawn(tmp_path):

@@ -72,6 +72,10 @@ def test_words_and_systems():
     pytest.importorskip("pyproj")
     lambert = system_of("EPSG:3035", [(4_600_000, 2_600_000)])
     assert lambert.text.startswith("EPSG:3035 (ETRS89") and "by 0.00 %" in lambert.difference
+    grid = "+proj=tmerc +lat_0=0 +lon_0=15 +k=0.9999 +x_0=500000 +y_0=0 +ellps=bessel +units=m +no_defs"
+    assert system_of(grid, [(500_000, 5_134_000)]).text == grid
+    albers = system_of("ESRI:102003", [(500_000, 1_800_000)])
+    assert albers.text == "ESRI:102003 (USA_Contiguous_Albers_Equal_Area_Conic)"
 
 
 def test_what_was_said_is_quoted_without_lines_on_one_animal_and_files():

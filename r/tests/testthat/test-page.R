@@ -56,6 +56,18 @@ test_that("steps of axes are round", {
   expect_identical(step_text(step_of(7e6, 4), -3), "-6,000,000")
 })
 
+test_that("pairs stand in the order of their greater shares", {
+  counts <- matrix(c(10, 1, 4, 0, 10, 2, 9, 0, 10), 3, byrow = TRUE)
+  expect_equal(pairs_that_meet(counts, c(10, 10, 10)), rbind(c(1, 3), c(2, 3), c(1, 2)))
+})
+
+test_that("a ring of a boundary begins in the west, whichever way it went", {
+  ring <- rbind(c(2, 0), c(2, 2), c(0, 2), c(0, 0), c(2, 0))
+  expected <- rbind(c(0, 0), c(0, 2), c(2, 2), c(2, 0))
+  expect_equal(ring_in_order(ring), expected)
+  expect_equal(ring_in_order(ring[5:1, ]), expected)
+})
+
 test_that("a boundary is on the map", {
   skip_without_program()
   skip_if_not_installed("sf")
