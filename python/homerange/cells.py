@@ -85,7 +85,7 @@ class Numbers:
         digits = f"-?0*[0-9]{{1,12}}(?:{point}[0-9]+)?"
         self.form, self.title, self.missing = re.compile(digits), title, missing
         self.semicolons, self.is_grouped = semicolons, semicolons and is_metres
-        self.column = re.compile(f"(?:(?:{digits})?\n)*+")
+        self.column = re.compile("(?:(?:-?[0-9]{1,12}+(?:[.][0-9]++)?)?+\n)*+")
 
     def read(self, cell: Any) -> float:
         """The number of a cell; NaN where it is missing."""
@@ -185,10 +185,24 @@ def fraction_of(tail: str) -> float | None:
     return float(tail) if tail[0] == "." and tail[1:].isdigit() and tail.isascii() else None
 
 
+def plain_minute(text: str) -> int | None:
+    """The seconds since midnight of a blank or T, an hour and a minute; 0 of no text."""
+    found = time_of_day(text) if len(text) in (0, 6) else None
+    return None if found is None else found[0]
+
+
+def plain_second(text: str) -> int | None:
+    """The seconds of a minute of a colon and two digits; 0 of no text."""
+    found = time_of_day(" 00:00" + text) if len(text) in (0, 3) else None
+    return found[0] if found and found[2] is None else None
+
+
 def plain_clock(rest: str) -> int | None:
     """The seconds since midnight of what stands behind a date; None where it has decimals or an offset."""
-    found = time_of_day(rest)
-    return found[0] if found and found[1:] == (0.0, None) else None
+    try:
+        return MINUTES[rest[:6]] + SECONDS_OF_MINUTE[rest[6:]]
+    except KeyError:
+        return None
 
 
 class Known(Dict[str, Value]):
@@ -209,6 +223,7 @@ class Known(Dict[str, Value]):
 
 
 DAYS, CLOCKS, PLAIN_CLOCKS, FRACTIONS = Known(begin_of_day), Known(time_of_day), Known(plain_clock), Known(fraction_of)
+MINUTES, SECONDS_OF_MINUTE = Known(plain_minute), Known(plain_second)
 
 
 def is_whole_form(signs: set[str]) -> bool:
@@ -291,12 +306,13 @@ class Times:
     def whole_column(self, cells: Sequence[Any]) -> tuple[list[int], list[float]] | None:
         """The seconds and fractions of a column of texts of UTC that are all as 2024-05-01 00:30:04; None where they have
         to be read one by one."""
-        if self.forms or self.slack or not all(map(str.__instancecheck__, cells)):
+        if self.forms or self.slack:
             return None
         try:
+            "".join(cells)  # fails where one is no text
             seconds = [DAYS[cell[:10]] + PLAIN_CLOCKS[cell[10:19]] for cell in cells]
             parts = [FRACTIONS[cell[19:]] for cell in cells]
-        except KeyError:
+        except (KeyError, TypeError):
             return None
         return (seconds, parts) if min(seconds, default=0) >= 0 else None
 

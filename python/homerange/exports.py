@@ -15,9 +15,8 @@ import sys
 from dataclasses import fields
 from functools import lru_cache
 from itertools import chain, islice
-from operator import itemgetter
 from pathlib import Path
-from typing import Any, Callable, Iterable, Iterator, NamedTuple, Optional
+from typing import Any, Callable, Iterable, Iterator, NamedTuple, Optional, Sequence, TextIO, Union
 from xml.etree import ElementTree
 
 from .asked import Asked
@@ -27,7 +26,8 @@ from .tables import Said, Table
 from .titles import TIMES, Titles
 from .tracks import Track, Tracks, make_tracks
 
-PIECE = 2_000  # rows that are read at once; with more, time goes into waiting for memory
+PIECE = 1 << 16  # signs that are read at once; with more, time goes into waiting for memory
+ROWS = 1_000  # that are written at once, or read of a text with quotes
 NAME_BYTES = 32
 MARKS = {"utf-8": codecs.BOM_UTF8, "utf-16-le": codecs.BOM_UTF16_LE, "utf-16-be": codecs.BOM_UTF16_BE,
          "utf-32-le": codecs.BOM_UTF32_LE, "utf-32-be": codecs.BOM_UTF32_BE}  # byte order marks that Python leaves in texts
@@ -37,9 +37,10 @@ REASONS = ("animal", "coordinates", "zero", "sensor", "outlier", "class", "no do
 
 
 class Text(NamedTuple):
-    """What was read: the lines, whether a quote is in them, and the checksum of the bytes."""
+    """What was read: the line of titles, those behind it, whether a quote is in them, and the checksum of the bytes."""
 
-    lines: Iterator[str]
+    first: str
+    lines: TextIO
     has_quotes: bool
     checksum: str
 
@@ -117,7 +118,7 @@ def codec_of(encoding: str) -> str:
     return codec
 
 
-def decode(content: bytes, path: str, encoding: str) -> tuple[Iterator[str], bool]:
+def decode(content: bytes, path: str, encoding: str) -> tuple[TextIO, bool]:
     """The lines of a text, whose ends become line feeds, and whether a quote is in them. Looks at all of it before the
     first is given."""
     codec = codec_of(encoding)
@@ -138,7 +139,7 @@ def decode(content: bytes, path: str, encoding: str) -> tuple[Iterator[str], boo
     return io.TextIOWrapper(stream, encoding=codec, newline=None), has_quotes
 
 
-def gpx_lines(content: bytes, path: str) -> tuple[Iterator[str], bool]:
+def gpx_lines(content: bytes, path: str) -> tuple[TextIO, bool]:
     """The track points of GPX as the lines of a table."""
     try:
         root = ElementTree.fromstring(content)
@@ -163,15 +164,17 @@ def open_text(path: str, asked: Asked, is_gpx: bool = False) -> Text:
     codec_of(asked.encoding)
     content = read_bytes(path)
     lines, has_quotes = gpx_lines(content, path) if is_gpx else decode(content, path, asked.encoding)
-    for _ in islice(lines, asked.skip_lines):
-        pass
+    return Text(line_of_titles(lines, path, asked), lines, has_quotes, hashlib.sha256(content).hexdigest())
+
+
+def line_of_titles(lines: Iterable[str], path: str, asked: Asked) -> str:
+    """The line of titles: blank ones are passed over, and where a start of it is asked for all before."""
+    for line in islice(lines, asked.skip_lines, None):
+        if line.lstrip('"').startswith(asked.header) if asked.header else line != "\n":
+            return line
     if asked.header:
-        wanted = asked.header
-        before = next((line for line in lines if line.lstrip('"').startswith(wanted)), None)
-        if before is None:
-            refuse(f"no line begins with '{wanted}', as that of titles does", "columns")
-        lines = chain([before], lines)
-    return Text(lines, has_quotes, hashlib.sha256(content).hexdigest())
+        refuse(f"no line begins with '{asked.header}', as that of titles does", "columns")
+    refuse(f"{path} has no line of titles", "empty")
 
 
 def separator_of(line: str) -> str:
@@ -181,45 +184,59 @@ def separator_of(line: str) -> str:
     return "\t" if "\t" in line and "," not in line else ","
 
 
+Lines = Union[str, list[list[str]]]  # many lines, each with its end, or the rows of their fields
+
+
+class Piece(NamedTuple):
+    """Records: their wanted cells by columns, how many there are up to the first with another number of fields than there
+    are titles, and how many fields that has."""
+
+    columns: list[list[str]]
+    rows: int
+    odd: int | None
+
+
 class Reader:
-    """The rows of a table of text. Where no quote is in it, a line is split at each sign that separates."""
+    """The lines of a table of text, in pieces. Where no quote is in it, they are split at each sign that separates."""
 
-    def __init__(self, lines: Iterator[str], has_quotes: bool, path: str) -> None:
-        first = next((line for line in lines if line.strip("\n")), None)
-        if first is None:
-            refuse(f"{path} has no line of titles", "empty")
-        self.path, self.separator, self.lines, self.has_end = path, separator_of(first), lines, False
+    def __init__(self, text: Text, path: str) -> None:
+        self.path, self.separator, self.lines = path, separator_of(text.first), text.lines
         csv.field_size_limit(sys.maxsize)
-        self.rows = csv.reader(chain([first], lines, ["end"]), delimiter=self.separator) if has_quotes else None
-        self.titles = next(self.rows) if self.rows else first.rstrip("\n").split(self.separator)
+        self.rows = csv.reader(chain([text.first], text.lines, ["end"]), delimiter=self.separator)
+        self.titles = next(self.rows) if text.has_quotes else text.first.rstrip("\n").split(self.separator)
+        self.pieces = self.quoted() if text.has_quotes else self.plain()
 
-    def piece(self) -> list[list[str]]:
-        """The next rows; none where there are no more. Blank lines are none."""
-        rows: list[list[str]] = []
-        while not rows and not self.has_end:
-            rows = self.quoted() if self.rows else self.plain()
-        return rows
+    def plain(self) -> Iterator[Lines]:
+        """The lines of a text without quotes, many at once."""
+        while text := self.lines.read(PIECE) + self.lines.readline():
+            yield text if text.endswith("\n") else text + "\n"
 
-    def plain(self) -> list[list[str]]:
-        """The next rows of a text without quotes."""
-        lines, separator = list(islice(self.lines, PIECE)), self.separator
-        self.has_end = len(lines) < PIECE
-        return [line.rstrip("\n").split(separator) for line in lines if line != "\n"]
+    def quoted(self) -> Iterator[Lines]:
+        """The rows of a text with quotes, many at once. The last is a line of its own, where no quote is open before it."""
+        last: list[str] = []
+        while rows := list(islice(self.rows, ROWS)):
+            yield [row for row in (last, *rows[:-1]) if row]
+            last = rows[-1]
+        if last != ["end"]:
+            refuse(f"{self.path}: a quote has no end", "text")
 
-    def quoted(self) -> list[list[str]]:
-        """The next rows of a text with quotes."""
-        assert self.rows is not None
-        rows = list(islice(self.rows, PIECE))
-        if len(rows) < PIECE:
-            self.has_end = True
-            if not rows or rows.pop() != ["end"]:
-                refuse(f"{self.path}: a quote has no end", "text")
-        return list(filter(None, rows))
+    def piece(self, lines: Lines, wanted: Sequence[int]) -> Piece:
+        """The records of lines. Those of a text are split all at once, where their ends, as fields, stand where they
+        should."""
+        if not isinstance(lines, str):
+            return self.picked(lines, wanted)
+        sign, width, rows = self.separator, len(self.titles) + 1, lines.count("\n")
+        fields = lines.replace("\n", f"{sign}\n{sign}").split(sign)
+        ends = fields[width - 1::width]
+        if len(ends) == ends.count("\n") == rows:
+            return Piece([fields[at:-1:width] for at in wanted], rows, None)
+        return self.picked([line.split(sign) for line in lines.split("\n") if line], wanted)
 
-    def check_end(self) -> None:
-        """Refuses a quote without an end in the rows that were not looked at."""
-        while not self.has_end:
-            self.piece()
+    def picked(self, rows: list[list[str]], wanted: Sequence[int]) -> Piece:
+        """The records of rows of fields."""
+        whole = count_whole(rows, len(self.titles))
+        columns = [[row[at] for row in islice(rows, whole)] for at in wanted]
+        return Piece(columns, whole, len(rows[whole]) if whole < len(rows) else None)
 
 
 def count_whole(rows: list[list[str]], width: int) -> int:
@@ -230,25 +247,31 @@ def count_whole(rows: list[list[str]], width: int) -> int:
 
 
 def read_table(text: Text, path: str, asked: Asked) -> Table:
-    """The table of a text. The fault of the first record that has one is the one that is told."""
-    reader = Reader(text.lines, text.has_quotes, path)
+    """The table of a text. The fault of the first record that has one is the one that is told, but for a quote without an
+    end."""
+    reader = Reader(text, path)
     gc.disable()  # rows are many and refer to nothing
     try:
         check_maker(reader.titles, asked)
         table = Table(reader.titles, asked, reader.separator == ";")
-        wanted = itemgetter(*table.wanted, table.wanted[0])  # of one column too a row
-        while rows := reader.piece():
-            whole = count_whole(rows, len(reader.titles))
-            columns = list(map(list, zip(*map(wanted, rows if whole == len(rows) else rows[:whole]))))
-            table.take({at: columns[place] if columns else [] for place, at in enumerate(table.wanted)}, whole)
-            if whole < len(rows):
-                refuse(f"{len(rows[whole])} fields where {len(reader.titles)} are wanted", "fields", table.rows + 1)
+        take_pieces(table, reader)
     except FrameError:
-        reader.check_end()
+        for _ in reader.pieces:
+            pass
         raise
     finally:
         gc.enable()
     return table
+
+
+def take_pieces(table: Table, reader: Reader) -> None:
+    """Takes the records of a text."""
+    wanted, width = table.wanted, len(reader.titles)
+    for lines in reader.pieces:
+        columns, rows, odd = reader.piece(lines, wanted)
+        table.take(dict(zip(wanted, columns)), rows)
+        if odd is not None:
+            refuse(f"{odd} fields where {width} are wanted", "fields", table.rows + 1)
 
 
 def clean(name: str) -> str:
@@ -301,21 +324,24 @@ def clean_names(animals: Iterable[str]) -> dict[str, str]:
 
 
 def track_lines(name: str, track: Track, mark: bool) -> Iterator[str]:
-    """The lines of an animal's file."""
+    """The lines of an animal's file, many at once."""
     yield "animal,second,easting,northing" + ",use" * mark + "\n"
-    if mark:
-        yield from (f"{name},{second},{east},{north},{used}\n" for second, east, north, used in zip(*track))
-    else:
-        yield from (f"{name},{second},{east},{north}\n" for second, east, north, _ in zip(*track))
+    for start in range(0, len(track.seconds), ROWS):
+        rows = zip(*(column[start:start + ROWS] for column in track))
+        if mark:
+            lines = [f"{name},{second},{east},{north},{used}\n" for second, east, north, used in rows]
+        else:
+            lines = [f"{name},{second},{east},{north}\n" for second, east, north, _ in rows]
+        yield "".join(lines)
 
 
 def write_track(folder: Path, name: str, track: Track, mark: bool) -> str:
     """Writes the file of an animal, whose name is in UTF-8 in whatever locale, and answers its checksum."""
-    lines, checksum = track_lines(name, track, mark), hashlib.sha256()
+    checksum = hashlib.sha256()
     with open(os.path.join(os.fsencode(folder), f"{name}.csv".encode()), "xb") as file:
-        while piece := "".join(islice(lines, PIECE)).encode():
-            file.write(piece)
-            checksum.update(piece)
+        for lines in track_lines(name, track, mark):
+            file.write(lines.encode())
+            checksum.update(lines.encode())
     return checksum.hexdigest()
 
 

@@ -62,7 +62,8 @@ class Records:
     def extend(self, columns: Mapping[str, Iterable[Any]]) -> None:
         """Adds records, by columns; those that are not there stay empty."""
         for name, values in columns.items():
-            getattr(self, name).extend(values)
+            column = getattr(self, name)
+            column.extend(array(column.typecode, values) if isinstance(column, array) else values)
 
     def keep(self, mask: Sequence[Any]) -> None:
         """Keeps the records whose place in the mask is true."""
@@ -220,9 +221,10 @@ class Table:
         return names
 
     def named(self, cells: Cells) -> list[Any]:
-        """The cells of a column of animals, "" for those that are missing."""
-        none = {cell for cell in {*cells} if cell is None or cell in self.names_missing}
-        return ["" if cell in none else cell for cell in cells] if none else list(cells)
+        """The cells of a column of animals, "" for those that are missing. Equal ones are one object, which takes less
+        memory."""
+        kinds = {cell: "" if cell is None or cell in self.names_missing else cell for cell in {*cells}}
+        return [kinds[cell] for cell in cells]
 
     def with_place(self, places: Mapping[str, Sequence[float]], names: list[Any]) -> Sequence[int]:
         """The rows that have coordinates and an animal; counts the others."""
@@ -261,10 +263,11 @@ class Table:
         if "use" in truths:
             return [mark is True for mark in truths["use"]]
         blank = [None] * len(rows)
-        visible, owner, first, second, valid = (
-            truths.get(name, blank) for name in ("visible", OWNERS_MARK, *OTHER_MARKS, VALID))
-        return [seen is not False and not own and (ok is True or not (one or other))
-                for seen, own, one, other, ok in zip(visible, owner, first, second, valid)]
+        marks = [truths.get(name, blank) for name in ("visible", OWNERS_MARK, *OTHER_MARKS, VALID)]
+        are_same = all(mark.count(mark[0]) == len(mark) for mark in marks if mark)
+        found = [seen is not False and not own and (ok is True or not (one or other))
+                 for seen, own, one, other, ok in zip(*((mark[:1] for mark in marks) if are_same else marks))]
+        return found * len(rows) if are_same else found
 
     def words(self, cells: Mapping[int, Cells], rows: Sequence[int], faults: Faults) -> dict[str, list[Any]]:
         """The zones, sensors, classes, types and DOPs of these rows, as far as they are wanted."""

@@ -5,9 +5,10 @@ from __future__ import annotations
 
 import operator
 from array import array
+from collections import defaultdict
 from datetime import timedelta
 from itertools import compress, islice
-from math import floor, hypot, isfinite
+from math import floor, hypot, isfinite, isnan
 from typing import Any, Callable, Iterable, NamedTuple, Optional, Sequence
 
 from . import zones
@@ -198,7 +199,7 @@ class Places:
                    "zone", records.number[at])
         return wanted
 
-    def zones_of(self, mask: Sequence[bool], wanted: Optional[str]) -> Iterable[str]:
+    def zones_of(self, mask: Sequence[int], wanted: Optional[str]) -> Iterable[str]:
         """The zones of the records whose place in the mask is true."""
         records = self.records
         if records.zone and all({*records.zone}):
@@ -215,10 +216,11 @@ class Places:
         """Takes the UTM coordinates of the table, where those of all used records are of one zone, the wanted one if
         any."""
         records, wanted = self.records, self.wanted
-        has_grid = [east == east for east in records.east]
-        used_grid = [bool(used and grid) for used, grid in zip(records.used, has_grid)]
+        has_all = not isnan(sum(records.east))
+        has_grid = [True] * len(records) if has_all else [east == east for east in records.east]
+        used_grid = records.used if has_all else [bool(used and grid) for used, grid in zip(records.used, has_grid)]
         zone, counts = ranked(self.zones_of(used_grid, wanted))
-        bare = next((at for at, grid in enumerate(has_grid) if not grid and records.used[at]), None)
+        bare = None if has_all else next((at for at, grid in enumerate(has_grid) if not grid and records.used[at]), None)
         remedy = f"name the zone of all, such as {self.asked.word('zone', zone)}"
         if "," in counts and not wanted:
             refuse(f"fixes lie in several zones ({counts}): {remedy}", "zone")
@@ -340,10 +342,10 @@ class Herd:
         self.choice, self.said, self.records = choice, choice.said, choice.records
         self.easting, self.northing = easting, northing
         self.rows: dict[str, array[int]] = {}
-        off, rows = {*off}, dict[str, list[int]]()
+        off, rows = {*off}, defaultdict[str, list[int]](list)
         for at, name in enumerate(self.records.animal):
             if at not in off:
-                rows.setdefault(name, []).append(at)
+                rows[name].append(at)
         self.rows = {name: array("l", own) for name, own in rows.items()}
 
     def sort(self, shown: Callable[[str], str]) -> None:
@@ -441,7 +443,7 @@ def tell_moved(places: Places, whole: Whole, shift: tuple[int, int], unit: Unit,
     scale = unit.per_metre
     if all(value.is_integer() for metres in (places.east, places.north) for value in metres):
         return
-    moves = [map(operator.sub, [one / scale - added for one in units], metres)
+    moves = [map(operator.sub, [one / scale - added for one in units] if added or scale != 1 else units, metres)
              for units, added, metres in zip(whole, shift, (places.east, places.north))]
     most = max(move for move in map(hypot, *moves) if move < 1)  # not those of places off the grid
     if most > 1e-6:

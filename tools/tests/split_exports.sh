@@ -93,6 +93,12 @@ a,2024-05-01 00:31:00,,1,2,33N,5" long
 END
 says '2 fixes of 1 animals are in tracks, in m'
 
+# Numbers in quotes, in tables with one record less than are read at once, and than are read in two times.
+for count in 999 1999; do
+    { echo "$head_line" && seq "$count" | sed 's/.*/"a",2024-05-01 00:30:00,"&","2000.5",33N,/'; } | split_to 0
+    says "$count fixes of 1 animals are in tracks, in m"
+done
+
 # A control character in a name, a name with blanks, and one that looks like a word of R or a number.
 printf '%s\n' "$head_line" "a$(printf '\001')b,2024-05-01 00:30:00,1,2,33N," ' x ,2024-05-01 00:30:00,1,2,33N,' \
     'TRUE,2024-05-01 00:30:00,1,2,33N,' '1e5,2024-05-01 00:30:00,1,2,33N,' '007,2024-05-01 00:30:00,1,2,33N,' \
