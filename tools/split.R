@@ -19,6 +19,10 @@ code_of_package <- function() {
 }
 options(homerange.code = code_of_package())
 
+# R collects garbage whenever its heap is full, which costs more than it frees while a table is read. Once it had room for
+# this it stays great for a while.
+invisible(raw(2^27))
+
 options_known <- list(
   zone = c("33N", "the UTM zone of all coordinates"),
   sensor = c("gps", "the types of sensors to take, separated by commas"),

@@ -8,7 +8,15 @@ plain_time <- "^[0-9]{4}-[0-9]{2}-[0-9]{2}[ T][0-9]{2}:[0-9]{2}:[0-9]{2}(?:[.][0
 places_of_signs <- c(4L, 7L, 10L, 13L, 16L, 19L)  # behind the start of such a time
 places_of_date <- c(0:3, 5:6, 8:9)
 
-# The whole numbers of which the digits stand in these places behind the starts; NA where one is no digit.
+# The whole numbers of which bytes that are digits stand in these places behind the starts. Their codes are added up, of which
+# that of 0 is taken off at the end; with 15 places all of it is exact.
+sure_wholes <- function(bytes, starts, places) {
+  whole <- numeric(length(starts))
+  for (place in as.integer(places)) whole <- 10 * whole + as.integer(bytes[starts + place])
+  whole - 48 * sum(powers_of_ten[seq_along(places)])
+}
+
+# The same, NA where one is no digit.
 whole_numbers <- function(bytes, starts, places) {
   whole <- numeric(length(starts))
   for (place in as.integer(places)) whole <- 10 * whole + digits_of_codes[as.integer(bytes[starts + place])]
@@ -37,7 +45,7 @@ plain_numbers <- function(bytes, starts, widths, tails) {
 # Numbers of one width, with decimals as wide, all with a minus or none.
 numbers_of_form <- function(bytes, starts, width, tail, is_negative) {
   places <- setdiff(seq_len(width) - 1, c(if (is_negative) 0, if (tail) width - tail))
-  whole_numbers(bytes, starts, places) * (1 - 2 * is_negative) / powers_of_ten[max(tail, 1)]
+  sure_wholes(bytes, starts, places) * (1 - 2 * is_negative) / powers_of_ten[max(tail, 1)]
 }
 
 # The moments of fields that are all times of one plain form, which is that of the first, since 1970; NULL of others.
@@ -69,5 +77,9 @@ seconds_of_dates <- function(dates) {
 plain_parts <- function(bytes, starts, decimals) {
   if (decimals < 1) return(numeric(length(starts)))
   wholes <- as.integer(whole_numbers(bytes, starts, 19 + seq_len(decimals)))
-  by_distinct(wholes, function(kinds) as.numeric(sprintf("0.%0*d", decimals, kinds)))
+  if (decimals == 3) thousandths[wholes + 1L] else by_distinct(wholes, function(kinds) parts_of(kinds, decimals))
 }
+
+# The fractions that have these whole numbers as so many decimals.
+parts_of <- function(wholes, decimals) as.numeric(sprintf("0.%0*d", decimals, wholes))
+thousandths <- parts_of(0:999, 3L)

@@ -7,10 +7,13 @@ distinct <- function(values) {
   if (length(values) && isTRUE(all(values == values[1]))) values[1] else unique(values)
 }
 
+# The place of each value among the different ones.
+places_of <- function(values, kinds) if (length(kinds) == 1) rep(1L, length(values)) else match(values, kinds)
+
 # What a function makes of the different values of a vector, put where they stand.
 by_distinct <- function(values, action) {
   kinds <- distinct(values)
-  action(kinds)[match(values, kinds)]
+  action(kinds)[places_of(values, kinds)]
 }
 
 # How many seconds the clock of a zone is before that of UTC at seconds since 1970. Clocks are moved at none within a

@@ -3,10 +3,13 @@
 
 line_ends <- as.raw(c(10, 13))
 bytes_of_tail <- 4096  # where the end of the last line is looked for first
-plain_number <- "(-?0*[0-9]{1,12}([.][0-9]+)?|)"
+bare_number <- "(-?0*[0-9]{1,12}([.][0-9]+)?|)"
+plain_number <- sprintf("(?|\"%s\"|%s)", bare_number, bare_number)  # in quotes or none, found as the same
 
-# Expressions where this stands between fields: for a field without quotes but those in which it stands, for one that may have
-# others behind its start, for one that goes on behind its quotes, and for a line whose last field is open.
+# Expressions where this stands between fields: for a field of a text without quotes, for one without quotes but those in which
+# it stands, for one that may have others behind its start, for one that goes on behind its quotes, and for a line whose last
+# field is open.
+bare_field_form <- function(sign) sprintf("[^\"%s\n]*+", sign)
 plain_field_form <- function(sign) sprintf("(?:\"[^\"\n]*+(?:\"\"[^\"\n]*+)*+\"|[^\"%s\n]*+)", sign)
 field_form <- function(sign) sprintf("(?:\"[^\"]*+(?:\"\"[^\"]*+)*+\"|(?!\")[^%s]*+)", sign)
 odd_field_form <- function(sign) sprintf("(?:\"[^\"]*+(?:\"\"[^\"]*+)*+\"[^%s]*+|(?!\")[^%s]*+)", sign, sign)
@@ -53,17 +56,20 @@ cut_bytes <- function(one, other, cut) {
 # of all may be half of an end.
 end_of_lines <- function(bytes) {
   for (width in pmin(c(bytes_of_tail, length(bytes)), length(bytes))) {
-    ends <- which(utils::tail(bytes, width) %in% line_ends) + length(bytes) - width
+    first <- length(bytes) - width
+    last <- bytes[first + seq_len(width)]
+    ends <- first + which(last == line_ends[1] | last == line_ends[2])
     ends <- ends[ends < length(bytes) | bytes[ends] == line_ends[1]]
     if (length(ends)) return(max(ends))
   }
   0
 }
 
-# The text of bytes in UTF-8, marked as such unless it is ASCII, whose lines end in LF; what is no text is refused.
+# The text of bytes in UTF-8, marked as such unless it is ASCII, whose lines end in LF; what is no text is refused. Without a
+# byte 0 it is read by readChar, which is faster than rawToChar.
 text_of_bytes <- function(bytes, path, name) {
   has_zero <- length(grepRaw(as.raw(0), bytes, fixed = TRUE)) > 0
-  text <- rawToChar(if (has_zero) bytes[bytes != 0] else bytes)
+  text <- if (has_zero) rawToChar(bytes[bytes != 0]) else readChar(bytes, length(bytes), useBytes = TRUE)
   if (grepl("[^\\x01-\\x0c\\x0e-\\x7f]", text, perl = TRUE, useBytes = TRUE)) {
     if (!validUTF8(text)) refuse_coding(path, name)
     text <- gsub("\r\n?", "\n", text, perl = TRUE, useBytes = TRUE)
@@ -95,15 +101,19 @@ take_titles <- function(csv, line, behind) {
   csv$titles <- fields_of_records(records[1], csv$sign)[[1]]
 }
 
-# Sets which columns are wanted, and which of them are numbers, of which the second form knows the plain ones, and times.
+# Sets which columns are wanted, and which of them are numbers, of which the bare and the plain form know the plain ones, and
+# times.
 want_columns <- function(csv, wanted, numbers, times) {
   csv$wanted <- wanted
   csv$kinds <- ifelse(wanted %in% numbers, "number", ifelse(wanted %in% times, "time", "text"))
   at <- seq_along(csv$titles)
   forms_of <- function(field) ifelse(at %in% wanted, paste0("(", field, ")"), field)
   csv$form <- paste0("^", paste0(forms_of(field_form(csv$sign)), collapse = csv$sign), "\\z")
-  plain <- ifelse(at %in% numbers, plain_number, forms_of(plain_field_form(csv$sign)))
-  csv$plain_form <- paste0("\\G(?!\n)", paste0(plain, collapse = csv$sign), "\n")
+  lines_of <- function(number, field) {
+    paste0("\\G(?!\n)", paste0(ifelse(at %in% numbers, number, forms_of(field)), collapse = csv$sign), "\n")
+  }
+  csv$bare_form <- lines_of(bare_number, bare_field_form(csv$sign))
+  csv$plain_form <- lines_of(plain_number, plain_field_form(csv$sign))
 }
 
 # The next records: the cells of the wanted columns by their number, how many there are up to the first that has another
@@ -111,8 +121,10 @@ want_columns <- function(csv, wanted, numbers, times) {
 next_piece <- function(csv) {
   text <- next_text(csv)
   if (text == "") return(NULL)
-  found <- gregexpr(csv$plain_form, text, perl = TRUE, useBytes = TRUE)[[1]]
-  if (sum(attr(found, "match.length")) == nchar(text, "bytes")) return(plain_piece(csv, text, found))
+  for (form in c(csv$bare_form, csv$plain_form)) {
+    found <- gregexpr(form, text, perl = TRUE, useBytes = TRUE)[[1]]
+    if (sum(attr(found, "match.length")) == nchar(text, "bytes")) return(plain_piece(csv, text, found))
+  }
   lines <- whole_records(csv, lines_of_text(text))
   lines <- lines[lines != ""]
   if (length(lines)) odd_piece(csv, lines) else next_piece(csv)

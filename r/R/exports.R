@@ -77,12 +77,18 @@ open_text <- function(path, spare, asked, is_gpx) {
   if (is.na(coding)) refuse("option", "encoding: there is no coding ", asked$encoding)
   if (coding == "UTF-8") {
     text$input <- open_file(path)
-    text$output <- pipe(paste("sha256sum >", shQuote(spare)), "wb")
+    text$output <- open_sum(spare)
   } else {
     text$checksum <- if (is_gpx) copy_gpx(path, spare, asked) else copy_text(path, spare, coding, asked)
     text$input <- file(spare, "rb")
   }
   text
+}
+
+# A connection that writes the checksum of what it is given to a file: by openssl, where that is there, in a fifth of the time.
+open_sum <- function(path) {
+  command <- if (nzchar(Sys.which("openssl"))) "openssl dgst -sha256 -r" else "sha256sum"
+  pipe(paste(command, ">", shQuote(path)), "wb")
 }
 
 # The next bytes of a text but for a byte order mark, none where there are no more.
@@ -115,7 +121,7 @@ copy_text <- function(path, copy, coding, asked) {
 copy_with_sum <- function(path, copy, action) {
   sum <- tempfile("sum")
   on.exit(unlink(sum))
-  copy_to_outputs(path, list(pipe(paste("sha256sum >", shQuote(sum)), "wb"), file(copy, "wb")), action)
+  copy_to_outputs(path, list(open_sum(sum), file(copy, "wb")), action)
   substr(readLines(sum), 1, 64)
 }
 

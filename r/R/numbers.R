@@ -147,7 +147,7 @@ read_truths <- function(cells, title, missing, must = FALSE) {
 kinds_of_cells <- function(cells) {
   if (is_moments(cells)) return(list(cells = cells, place = seq_along(cells$second)))
   kinds <- distinct(cells)
-  list(cells = kinds, place = match(cells, kinds))
+  list(cells = kinds, place = places_of(cells, kinds))
 }
 
 shown_or_empty <- function(cells, at) if (is.character(cells) && is.na(cells[at])) "''" else shown(cells, at)

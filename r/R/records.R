@@ -375,8 +375,8 @@ tell_alike <- function(names, said) {
 
 # The most frequent word, how many words there are, and each with its count, as text.
 ranked <- function(words) {
-  kinds <- unique(words)
-  counts <- tabulate(match(words, kinds), length(kinds))
+  kinds <- distinct(words)
+  counts <- tabulate(places_of(words, kinds), length(kinds))
   order <- order(-counts, kinds, method = "radix")
   kinds <- kinds[order]
   list(first = kinds[1], number = length(kinds),
