@@ -4,8 +4,8 @@
 Says in sentences what held, what did not, and what was not looked at:
 
     the checksums are those of all files, and no file is without one
-    the record of the run is whole, and its unit and levels are those of the report and of the split
-    the tracks are those that tools/split.py makes of the EXPORT, with the options of the record
+    the record of the run is whole, and its unit and levels are those of the report and of the record of the tracks
+    the tracks are those of their record, and those that tools/split.py makes of the EXPORT, with the options of the record
     the program makes the same report of them, byte for byte
     each line of the report is what another method computes
     summary.csv, animals.csv and overlaps.csv are what that method comes to, byte for byte

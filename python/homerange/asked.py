@@ -7,7 +7,7 @@ import math
 import re
 import zoneinfo
 from dataclasses import dataclass, field
-from datetime import date, datetime
+from datetime import date, datetime, timezone
 from typing import Any, NamedTuple, Sequence
 
 from .cells import Form, day_begins, iso_time, moments_of
@@ -178,3 +178,36 @@ def second_of_bound(value: Any, clock: str, is_end: bool) -> int:
             refuse(f"{value!r} is no time in {clock}, whose clocks passed it over")
         second = found[-1] if is_end else found[0]
     return second + (part > 0 and not is_end)
+
+
+def text_of_bound(value: Any, clock: str, is_end: bool) -> str:
+    """A bound as it is said: text and days as they are, another moment in UTC."""
+    if isinstance(value, (date, datetime)) and type(value) is not date:
+        second = second_of_bound(value, clock, is_end)
+        return datetime.fromtimestamp(second, timezone.utc).strftime("%Y-%m-%dT%H:%M:%SZ")
+    return str(value)
+
+
+def text_of_words(value: Any) -> str:
+    """Words and numbers as the record has them, between commas."""
+    several = [value] if isinstance(value, (str, float)) else value
+    return ",".join(word if isinstance(word, str) else f"{word:.15g}" for word in several)
+
+
+def told(asked: Asked, use: Any) -> dict[str, Any]:
+    """What a call was told of how a frame is read, by the names that options of the commands have. Which rows are used is
+    told where it is a column, or all."""
+    words = ("animal", "time", "easting", "northing", "lon", "lat", "zone", "sensor", "argos_class", "argos", "max_dop", "dop",
+             "fix_type", "fix", "max_speed", "tz", "months", "hours")
+    found: dict[str, Any] = {
+        name.replace("_", "-"): text_of_words(getattr(asked, name)) for name in words if getattr(asked, name) is not None}
+    for name, is_end in (("since", False), ("until", True)):
+        if (bound := getattr(asked, name)) is not None:
+            found[name] = text_of_bound(bound, asked.clock, is_end)
+    if asked.every is not None:
+        found["every"] = asked.every if isinstance(asked.every, str) else f"{float(asked.every):.15g}h"
+    if asked.name != "animal":
+        found["name"] = asked.name
+    if use is True or isinstance(use, str):
+        found["use"] = use
+    return {**found, "skip-unnamed": asked.skip_unnamed}

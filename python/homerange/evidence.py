@@ -5,18 +5,22 @@ from __future__ import annotations
 
 import csv
 import hashlib
+import itertools
 import os
+import re
 import shlex
 import shutil
 import subprocess
+import tempfile
+from concurrent.futures import ThreadPoolExecutor
 from datetime import datetime, timezone
 from pathlib import Path
-from typing import Any, Callable, Iterable, Iterator, NamedTuple, Sequence
+from typing import Any, Callable, Iterable, Iterator, NamedTuple, Sequence, TextIO
 
 from .errors import FAULTS, UNPRINTABLE, ProgramError, ReportError, one_line, refuse
-from .program import MOST_ANIMALS, PACKAGE
+from .program import GROUP, MOST_ANIMALS, PACKAGE, steps_of
 from .record import Record, difference_from_record, record_in
-from .report import TEXT, Animal, Lines
+from .report import TEXT, Animal, Lines, check_end
 
 CLONE = PACKAGE.parents[1] if PACKAGE.parent.name == "python" else None
 SOURCES = ["crates.txt", "HANDLES", *(f":(glob)crates/*/{part}/**" for part in ("src", "specs", "proofs")), "python/homerange",
@@ -36,9 +40,8 @@ class Wish(NamedTuple):
     """What a report is to be of."""
 
     levels: str  # whole numbers between commas
-    unit: str | None  # None is that of the record of the split, or else metres
+    unit: str | None  # None is that of the record of the tracks, or else metres
     program: Program
-    more: Sequence[tuple[str, str]] = ()  # fields of the record of the run, where the tracks have no record of a split
 
 
 def checksum_of(path: str | os.PathLike[str]) -> str:
@@ -79,7 +82,7 @@ def check_names(names: Iterable[str]) -> None:
 
 
 def check_record(folder: Path, record: Record) -> None:
-    """Refuses tracks that are not those that the split made."""
+    """Refuses tracks that are not those of their record."""
     files = {path.stem: path for path in folder.iterdir() if path.name.endswith(".csv")}
     for name in sorted({*files}.symmetric_difference(record.tracks)):
         what = "is not among the tracks" if name in record.tracks else "was not made by it"
@@ -120,27 +123,49 @@ def check_report(path: Path, unit: str, levels: str, animals: dict[str, int]) ->
         lines.end(len(fixes))
 
 
-def run_once(program: str, words: Sequence[str], folder: Path) -> None:
-    """Has the program write its report into the folder."""
-    with open(folder / REPORT, "wb") as report:
+def run_once(program: str, words: Sequence[str], folder: Path, into: Path) -> None:
+    """Has the program write its report of tracks in the folder into a file."""
+    with open(into, "wb") as report:
         run = subprocess.run([program, *words], cwd=folder, stdin=subprocess.DEVNULL, stdout=report, stderr=subprocess.PIPE)
     if run.returncode != 0:
         said = run.stderr.decode("utf-8", "replace").strip() or f"{program} ended with status {run.returncode}"
         raise FAULTS.get(run.returncode, ProgramError)(one_line(said.splitlines()[-1]))
 
 
-def run_herd(program: str, options: Sequence[str], folder: Path) -> None:
-    """Has the scripts for herds make the report of many tracks."""
-    script = CLONE / "tools" / "herd" / "run.sh" if CLONE else None
-    if script is None or not script.is_file():
-        refuse(f"more than {MOST_ANIMALS} animals want tools/herd of homerange's repository: make the report by its run.sh, "
-               "and name the folder by --herd")
-    run = subprocess.run([script, TRACKS, "herd", *options], cwd=folder, env={**os.environ, "HOMERANGE": program},
-                         stdin=subprocess.DEVNULL, stdout=subprocess.PIPE, stderr=subprocess.PIPE)
-    if run.returncode != 0:
-        raise ProgramError(one_line(run.stderr.decode("utf-8", "replace").strip().split("\n")[-1]))
-    os.replace(folder / "herd" / REPORT, folder / REPORT)
-    shutil.rmtree(folder / "herd")
+def run_groups(program: str, options: Sequence[str], tracks: Sequence[str], folder: Path) -> None:
+    """Has the program report of many tracks in groups, and writes the report that one run would make of them all. How its
+    lines fit each other is not looked at."""
+    steps = steps_of(tracks)
+    with tempfile.TemporaryDirectory(prefix="homerange-") as room, ThreadPoolExecutor(os.cpu_count()) as pool:
+        parts = [Path(room, str(number)) for number in range(len(steps))]
+        calls = ([*options, "--", *itertools.chain(*step)] for step in steps)
+        list(pool.map(lambda words, part: run_once(program, words, folder, part), calls, parts))
+        with open(folder / REPORT, "x", **TEXT) as report:
+            join_reports(parts, sum(len(step) == 1 for step in steps), report)
+
+
+def join_reports(parts: Sequence[Path], groups: int, report: TextIO) -> None:
+    """Writes the tables of so many reports of groups, and then the overlaps that they and those of pairs of groups have, in
+    the order of all animals."""
+    names: list[str] = []
+    overlaps: dict[tuple[str, ...], str] = {}
+    for number, part in enumerate(parts):
+        tables, lines = tables_and_overlaps(part)
+        overlaps.update((tuple(line.split(",")[1:3]), line) for line in lines)
+        if number < groups:
+            names += re.findall("^animal,([^,]*),", tables, re.M)
+            report.write(tables.removeprefix("unit,dm\n") if number else tables)
+    report.writelines(f"{overlaps.get(pair, '')}\n" for pair in itertools.permutations(names, 2))
+    report.write(f"end,{len(names)}\n")
+
+
+def tables_and_overlaps(path: Path) -> tuple[str, list[str]]:
+    """The tables of a report, and its lines of overlaps."""
+    with open(path, **TEXT) as file:
+        text = file.read()
+    check_end(text, "the report of a group")
+    tables = re.split("^(?=overlap,|end,)", text, maxsplit=1, flags=re.M)[0]
+    return tables, text[len(tables):].split("\n")[:-2]
 
 
 def used_tracks(folder: Path) -> dict[str, tuple[str, int]]:
@@ -165,9 +190,9 @@ def make_report(folder: Path, wish: Wish) -> None:
     before = {name: checksum_of(folder / name) for name in tracks}
     words = [*options, "--", *tracks]
     if len(tracks) > MOST_ANIMALS:
-        run_herd(wish.program.path, options, folder)
+        run_groups(wish.program.path, options, [*tracks], folder)
     else:
-        run_once(wish.program.path, words, folder)
+        run_once(wish.program.path, words, folder, folder / REPORT)
     for name, checksum in before.items():
         if checksum_of(folder / name) != checksum:
             refuse(f"{name} changed while it was read", "text")
@@ -195,7 +220,7 @@ def about_lines(
     wish: Wish, words: Sequence[str], unit: str, animals: int, record: Record | None,
 ) -> Iterator[tuple[str, str]]:
     """The record of a run, fields by name."""
-    groups = -(-animals // 32)
+    groups = -(-animals // GROUP)
     yield "evidence", "1"
     yield "made", datetime.now(timezone.utc).strftime("%Y-%m-%dT%H:%M:%SZ")
     yield "program", wish.program.version
@@ -203,15 +228,15 @@ def about_lines(
     yield "arguments", shlex.join(words)
     yield "unit", unit
     yield "levels", wish.levels
-    yield "runs", "1" if animals <= MOST_ANIMALS else f"{groups * (groups + 1) // 2} of groups of 32 animals"
+    yield "runs", "1" if animals <= MOST_ANIMALS else f"{groups * (groups + 1) // 2} of groups of {GROUP} animals"
     yield "commit", commit_of_clone()
     for kind in ("sources", "logic"):
         yield kind, made_from(wish.program, kind)
-    if record:
+    if record and record.export is not None:
         yield "export", record.export
-        yield "export sha256", record.checksum
-    else:
-        yield from wish.more
+        yield "export sha256", str(record.checksum)
+    elif record:
+        yield "export", "none"
 
 
 def made_from(program: Program, kind: str) -> str:
@@ -252,7 +277,7 @@ def write_sums(folder: Path) -> None:
 
 
 def copy_tracks(paths: Sequence[Path], folder: Path) -> None:
-    """Copies tracks, and the record of their split where all of them are of one."""
+    """Copies tracks, and their record where all of them are of one."""
     (folder / TRACKS).mkdir()
     names: dict[str, Path] = {}
     for path in paths:

@@ -21,7 +21,7 @@ from xml.etree import ElementTree
 
 from .asked import Asked
 from .errors import FrameError, refuse
-from .record import option_lines, tool_lines, write_record
+from .record import Made, Record, given, in_order, tools_of, write_record
 from .tables import Said, Table
 from .titles import TIMES, Titles
 from .tracks import Track, Tracks, make_tracks
@@ -32,8 +32,6 @@ NAME_BYTES = 32
 MARKS = {"utf-8": codecs.BOM_UTF8, "utf-16-le": codecs.BOM_UTF16_LE, "utf-16-be": codecs.BOM_UTF16_BE,
          "utf-32-le": codecs.BOM_UTF32_LE, "utf-32-be": codecs.BOM_UTF32_BE}  # byte order marks that Python leaves in texts
 LISTS = ("animal", "time", "na", "sensor", "argos-class", "fix-type")  # options that are several words between commas
-REASONS = ("animal", "coordinates", "zero", "sensor", "outlier", "class", "no dop", "dop", "type", "before", "after",
-           "grid", "speed", "months", "hours", "every")
 
 
 class Text(NamedTuple):
@@ -345,23 +343,14 @@ def write_track(folder: Path, name: str, track: Track, mark: bool) -> str:
     return checksum.hexdigest()
 
 
-def record_lines(path: str, split: Split, options: dict[str, Any], sums: dict[str, str], said: Said) -> Iterable[str]:
+def record_of(path: str, split: Split, options: dict[str, Any], sums: dict[str, str], said: Said) -> Record:
     """The record of what was done: the export, the unit, the zone, the options, what was said, what was left out, and what
     was made by what."""
-    yield f"export,{os.path.basename(path)}"
-    yield f"sha256,{split.checksum}"
-    yield f"unit,{options.get('unit') or 'm'}"
-    yield f"zone,{split.tracks.zone or 'none'}"
-    if any(split.tracks.shift):
-        yield "shift,{},{}".format(*split.tracks.shift)
-    yield from option_lines(options)
-    yield from (f"said,{line}" for line in said.lines)
-    left = [(split.names.get(name, clean(name)), REASONS.index(reason), count)
-            for (name, reason), count in said.left.items()]
-    yield from (f"left,{name},{count},{REASONS[reason]}" for name, reason, count in sorted(left))
-    for name, track in split.tracks.by_name.items():
-        yield f"track,{split.names[name]},{len(track.used)},{sum(track.used)},{sums[name]}"
-    yield from tool_lines(split.tracks.places.is_projected)
+    own = split.tracks
+    left = in_order(said.left, {name: split.names.get(name, clean(name)) for name, _ in said.left})
+    tracks = {split.names[name]: Made(len(track.used), sum(track.used), sums[name]) for name, track in own.by_name.items()}
+    return Record(os.path.basename(path), split.checksum, options.get("unit") or "m", own.zone, own.shift, None, given(options),
+                  said.lines, left, tracks, tools_of("split.py", own.places.is_projected))
 
 
 def split_text(path: str, into: str, options: dict[str, Any], tell: Callable[[str], None]) -> None:
@@ -377,7 +366,7 @@ def split_text(path: str, into: str, options: dict[str, Any], tell: Callable[[st
     try:
         folder.mkdir(parents=True)
         sums = {name: write_track(folder, split.names[name], track, mark) for name, track in split.tracks.by_name.items()}
-        write_record(folder / "split.txt", record_lines(path, split, options, sums, said))
+        write_record(folder / "split.txt", record_of(path, split, options, sums, said))
     except OSError as fault:
         shutil.rmtree(folder, ignore_errors=True)
         refuse(f"{fault.filename or into}: {fault.strerror}", "text")

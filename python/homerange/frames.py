@@ -7,19 +7,19 @@ import datetime as clock
 import re
 import sys
 from collections import Counter
-from dataclasses import dataclass, field
+from dataclasses import dataclass, field, replace
 from typing import Any, Callable, NamedTuple, Sequence
 
 import numpy
 import pandas  # type: ignore[import]
 
-from .asked import Asked, zone_of_time
+from .asked import Asked, told, zone_of_time
 from .cells import DATE, TRUTHS, Bad, Moment
 from .errors import FrameError, refuse
 from .tables import Said, Table
 from .titles import ANIMALS, TIMES, Titles, find_columns, plain
 from .tracks import make_tracks
-from .zones import Scale, crs_of, scale_of_crs
+from .zones import Scale, code_of_crs, crs_of, scale_of_crs
 
 BAD_NAME = re.compile("[\x00-\x1f\x7f\ud800-\udfff]")
 MOST_EXACT = 2 ** 53
@@ -37,6 +37,8 @@ class Tracks:
     tz: str = "UTC"
     notes: list[str] = field(default_factory=list)
     reasons: Counter[tuple[str, str]] = field(default_factory=Counter)  # fixes left out, by animal and why
+    options: dict[str, Any] = field(default_factory=dict)  # what was told of how the frame is read
+    is_projected: bool = False
 
 
 class Columns(NamedTuple):
@@ -393,7 +395,8 @@ class Frame:
         crs = self.crs if self.crs is not None else tracks.zone and crs_of(tracks.zone)
         left_out = {name: counts[name] - len(track) for name, track in by_name.items()}
         self.count_unused(counts, said)
-        return Tracks(by_name, left_out, crs, tracks.shift, self.asked.clock, said.lines, said.left)
+        return Tracks(by_name, left_out, crs, tracks.shift, self.asked.clock, said.lines, said.left,
+                      is_projected=tracks.places.is_projected)
 
     def count_unused(self, counts: Counter[str], said: Said) -> None:
         """Counts the rows that an argument left out."""
@@ -423,4 +426,8 @@ class Frame:
 
 def read_frame(frame: Any, asked: Asked, tell: Callable[[str], None], use: Any = None, crs: Any = None) -> Tracks:
     """The tracks of a data frame."""
-    return Frame(frame, asked, use, crs).read(Said(tell))
+    options = told(asked, use)
+    own = Frame(frame, asked, use, crs)
+    if crs is not None:
+        options["crs"] = crs if isinstance(crs, str) else code_of_crs(own.crs)
+    return replace(own.read(Said(tell)), options=options)

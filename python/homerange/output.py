@@ -4,7 +4,6 @@ from __future__ import annotations
 
 import os
 import shutil
-from collections import Counter
 from dataclasses import replace
 from importlib.util import find_spec
 from pathlib import Path
@@ -12,14 +11,15 @@ from typing import Any, Iterator, Mapping
 
 from .errors import ReportError, refuse
 from .evidence import REPORT, TRACKS, Wish, checksum_of, copy_tracks, make_report, new_folder, program_of, used_tracks
-from .exports import clean_names, write_track
+from .exports import clean, clean_names, write_track
 from .frames import Tracks
 from .page import write_page
 from .program import find_program
 from .ranges import HomeRanges, read_report
+from .record import Made, Record, given, in_order, read_record, tools_of, write_record
 from .report import Report, read
 from .tracks import Track
-from .zones import zone_of_crs
+from .zones import text_of_crs, zone_of_crs
 
 PLACES = dict.fromkeys(("days", "median_hours", "longest_hours", "last_tenth", "last_quarter"), 4)
 
@@ -52,13 +52,18 @@ def write_layers(ranges: HomeRanges, path: Path) -> Iterator[str]:
             polygons[has_area].to_file(path, driver="GPKG", layer=f"mcp_{level}")
 
 
-def fields_of(ranges: HomeRanges, renames: list[str]) -> list[tuple[str, str]]:
-    """What the record of the run says of fixes that have no record of a split, and of which animals have other names."""
+def record_of(ranges: HomeRanges, tracks: Tracks, names: Mapping[str, str], made: dict[str, Made]) -> Record:
+    """The record of tracks that were made of a frame; names are those that files have."""
     zone = zone_of_crs(ranges.crs)
-    fields = {
-        "notes": "; ".join([*ranges.notes, *renames]), "zone": zone, "shift": "{},{}".format(*ranges.shift) if any(ranges.shift) else None,
-        "crs": str(ranges.crs) if ranges.crs is not None and zone is None else None}
-    return [(name, value) for name, value in fields.items() if value]
+    crs = None if zone or ranges.crs is None else text_of_crs(ranges.crs)
+    left = in_order(tracks.reasons, {name: names.get(name, clean(name)) for name, _ in tracks.reasons})
+    return Record(None, None, ranges.unit, zone, ranges.shift, crs, given(tracks.options), [*tracks.notes, *renames(names)], left,
+                  made, tools_of("homerange for Python", tracks.is_projected))
+
+
+def renames(names: Mapping[str, str]) -> list[str]:
+    """What is said of animals that have other names in files."""
+    return [f"animal '{name}' is named {clean_name}" for name, clean_name in names.items() if name != clean_name]
 
 
 def tracks_of(ranges: HomeRanges) -> Tracks:
@@ -69,17 +74,19 @@ def tracks_of(ranges: HomeRanges) -> Tracks:
 
 
 def put_tracks(ranges: HomeRanges, tracks: Tracks, names: Mapping[str, str], folder: Path) -> None:
-    """Puts tracks into a folder: those of a frame as new files, else the files that were read, with the record of their
-    split."""
+    """Puts tracks into a folder with their record: those of a frame as new files, else the files that were read."""
     if ranges.files:
         copy_tracks(ranges.files, folder)
         if ranges.split is not None:
             shutil.copyfile(ranges.split, folder / TRACKS / "split.txt")
         return
     (folder / TRACKS).mkdir()
+    made: dict[str, Made] = {}
     for name, track in tracks.by_name.items():
         seconds, eastings, northings = (track[title].tolist() for title in ("second", "easting", "northing"))
-        write_track(folder / TRACKS, names[name], Track(seconds, eastings, northings, [1] * len(track)), False)
+        own = Track(seconds, eastings, northings, [1] * len(track))
+        made[names[name]] = Made(len(track), len(track), write_track(folder / TRACKS, names[name], own, False))
+    write_record(folder / TRACKS / "split.txt", record_of(ranges, tracks, names, made))
 
 
 def renamed(report: Report, names: Mapping[str, str]) -> Report:
@@ -90,11 +97,10 @@ def renamed(report: Report, names: Mapping[str, str]) -> Report:
 
 def tracks_in_order(tracks: Tracks, names: Mapping[str, str], report: Report) -> Tracks:
     """The tracks of a frame by the names that files have, in the order of the report."""
-    animal_of = {clean: name for name, clean in names.items()}
-    by_name = {clean: tracks.by_name[animal_of[clean]] for clean in report.tables}
-    left_out = {names[name]: count for name, count in tracks.left_out.items() if name in names}
-    reasons = Counter({(names[name], reason): count for (name, reason), count in tracks.reasons.items() if name in names})
-    return replace(tracks, by_name=by_name, left_out=left_out, reasons=reasons)
+    animal_of = {own: name for name, own in names.items()}
+    by_name = {own: tracks.by_name[animal_of[own]] for own in report.tables}
+    left_out = {names[name]: count for name, count in tracks.left_out.items()}
+    return replace(tracks, by_name=by_name, left_out=left_out)
 
 
 def ranges_in(folder: Path, ranges: HomeRanges, tracks: Tracks, names: Mapping[str, str]) -> HomeRanges:
@@ -107,7 +113,7 @@ def ranges_in(folder: Path, ranges: HomeRanges, tracks: Tracks, names: Mapping[s
             folder / REPORT, files=[folder / name for name in used_tracks(folder)], crs=ranges.crs, tz=ranges.tz,
             shift=ranges.shift, program=ranges.program, record=split if split.is_file() else None)
     found = HomeRanges(report, tracks_in_order(tracks, names, report), crs=ranges.crs, tz=ranges.tz, program=ranges.program)
-    found.checksum = checksum_of(folder / REPORT)
+    found.record, found.checksum = read_record(split), checksum_of(folder / REPORT)
     return found
 
 
@@ -116,9 +122,8 @@ def write_folder(ranges: HomeRanges, into: str | os.PathLike[str], page: Mapping
     say of it."""
     tracks = tracks_of(ranges)
     names = {name: name for name in ranges.animals} if ranges.files else clean_names(ranges.animals)
-    said = [f"animal '{name}' is named {clean}" for name, clean in names.items() if name != clean]
-    wish = Wish(",".join(map(str, ranges.levels)), ranges.unit, program_of(find_program(ranges.program)),
-                fields_of(ranges, list(said)))
+    said = renames(names)
+    wish = Wish(",".join(map(str, ranges.levels)), ranges.unit, program_of(find_program(ranges.program)))
 
     def fill(folder: Path) -> None:
         put_tracks(ranges, tracks, names, folder)

@@ -6,18 +6,16 @@ from __future__ import annotations
 from collections import Counter
 from typing import Mapping, NamedTuple, Sequence
 
-from .exports import REASONS
 from .levelling import Levelling, levelling_of
+from .record import REASONS
 from .report import Percent, Table
-
-ALL_REASONS = (*REASONS, "use")  # use is an argument that left rows of a frame out
 
 
 class Row(NamedTuple):
     """The facts of an animal. Times are seconds, areas doubled squares of the unit."""
 
     animal: str
-    records: int | None  # fixes of the export; None where it is not known
+    records: int | None  # fixes of the export or the frame; None where it is not known
     left: Mapping[str, int]  # left out, by reason
     used: int
     first: int
@@ -49,7 +47,7 @@ def row_of(name: str, table: Table, records: int | None, left: Mapping[str, int]
 def rows_of(tables: Mapping[str, Table], records: Mapping[str, int], left: Counter[tuple[str, str]]) -> list[Row]:
     """The facts of all animals of a report."""
     by_animal: dict[str, dict[str, int]] = {}
-    for (name, reason), count in sorted(left.items(), key=lambda item: ALL_REASONS.index(item[0][1])):
+    for (name, reason), count in sorted(left.items(), key=lambda item: REASONS.index(item[0][1])):
         if count:
             by_animal.setdefault(name, {})[reason] = count
     return [row_of(name, table, records.get(name), by_animal.get(name, {})) for name, table in tables.items()]
@@ -57,4 +55,4 @@ def rows_of(tables: Mapping[str, Table], records: Mapping[str, int], left: Count
 
 def reasons_of(rows: Sequence[Row]) -> list[str]:
     """The reasons for which fixes were left out, in their order."""
-    return [reason for reason in ALL_REASONS if any(reason in row.left for row in rows)]
+    return [reason for reason in REASONS if any(reason in row.left for row in rows)]

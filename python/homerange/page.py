@@ -7,7 +7,6 @@ import hashlib
 import os
 import re
 import subprocess
-from collections import Counter
 from datetime import date, datetime
 from pathlib import Path
 from typing import Any, Mapping, Sequence
@@ -134,17 +133,15 @@ def heading(animals: Sequence[str]) -> str:
 
 def source_of(ranges: HomeRanges) -> str:
     """What the fixes were in."""
-    return "export" if ranges.record else "data"
+    return "export" if ranges.record and ranges.record.export else "data"
 
 
-def left_of(ranges: HomeRanges, rows: Sequence[Row]) -> str:
-    """What was left out of the export, also of animals that have no range."""
-    if ranges.record is not None:
-        return left_out(ranges.record.left_out(), sum(ranges.record.of_export().values()), source_of(ranges))
-    if any(row.records is None for row in rows):
+def left_of(ranges: HomeRanges) -> str:
+    """What was left out of the export or the frame, also of animals that have no range."""
+    records = ranges.of_source()
+    if not records:
         return "How many fixes were left out is not known."
-    left = Counter({(row.animal, reason): count for row in rows for reason, count in row.left.items()})
-    return left_out(left, sum(row.records or 0 for row in rows), source_of(ranges))
+    return left_out(ranges.reasons(), sum(records.values()), source_of(ranges))
 
 
 def numbers(ranges: HomeRanges, rows: Sequence[Row], clock: Clock) -> dict[str, str]:
@@ -155,7 +152,7 @@ def numbers(ranges: HomeRanges, rows: Sequence[Row], clock: Clock) -> dict[str, 
     return {
         "period": period(rows, clock), "sentences": sentences(rows, clock, ranges.unit),
         "animals": animals_table(rows, clock, ranges.unit, f"in the {source_of(ranges)}"),
-        "notes": without_range(rows, ranges.record.of_export()) if ranges.record else "",
+        "notes": without_range(rows, ranges.of_source(), source_of(ranges)),
         "size": "whole" if len(rows) <= FEW else "long",
         "curves": curves(found, list(map(named, ranges.animals)), ranges.unit),
         "overlap": overlaps.sentence(), "overlaps": overlaps.table()}
@@ -193,12 +190,12 @@ def write_page(
     places, system = drawn_map(ranges, reserve, reserve_name)
     head = title or heading(ranges.animals)
     lines = ranges.record.said if ranges.record else ranges.notes
-    text = (f"{method(version, system.text, ranges.unit, ranges.levels)} {left_of(ranges, rows)}"
+    text = (f"{method(version, system.text, ranges.unit, ranges.levels)} {left_of(ranges)}"
             f"{options_of(ranges.record)}{said(lines)}")
     places.update(
         numbers(ranges, rows, clock), title=escaped(head), heading=f"<bdi>{escaped(head)}</bdi>",
         typed=typed(study=study, species=species, by=by), method=text,
         made=f"Made on {day_text(day)} with {escaped(version)}.",
-        verify=verify(ranges.checksum), checksums=checksums(ranges.record, ranges.checksum, version, program))
+        verify=verify(ranges.record, ranges.checksum), checksums=checksums(ranges.record, ranges.checksum, version, program))
     page = fill(TEMPLATE.read_text("utf-8"), places)
     Path(path).write_bytes(page.encode("utf-8", errors="replace"))

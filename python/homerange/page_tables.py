@@ -152,7 +152,7 @@ class Overlaps:
             return "There is one animal, and so no overlap."
         pairs = animals * (animals - 1) // 2
         if not self.meeting:
-            return f"No animal has a fix in the range of another ({fixed(pairs, 1, 0)} pairs)."
+            return f"No animal has a fix in the range of another ({fixed(pairs, 1, 0)} {'pair' if pairs == 1 else 'pairs'})."
         first = min(self.meeting, key=self.rank)
         shares = [self.counts[a, b] * self.fixes[b] for a, b in (first, first[::-1])]
         name, other = first if shares[0] >= shares[1] else first[::-1]
@@ -191,12 +191,12 @@ class Overlaps:
                 f"<tbody>\n{body}\n</tbody></table>")
 
 
-def without_range(rows: Sequence[Row], records: Mapping[str, int]) -> str:
-    """A sentence on animals of the export that have no range."""
+def without_range(rows: Sequence[Row], records: Mapping[str, int], source: str) -> str:
+    """A sentence on animals of the export or the frame that have no range."""
     known = {row.animal for row in rows}
     names = sorted(name for name in records if name and name not in known)
     if not names:
         return ""
     shown = listed([f"{named(name)} ({fixed(records[name], 1, 0)})" for name in names[:20]])
     more = f", and {len(names) - 20} more" if len(names) > 20 else ""
-    return f"Without a range, since none of their fixes is used (fixes of the export): {shown}{more}."
+    return f"Without a range, since none of their fixes is used (fixes of the {source}): {shown}{more}."

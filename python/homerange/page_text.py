@@ -2,21 +2,20 @@
 
 from __future__ import annotations
 
-import warnings
 from collections import Counter
 from typing import Any, Mapping, NamedTuple, Sequence
 
-from .record import Record
+from .record import REASONS, Record
 from .formats import Clock, escaped, fixed, fixes, listed, named, with_sign
-from .overview import ALL_REASONS, Row
-from .zones import UTM, scale_of_crs, scale_of_zone
+from .overview import Row
+from .zones import scale_of_crs, scale_of_zone, text_of_crs, zone_of_crs
 
 MOST_SENTENCES = 40
 MOST_SAID = 12
 NAMES_OF_UNITS = {"m": "metres", "dm": "decimetres"}
 PHRASES = {
     "animal": "of no animal", "coordinates": "without coordinates", "zero": "with longitude and latitude 0",
-    "sensor": "of other sensors", "outlier": "marked as outliers in the export", "class": "of other Argos classes",
+    "sensor": "of other sensors", "outlier": "marked as outliers", "class": "of other Argos classes",
     "no dop": "without a dilution of precision (DOP)", "dop": "with a DOP above the limit",
     "type": "of other types of fixes", "before": "before the period", "after": "after the period",
     "grid": "marked as outliers and off the grid", "speed": "faster than the limit", "months": "in other months",
@@ -35,33 +34,8 @@ def system_of(crs: Any, middles: Sequence[tuple[float, float]]) -> System:
     unknown = "How areas on this grid differ from those on the ground is not known."
     if crs is None:
         return System("reference system not known", unknown)
-    text = str(crs)
-    if text in UTM:
-        return System(f"{text} (WGS 84 / UTM zone {UTM[text]})", difference([scale_of_zone(*at) for at in middles]))
-    scale = scale_of_crs(crs)
-    if scale is None:
-        return System(text, unknown)
-    return System(name_of_crs(crs), difference([scale(*at) for at in middles]))
-
-
-def name_of_crs(crs: Any) -> str:
-    """The code and the name of a reference system, or how it is defined where it has neither; those of UTM are written
-    alike in all languages."""
-    from pyproj import CRS
-
-    system = CRS.from_user_input(crs)
-    own = system.to_json_dict().get("id")
-    if own is None:
-        return definition_of(system) if system.name == "unknown" else str(system.name)
-    code = f"{own['authority']}:{own['code']}"
-    return f"{code} (WGS 84 / UTM zone {UTM[code]})" if code in UTM else f"{code} ({system.name})"
-
-
-def definition_of(system: Any) -> str:
-    """A reference system as PROJ has it in one line, without the datum's grids, of which it warns."""
-    with warnings.catch_warnings():
-        warnings.simplefilter("ignore")
-        return str(system.to_proj4()).removesuffix(" +type=crs")
+    scale = scale_of_zone if zone_of_crs(crs) else scale_of_crs(crs)
+    return System(text_of_crs(crs), unknown if scale is None else difference([scale(*at) for at in middles]))
 
 
 def difference(scales: Sequence[float]) -> str:
@@ -107,7 +81,7 @@ def left_out(left: Mapping[tuple[str, str], int], records: int, source: str) -> 
     gone = sum(totals.values())
     if not gone:
         return f"No fix of the {source} was left out ({fixes(records)})."
-    reasons = listed([f"{fixed(totals[reason], 1, 0)} {PHRASES[reason]}" for reason in ALL_REASONS if totals[reason]])
+    reasons = listed([f"{fixed(totals[reason], 1, 0)} {PHRASES[reason]}" for reason in REASONS if totals[reason]])
     return f"Of {fixed(records, 1, 0)} fixes of the {source} {fixed(gone, 1, 0)} were left out: {reasons}."
 
 
@@ -118,15 +92,17 @@ def said(lines: Sequence[str]) -> str:
     if not own:
         return ""
     shown = "; ".join(f"\u201c{escaped(line)}\u201d" for line in own[:MOST_SAID])
-    more = f"; and {len(own) - MOST_SAID} lines more" if len(own) > MOST_SAID else ""
+    rest = len(own) - MOST_SAID
+    more = f"; and {rest} {'line' if rest == 1 else 'lines'} more" if rest > 0 else ""
     return f" When the fixes were read this was said: {shown}{more}."
 
 
 def options_of(record: Record | None) -> str:
-    """The options with which an export was split."""
+    """The options with which an export was split, or a frame read."""
     if record is None or not record.options:
         return ""
-    return f" Options of the split: {escaped(', '.join(' '.join(filter(None, pair)) for pair in record.options))}."
+    what = "the split" if record.export else "the call"
+    return f" Options of {what}: {escaped(', '.join(' '.join(filter(None, pair)) for pair in record.options))}."
 
 
 def method(version: str, system: str, unit: str, levels: Sequence[int]) -> str:
@@ -147,21 +123,23 @@ def method(version: str, system: str, unit: str, levels: Sequence[int]) -> str:
 
 REPORT_MISSING = "none was kept: the ranges were made of a data frame"
 EXPORT_MISSING = "not known, since no record of a split was named"
+NO_EXPORT = "none: the tracks were made of a data frame"
 
 
-def verify(report: str | None) -> str:
+def verify(record: Record | None, report: str | None) -> str:
     """How all that is handed in is checked."""
     if report is None:
         return "Sums are SHA-256. No files of fixes and no report were kept, so this page alone cannot be verified."
+    words = "FOLDER EXPORT" if record and record.export else "FOLDER"
     return ("Sums are SHA-256. This checks the folder that is handed in, and says what held and what was not looked "
-            "at, in a clone of homerange: <code>python3 tools/verify.py FOLDER EXPORT</code>")
+            f"at, in a clone of homerange: <code>python3 tools/verify.py {words}</code>")
 
 
 def checksums(record: Record | None, report: str | None, version: str, program: str | None) -> str:
     """The checksums of what the page stands on."""
-    export = (named(record.export), record.checksum) if record else ("", EXPORT_MISSING)
     rows = [
-        ("Export", export[0], "export_sha256", export[1]),
+        ("Export", named(record.export) if record and record.export else "", "export_sha256",
+         (record.checksum or NO_EXPORT) if record else EXPORT_MISSING),
         ("Report", "report.txt" if report else "", "report_sha256", report or REPORT_MISSING),
         ("Program", escaped(version), "program_sha256", program or "not known, since the program was not found")]
     return "\n".join(

@@ -55,24 +55,29 @@ def _write_tracks(folder: str, tracks: Mapping[str, Any]) -> None:
             file.writelines(f"{number},{second},{easting},{northing}\n" for second, easting, northing in zip(*columns))
 
 
-class Runs:
-    """The runs of tracks. More than 64 animals are put in groups of 32, of which each has a run for its tables, and
+def steps_of(names: Sequence[str]) -> list[tuple[Sequence[str], ...]]:
+    """The runs of animals: one of all. More than 64 are put in groups of 32, of which each has a run for its tables, and
     each pair of groups one for its overlaps."""
+    size = len(names) if len(names) <= MOST_ANIMALS else GROUP
+    groups = [names[first:first + size] for first in range(0, len(names), size)]
+    return [*((group,) for group in groups), *itertools.combinations(groups, 2)]
+
+
+class Runs:
+    """The runs of tracks."""
 
     def __init__(self, program: str, tracks: dict[str, Any], levels: str, unit: str) -> None:
         self.program, self.tracks, self.levels, self.unit = program, tracks, levels, unit
         self.numbers = {name: number for number, name in enumerate(tracks)}
-        names, size = list(tracks), len(tracks) if len(tracks) <= MOST_ANIMALS else GROUP
-        groups = [names[first:first + size] for first in range(0, len(names), size)]
-        self.steps = [*((group,) for group in groups), *itertools.combinations(groups, 2)]
+        self.steps = steps_of(list(tracks))
 
-    def text(self, folder: str, step: tuple[list[str], ...]) -> str:
+    def text(self, folder: str, step: tuple[Sequence[str], ...]) -> str:
         """The report of a step, of a pair of groups the overlaps alone."""
         numbers = [self.numbers[name] for group in step for name in group]
         text = _call(self.program, self.levels, self.unit, folder, numbers, list(self.tracks))
         return text if len(step) == 1 else text[text.find("\noverlap,") + 1:]
 
-    def add(self, report: Report, step: tuple[list[str], ...], text: str) -> None:
+    def add(self, report: Report, step: tuple[Sequence[str], ...], text: str) -> None:
         """Takes into the report what a step gave."""
         names = {str(self.numbers[name]): name for group in step for name in group}
         fixes = {number: len(self.tracks[name]) for number, name in names.items()}

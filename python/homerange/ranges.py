@@ -25,7 +25,6 @@ from .program import MOST_ANIMALS, Runs, find_program
 from .record import Record, read_record
 from .report import Corners, Percent, Report, Table, kept_places, polygon_of, read as read_lines
 from .tables import Said
-from .zones import crs_of
 
 Moment = Union[str, date, datetime]
 Words = Union[str, Iterable[Any]]
@@ -57,7 +56,7 @@ class HomeRanges:
     ) -> None:
         self._report, self._tracks, self.program = report, tracks, program
         self._corners: dict[int, dict[str, Corners]] = {}
-        self.record: Record | None = None  # of the split of an export, where there was one
+        self.record: Record | None = None  # of how the files were made, where they were read with one
         self.split: Path | None = None  # its file
         self.files: list[Path] = []  # of the fixes, where they were read with a report
         self.checksum: str | None = None  # of the report, where it was read
@@ -103,15 +102,24 @@ class HomeRanges:
         times = {title: self._times(summary[title]) for title in ("first", "last")}
         return summary.assign(**times, left_out=summary["left_out"].astype("Int64"))
 
+    def of_source(self) -> Counter[str]:
+        """How many records of the export or the frame each animal has; empty where it is not known."""
+        if self.record:
+            return self.record.of_source()
+        if self._tracks is None:
+            return Counter()
+        found = Counter({name: len(table.rows) for name, table in self._report.tables.items()})
+        for (name, _), count in self._tracks.reasons.items():
+            found[name] += count
+        return found
+
+    def reasons(self) -> Counter[tuple[str, str]]:
+        """How many fixes were left out, by animal and reason, as far as it is known."""
+        return self.record.left_out() if self.record else self._tracks.reasons if self._tracks else Counter()
+
     def rows(self) -> list[Row]:
         """The facts of each animal in whole numbers, of which ``overview`` makes a table."""
-        if self.record:
-            return rows_of(self._report.tables, self.record.of_export(), self.record.left_out())
-        if self._tracks is None:
-            return rows_of(self._report.tables, {}, Counter())
-        used = {name: len(table.rows) for name, table in self._report.tables.items()}
-        records = {name: used[name] + count for name, count in self._tracks.left_out.items() if name in used}
-        return rows_of(self._report.tables, records, self._tracks.reasons)
+        return rows_of(self._report.tables, self.of_source(), self.reasons())
 
     def overview(self) -> Any:
         """A row for each animal: ``animal``; ``records``, its fixes in the export or the frame (missing where it is not
@@ -157,8 +165,7 @@ class HomeRanges:
     def left_out(self) -> Any:
         """How many fixes were left out of the frame, a row for each ``animal`` and ``reason``, with ``fixes``. The reasons
         are those of docs/TABLES.md, and use, where the argument or the column of that name left them out."""
-        left = self.record.left_out() if self.record else self._tracks.reasons if self._tracks else Counter()
-        rows = [(name, reason, count) for (name, reason), count in sorted(left.items()) if count]
+        rows = [(name, reason, count) for (name, reason), count in sorted(self.reasons().items()) if count]
         return pandas.DataFrame(rows, columns=["animal", "reason", "fixes"])
 
     def curve(self) -> Any:
@@ -263,9 +270,10 @@ class HomeRanges:
 
     def evidence(self, folder: str | os.PathLike[str], **page: Any) -> None:
         """Makes all that is handed in, in a new folder, as docs/EVIDENCE.md describes it: the fixes as files, by names as
-        split.py makes them; the report of a new run over these files, which has to have the numbers of these ranges; the
-        record of the run; tables; polygons, where geopandas is there; the page, with the arguments of ``write_page``; and
-        the checksums of all these. ``tools/verify.py`` of homerange's repository checks it.
+        split.py makes them, with a record of how they were made, or the files and the record that ``read_report`` was
+        given; the report of a new run over these files, which has to have the numbers of these ranges; the record of the
+        run; tables; polygons, where geopandas is there; the page, with the arguments of ``write_page``; and the checksums
+        of all these. ``tools/verify.py`` of homerange's repository checks it.
 
         Refused are a folder that is there, two names that come out the same, ranges without fixes, and what is refused
         of reports and programs elsewhere."""
@@ -475,18 +483,17 @@ def read_report(
     path: the report. One that is cut off, or whose lines are not those of a report, is refused (ReportError).
     files: the files that it was made from, for polygons below 100 per cent and for pictures with fixes. Files with
         other times of fixes, or another polygon of all, than the report are refused (ReportError).
-    crs: the reference system of the coordinates in metres, such as 'EPSG:32633'.
+    crs: the reference system of the coordinates in metres, such as 'EPSG:32633'; if left out, that of the record.
     shift: how many metres were added to eastings and northings, as the line shift of split.txt has it; they are taken off
         in the answers.
     tz: the time zone of the times in the answers, where the seconds of the files are those since 1970 in UTC.
     program: as in home_range.
-    record: split.txt of the files, from which it is known what was left out, the zone and the shift.
+    record: split.txt of the files, from which it is known what was left out, the reference system and the shift.
     """
     report, paths = read_lines(path), [Path(file) for file in files]
     split = read_record(record) if record is not None else None
     if split is not None:
-        shift = split.shift
-        crs = crs_of(split.zone) if crs is None and split.zone else crs
+        shift, crs = split.shift, split.system if crs is None else crs
     ranges = HomeRanges(report, _tracks_of(report, paths), crs=crs, tz=tz, program=program)
     ranges.shift, ranges.record, ranges.checksum = shift, split, hashlib.sha256(Path(path).read_bytes()).hexdigest()
     ranges.files, ranges.split = paths, None if record is None else Path(record)

@@ -1,4 +1,4 @@
-"""The record of a split, split.txt in the folder of its tracks: of which export they were made, how, and by what.
+"""The record of tracks, split.txt in their folder: of which export or of what frame they were made, how, and by what.
 docs/TABLES.md, The record, has its lines."""
 
 from __future__ import annotations
@@ -9,15 +9,20 @@ import re
 from collections import Counter
 from functools import lru_cache
 from pathlib import Path
-from typing import Any, Iterable, Iterator, NamedTuple, NoReturn, Optional
+from typing import Any, Iterator, Mapping, NamedTuple, NoReturn, Optional
 
 from . import __version__
 from .errors import FrameError, one_line
+from .zones import crs_of
 
 PACKAGE = Path(__file__).resolve().parent
 SUM = re.compile("[0-9a-f]{64}")
+CODE = re.compile("([A-Za-z]+:[A-Za-z0-9]+) [(]")
 ESCAPED = re.compile(r"\\(\\|x[0-9a-f]{2}|u[0-9a-f]{4})")
 NO_OPTIONS = ("unit", "skip-lines", "mark", "skip-unnamed")  # whose value may be that of no wish
+SINGLE = ("export", "sha256", "unit", "zone", "shift", "crs")  # kinds of which there is one line
+REASONS = ("animal", "coordinates", "zero", "sensor", "outlier", "class", "no dop", "dop", "type", "before", "after",
+           "grid", "speed", "months", "hours", "every", "use")  # use is an argument that left rows of a frame out
 
 
 class Made(NamedTuple):
@@ -32,11 +37,12 @@ class Made(NamedTuple):
 class Record(NamedTuple):
     """What split.txt says."""
 
-    export: str
-    checksum: str
+    export: str | None  # None where the tracks were made of a data frame
+    checksum: str | None
     unit: str
     zone: str | None
     shift: tuple[int, int]  # metres that were added to eastings and northings
+    crs: str | None  # a reference system that is known and is that of no UTM zone, as it is written
     options: list[tuple[str, str | None]]  # None is the value of an option that has none
     said: list[str]
     left: list[tuple[str, int, str]]  # animal, how many fixes were left out, reason
@@ -54,12 +60,18 @@ class Record(NamedTuple):
                 found[name, "outlier"] += made.records - made.used
         return found
 
-    def of_export(self) -> Counter[str]:
-        """How many records of the export each animal has."""
+    def of_source(self) -> Counter[str]:
+        """How many records of the export or the frame each animal has."""
         found = Counter({name: made.records for name, made in self.tracks.items()})
         for name, count, _ in self.left:
             found[name] += count
         return found
+
+    @property
+    def system(self) -> str | None:
+        """The reference system by its code; None where none is known, or where it has no code."""
+        code = CODE.match(self.crs or "")
+        return crs_of(self.zone) if self.zone else code[1] if code else None
 
     @property
     def used(self) -> dict[str, int]:
@@ -76,13 +88,17 @@ def unescaped(text: str) -> str:
     return ESCAPED.sub(lambda found: "\\" if found[1] == "\\" else chr(int(found[1][1:], 16)), text)
 
 
-def option_lines(options: dict[str, Any]) -> Iterator[str]:
+def given(options: Mapping[str, Any]) -> list[tuple[str, str | None]]:
     """The options that were given, by name; the unit has a line of its own."""
-    for name in sorted(options):
-        value = options[name]
-        if value is None or name in NO_OPTIONS and not value or name == "unit":
-            continue
-        yield f"option,{name}" if value is True else f"option,{name},{escaped(str(value))}"
+    pairs = sorted((name, value) for name, value in options.items()
+                   if value is not None and name != "unit" and (value or name not in NO_OPTIONS))
+    return [(name, None if value is True else str(value)) for name, value in pairs]
+
+
+def in_order(left: Mapping[tuple[str, str], int], names: Mapping[str, str]) -> list[tuple[str, int, str]]:
+    """What was left out, by the names of animals in files, and then by reasons."""
+    found = sorted((names[name], REASONS.index(reason), count) for (name, reason), count in left.items())
+    return [(name, count, REASONS[reason]) for name, reason, count in found]
 
 
 @lru_cache(maxsize=None)
@@ -95,17 +111,36 @@ def code_checksum() -> str:
     return checksum.hexdigest()
 
 
-def tool_lines(is_projected: bool) -> Iterator[str]:
-    """What made the tracks."""
-    yield f"tool,split.py {__version__},{code_checksum()}"
-    if is_projected:
-        from pyproj import __proj_version__, __version__ as version
+def tools_of(name: str, is_projected: bool) -> list[str]:
+    """What made the tracks: this package, under a name, and what projected."""
+    own = f"{name} {__version__},{code_checksum()}"
+    if not is_projected:
+        return [own]
+    from pyproj import __proj_version__, __version__ as version
 
-        yield f"tool,pyproj {version} (PROJ {__proj_version__})"
+    return [own, f"pyproj {version} (PROJ {__proj_version__})"]
 
 
-def write_record(path: Path, lines: Iterable[str]) -> None:
-    text = "".join(f"{one_line(line)}\n" for line in lines)
+def record_lines(record: Record) -> Iterator[str]:
+    """The lines of a record."""
+    if record.export is not None:
+        yield f"export,{record.export}"
+        yield f"sha256,{record.checksum}"
+    yield f"unit,{record.unit}"
+    yield f"zone,{record.zone or 'none'}"
+    if any(record.shift):
+        yield "shift,{},{}".format(*record.shift)
+    if record.crs is not None:
+        yield f"crs,{record.crs}"
+    yield from (f"option,{name}" if value is None else f"option,{name},{escaped(value)}" for name, value in record.options)
+    yield from (f"said,{line}" for line in record.said)
+    yield from (f"left,{name},{count},{reason}" for name, count, reason in record.left)
+    yield from (f"track,{name},{made.records},{made.used},{made.checksum}" for name, made in record.tracks.items())
+    yield from (f"tool,{tool}" for tool in record.tools)
+
+
+def write_record(path: Path, record: Record) -> None:
+    text = "".join(f"{one_line(line)}\n" for line in record_lines(record))
     with open(path, "w", encoding="utf-8", errors="surrogateescape", newline="\n") as file:
         file.write(text)
 
@@ -131,7 +166,7 @@ class Reader:
         kind, comma, rest = line.partition(",")
         if not comma:
             self.refuse(line)
-        elif kind in ("export", "sha256", "unit", "zone", "shift") and kind not in self.single:
+        elif kind in SINGLE and kind not in self.single:
             self.single[kind] = os.path.basename(rest) if kind == "export" else rest  # older ones have its folder
         elif kind == "option":
             name, has_value, value = rest.partition(",")
@@ -162,16 +197,17 @@ class Reader:
         return (int(found[1]), int(found[2])) if found else self.refuse(f"shift,{text}")
 
     def record(self) -> Record:
-        for kind in ("export", "sha256", "unit", "zone"):
+        has_export = "export" in self.single or "sha256" in self.single
+        for kind in (*(("export", "sha256") if has_export else ()), "unit", "zone"):
             if kind not in self.single:
                 raise FrameError(f"{self.path} has no line '{kind}': is it a record of split?", "text")
-        zone = self.single["zone"]
-        return Record(self.single["export"], self.single["sha256"], self.single["unit"], None if zone == "none" else zone,
-                      self.shift(), self.options, self.said, self.left, self.tracks, self.tools)
+        single, zone = self.single, self.single["zone"]
+        return Record(single.get("export"), single.get("sha256"), single["unit"], None if zone == "none" else zone,
+                      self.shift(), single.get("crs"), self.options, self.said, self.left, self.tracks, self.tools)
 
 
 def read_record(path: str | os.PathLike[str]) -> Record:
-    """What the record of a split says."""
+    """What the record of tracks says."""
     reader = Reader(Path(path))
     lines = Path(path).read_text("utf-8", errors="surrogateescape").split("\n")
     if not lines[-1]:
@@ -182,7 +218,7 @@ def read_record(path: str | os.PathLike[str]) -> Record:
 
 
 def record_in(folder: Path) -> Optional[Record]:
-    """The record of the split that made the tracks of a folder; None where there is none."""
+    """The record of the tracks of a folder; None where there is none."""
     path = folder / "split.txt"
     return read_record(path) if path.is_file() else None
 

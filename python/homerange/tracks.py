@@ -12,7 +12,7 @@ from math import floor, hypot, isfinite, isnan
 from typing import Any, Callable, Iterable, NamedTuple, Optional, Sequence
 
 from . import zones
-from .asked import UNITS, Unit, second_of_bound, seconds_of, zone_of_time
+from .asked import UNITS, Unit, second_of_bound, seconds_of, text_of_bound, zone_of_time
 from .cells import EPOCH, LAST_OF_CALENDAR, Offsets
 from .errors import refuse
 from .tables import ARGOS, CLASSES_OF_ARGOS, Records, Said, Table, nothing_left, ranked
@@ -103,11 +103,11 @@ class Choice:
         """Keeps the fixes from the first moment to the last that are wanted."""
         asked, records = self.asked, self.records
         if asked.since is not None:
-            first = second_of_bound(asked.since, asked.clock, False)
-            self.keep([second >= first for second in records.second], "before", f"fixes are before {asked.since}")
+            first, text = second_of_bound(asked.since, asked.clock, False), text_of_bound(asked.since, asked.clock, False)
+            self.keep([second >= first for second in records.second], "before", f"fixes are before {text}")
         if asked.until is not None:
-            last = second_of_bound(asked.until, asked.clock, True)
-            self.keep([second <= last for second in records.second], "after", f"fixes are after {asked.until}")
+            last, text = second_of_bound(asked.until, asked.clock, True), text_of_bound(asked.until, asked.clock, True)
+            self.keep([second <= last for second in records.second], "after", f"fixes are after {text}")
 
 
 def month_of(second: int) -> int:

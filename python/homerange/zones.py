@@ -4,6 +4,7 @@ Coordinates."""
 from __future__ import annotations
 
 import re
+import warnings
 from functools import lru_cache
 from math import cosh
 from typing import Any, Callable, Sequence
@@ -41,8 +42,44 @@ UTM = {crs_of(f"{zone}{half}"): f"{zone}{half}" for zone in range(1, 61) for hal
 
 
 def zone_of_crs(crs: Any) -> str | None:
-    """The zone of a reference system; None where it is that of none."""
-    return UTM.get(str(crs))
+    """The zone of a reference system; None where it is that of none, or not known."""
+    return None if crs is None else UTM.get(str(crs)) or UTM.get(code_of_crs(crs))
+
+
+def code_of_crs(crs: Any) -> str:
+    """The code of a reference system, such as EPSG:3035, as its own definition has it; else its name."""
+    try:
+        from pyproj import CRS
+    except ImportError:
+        return str(crs)
+    system = CRS.from_user_input(crs)
+    code = system.to_json_dict().get("id")
+    return f"{code['authority']}:{code['code']}" if code else str(system.name)
+
+
+def text_of_crs(crs: Any) -> str:
+    """A reference system as it is written: its code and its name, or how it is defined where it has neither; those of UTM
+    are written alike in all languages."""
+    text = str(crs)
+    if text in UTM:
+        return f"{text} (WGS 84 / UTM zone {UTM[text]})"
+    try:
+        from pyproj import CRS
+    except ImportError:
+        return text
+    system = CRS.from_user_input(crs)
+    own = system.to_json_dict().get("id")
+    if own is None:
+        return definition_of(system) if system.name == "unknown" else str(system.name)
+    code = f"{own['authority']}:{own['code']}"
+    return f"{code} (WGS 84 / UTM zone {UTM[code]})" if code in UTM else f"{code} ({system.name})"
+
+
+def definition_of(system: Any) -> str:
+    """A reference system as PROJ has it in one line, without the datum's grids, of which it warns."""
+    with warnings.catch_warnings():
+        warnings.simplefilter("ignore")
+        return str(system.to_proj4()).removesuffix(" +type=crs")
 
 
 def zone_at(longitude: float, latitude: float) -> str:

@@ -1,4 +1,5 @@
 """The folder of evidence of ranges: its files, what the verifier of the repository says of them, and what is refused."""
+import datetime
 import hashlib
 import os
 import shutil
@@ -11,7 +12,8 @@ import pytest
 from exact import cloud
 from frames import frame_of
 
-from homerange import FrameError, HomeRangeNote, ProgramError, ReportError, home_range, read_report
+from homerange import FrameError, HomeRangeNote, ProgramError, ReportError, evidence, home_range, read_report
+from homerange.asked import Asked, told
 from homerange.program import find_program
 
 TOOLS = Path(__file__).parents[2] / "tools"
@@ -37,6 +39,12 @@ def ranges():
         return home_range(frame, [95, 100], crs="EPSG:32633", tz="Europe/Ljubljana")
 
 
+def lines_of(folder):
+    """The record of the tracks, and what made them."""
+    lines = (folder / "tracks" / "split.txt").read_text("utf-8").splitlines()
+    return [line for line in lines if not line.startswith("tool,")], [line for line in lines if line.startswith("tool,")]
+
+
 def test_evidence_of_a_frame(ranges, tmp_path):
     pytest.importorskip("geopandas")
     folder = tmp_path / "hand-in"
@@ -45,17 +53,79 @@ def test_evidence_of_a_frame(ranges, tmp_path):
     names = sorted(path.relative_to(folder).as_posix() for path in folder.rglob("*") if path.is_file())
     assert {*names} - {"build.log"} == {
         "SHA256SUMS", "animals.csv", "evidence.txt", "overlaps.csv", "ranges.gpkg", "report.html", "report.txt", "summary.csv",
-        "tracks/a_b.csv", "tracks/vixen.csv", "tracks/Žiga Ä.csv"}
+        "tracks/a_b.csv", "tracks/split.txt", "tracks/vixen.csv", "tracks/Žiga Ä.csv"}
     sums = (folder / "SHA256SUMS").read_text("utf-8").splitlines()
     assert [line[66:] for line in sums] == sorted({*names} - {"SHA256SUMS"}, key=os.fsencode)
     assert all(line[:64] == hashlib.sha256((folder / line[66:]).read_bytes()).hexdigest() for line in sums)
     assert (folder / "tracks/vixen.csv").read_text().splitlines()[:2] == [
         "animal,second,easting,northing", "vixen,{},{},{}".format(1709251200, *POINTS["vixen"][0])]
     about = about_of(folder)
-    assert (about["unit"], about["levels"], about["zone"]) == ("m", "95,100", "33N")
+    assert (about["unit"], about["levels"], about["export"]) == ("m", "95,100", "none")
     assert about["arguments"] == "--percent 95,100 --unit m -- tracks/a_b.csv tracks/vixen.csv 'tracks/Žiga Ä.csv'"
-    assert about["notes"] == "; ".join([*ranges.notes, "animal 'a/b' is named a_b"])
-    assert not {"crs", "shift", "export"} & {*about}
+    assert not {"crs", "zone", "shift", "notes", "export sha256"} & {*about}
+
+
+def test_the_record_of_a_frame(ranges, tmp_path):
+    with pytest.warns(HomeRangeNote, match="is named a_b"):
+        ranges.evidence(tmp_path / "hand-in")
+    lines, tools = lines_of(tmp_path / "hand-in")
+    sums = {name: hashlib.sha256((tmp_path / "hand-in" / "tracks" / f"{name}.csv").read_bytes()).hexdigest()
+            for name in ("vixen", "a_b", "Žiga Ä")}
+    assert lines == [
+        "unit,m", "zone,33N", "option,crs,EPSG:32633", "option,tz,Europe/Ljubljana", "said,1 outliers: left out",
+        "said,columns: animal, timestamp, easting, northing; 3 animals, box 1.765 by 1.744 km",
+        "said,animal 'a/b' is named a_b", "left,vixen,1,outlier", f"track,vixen,39,39,{sums['vixen']}",
+        f"track,a_b,31,31,{sums['a_b']}", f"track,Žiga Ä,12,12,{sums['Žiga Ä']}"]
+    package = Path(evidence.__file__).parent
+    code = b"".join(path.read_bytes() for end in ("py", "csv", "html") for path in sorted(package.glob(f"*.{end}")))
+    assert tools == [f"tool,homerange for Python 1.0.0,{hashlib.sha256(code).hexdigest()}"]
+
+
+def test_what_a_call_was_told():
+    asked = Asked(
+        is_frame=True, animal=["a", "b,c"], max_dop=5.0, max_speed=0.25, months=[3, 4], hours=(18.0, 6.5), every=2, zone="33n",
+        since=datetime.date(2024, 5, 1), until=pandas.Timestamp("2024-05-31 18:00", tz="Europe/Ljubljana"), tz="UTC", name="fox")
+    assert told(asked, "ok") == {
+        "animal": "a,b,c", "max-dop": "5", "max-speed": "0.25", "months": "3,4", "hours": "18,6.5", "every": "2h", "zone": "33n",
+        "since": "2024-05-01", "until": "2024-05-31T16:00:00Z", "tz": "UTC", "name": "fox", "use": "ok", "skip-unnamed": False}
+    bare = Asked(is_frame=True, every="30min", until="2024-05-31 18:00")
+    assert told(bare, True) == {"every": "30min", "until": "2024-05-31 18:00", "use": True, "skip-unnamed": False}
+    assert told(Asked(is_frame=True), [True, False]) == {"skip-unnamed": False}
+
+
+def test_another_reference_system_than_that_of_a_zone(tmp_path):
+    pytest.importorskip("geopandas")
+    found = home_range(frame_of(a=[(4321000 + e - 562000, 3210000 + n - 5134000) for e, n in cloud(1, 40)]), crs=3035, unit="dm")
+    found.evidence(tmp_path / "hand-in")
+    lines, _ = lines_of(tmp_path / "hand-in")
+    assert lines[:4] == ["unit,dm", "zone,none", "crs,EPSG:3035 (ETRS89-extended / LAEA Europe)", "option,crs,EPSG:3035"]
+    status, said = verify(tmp_path / "hand-in")
+    assert status == 3 and "did not hold" not in said, said
+    assert "hectares, in EPSG:3035 (ETRS89-extended / LAEA Europe)" in said
+    again = read_report(tmp_path / "hand-in" / "report.txt", record=tmp_path / "hand-in" / "tracks" / "split.txt")
+    assert again.crs == "EPSG:3035"
+
+
+def test_tracks_that_were_projected_say_by_what(tmp_path):
+    pyproj = pytest.importorskip("pyproj")
+    frame = frame_of(a=cloud(1, 9)).assign(lon=15.8, lat=[46.3 + at / 1000 for at in range(9)])
+    with pytest.warns(HomeRangeNote, match="rounded"):
+        found = home_range(frame.drop(columns=["easting", "northing"]), 100, zone="33N")
+    found.evidence(tmp_path / "hand-in")
+    assert lines_of(tmp_path / "hand-in")[1][1] == f"tool,pyproj {pyproj.__version__} (PROJ {pyproj.__proj_version__})"
+
+
+def test_more_animals_than_a_run_takes_without_a_clone(tmp_path, monkeypatch):
+    monkeypatch.setattr(evidence, "CLONE", None)
+    herd = {f"deer{number}": cloud(number, 5, 300) for number in range(70)}
+    found = home_range(frame_of(**herd), [50, 95], unit="dm")
+    found.evidence(tmp_path / "hand-in")
+    report = (tmp_path / "hand-in" / "report.txt").read_text()
+    assert report.startswith("unit,dm\nanimal,deer0,fixes,5\n") and report.endswith("\nend,70\n")
+    assert report.count("unit,dm") == 1 and report.count("\noverlap,") == 70 * 69
+    assert about_of(tmp_path / "hand-in")["runs"] == "6 of groups of 32 animals"
+    status, said = verify(tmp_path / "hand-in")
+    assert status == 3 and "held: run again the program makes the same report" in said, said
 
 
 def test_the_log_of_a_program_that_was_built_here_goes_with_it(tmp_path, monkeypatch):
@@ -72,10 +142,12 @@ def test_the_verifier_holds_it_but_for_the_export(ranges, tmp_path):
         ranges.evidence(tmp_path / "hand-in")
     status, said = verify(tmp_path / "hand-in")
     assert status == 3, said
-    assert "did not hold" not in said
-    assert "not looked at: from what the tracks were made" in said
-    assert "held: run again the program makes the same report" in said
-    for name, old, new in (("report.txt", "animal,vixen", "animal,other"), ("evidence.txt", "zone: 33N", "place: 33N")):
+    assert said.endswith("verify.py: 10 held, 0 did not, 1 not looked at\n")
+    assert "not looked at: whether the tracks are those of the data frame that they were made of" in said
+    for part in ("animals.csv", "ranges.gpkg", "report.html"):
+        assert any(line.startswith("held:") and part in line for line in said.splitlines())
+    assert verify(tmp_path / "hand-in", TOOLS.parent / "examples" / "export.csv")[0] == 1
+    for name, old, new in (("report.txt", "animal,vixen", "animal,other"), ("tracks/split.txt", "zone,33N", "zone,34N")):
         path = tmp_path / "hand-in" / name
         text = path.read_text("utf-8")
         path.write_text(text.replace(old, new), "utf-8")
@@ -101,10 +173,23 @@ def test_evidence_of_a_grid_of_its_own(tmp_path):
     with pytest.warns(HomeRangeNote, match="shifted"):
         found = home_range(frame_of(a=[(-100, 5), (50, 60), (40, 90)]), 100, unit="dm")
     found.evidence(tmp_path / "hand-in")
-    about = about_of(tmp_path / "hand-in")
-    assert about["shift"] == "{},{}".format(*found.shift) and found.shift != (0, 0)
-    assert not {"zone", "crs"} & {*about}
-    assert verify(tmp_path / "hand-in")[0] == 3
+    lines, _ = lines_of(tmp_path / "hand-in")
+    assert lines[:3] == ["unit,dm", "zone,none", "shift,{},{}".format(*found.shift)] and found.shift != (0, 0)
+    assert not any(line.startswith(("crs,", "option,")) for line in lines)
+    status, said = verify(tmp_path / "hand-in")
+    assert status == 3 and "did not hold" not in said, said
+
+
+def test_evidence_of_a_report_and_files_of_a_frame(ranges, tmp_path):
+    with pytest.warns(HomeRangeNote, match="is named a_b"):
+        ranges.evidence(tmp_path / "hand-in")
+    tracks = tmp_path / "hand-in" / "tracks"
+    found = read_report(tmp_path / "hand-in" / "report.txt", files=tracks.glob("*.csv"), record=tracks / "split.txt")
+    assert (found.crs, found.left_out().values.tolist()) == ("EPSG:32633", [["vixen", "outlier", 1]])
+    found.evidence(tmp_path / "again")
+    assert lines_of(tmp_path / "again") == lines_of(tmp_path / "hand-in")
+    status, said = verify(tmp_path / "again")
+    assert status == 3 and "did not hold" not in said, said
 
 
 def test_layers_without_an_area_are_said(tmp_path):

@@ -166,7 +166,7 @@ def year():
 @pytest.mark.parametrize("words, kept, said", [
     ({"from_": "2024-12-31"}, 4, "1460 fixes are before 2024-12-31: left out"),
     ({"from_": "2024-12-31 06:00"}, 3, "before 2024-12-31 06:00"),
-    ({"from_": datetime(2024, 12, 31, 6, 0, 1)}, 2, "before 2024-12-31 06:00:01"),
+    ({"from_": datetime(2024, 12, 31, 6, 0, 1)}, 2, "before 2024-12-31T06:00:01Z"),
     ({"to": "2024-01-01"}, 4, "1460 fixes are after 2024-01-01: left out"),
     ({"to": date(2024, 1, 1)}, 4, "after 2024-01-01"),
     ({"to": "2024-01-01T12:00Z"}, 3, "after 2024-01-01T12:00Z"),

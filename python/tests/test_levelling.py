@@ -116,7 +116,7 @@ def test_overview_of_files_alone(made: Path):
 
 def test_a_record_is_read(made: Path):
     found = read_record(made / "split.txt")
-    assert (found.export, found.checksum, found.of_export()["gone"]) == ("deer.csv", "abc", 5)
+    assert (found.export, found.checksum, found.of_source()["gone"]) == ("deer.csv", "abc", 5)
     assert found.options == [("max-dop", "4"), ("na", '"N/A,-')]
     text = (made / "split.txt").read_text()
     for line in ("track,b\n", "left,a,x,outlier\n"):

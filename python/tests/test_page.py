@@ -132,7 +132,7 @@ def test_fixes_left_out_of_a_frame(tmp_path):
     page = page_of(ranges, tmp_path)
     assert page.animals["a"]["left_outlier"] == "10" and page.animals["a"]["left_every"] == "15"
     assert (page.animals["a"]["records"], page.animals["a"]["used"], page.animals["b"]["left_outlier"]) == ("40", "15", "0")
-    assert "Of 70 fixes of the data 40 were left out: 10 marked as outliers in the export and 30 not the first" in page.text
+    assert "Of 70 fixes of the data 40 were left out: 10 marked as outliers and 30 not the first" in page.text
     assert "“10 outliers: left out”" in page.text
 
 
@@ -146,8 +146,8 @@ def test_a_page_of_a_split(tmp_path):
     page = page_of(ranges, tmp_path)
     cells = page.animals["a"]
     assert [cells[field] for field in ("records", "left_coordinates", "left_outlier", "used")] == ["8", "2", "2", "4"]
-    assert ("Of 16 fixes of the export 12 were left out: 3 of no animal, 2 without coordinates, 2 marked as outliers in the "
-            "export and 5 without a dilution of precision (DOP). Options of the split: max-dop 4, na \"N/A,-." in page.text)
+    assert ("Of 16 fixes of the export 12 were left out: 3 of no animal, 2 without coordinates, 2 marked as outliers and "
+            "5 without a dilution of precision (DOP). Options of the split: max-dop 4, na \"N/A,-." in page.text)
     assert "Without a range, since none of their fixes is used (fixes of the export): gone (5)." in page.text
     assert "EPSG:32733 (WGS 84 / UTM zone 33S)" in page.text
     sums = {name: subprocess.run(["sha256sum", path], capture_output=True, text=True).stdout[:64]
@@ -166,6 +166,22 @@ def test_a_report_alone_has_what_is_known(tmp_path):
     assert page.animals["a"]["records"] == DASH
     assert "reference system not known" in page.text and "How many fixes were left out is not known." in page.text
     assert page.fields["program_sha256"] == "not known, since the program was not found"
+    assert page.text.rstrip().endswith("python3 tools/verify.py FOLDER")
+
+
+def test_one_pair_and_several_that_do_not_meet(tmp_path):
+    herd = {name: cloud(number, 9, 50, 560000 + 2000 * number) for number, name in enumerate("abc")}
+    for names, pairs in (("ab", "(1 pair)."), ("abc", "(3 pairs).")):
+        page = page_of(home_range(frame_of(**{name: herd[name] for name in names})), tmp_path)
+        assert f"No animal has a fix in the range of another {pairs}" in page.text
+
+
+def test_animals_of_a_frame_without_a_range_are_named(tmp_path):
+    frame = frame_of(a=cloud(6, 40), b=[(1, 2), (3, 4)])
+    with pytest.warns(HomeRangeNote, match="no fix of 'b' is left"):
+        page = page_of(home_range(frame.assign(visible=frame["animal"] == "a")), tmp_path)
+    assert "Without a range, since none of their fixes is used (fixes of the data): b (2)." in page.text
+    assert "Of 42 fixes of the data 2 were left out: 2 marked as outliers." in page.text
 
 
 def test_decimetres(tmp_path):

@@ -84,10 +84,11 @@ def test_what_was_said_is_quoted_without_lines_on_one_animal_and_files():
         " When the fixes were read this was said: \u201c2 outliers: left out\u201d; \u201c&lt;b&gt;\u201d.")
     many = said([f"line {number}" for number in range(15)])
     assert many.count("\u201c") == 12 and many.endswith("; and 3 lines more.")
+    assert said([f"line {number}" for number in range(13)]).endswith("; and 1 line more.")
 
 
 def test_animals_without_a_range_are_named():
     rows = [row_of("a", Table([(0, 1, 0)], [(1, 1)], []), None, {})]
-    assert without_range(rows, {"a": 5, "": 3}) == ""
-    assert without_range(rows, {"a": 5, "b": 1}).endswith(": <bdi>b</bdi> (1).")
-    assert without_range(rows, {f"{n:02}": 1 for n in range(25)}).endswith("<bdi>19</bdi> (1), and 5 more.")
+    assert without_range(rows, {"a": 5, "": 3}, "data") == ""
+    assert without_range(rows, {"a": 5, "b": 1}, "data").endswith(" (fixes of the data): <bdi>b</bdi> (1).")
+    assert without_range(rows, {f"{n:02}": 1 for n in range(25)}, "export").endswith("<bdi>19</bdi> (1), and 5 more.")

@@ -108,3 +108,24 @@ words_of <- function(value, option) {
   }
   if (length(value) == 1) strsplit(paste0(value, ","), ",", fixed = TRUE)[[1]] else as.character(value)
 }
+
+# What a call was told of how a table is read, as the record has it, by the names that options of the commands have with _
+# for hyphens. Which rows are used is told where it is a column, or all.
+options_told <- function(asked, use) {
+  words <- c("animal", "time", "easting", "northing", "lon", "lat", "zone", "sensor", "argos_class", "argos", "max_dop", "dop",
+             "fix_type", "fix", "max_speed", "tz", "months", "hours")
+  found <- lapply(mget(words, asked, ifnotfound = list(NULL)), text_of_words)
+  for (option in c("since", "until")) {
+    if (!is.null(asked[[option]])) found[[option]] <- text_of_bound(asked[[option]], option, clock_of(asked))
+  }
+  found$every <- if (is.numeric(asked$every)) sprintf("%.15gh", asked$every) else asked$every
+  found$name <- if (asked$name != "animal") asked$name
+  found$use <- if (isTRUE(use) || is_text(use)) use
+  found$skip_unnamed <- asked$skip_unnamed
+  found
+}
+
+# Words and numbers between commas; NULL of none.
+text_of_words <- function(value) {
+  if (!is.null(value)) paste(if (is.numeric(value)) sprintf("%.15g", value) else value, collapse = ",")
+}

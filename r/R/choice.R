@@ -103,18 +103,19 @@ choose_period <- function(choice) {
   asked <- choice$asked
   if (!is.null(asked$since)) {
     first <- second_of_bound(asked$since, "since", choice$tz)
-    keep_records(choice, choice$records$second >= first, "before", "fixes are before ", text_of_bound(asked$since))
+    keep_records(choice, choice$records$second >= first, "before", "fixes are before ", text_of_bound(asked$since, "since", choice$tz))
   }
   if (!is.null(asked$until)) {
     last <- second_of_bound(asked$until, "until", choice$tz)
-    keep_records(choice, choice$records$second <= last, "after", "fixes are after ", text_of_bound(asked$until))
+    keep_records(choice, choice$records$second <= last, "after", "fixes are after ", text_of_bound(asked$until, "until", choice$tz))
   }
 }
 
-# A bound as it is said.
-text_of_bound <- function(bound) {
-  if (inherits(bound, "POSIXt")) return(format(bound, usetz = TRUE))
-  if (inherits(bound, "Date")) format(bound) else if (is.numeric(bound)) digits_of(bound) else bound
+# A bound as it is said: text and days as they are, another moment in UTC.
+text_of_bound <- function(bound, option, tz) {
+  if (is.character(bound)) return(bound)
+  if (inherits(bound, "Date")) return(format(bound))
+  format(.POSIXct(second_of_bound(bound, option, tz), tz = "UTC"), "%Y-%m-%dT%H:%M:%SZ")
 }
 
 # The second of a bound. One without a zone is a time of the clock; a day is its first second, or as until its last.

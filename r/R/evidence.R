@@ -1,14 +1,15 @@
-# The folder that is handed in: fixes, their report, the record of the run, tables, polygons, the page and checksums.
+# The folder that is handed in: fixes with their record, their report, the record of the run, tables, polygons, the page and
+# checksums.
 # docs/EVIDENCE.md says what it shows.
 
 # Makes the folder of evidence of home ranges, whose page is written with the other arguments.
 evidence <- function(x, folder, ...) {
   if (!inherits(x, "home_range")) refuse("option", "x: a home range is wanted")
-  if (is.null(x$fixes)) refuse("option", "evidence needs the fixes: make the ranges by home_range")
+  if (is.null(x$fixes)) refuse("option", "evidence needs the fixes: read_report(file, files = ..)")
   if (!is_text(folder) || !nzchar(folder)) refuse("option", "folder: the name of a new folder is wanted")
   folder <- sub("(.)/+$", "\\1", folder)
   if (is_there(folder)) refuse("text", folder, " is there already: name another folder")
-  names <- names_of_files(x$animals$animal)
+  names <- if (is.null(x$files)) names_of_files(x$animals$animal) else x$animals$animal
   program <- identity_of(homerange_program())
   part <- paste0(folder, ".part")
   if (is_there(part)) refuse("text", part, " is there already: is another call at work?")
@@ -20,20 +21,11 @@ evidence <- function(x, folder, ...) {
 }
 
 fill_evidence <- function(x, folder, names, program, ...) {
-  files <- write_named_tracks(x, names, folder)
-  before <- checksums_of(folder)
-  words <- c("--percent", paste(unique(x$percents$level), collapse = ","), "--unit", x$unit)
-  write_lines(file.path(folder, "report.txt"), report_of_files(program$path, words, files, folder))
-  made <- ranges_of_report(x, folder, names)
-  after <- checksums_of(folder)
-  changed <- names(before)[!(after[names(before)] == before) %in% TRUE]
-  if (length(changed)) refuse("text", changed[1], " changed while it was read")
-  if (identity_of(program$path)$checksum != program$checksum) refuse("program", program$path, " changed while it ran")
-  log <- file.path(dirname(program$path), "build.log")
-  if (file.exists(log)) file.copy(log, folder)
-  renames <- renames_of(x$animals$animal, names)
-  for (line in renames) message("homerange: ", one_line(line))
-  write_lines(file.path(folder, "evidence.txt"), about_lines(x, program, c(words, "--", files), renames))
+  if (is.null(x$files)) put_frame(x, names, folder) else put_files(x, file.path(folder, "tracks"))
+  record <- record_in(file.path(folder, "tracks"))
+  if (!is.null(record)) check_record(record, file.path(folder, "tracks"))
+  made <- report_of_folder(x, folder, names, program, record)
+  for (line in renames_of(x$animals$animal, names)) message("homerange: ", one_line(line))
   write_summary(made, file.path(folder, "summary.csv"))
   write_animals(made, file.path(folder, "animals.csv"))
   write_overlaps(made, file.path(folder, "overlaps.csv"))
@@ -43,6 +35,75 @@ fill_evidence <- function(x, folder, names, program, ...) {
   sums <- sums[order(names(sums), method = "radix")]
   write_lines(file.path(folder, "SHA256SUMS"), paste0(sums, "  ", names(sums)))
 }
+
+# Has the program report of the tracks in a folder, and writes the record of the run; answers the ranges of the report.
+report_of_folder <- function(x, folder, names, program, record) {
+  if (!is.null(record) && record$unit != x$unit) {
+    refuse("option", "the tracks are in ", record$unit, ", by split.txt beside them, and the ranges in ", x$unit)
+  }
+  before <- checksums_of(folder)
+  files <- used_tracks(folder)
+  words <- c("--percent", paste(unique(x$percents$level), collapse = ","), "--unit", x$unit)
+  write_lines(file.path(folder, "report.txt"), report_of_files(program$path, words, files, folder))
+  made <- ranges_of_report(x, folder, names, record)
+  after <- checksums_of(folder)
+  changed <- names(before)[!(after[names(before)] == before) %in% TRUE]
+  if (length(changed)) refuse("text", changed[1], " changed while it was read")
+  if (identity_of(program$path)$checksum != program$checksum) refuse("program", program$path, " changed while it ran")
+  log <- file.path(dirname(program$path), "build.log")
+  if (file.exists(log)) file.copy(log, folder)
+  write_lines(file.path(folder, "evidence.txt"), about_lines(x, program, c(words, "--", files), record))
+  made
+}
+
+# Puts the fixes of a frame into the folder's tracks, a file for each animal, with the record of how they were made.
+put_frame <- function(x, names, folder) {
+  tracks <- file.path(folder, "tracks")
+  for (place in seq_along(names)) {
+    own <- x$fixes[x$fixes$animal == x$animals$animal[place], ]
+    lines <- sprintf("%s,%.0f,%.0f,%.0f", names[place], own$moment, own$easting, own$northing)
+    write_lines(file.path(tracks, paste0(names[place], ".csv")), c("animal,second,easting,northing", lines))
+  }
+  left <- x$left_out
+  left$animal <- clean_names(left$animal)
+  fixes <- x$animals$fixes
+  has_crs <- !is.null(x$crs) && is.null(x$zone)
+  write_lines(file.path(tracks, "split.txt"), lines_of_record(list(
+    unit = x$unit, zone = x$zone, shift = x$shift, crs = if (has_crs) text_of_crs(x$crs), options = x$options,
+    said = c(x$notes, renames_of(x$animals$animal, names)), left = left,
+    tracks = data.frame(animal = names, records = fixes, used = fixes, checksum = checksums_of(tracks)[paste0(names, ".csv")]),
+    tools = tools_of("homerange for R", code_of_this_package(), x$is_projected)
+  )))
+}
+
+# Copies the files that were read into a folder, with their record: the one that was named, or the one beside them.
+put_files <- function(x, folder) {
+  files <- x$files
+  names <- basename(files)
+  twice <- which(duplicated(names))
+  if (length(twice)) refuse("name", files[match(names[twice[1]], names)], " and ", files[twice[1]], " have the same name")
+  odd <- files[!endsWith(files, ".csv")]
+  if (length(odd)) refuse("name", odd[1], " is no track: its name does not end in .csv")
+  bad <- names[grepl("\\", names, fixed = TRUE) | one_line(names) != names]
+  if (length(bad)) refuse("name", bad[1], " has a backslash, a line end or a control character in its name: rename it")
+  folders <- unique(normalizePath(dirname(files)))
+  records <- file.path(folders, "split.txt")
+  records <- if (is.null(x$record_file)) records[file.exists(records)] else x$record_file
+  if (is.null(x$record_file) && length(records) && length(folders) > 1) {
+    refuse("text", "the tracks are of several folders of which one has a record of its split: take those of one")
+  }
+  if (!all(file.copy(files, folder))) refuse("file", "a file of fixes cannot be copied into ", folder)
+  if (length(records)) file.copy(records, file.path(folder, "split.txt"))
+}
+
+# The files of a folder's tracks that have a used fix, by their names within the folder in order of bytes.
+used_tracks <- function(folder) {
+  files <- sort(paste0("tracks/", list.files(file.path(folder, "tracks"), "[.]csv$", all.files = TRUE)), method = "radix")
+  files[vapply(file.path(folder, files), function(path) !has_marks(path) || any(read_track(path)$used), NA)]
+}
+
+# Whether a file of fixes says which are used.
+has_marks <- function(path) "use" %in% strsplit(readLines(path, 1, warn = FALSE), ",", fixed = TRUE)[[1]]
 
 # The names that animals have in files; two that come out the same are refused, and what a list of checksums cannot have.
 names_of_files <- function(animals) {
@@ -67,16 +128,6 @@ identity_of <- function(path) {
     refuse("program", path, " is not homerange: its --version says '", paste(version, collapse = " "), "'")
   }
   list(path = path, version = version, checksum = checksum_of(path))
-}
-
-# Writes the fixes of each animal into the folder's tracks; answers the names of the files within it, in order of bytes.
-write_named_tracks <- function(x, names, folder) {
-  for (place in seq_along(names)) {
-    own <- x$fixes[x$fixes$animal == x$animals$animal[place], ]
-    lines <- sprintf("%s,%.0f,%.0f,%.0f", names[place], own$moment, own$easting, own$northing)
-    write_lines(file.path(folder, "tracks", paste0(names[place], ".csv")), c("animal,second,easting,northing", lines))
-  }
-  sort(paste0("tracks/", names, ".csv"), method = "radix")
 }
 
 # The lines of the report of files, as one run would give them if it took them all. Of more than that each group has its own
@@ -116,7 +167,7 @@ run_in <- function(folder, program, words) {
 }
 
 # The ranges of the report that was made in a folder, by the names of the files, once it is seen that they are these.
-ranges_of_report <- function(x, folder, clean) {
+ranges_of_report <- function(x, folder, clean, record) {
   made <- read_report(file.path(folder, "report.txt"))
   at <- match(made$animals$animal, clean)
   if (anyNA(at) || length(at) != length(clean)) refuse("check", "the report has other animals than the tracks")
@@ -129,10 +180,8 @@ ranges_of_report <- function(x, folder, clean) {
   made$fixes <- x$fixes
   made$fixes$animal <- clean[match(x$fixes$animal, x$animals$animal)]
   made$fixes <- made$fixes[order(match(made$fixes$animal, made$animals$animal)), ]
-  made$left_out <- x$left_out
-  made$left_out$animal <- clean[match(x$left_out$animal, x$animals$animal)]
-  for (known in c("crs", "shift", "zone", "notes", "tz")) made[[known]] <- x[[known]]
-  made
+  for (known in c("crs", "shift", "zone", "notes", "tz", "left_out")) made[[known]] <- x[[known]]
+  if (is.null(record)) made else with_record(made, record)
 }
 
 refuse_other_numbers <- function() {
@@ -140,9 +189,8 @@ refuse_other_numbers <- function() {
 }
 
 # The record of a run, fields by name.
-about_lines <- function(x, program, words, renames) {
-  notes <- c(x$notes, renames)
-  number <- nrow(x$animals)
+about_lines <- function(x, program, words, record) {
+  number <- sum(endsWith(words, ".csv"))
   groups <- ceiling(number / group_size)
   fields <- c(
     evidence = "1", made = format(Sys.time(), "%Y-%m-%dT%H:%M:%SZ", tz = "UTC"), program = program$version,
@@ -150,9 +198,9 @@ about_lines <- function(x, program, words, renames) {
     levels = paste(unique(x$percents$level), collapse = ","),
     runs = if (number <= most_files) "1" else sprintf("%.0f of groups of %d animals", groups * (groups + 1) / 2, group_size),
     commit = "not known, since the package for R stands in no clone", sources = made_from(program$path, "sources"),
-    logic = made_from(program$path, "logic"), notes = if (length(notes)) paste(notes, collapse = "; "), zone = x$zone,
-    shift = if (any(x$shift != 0)) sprintf("%.0f,%.0f", x$shift[1], x$shift[2]),
-    crs = if (is.null(x$zone) && !is.null(x$crs)) x$crs$input
+    logic = made_from(program$path, "logic"),
+    if (!is.null(record$export)) c(export = record$export, "export sha256" = record$checksum) else
+      if (!is.null(record)) c(export = "none")
   )
   one_line(paste0(names(fields), ": ", fields))
 }

@@ -1,8 +1,6 @@
 # Reads tables of fixes that are text, of Movebank, of collars or of one's own: docs/TABLES.md, The text.
 
 list_options <- c("animal", "time", "na", "sensor", "argos_class", "fix_type")  # which are several words between commas
-reasons_known <- c("animal", "coordinates", "zero", "sensor", "outlier", "class", "no dop", "dop", "type", "before", "after",
-                   "grid", "speed", "months", "hours", "every")
 bytes_read <- 2^20  # at once
 byte_order_mark <- as.raw(c(0xef, 0xbb, 0xbf))
 

@@ -5,9 +5,11 @@ most_exact <- 2^53
 
 # The fixes of a table that are to be used: a data frame of row, animal, time, moment (seconds), easting and northing in
 # whole units of the grid, by animal and time; beside it the fixes that were left out by animal and reason, the CRS, how many
-# metres were added to coordinates, the time zone, the UTM zone, and what was said.
+# metres were added to coordinates, the time zone, the UTM zone, what was said, what the call was told, and whether places were
+# projected.
 read_frame <- function(x, asked, use = NULL, crs = NULL) {
   check_frame(x)
+  options <- options_told(asked, use)
   frame <- new_frame(x, asked, use, crs)
   check_calendar(frame)
   said <- new_said(function(line) message("homerange: ", line))
@@ -18,9 +20,11 @@ read_frame <- function(x, asked, use = NULL, crs = NULL) {
   if (!is.null(frame$zone_said)) say(said, NULL, frame$zone_said)
   count_unused(frame, said)
   check_zone_of_crs(tracks$zone, frame$crs)
+  if (!is.null(crs)) options$crs <- if (is_text(crs)) crs else code_of_crs(frame$crs)
   crs <- crs_of_tracks(frame, tracks)
   list(fixes = fixes_of_tracks(frame, tracks), left_out = said$left, crs = crs, shift = tracks$shift, tz = clock_of(asked),
-       zone = if (is.null(tracks$zone)) zone_of_crs(crs) else tracks$zone, notes = said$lines)
+       zone = if (is.null(crs)) tracks$zone else zone_of_crs(crs), notes = said$lines, options = options,
+       is_projected = isTRUE(tracks$places$is_projected))
 }
 
 check_frame <- function(x) {

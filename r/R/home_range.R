@@ -23,7 +23,9 @@ home_range <- function(x, levels = c(50, 95, 100), unit = "m", animal = NULL, ti
     run_all(files, unique(read$fixes$animal), c("--unit", asked$unit, "--percent", levels), isTRUE(progress))
   })
   if (!identical(report$rows$second, read$fixes$moment)) refuse("check", "the report has not the times of the fixes")
-  new_home_range(report, read$fixes$time, read$fixes, read$left_out, read$crs, read$shift, read$zone, read$notes, read$tz)
+  ranges <- new_home_range(report, read$fixes$time, read$fixes, read$left_out, read$crs, read$shift, read$zone, read$notes, read$tz)
+  ranges[c("options", "is_projected")] <- read[c("options", "is_projected")]
+  ranges
 }
 
 # Levels as the program takes them.

@@ -1,6 +1,5 @@
 # The tables and layers of a folder of evidence. Tables are the same bytes as those of the package for Python.
 
-reasons_of_all <- c(reasons_known, "use")  # use is an argument that left rows out
 last_of_pandas <- 9223372036  # the last second that tables have: the times of pandas end in the year 2262
 
 # Whole numbers divided by a power of ten, as Python writes them; empty where they are missing.

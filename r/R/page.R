@@ -21,9 +21,10 @@ write_page <- function(x, path, title = NULL, study = NULL, species = NULL, by =
   places <- c(drawn$places, places_of_numbers(x, rows, clock), list(
     title = as_html(head), heading = in_bdi(head), typed = typed_text(c(Study = study, Species = species, By = by)),
     period = period_of_page(clock, range(ends)), made = paste0("Made on ", day_text(day), " with ", as_html(program$version), "."),
-    method = paste0(method_text(program$version, drawn$system, x$unit, unique(x$percents$level)), " ", left_out_text(rows),
-                    said_text(x$notes)),
-    verify = verify_text(x$checksum), checksums = checksums_table(x$checksum, program$version, program$checksum)
+    method = paste0(method_text(program$version, drawn$system, x$unit, unique(x$percents$level)), " ", left_out_text(x),
+                    options_text(x$record), said_text(x$notes)),
+    verify = verify_text(x$record, x$checksum),
+    checksums = checksums_table(x$record, x$checksum, program$version, program$checksum)
   ))
   template <- paste0(readLines(system.file("extdata", "page.html", package = "homerange"), encoding = "UTF-8"), "\n", collapse = "")
   writeBin(charToRaw(enc2utf8(fill_template(template, places))), path)
@@ -63,7 +64,8 @@ places_of_numbers <- function(x, rows, clock) {
   names <- x$animals$animal
   pairs <- pairs_that_meet(x$overlaps, x$animals$fixes)
   list(
-    sentences = sentences_of_animals(rows, clock, x$unit), animals = animals_table(rows, clock, x$unit, "in the data"), notes = "",
+    sentences = sentences_of_animals(rows, clock, x$unit),
+    animals = animals_table(rows, clock, x$unit, paste("in the", source_of(x$record))), notes = text_without_range(x),
     size = if (length(rows) <= 3) "whole" else "long", curves = page_curves(rows, in_bdi(names), x$unit),
     overlap = overlap_sentence(names, x$overlaps, x$animals$fixes, pairs),
     overlaps = overlaps_table(names, x$overlaps, x$animals$fixes, pairs)

@@ -133,7 +133,9 @@ overlap_sentence <- function(names, counts, fixes, pairs) {
   number <- length(names)
   if (number == 1) return("There is one animal, and so no overlap.")
   all_pairs <- in_digits(number * (number - 1) / 2)
-  if (!nrow(pairs)) return(paste0("No animal has a fix in the range of another (", all_pairs, " pairs)."))
+  if (!nrow(pairs)) {
+    return(paste0("No animal has a fix in the range of another (", all_pairs, if (number == 2) " pair)." else " pairs)."))
+  }
   first <- pairs[1, ]
   one <- first[1]
   other <- first[2]

@@ -4,7 +4,7 @@ most_sentences <- 40
 most_said <- 12
 phrases_of_reasons <- c(
   animal = "of no animal", coordinates = "without coordinates", zero = "with longitude and latitude 0", sensor = "of other sensors",
-  outlier = "marked as outliers in the export", class = "of other Argos classes",
+  outlier = "marked as outliers", class = "of other Argos classes",
   "no dop" = "without a dilution of precision (DOP)", dop = "with a DOP above the limit", type = "of other types of fixes",
   before = "before the period", after = "after the period", grid = "marked as outliers and off the grid",
   speed = "faster than the limit", months = "in other months", hours = "at other hours", every = "not the first in their interval",
@@ -21,15 +21,7 @@ system_of_page <- function(ranges, middles) {
   }
   if (is.null(ranges$crs)) return(list(text = "reference system not known", difference = unknown))
   scale <- scale_of_crs(ranges$crs)
-  list(text = name_of_crs(ranges$crs), difference = difference_text(apply(middles, 1, function(at) scale(at[1], at[2]))))
-}
-
-# The code and the name of a reference system, or how it is defined where it has neither.
-name_of_crs <- function(crs) {
-  own <- "^.*ID\\[\"([^\"]+)\",\"?([^]\"]+)\"?\\]\\]$"
-  wkt <- gsub("\\s*\n\\s*", "", crs$wkt)
-  if (grepl(own, wkt)) return(paste0(sub(own, "\\1:\\2", wkt), " (", crs$Name, ")"))
-  if (crs$Name == "unknown") crs$proj4string else crs$Name
+  list(text = text_of_crs(ranges$crs), difference = difference_text(apply(middles, 1, function(at) scale(at[1], at[2]))))
 }
 
 # By how much areas differ, of the least and the greatest areal scale.
@@ -70,15 +62,35 @@ sentences_of_animals <- function(rows, clock, unit) {
          "; half of them have ", area_with_sign(area2[places[(number - 1) %/% 2 + 1]], unit), " or less.</p>")
 }
 
-# What was left out of all fixes.
-left_out_text <- function(rows) {
-  if (anyNA(vapply(rows, function(row) as.numeric(row$records), 0))) return("How many fixes were left out is not known.")
-  records <- sum(vapply(rows, `[[`, 0, "records"))
-  totals <- Reduce(`+`, lapply(rows, `[[`, "left"))
-  if (!length(totals)) return(paste0("No fix of the data was left out (", fixes_text(records), ")."))
-  reasons <- reasons_of_all[match(names(rows[[1]]$left), paste0("left_", gsub(" ", "_", reasons_of_all)))]
-  paste0("Of ", in_digits(records), " fixes of the data ", in_digits(sum(totals)), " were left out: ",
-         words_listed(paste(vapply(totals, in_digits, ""), phrases_of_reasons[reasons])), ".")
+# What was left out of all fixes, also of animals that have no range.
+left_out_text <- function(x) {
+  if (is.null(x$left_out)) return("How many fixes were left out is not known.")
+  left <- x$left_out[x$left_out$fixes > 0, ]
+  source <- source_of(x$record)
+  records <- sum(x$animals$fixes) + sum(left$fixes)
+  if (!nrow(left)) return(paste0("No fix of the ", source, " was left out (", fixes_text(records), ")."))
+  reasons <- intersect(reasons_of_all, left$reason)
+  totals <- vapply(reasons, function(reason) in_digits(sum(left$fixes[left$reason == reason])), "")
+  paste0("Of ", in_digits(records), " fixes of the ", source, " ", in_digits(sum(left$fixes)), " were left out: ",
+         words_listed(paste(totals, phrases_of_reasons[reasons])), ".")
+}
+
+# The options with which an export was split, or a frame read.
+options_text <- function(record) {
+  if (!length(record$options)) return("")
+  words <- mapply(function(name, value) if (isTRUE(value)) name else paste(name, value), names(record$options), record$options)
+  what <- if (is.null(record$export)) "the call" else "the split"
+  paste0(" Options of ", what, ": ", as_html(paste(words, collapse = ", ")), ".")
+}
+
+# A sentence on animals of the export or the frame that have no range.
+text_without_range <- function(x) {
+  left <- x$left_out[!x$left_out$animal %in% c("", x$animals$animal) & x$left_out$fixes > 0, ]
+  if (!NROW(left)) return("")
+  counts <- tapply(left$fixes, factor(left$animal, sort(unique(left$animal), method = "radix")), sum)
+  shown <- utils::head(paste0(in_bdi(names(counts)), " (", in_digits(counts), ")"), 20)
+  more <- if (length(counts) > 20) paste0(", and ", length(counts) - 20, " more")
+  paste0("Without a range, since none of their fixes is used (fixes of the ", source_of(x$record), "): ", words_listed(shown), more, ".")
 }
 
 # What was said when fixes were read, but for lines on one animal and on files.
@@ -86,7 +98,8 @@ said_text <- function(lines) {
   own <- lines[!grepl("records of |columns: | animals are in ", lines)]
   if (!length(own)) return("")
   shown <- paste0("\u201c", as_html(utils::head(own, most_said)), "\u201d", collapse = "; ")
-  more <- if (length(own) > most_said) paste0("; and ", length(own) - most_said, " lines more")
+  rest <- length(own) - most_said
+  more <- if (rest > 0) paste0("; and ", rest, if (rest == 1) " line more" else " lines more")
   paste0(" When the fixes were read this was said: ", shown, more, ".")
 }
 
@@ -108,20 +121,22 @@ method_text <- function(version, system, unit, levels) {
 }
 
 # How all that is handed in is checked.
-verify_text <- function(report) {
+verify_text <- function(record, report) {
   if (is.null(report)) {
     return("Sums are SHA-256. No files of fixes and no report were kept, so this page alone cannot be verified.")
   }
+  words <- if (is.null(record$export)) "FOLDER" else "FOLDER EXPORT"
   paste0("Sums are SHA-256. This checks the folder that is handed in, and says what held and what was not looked ",
-         "at, in a clone of homerange: <code>python3 tools/verify.py FOLDER EXPORT</code>")
+         "at, in a clone of homerange: <code>python3 tools/verify.py ", words, "</code>")
 }
 
 # The checksums of what the page stands on.
-checksums_table <- function(report, version, program) {
-  values <- c(export_sha256 = "not known, since no record of a split was named",
+checksums_table <- function(record, report, version, program) {
+  export <- if (is.null(record)) "not known, since no record of a split was named" else record$checksum
+  values <- c(export_sha256 = if (is.null(export)) "none: the tracks were made of a data frame" else export,
               report_sha256 = if (is.null(report)) "none was kept: the ranges were made of a data frame" else report,
               program_sha256 = if (is.null(program)) "not known, since the program was not found" else program)
-  names <- c("", if (is.null(report)) "" else "report.txt", as_html(version))
+  names <- c(if (is.null(record$export)) "" else in_bdi(record$export), if (is.null(report)) "" else "report.txt", as_html(version))
   paste0("<tr><th>", c("Export", "Report", "Program"), "</th><td>", names, "</td><td class=\"sum\" data-field=\"", names(values),
          "\">", as_html(values), "</td></tr>", collapse = "\n")
 }

@@ -67,10 +67,12 @@ put_overlaps <- function(counts, overlaps) {
   counts
 }
 
-# The home ranges of a report that was made elsewhere.
-read_report <- function(file, start = NULL) {
-  if (!is.character(file) || length(file) != 1 || is.na(file)) refuse("option", "file: the name of one file is wanted")
+# The home ranges of a report that was made elsewhere, of its files where they are named, and of the record of these.
+read_report <- function(file, start = NULL, files = NULL, record = NULL) {
+  if (!is_text(file)) refuse("option", "file: the name of one file is wanted")
   if (!is.null(start) && !inherits(start, "POSIXct")) refuse("option", "start: a time as POSIXct is wanted")
+  if (!is.null(files) && (!is.character(files) || !length(files) || anyNA(files))) refuse("option", "files: names of files are wanted")
+  if (!is.null(record) && !is_text(record)) refuse("option", "record: the name of one file is wanted")
   if (!file.exists(file) || dir.exists(file)) refuse("file", file, ": there is no such file")
   report <- parse_report(readLines(file, warn = FALSE, encoding = "UTF-8"), file)
   animals <- report$animals$animal
@@ -79,5 +81,81 @@ read_report <- function(file, start = NULL) {
   seconds <- report$rows$second
   ranges <- new_home_range(report, time = if (is.null(start)) seconds else start + seconds)
   ranges$checksum <- checksum_of(file)
+  if (!is.null(files)) ranges <- with_files(ranges, files)
+  if (is.null(record)) return(ranges)
+  ranges$record_file <- record
+  with_record(ranges, read_record(record))
+}
+
+# Ranges with the fixes of the files of their report, which have to be of them.
+with_files <- function(ranges, files) {
+  tracks <- lapply(files, read_track)
+  place <- match(ranges$animals$animal, vapply(tracks, `[[`, "", "animal"))
+  if (anyNA(place)) refuse("report", "no file has the animal ", ranges$animals$animal[is.na(place)][1], " of the report")
+  own <- lapply(tracks[place], function(track) cbind(animal = rep(track$animal, sum(track$used)), track$fixes[track$used, ]))
+  for (fixes in own) check_fixes(fixes, ranges)
+  ranges$fixes <- do.call(rbind, own)
+  ranges$fixes <- cbind(row = seq_len(nrow(ranges$fixes)), ranges$fixes, time = ranges$rows$time)
+  unused <- vapply(tracks[place], function(track) sum(!track$used), 0L)
+  ranges$left_out <- data.frame(animal = ranges$animals$animal, reason = rep("use", length(place)), fixes = unused)[unused > 0, ]
+  ranges$files <- files
+  ranges
+}
+
+# A file of fixes: its animal, its fixes, and which of them are used.
+read_track <- function(path) {
+  if (!file.exists(path) || dir.exists(path)) refuse("file", path, ": there is no such file")
+  table <- utils::read.csv(path, colClasses = "character", na.strings = character(), check.names = FALSE, encoding = "UTF-8")
+  names(table)[1] <- sub("^\ufeff", "", enc2utf8(names(table)[1]))
+  titles <- c("second", "easting", "northing")
+  if (!all(c("animal", titles) %in% names(table)) || !nrow(table)) {
+    refuse("text", path, " has no fix with animal, second, easting and northing")
+  }
+  used <- if (is.null(table$use)) rep(TRUE, nrow(table)) else table$use == "1"
+  if (!all(grepl("^[0-9]+$", unlist(table[titles])))) {
+    refuse("number", path, " has a fix whose second, easting or northing is no number")
+  }
+  fixes <- `names<-`(as.data.frame(lapply(table[titles], as.numeric)), c("moment", "easting", "northing"))
+  list(animal = table$animal[1], fixes = fixes, used = used)
+}
+
+# Refuses fixes of an animal whose times, or whose polygon, are not those of the report. Each is within the polygon where
+# it lies beside no edge, and within the box.
+check_fixes <- function(fixes, ranges) {
+  animal <- fixes$animal[1]
+  if (!identical(fixes$moment, ranges$rows$second[ranges$rows$animal == animal])) {
+    refuse("report", "the file of ", animal, " has other fixes than the report")
+  }
+  corners <- ranges$corners[ranges$corners$animal == animal, ]
+  is_corner <- paste(corners$easting, corners$northing) %in% paste(fixes$easting, fixes$northing)
+  has_box <- identical(lapply(fixes[c("easting", "northing")], range), lapply(corners[c("easting", "northing")], range))
+  after <- corners[c(seq_len(nrow(corners))[-1], 1), ]
+  is_beside <- Map(function(east, north, next_east, next_north) {
+    any(is_right_turn(next_east - east, next_north - north, fixes$easting - east, fixes$northing - north))
+  }, corners$easting, corners$northing, after$easting, after$northing)
+  if (!all(is_corner) || !has_box || any(unlist(is_beside))) {
+    refuse("report", "the polygon of the file of ", animal, " is not that of the report")
+  }
+}
+
+# Whether a way turns right, exactly for whole numbers below 2^38: all parts stay below 2^53.
+is_right_turn <- function(east, north, other_east, other_north) {
+  part <- 2^14
+  high <- (east %/% part) * other_north - (north %/% part) * other_east
+  low <- (east %% part) * other_north - (north %% part) * other_east
+  high + low %/% part < 0
+}
+
+# Ranges of tracks that have a record: what was left out and said is that of the record, and so are the reference system and
+# the shift, where none is known otherwise.
+with_record <- function(ranges, record) {
+  ranges$record <- record
+  ranges$left_out <- left_out_of_record(record)
+  ranges$notes <- record$said
+  if (!is.null(ranges$crs) || !is.null(ranges$zone)) return(ranges)
+  ranges$shift <- record$shift
+  ranges$zone <- record$zone
+  code <- code_of_record(record)
+  if (!is.null(code) && has_sf()) ranges$crs <- sf::st_crs(code)
   ranges
 }

@@ -1,7 +1,6 @@
 # Writes the tracks of a table of text as files for homerange, with a record of what was done: what tools/split.R does.
 
 lines_written <- 50000  # at once
-no_options <- c("skip-lines", "mark", "skip-unnamed")  # whose value may be that of no wish
 
 # Makes the folder of tracks of a table of text. What is said is told by tell.
 split_text <- function(path, into, options, tell) {
@@ -14,7 +13,8 @@ split_text <- function(path, into, options, tell) {
   make_folder(into)
   rows <- rows_of_animals(split$tracks$herd)
   for (animal in names(rows)) write_track(into, split, as.integer(animal), rows[[animal]], isTRUE(options$mark))
-  write_lines(file.path(into, "split.txt"), one_line(record_lines(path, split, rows, options, checksums_of(into), said)))
+  record <- record_of_split(path, split, rows, options, checksums_of(into), said)
+  write_lines(file.path(into, "split.txt"), lines_of_record(record))
   is_done <- TRUE
   say(said, NULL, length(split$tracks$rows), " fixes of ", length(rows), " animals are in ", into, ", in ", unit_of(options))
 }
@@ -76,34 +76,17 @@ digits_of_wholes <- function(numbers) {
 }
 
 # The record of what was done: the export, the unit, the zone, the options, what was said, what was left out, and what was
-# made by what.
-record_lines <- function(path, split, rows, options, checksums, said) {
+# made by what. The code of this is known where tools/split.R runs it.
+record_of_split <- function(path, split, rows, options, checksums, said) {
   tracks <- split$tracks
   left <- said$left
   left$animal <- clean_names(left$animal)
-  left <- left[order(left$animal, match(left$reason, reasons_known), left$fixes, method = "radix"), ]
-  used <- vapply(rows, function(own) sum(tracks$records$used[own]), 0)
   names <- split$names[as.integer(names(rows))]
-  c(paste0("export,", basename(path)), paste0("sha256,", split$checksum), paste0("unit,", unit_of(options)),
-    paste0("zone,", if (is.null(tracks$zone)) "none" else tracks$zone),
-    if (any(tracks$shift != 0)) sprintf("shift,%.0f,%.0f", tracks$shift[1], tracks$shift[2]), option_lines(options),
-    paste0("said,", said$lines), if (nrow(left)) sprintf("left,%s,%.0f,%s", left$animal, left$fixes, left$reason),
-    sprintf("track,%s,%d,%.0f,%s", names, lengths(rows), used, checksums[paste0(names, ".csv")]), tool_lines(tracks$places))
-}
-
-# The options that were given, by name; the unit has a line of its own. Signs of control are escaped, and the backslash.
-option_lines <- function(options) {
-  given <- options[!vapply(options, is.null, NA)]
-  names(given) <- gsub("_", "-", names(given), fixed = TRUE)
-  given <- given[setdiff(names(given), "unit")]
-  is_wish <- !(names(given) %in% no_options & vapply(given, function(value) isTRUE(value == 0), NA))
-  given <- given[is_wish]
-  if (!length(given)) return(NULL)
-  given <- given[order(names(given), method = "radix")]
-  values <- vapply(given, function(value) {
-    if (isTRUE(value)) "" else paste0(",", gsub("\\", "\\\\", if (is.numeric(value)) sprintf("%.0f", value) else value, fixed = TRUE))
-  }, "")
-  paste0("option,", names(given), values)
+  used <- vapply(rows, function(own) sum(tracks$records$used[own]), 0)
+  list(export = basename(path), checksum = split$checksum, unit = unit_of(options), zone = tracks$zone, shift = tracks$shift,
+       options = options, said = said$lines, left = left,
+       tracks = data.frame(animal = names, records = lengths(rows), used = used, checksum = checksums[paste0(names, ".csv")]),
+       tools = tools_of("split.R", getOption("homerange.code"), tracks$places$is_projected))
 }
 
 checksum_of <- function(path) substr(system2("sha256sum", c("--", shQuote(path)), stdout = TRUE), 1, 64)
@@ -114,13 +97,4 @@ checksums_of <- function(folder) {
   Encoding(lines) <- "UTF-8"
   names(lines) <- substring(lines, 69)
   substr(lines, 1, 64)
-}
-
-# What made the tracks: this code, by its version and the checksum that `cat` of its files has, and the library that
-# projected.
-tool_lines <- function(places) {
-  c(sprintf("tool,split.R %s,%s", getOption("homerange.code")[1], getOption("homerange.code")[2]),
-    if (isTRUE(places$is_projected)) {
-      sprintf("tool,sf %s (PROJ %s)", utils::packageVersion("sf"), sf::sf_extSoftVersion()[["PROJ"]])
-    })
 }

@@ -47,6 +47,24 @@ zones_at <- function(longitude, latitude) {
 # The EPSG code of a zone, on the ellipsoid of WGS 84.
 code_of_zone <- function(zone) (if (endsWith(zone, "N")) 32600 else 32700) + as.numeric(sub("[NS]", "", zone))
 
+# The code of a reference system of sf, such as EPSG:3035, as its own definition has it; else its name.
+code_of_crs <- function(crs) {
+  form <- "^.*ID\\[\"([^\"]+)\",\"?([^]\"]+)\"?\\]\\]\\s*$"
+  wkt <- gsub("\n", " ", crs$wkt, fixed = TRUE)
+  if (grepl(form, wkt)) sub(form, "\\1:\\2", wkt) else crs$Name
+}
+
+# A reference system of sf as it is written: its code and its name, or how it is defined where it has neither; those of UTM
+# are written alike in all languages.
+text_of_crs <- function(crs) {
+  zone <- zone_of_crs(crs)
+  if (!is.null(zone)) return(sprintf("EPSG:%d (WGS 84 / UTM zone %s)", as.integer(crs$epsg), zone))
+  own <- "^.*ID\\[\"([^\"]+)\",\"?([^]\"]+)\"?\\]\\]$"
+  wkt <- gsub("\\s*\n\\s*", "", crs$wkt)
+  if (grepl(own, wkt)) return(paste0(sub(own, "\\1:\\2", wkt), " (", crs$Name, ")"))
+  if (crs$Name == "unknown") crs$proj4string else crs$Name
+}
+
 # The zone of a reference system of sf; NULL where it is that of none.
 zone_of_crs <- function(crs) {
   code <- if (is.null(crs)) NA else crs$epsg

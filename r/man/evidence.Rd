@@ -9,7 +9,7 @@ them, a record of the run, tables, polygons, a page and checksums.
 evidence(x, folder, ...)
 }
 \arguments{
-\item{x}{a home range, from \code{\link{home_range}}.}
+\item{x}{a home range, from \code{\link{home_range}}, or from \code{\link{read_report}} with its \code{files}.}
 \item{folder}{the name of the folder. One that is there is refused.}
 \item{...}{arguments of \code{\link{write_page}}, such as \code{title}.}
 }
@@ -18,9 +18,10 @@ The program is run again, on the files in the folder, and its report has to have
 \tabular{ll}{
 \code{SHA256SUMS} \tab the checksum of each other file \cr
 \code{evidence.txt} \tab the record of the run, a field a line: the program with its version and checksum, arguments, unit,
-  levels, and what was said when the table was read \cr
+  levels, and the export, which is \code{none} where \code{x} was made of a table \cr
 \code{report.txt} \tab the report \cr
-\code{tracks} \tab the fixes, a file for each animal \cr
+\code{tracks} \tab the fixes, a file for each animal, and \code{split.txt}, the record of how they were made: unit, reference
+  system, shift, the arguments of \code{home_range}, what was said and left out, checksums, and what made them \cr
 \code{summary.csv} \tab for each animal and level fixes, corners and hectares \cr
 \code{animals.csv} \tab for each animal what was left out and why, times, intervals, hectares, and \code{\link{levelling}} \cr
 \code{overlaps.csv} \tab which share of the fixes of the row's animal lie in the polygon of the column's \cr
@@ -29,7 +30,11 @@ The program is run again, on the files in the folder, and its report has to have
 \code{build.log} \tab where the program was built, what the prover said
 }
 \code{tools/verify.py} of homerange's repository checks such a folder: that no file was changed, that the program makes the
-same report again, and that another method computes each of its numbers. Whether the table was right nobody can see from it.
+same report again, that another method computes each of its numbers, and that tables, polygons and page are those of the tracks
+and of their record. Whether the table was right nobody can see from it.
+
+Of a report that was read with its files these are copied, with the record that was named, or else the \code{split.txt} beside
+them; they have to be as it says. Where it is the record of a split, the verifier holds the folder to the export too.
 
 In names of files and animals \code{/}, \code{\\}, comma, double quote and control characters are \code{_}, a point at the
 start too, and what is over 32 bytes is cut off; two names that come out the same are refused. It wants \code{sha256sum}.

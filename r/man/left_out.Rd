@@ -6,7 +6,7 @@
 left_out(x)
 }
 \arguments{
-\item{x}{a home range, from \code{\link{home_range}}.}
+\item{x}{a home range, from \code{\link{home_range}}, or from \code{\link{read_report}} with files or a record.}
 }
 \value{
 A data frame with a row for each animal and reason:

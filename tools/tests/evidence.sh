@@ -78,7 +78,7 @@ holds 'evidence of files' "$make" --unit dm files fox.csv hare.csv "$top/example
 holds 'files that are used' grep -qx 'arguments: --percent 50,95,100 --unit dm -- tracks/fox.csv tracks/otter.csv' files/evidence.txt
 verify files --program "$HOMERANGE"
 holds 'files without an export: what can be said holds' is_refused grep '^did not hold' said
-holds 'files without an export' grep -qx 'not looked at: from what the tracks were made: there is no record of a split' said
+holds 'files without an export' grep -qx 'not looked at: from what the tracks were made: they have no record' said
 
 # What is refused.
 refuses_evidence 'the tracks are in m, by split.txt beside them, and not in dm' "$make" --unit dm none tracks

@@ -10,7 +10,7 @@ import struct
 import sys
 from contextlib import closing
 
-from forging import TOOLS, Forgeries, Hand, export_text, try_all
+from forging import TOOLS, Forgeries, Hand, export_text, try_export
 
 forgery = Forgeries()
 CSV_END = re.compile(rb"(?<=,)[^,\n]+(?=\n)")
@@ -21,16 +21,6 @@ class Maker(Hand):
 
     def make(self):
         self.call("sh", TOOLS / "ranges.sh", "--title", "Wolves", "export.csv", "hand-in")
-
-    def sealed_sql(self, *statements):
-        """Changes ranges.gpkg, whose triggers want functions that are not there."""
-        with closing(sqlite3.connect(self.path("ranges.gpkg"))) as base:
-            for name, in base.execute("SELECT name FROM sqlite_master WHERE type = 'trigger'").fetchall():
-                base.execute(f'DROP TRIGGER "{name}"')
-            for statement, *values in statements:
-                assert base.execute(statement, values).rowcount != 0, statement
-            base.commit()
-        self.seal()
 
     def shape(self, layer, animal):
         with closing(sqlite3.connect(self.path("ranges.gpkg"))) as base:
@@ -235,4 +225,4 @@ def _(hand):
 
 
 if __name__ == "__main__":
-    try_all(Maker, sys.argv[1], 6, forgery)
+    try_export(Maker, sys.argv[1], 6, forgery)

@@ -8,7 +8,7 @@ import re
 import shutil
 import sys
 
-from forging import SUM, TOOLS, Forgeries, Hand, checksum, try_all
+from forging import SUM, TOOLS, Forgeries, Hand, checksum, try_export
 
 HOMOGLYPH = "Vеsna"  # its second letter is Cyrillic
 forgery = Forgeries()
@@ -314,7 +314,7 @@ forgery.sealed("48 what was left out is taken out of the record, sealed", "anoth
                file="tracks/split.txt", old="^(said,6 outliers.*|left,.*)\n", new="", count=0)
 
 
-@forgery("49 the record of the split is taken away and a fix moved, run again and sealed", "no record of a split")
+@forgery("49 the record of the split is taken away and a fix moved, run again and sealed", "the tracks have no record")
 def _(hand):
     hand.path("tracks/split.txt").unlink()
     hand.sub("evidence.txt", "^export.*\n", "", 0)
@@ -382,4 +382,4 @@ def _(hand):
 
 
 if __name__ == "__main__":
-    try_all(Runner, sys.argv[1], 4, forgery)
+    try_export(Runner, sys.argv[1], 4, forgery)

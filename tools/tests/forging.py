@@ -1,12 +1,14 @@
-"""What forgeries.py and forged_tables.py share: one who hands in a folder and forges it, the forgeries by their names, and
+"""What forgeries.py, forged_tables.py and forged_frames.py share: one who hands in a folder and forges it, the forgeries by their names, and
 how each is tried in a folder of its own and held to what tools/verify.py says of it."""
 import os
 import random
 import re
 import shutil
+import sqlite3
 import subprocess
 import sys
 import tempfile
+from contextlib import closing
 from datetime import datetime, timedelta
 from pathlib import Path
 
@@ -46,6 +48,8 @@ def line_of_track(line, folder):
 class Hand:
     """One who forges: a folder that was handed in, and what it was made of. A subclass says how it is made."""
 
+    honest = 0  # the status of verify.py where all is as it was
+
     def __init__(self, program, room, export):
         self.program, self.room, self.export, self.folder = program, room, room / "export.csv", room / "hand-in"
         self.hand_in(export)
@@ -81,6 +85,10 @@ class Hand:
         if record.is_file():
             lines = record.read_text("utf-8").split("\n")
             record.write_text("\n".join(line_of_track(line, record.parent) for line in lines), "utf-8")
+        self.seal_files()
+
+    def seal_files(self):
+        """SHA256SUMS anew."""
         paths = sorted(path for path in self.folder.rglob("*") if path.is_file() and path.name != "SHA256SUMS")
         self.path("SHA256SUMS").write_text("".join(f"{checksum(path)}  {path.relative_to(self.folder)}\n" for path in paths))
 
@@ -92,9 +100,20 @@ class Hand:
         self.sub(name, old, new, count)
         self.seal()
 
+    def sealed_sql(self, *statements):
+        """Changes ranges.gpkg, whose triggers want functions that are not there."""
+        with closing(sqlite3.connect(self.path("ranges.gpkg"))) as base:
+            for name, in base.execute("SELECT name FROM sqlite_master WHERE type = 'trigger'").fetchall():
+                base.execute(f'DROP TRIGGER "{name}"')
+            for statement, *values in statements:
+                assert base.execute(statement, values).rowcount != 0, statement
+            base.commit()
+        self.seal()
+
     def verdict(self):
         """What verify.py says, and its status."""
-        run = subprocess.run([sys.executable, TOOLS / "verify.py", self.folder, self.export, "--program", self.program],
+        named = filter(None, (self.folder, self.export))
+        run = subprocess.run([sys.executable, TOOLS / "verify.py", *named, "--program", self.program],
                              stdout=subprocess.PIPE, stderr=subprocess.STDOUT, text=True)
         return run.returncode, run.stdout
 
@@ -119,22 +138,22 @@ def fault_of(hand, failing):
     """How verify.py does not say what is wanted; None where it does."""
     status, said = hand.verdict()
     failed = [line for line in said.split("\n") if line.startswith("did not hold: ")]
-    if "Traceback" in said or status not in (0, 1) or (status == 1) != bool(failed):
+    if "Traceback" in said or status not in (hand.honest, 1) or (status == 1) != bool(failed):
         return f"status {status}: {said}"
     if not failing:
-        return None if status == 0 and "not known: who made the run" in said else f"status {status}: {said}"
+        return None if status == hand.honest and "not known: who made the run" in said else f"status {status}: {said}"
     unsaid = [text for text in failing if not any(re.search(text, line) for line in failed)]
     return f"{unsaid} is not said, but {failed}" if unsaid else None
 
 
-def try_all(kind, program, seed, forgeries):
-    """Tries forgeries, each in a copy of what one of this kind hands in, made by a program of the export of a seed."""
+def try_all(make, forgeries):
+    """Tries forgeries, each in a copy of what is made in a room."""
     with tempfile.TemporaryDirectory() as base:
         room = Path(base, "room")
         room.mkdir()
-        honest = kind(Path(program).resolve(), room, export_text(seed))
+        honest = make(room)
         status, said = honest.verdict()
-        print("ok an honest folder" if status == 0 else f"failed an honest folder: {said!r}")
+        print("ok an honest folder" if status == honest.honest else f"failed an honest folder: {said!r}")
         shutil.copytree(room, Path(base, "kept"))
         for name, (forge, failing) in forgeries.items():
             shutil.rmtree(room)
@@ -142,3 +161,8 @@ def try_all(kind, program, seed, forgeries):
             forge(honest)
             fault = fault_of(honest, failing)
             print(f"failed {name}: {fault!r}" if fault else f"ok {name}", flush=True)
+
+
+def try_export(kind, program, seed, forgeries):
+    """Tries forgeries of what one of this kind hands in, made by a program of the export of a seed."""
+    try_all(lambda room: kind(Path(program).resolve(), room, export_text(seed)), forgeries)

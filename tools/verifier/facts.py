@@ -1,4 +1,4 @@
-"""What tables, layers and the page say of an animal, computed of its track and of the record of the split. Whole numbers
+"""What tables, layers and the page say of an animal, computed of its track and of the record of the tracks. Whole numbers
 alone; docs/TABLES.md has the reasons for which fixes are left out, in their order."""
 from functools import cached_property
 

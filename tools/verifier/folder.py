@@ -1,4 +1,4 @@
-"""The folder that was handed in: its checksums, its record of the run, and the record of the split."""
+"""The folder that was handed in: its checksums, its record of the run, and the record of the tracks."""
 import hashlib
 import re
 import shlex
@@ -11,7 +11,8 @@ SIGNATURES = (".sig", ".tsq", ".tsr")  # of files that may lie beside the list: 
 SUM = re.compile("([0-9a-f]{64})  (.+)")
 FIELDS = ["evidence", "made", "program", "program sha256", "arguments", "unit", "levels", "runs", "commit", "sources", "logic"]
 OF_EXPORT = ["export", "export sha256"]
-WITHOUT_EXPORT = ["notes", "zone", "shift", "crs"]  # of fixes that were no export, each where it is known
+KINDS = ["export", "sha256", "unit", "zone", "shift", "crs", "option", "said", "left", "track", "tool"]  # of lines of a record
+SINGLE = KINDS[:KINDS.index("option")]  # of which there is one line
 SHIFT = re.compile("(-?[0-9]+),(-?[0-9]+)")
 LEVELS = re.compile("[0-9]+(,[0-9]+)*")
 
@@ -79,11 +80,11 @@ def about_of(path):
     about = {}
     for number, line in enumerate(lines_of(path), 1):
         name, colon, value = line.partition(": ")
-        if not colon or name in about or name not in (*FIELDS, *OF_EXPORT, *WITHOUT_EXPORT):
+        if not colon or name in about or name not in (*FIELDS, *OF_EXPORT):
             raise Fault(f"line {number} of {path.name} is no field that stands there once")
         about[name] = value
     missing = [name for name in FIELDS if name not in about]
-    names, known = list(about), [OF_EXPORT, [name for name in WITHOUT_EXPORT if name in about]]
+    names, known = list(about), [OF_EXPORT, OF_EXPORT[:1] if about.get("export") == "none" else []]
     if names[:len(FIELDS)] != FIELDS or names[len(FIELDS):] not in known:
         raise Fault(f"{path.name} has not all fields in their order" + (f": there is no {missing[0]}" if missing else ""))
     if not LEVELS.fullmatch(about["levels"]) or about["unit"] not in ("m", "dm") or about["evidence"] != "1":
@@ -109,25 +110,40 @@ def words_of(about):
     return found["--percent"], found["--unit"], files
 
 
+def check_kinds(kinds):
+    """Refuses lines of a record that are of no known kind, not in their order, twice or missing."""
+    is_known = all(kind in KINDS for kind in kinds) and kinds == sorted(kinds, key=KINDS.index)
+    is_single = all(kinds.count(kind) <= 1 for kind in SINGLE)
+    is_whole = {"unit", "zone", "track"} <= {*kinds} and ("export" in kinds) == ("sha256" in kinds)
+    if not (is_known and is_single and is_whole):
+        raise Fault("split.txt has not the lines of a record in their order")
+
+
 class Split:
-    """The record of a split, by the lines of docs/TABLES.md, The record."""
+    """The record of tracks, by the lines of docs/TABLES.md, The record."""
 
     def __init__(self, path):
         self.lines = lines_of(path)
         fields = [line.partition(",") for line in self.lines]
-        self.single = {kind: rest for kind, _, rest in fields if kind in ("export", "sha256", "unit", "zone", "shift")}
+        check_kinds([kind for kind, _, _ in fields])
+        self.single = {kind: rest for kind, _, rest in fields if kind in SINGLE}
         self.options = [rest.partition(",") for kind, _, rest in fields if kind == "option"]
-        self.tracks, self.left = {}, []
-        for kind, _, rest in fields:
-            if kind == "track":
-                name, _, numbers = rest.partition(",")
-                self.tracks[name] = numbers.split(",")
-            elif kind == "left":
-                self.left.append(rest.split(","))
+        self.said = [rest for kind, _, rest in fields if kind == "said"]
+        self.left = [rest.split(",") for kind, _, rest in fields if kind == "left"]
         if any(len(fields) != 3 or not fields[1].isdecimal() for fields in self.left):
             raise Fault("split.txt has a line 'left' without an animal, a number and a reason")
-        if not {"export", "sha256", "unit", "zone"} <= {*self.single}:
-            raise Fault("split.txt has not the lines of a record")
+        tracks = [rest.split(",") for kind, _, rest in fields if kind == "track"]
+        self.tracks = {name: numbers for name, *numbers in tracks}
+        has_numbers = all(len(numbers) in (2, 3) and all(map(str.isdecimal, numbers[:2])) for _, *numbers in tracks)
+        if len(self.tracks) < len(tracks) or not has_numbers:
+            raise Fault("split.txt has a track twice, or one without numbers")
+        if self.crs is not None and self.zone is not None:
+            raise Fault("split.txt has a zone and another reference system")
+
+    @property
+    def has_export(self):
+        """Whether the tracks were made of an export, and not of a data frame."""
+        return "export" in self.single
 
     def words(self):
         """The options as words of a command."""
@@ -144,6 +160,11 @@ class Split:
     def zone(self):
         """The UTM zone; None where it is not known."""
         return None if self.single["zone"] == "none" else self.single["zone"]
+
+    @property
+    def crs(self):
+        """The reference system that is known and is that of no zone; None where there is none."""
+        return self.single.get("crs")
 
     @property
     def shift(self):

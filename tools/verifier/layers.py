@@ -13,6 +13,7 @@ OWN = re.compile("gpkg_.*|rtree_.*|sqlite_.*")  # tables of the format
 ENVELOPES = {0: 0, 1: 4, 2: 6, 3: 6, 4: 8}  # how many numbers the box of a shape has, by its kind
 PARAMETER = re.compile(r'PARAMETER\["([a-z_]+)",([-0-9.]+)\]')
 METRES = ('DATUM["WGS_1984"', 'PROJECTION["Transverse_Mercator"]', 'UNIT["metre",1')
+NAMED = re.compile(r"(?:([A-Za-z]+:[A-Za-z0-9]+) \((.*)\)|(.*))", re.DOTALL)  # a reference system with its code, or without
 POLYGON = 3
 NEAR = 1e-6  # of a unit: what is lost where a number of decimetres is written in metres
 
@@ -26,6 +27,15 @@ def parameters_of(zone):
     """What the definition of a UTM zone has to say."""
     return {"latitude_of_origin": 0, "central_meridian": 6 * int(zone[:-1]) - 183, "scale_factor": 0.9996,
             "false_easting": 500_000, "false_northing": 0 if zone.endswith("N") else 10_000_000}
+
+
+def is_named(crs, organization, number, definition):
+    """Whether a reference system has this code and name. A code that is no number, or none, is not looked at."""
+    code, name, alone = NAMED.fullmatch(crs).groups()
+    is_number = code is not None and code.split(":")[1].isdecimal()
+    own = re.match(r'[A-Z]+\["([^"]*)"', definition)
+    is_code = not is_number or f"{organization}:{number}".upper() == code.upper()
+    return is_code and own is not None and own[1] == (alone if code is None else name)
 
 
 class Reader:
@@ -73,11 +83,11 @@ def round_from_first(corners):
 
 
 class Layers:
-    """The layers of a file, and those that are wanted. Without a record of the split no reference system is known."""
+    """The layers of a file, and those that are wanted. Without a record of the tracks no reference system is known."""
 
     def __init__(self, path, animals, levels, unit, split):
         self.path, self.animals, self.levels, self.unit, self.split = path, animals, levels, unit, split
-        self.zone, self.shift = (split.zone, split.shift) if split else (None, (0, 0))
+        self.zone, self.crs, self.shift = (split.zone, split.crs, split.shift) if split else (None, None, (0, 0))
 
     def fault(self):
         """What is wrong; None where nothing is."""
@@ -105,7 +115,7 @@ class Layers:
         return next(filter(None, faults), None)
 
     def system_fault(self, base, name):
-        """How the reference system of a layer is not that of the zone."""
+        """How the reference system of a layer is not the one that is known."""
         systems = base.execute(
             "SELECT contents.srs_id, columns.srs_id, organization, organization_coordsys_id, definition FROM gpkg_contents AS "
             "contents JOIN gpkg_geometry_columns AS columns USING (table_name) JOIN gpkg_spatial_ref_sys AS systems ON "
@@ -115,6 +125,9 @@ class Layers:
         if self.split is None:
             return None
         organization, number, definition = str(systems[0][2]), systems[0][3], str(systems[0][4])
+        if self.crs is not None:
+            return None if is_named(self.crs, organization, number, definition) else (
+                f"the layer {name} of {self.path.name} has another reference system than {self.crs}")
         if self.zone is None:
             return None if organization.upper() == "NONE" else (
                 f"the layer {name} of {self.path.name} has a reference system, {organization}:{number}, and none is known")

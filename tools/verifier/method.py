@@ -10,12 +10,13 @@ from shown import fixes, listed, number, text_of
 UNITS = {"m": "metres", "dm": "decimetres"}
 PHRASES = {
     "animal": "of no animal", "coordinates": "without coordinates", "zero": "with longitude and latitude 0",
-    "sensor": "of other sensors", "outlier": "marked as outliers in the export", "class": "of other Argos classes",
+    "sensor": "of other sensors", "outlier": "marked as outliers", "class": "of other Argos classes",
     "no dop": "without a dilution of precision (DOP)", "dop": "with a DOP above the limit",
     "type": "of other types of fixes", "before": "before the period", "after": "after the period",
     "grid": "marked as outliers and off the grid", "speed": "faster than the limit", "months": "in other months",
     "hours": "at other hours", "every": "not the first in their interval", "use": "not in use, as the data said"}
 MOST_SAID = 12
+SCALED = "\3"  # how areas on the grid of another reference system than a zone's differ
 NOT_SAID = ("records of ", "columns: ", " animals are in ")
 SCALE, EARTH = 0.9996, 6_371_008.8  # of UTM in the middle of a zone, and the mean radius in metres
 RULE = (
@@ -29,15 +30,20 @@ RULE = (
 
 
 def records_of(split):
-    """How many records of the export each animal has."""
+    """How many records of the export or the frame each animal has."""
     found = Counter({name: int(numbers[0]) for name, numbers in split.tracks.items()} if split else {})
     for name, count, _ in split.left if split else ():
         found[name] += int(count)
     return found
 
 
+def source_of(split):
+    """What the fixes were in."""
+    return "export" if split and split.has_export else "data"
+
+
 def left_out(animals, split):
-    """What was left out of all fixes; without a record of the split, of those in the tracks."""
+    """What was left out of all fixes; without a record of the tracks, of those in them."""
     totals = Counter()
     for name, count, reason in split.left if split else ():
         totals[reason] += int(count)
@@ -47,7 +53,7 @@ def left_out(animals, split):
         for animal in animals:
             totals.update(animal.left)
     records = sum(records_of(split).values()) if split else sum(animal.records for animal in animals)
-    source, gone = "export" if split else "data", sum(totals.values())
+    source, gone = source_of(split), sum(totals.values())
     if not gone:
         return f"No fix of the {source} was left out ({fixes(records)})."
     reasons = listed([f"{number(totals[reason])} {PHRASES[reason]}" for reason in REASONS if totals[reason]])
@@ -55,21 +61,22 @@ def left_out(animals, split):
 
 
 def options_of(split):
-    """The options of the split."""
+    """The options of the split, or of the call that read a frame."""
     if not split or not split.options:
         return ""
+    what = "the split" if split.has_export else "the call"
     words = (" ".join(filter(None, (name, unescaped(value)))) for name, _, value in split.options)
-    return f" Options of the split: {text_of(', '.join(words))}."
+    return f" Options of {what}: {text_of(', '.join(words))}."
 
 
 def said_of(split):
-    """What was said when the export was split, but for lines on one animal and on files."""
-    lines = [line.removeprefix("said,") for line in split.lines if line.startswith("said,")] if split else []
-    own = [line for line in lines if not any(part in line for part in NOT_SAID)]
+    """What was said when the fixes were read, but for lines on one animal and on files."""
+    own = [line for line in (split.said if split else ()) if not any(part in line for part in NOT_SAID)]
     if not own:
         return ""
     texts = "; ".join(f"\u201c{text_of(line)}\u201d" for line in own[:MOST_SAID])
-    more = f"; and {len(own) - MOST_SAID} lines more" if len(own) > MOST_SAID else ""
+    rest = len(own) - MOST_SAID
+    more = f"; and {rest} {'line' if rest == 1 else 'lines'} more" if rest > 0 else ""
     return f" When the fixes were read this was said: {texts}{more}."
 
 
@@ -84,6 +91,8 @@ def method(animals, run, system):
 def ground(animals, run):
     """By how much areas on the grid of a zone differ from those on the ground, on the sphere, in the middle of the highest
     polygons."""
+    if run.split and run.split.crs:
+        return SCALED
     if not run.split or not run.split.zone:
         return "How areas on this grid differ from those on the ground is not known."
     ends, scale, shift = [], PER_METRE[run.unit], run.split.shift[0]

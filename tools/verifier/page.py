@@ -9,14 +9,16 @@ import shown
 from facts import reasons_of
 from html_blocks import Block, Blocks, blanked
 from lines import Fault
-from method import ground, method, records_of
+from method import SCALED, ground, method, records_of, source_of
 
 FREE, DAY, DRAWN = "\0", "\1", "\2"  # any text, a date, and what is said of the map's drawing
 FORMS = {
     FREE: ".*", DAY: "[0-9]{1,2} [A-Z][a-z]{2} [0-9]{4}",
     DRAWN: r"Dots are fixes; of those that would cover each other one is drawn\.( The boundary lies outside this map\.)?"
-           r"( Too small to be seen beside the others: [0-9, ]+(, \.\.)?\.)?"}
-FORM = re.compile("([\0\1\2])")
+           r"( Too small to be seen beside the others: [0-9, ]+(, \.\.)?\.)?",
+    SCALED: r"(How areas on this grid differ from those on the ground is not known|Areas on the grid differ from those on the "
+            r"ground by [-+]?[0-9]+\.[0-9]{2}( to [-+]?[0-9]+\.[0-9]{2})? % here)\."}
+FORM = re.compile("([\0\1\2\3])")
 PLACE = re.compile(r"\{\{([a-z]+)\}\}")
 WIDEST = 10  # reasons, and levels counted twice, for which one table has room
 MOST_SENTENCES, MOST_IN_KEY, MOST_IN_SQUARE, MOST_PAIRS = 40, 40, 12, 60
@@ -36,10 +38,10 @@ def th(*texts):
 
 class Wanted:
     """The pieces of the page of some animals. The run has unit, levels, program with its checksum, that of the report,
-    and the record of the split (None where there is none)."""
+    and the record of the tracks (None where there is none)."""
 
     def __init__(self, animals, counts, run, zone):
-        self.animals, self.counts, self.run = animals, counts, run
+        self.animals, self.counts, self.run, self.source = animals, counts, run, source_of(run.split)
         self.names = [shown.text_of(animal.name) for animal in animals]
         self.clock = shown.Clock(zone, [second for animal in animals for second in (animal.first, animal.last)])
         self.meeting = [pair for pair in combinations(range(len(animals)), 2) if counts[pair] or counts[pair[::-1]]]
@@ -53,7 +55,7 @@ class Wanted:
             "period": f"{self.clock.period(first, last)} ({by})", "made": f"Made on {DAY} with {self.run.program}.",
             "overlap": self.overlap_sentence(), "verify": (
                 "Sums are SHA-256. This checks the folder that is handed in, and says what held and what was not looked at, in "
-                "a clone of homerange: python3 tools/verify.py FOLDER EXPORT"),
+                f"a clone of homerange: python3 tools/verify.py FOLDER{' EXPORT' * (self.source == 'export')}"),
             "method": method(self.animals, self.run, self.system()),
             "ground": f"The grid is in metres. {ground(self.animals, self.run) if self.run.split else FREE} {DRAWN}"}
 
@@ -62,18 +64,20 @@ class Wanted:
         split = self.run.split
         if split is None:
             return FREE
+        if split.crs is not None:
+            return shown.text_of(split.crs)
         code = f"{326 if split.zone.endswith('N') else 327}{split.zone[:-1]:0>2}" if split.zone else ""
         return f"EPSG:{code} (WGS 84 / UTM zone {split.zone})" if code else "reference system not known"
 
     def notes(self):
-        """Which animals of the export have no range."""
+        """Which animals of the export or the frame have no range."""
         known, records = {animal.name for animal in self.animals}, records_of(self.run.split)
         names = sorted(name for name in records if name and name not in known)
         if not names:
             return ""
         texts = shown.listed([f"{shown.text_of(name)} ({shown.number(records[name])})" for name in names[:20]])
         more = f", and {len(names) - 20} more" if len(names) > 20 else ""
-        return f"Without a range, since none of their fixes is used (fixes of the export): {texts}{more}."
+        return f"Without a range, since none of their fixes is used (fixes of the {self.source}): {texts}{more}."
 
     def key(self):
         """What lines and numbers of the map are; a boundary's name may stand between both."""
@@ -116,7 +120,7 @@ class Wanted:
         is_one = 2 * len(levels) + len(reasons) <= WIDEST
         percents = [f"{level} %" for level in levels]
         found = th(
-            "", "Animal", "in the export" if self.run.split else "in the data", *["Left out"] * bool(reasons), "used", "First",
+            "", "Animal", f"in the {self.source}", *["Left out"] * bool(reasons), "used", "First",
             "Last", "Days", "Interval", *["MCP, ha"] * is_one, "Area curve", "95 % since",
             *(HEADINGS[reason] for reason in reasons), "median", "longest", *(percents if is_one else ()), "",
             "last quarter", "fix", "date")
@@ -181,7 +185,7 @@ class Wanted:
         if not pairs:
             return "There is one animal, and so no overlap."
         if not self.meeting:
-            return f"No animal has a fix in the range of another ({shown.number(pairs)} pairs)."
+            return f"No animal has a fix in the range of another ({shown.number(pairs)} {'pair' if pairs == 1 else 'pairs'})."
         one, other = min(self.meeting, key=self.rank)
         if self.counts[one, other] * self.animals[other].used < self.counts[other, one] * self.animals[one].used:
             one, other = other, one
@@ -221,11 +225,18 @@ class Wanted:
         of = f"the fixes of {self.animals[one].name} in the range of {self.animals[other].name}"
         return Block("td", of, self.count(one, other))
 
+    def export(self):
+        """What the page says of the export: its name, and its checksum."""
+        split = self.run.split
+        if split is None:
+            return "", "not known, since no record of a split was named"
+        if not split.has_export:
+            return "", "none: the tracks were made of a data frame"
+        return shown.text_of(split.single["export"]), split.single["sha256"]
+
     def checksums(self):
         """The checksums of what the page stands on."""
-        split = self.run.split
-        export = (shown.text_of(split.single["export"]), split.single["sha256"]) if split else (
-            "", "not known, since no record of a split was named")
+        export = self.export()
         rows = [("Export", *export, "export_sha256"), ("Report", "report.txt", self.run.report_sum, "report_sha256"),
                 ("Program", self.run.program, self.run.program_sum, "program_sha256")]
         return [block for title, name, checksum, field in rows

@@ -3,18 +3,19 @@ import os
 import subprocess
 import sys
 import tempfile
-from functools import cached_property
+from functools import cache, cached_property
 from itertools import combinations_with_replacement
 from pathlib import Path
 from shutil import copyfile
 from typing import NamedTuple
 
 from facts import Animal
-from folder import SIGNATURES, SUMS, WITHOUT_EXPORT, Split, about_of, check_sums, checksum_of, sums_of, words_of
+from folder import SIGNATURES, SUMS, Split, about_of, check_sums, checksum_of, sums_of, words_of
 from layers import Layers
 from lines import Fault, Range, first_difference, overlaps_of, read_track, report_lines
 from page import difference as page_difference
 from page import page_of
+from said import fault_of as contradiction
 from shown import NoZone, listed
 from tables import difference as table_difference
 from tables import tables
@@ -68,7 +69,7 @@ class Verification:
 
     @cached_property
     def split(self):
-        """The record of the split; None where there is none."""
+        """The record of the tracks; None where there is none."""
         path = self.folder / "tracks" / "split.txt"
         return Split(path) if path.is_file() else None
 
@@ -87,7 +88,12 @@ class Verification:
     @cached_property
     def ranges(self):
         """What another method computes of the tracks."""
-        return [Range(read_track(self.folder / name), self.levels) for name in self.files]
+        return [Range(self.track(name), self.levels) for name in self.files]
+
+    @cache
+    def track(self, name):
+        """A file of fixes, by its name in the folder."""
+        return read_track(self.folder / name)
 
     @cached_property
     def overlaps(self):
@@ -128,20 +134,25 @@ class Verification:
             fault = f"the tracks are in {self.split.single['unit']}, by split.txt, and the run was made in {unit}"
         elif (self.report.startswith(b"unit,dm\n")) != (unit == "dm"):
             fault = f"the report is in another unit than {unit}, that of evidence.txt"
-        elif self.split and (about.get("export"), about.get("export sha256")) != (
-                self.split.single["export"], self.split.single["sha256"]):
+        elif self.split and (about.get("export"), about.get("export sha256")) != self.export_of_split():
             fault = "evidence.txt names another export than split.txt"
-        places = listed(["the record of the run", "the report", *["the record of the split"] * bool(self.split)])
+        fault = fault or self.split and contradiction(self.split)
+        places = listed(["the record of the run", "the report", *["the record of the tracks"] * bool(self.split)])
         self.findings.hold(fault, f"unit ({unit}) and levels ({levels}) are the same in {places}")
 
+    def export_of_split(self):
+        """The export that the record of the tracks names, and its checksum."""
+        single = self.split.single
+        return single.get("export", "none"), single.get("sha256")
+
     def tracks(self):
-        """The files of the folder, those of the run, and those of the split."""
+        """The files of the folder, those of the run, and those of the record."""
         there = {f"tracks/{path.name}" for path in (self.folder / "tracks").iterdir() if path.name != "split.txt"}
         if not self.split:
-            unused = {name for name in there.difference(self.files) if not read_track(self.folder / name).points}
+            unused = {name for name in there.difference(self.files) if not self.track(name).points}
             self.findings.hold("evidence.txt names other files than there are" if there - unused != {*self.files} else None,
                                f"the run was one of the {len(self.files)} files of tracks that have used fixes")
-            self.findings.unseen("from what the tracks were made: there is no record of a split")
+            self.findings.unseen("from what the tracks were made: they have no record")
             return
         made = self.split.tracks
         fault = None
@@ -149,17 +160,33 @@ class Verification:
             fault = "the files of tracks are not those of split.txt"
         elif {f"tracks/{name}.csv" for name, numbers in made.items() if numbers[1] != "0"} != {*self.files}:
             fault = "the run was not one of all tracks of split.txt that have used fixes"
-        for name, numbers in made.items():
-            if not fault and numbers[2:] != [checksum_of(self.folder / "tracks" / f"{name}.csv")]:
-                fault = f"tracks/{name}.csv is not the file that split.txt says"
-        self.findings.hold(fault, f"the {len(made)} tracks are those of the record of the split, and the run was one of them")
+        fault = fault or next(filter(None, (self.track_fault(name, numbers) for name, numbers in made.items())), None)
+        are = "track is that" if len(made) == 1 else f"{len(made)} tracks are those"
+        self.findings.hold(fault, f"the {are} of their record, and the run was one of them")
+
+    def track_fault(self, name, numbers):
+        """How a file of tracks is not the one of the record; None where it is."""
+        path = f"tracks/{name}.csv"
+        if numbers[2:] != [checksum_of(self.folder / path)]:
+            return f"{path} is not the file that split.txt says"
+        track = self.track(path)
+        used, records = len(track.points), len(track.points) + track.unused
+        if numbers[:2] != [str(records), str(used)]:
+            return f"{path} has {records} records of which {used} are used, and split.txt says {numbers[0]} and {numbers[1]}"
+        own = track.name.encode("latin-1").decode("utf-8", "surrogateescape")
+        return None if own == name else f"{path} has the animal {own}"
 
     def split_again(self):
+        if self.split is not None and not self.split.has_export:
+            if self.export is not None:
+                raise Fault(f"the tracks were made of a data frame, by split.txt, and not of {self.export.name}")
+            self.findings.unseen("whether the tracks are those of the data frame that they were made of, which is not there")
+            return
         if self.export is None:
             self.findings.unseen("whether the tracks are those of an export: name it behind the folder")
             return
         if self.split is None:
-            raise Fault("there is no record of a split that could be made again")
+            raise Fault("the tracks have no record by which they could be made again")
         if checksum_of(self.export) != self.split.single["sha256"]:
             raise Fault(f"{self.export.name} has not the checksum of the export in split.txt")
         with tempfile.TemporaryDirectory() as room:
@@ -228,17 +255,8 @@ class Verification:
         self.findings.hold(fault and f"the report is not what another method computes: {fault}",
                            f"each of the {count} lines of the report is what another method computes of the tracks")
 
-    def is_unknown(self, name):
-        """Whether a file says what was left out of a data frame, of which no record stands in the folder."""
-        is_of_frame = self.split is None and any(field in self.about for field in WITHOUT_EXPORT)
-        if is_of_frame:
-            self.findings.unseen(f"{name}: what was chosen of the data frame that the tracks are of stands in no record")
-        return is_of_frame
-
     def tables(self):
         names = [name for name in TABLES if name in self.listed]
-        if "animals.csv" in names and self.is_unknown("animals.csv"):
-            names.remove("animals.csv")
         if not names:
             return
         wanted = tables(self.facts, self.overlaps, self.levels, self.about["unit"])
@@ -249,23 +267,23 @@ class Verification:
         if not wrong:
             self.alike.extend(names)
             are = "is" if len(names) == 1 else "are"
-            source = "the tracks and the record of the split" if self.split else "the tracks"
+            source = "the tracks and their record" if self.split else "the tracks"
             self.findings.held(f"{listed(names)} {are} what another method computes of {source}, byte for byte")
 
     def layers(self):
-        if LAYERS not in self.listed or self.is_unknown(LAYERS):
+        if LAYERS not in self.listed:
             return
         layers = Layers(self.folder / LAYERS, self.facts, self.levels, self.about["unit"], self.split)
         if self.split is None:
-            self.findings.unseen(f"the reference system of {LAYERS}: there is no record of a split")
-        where = f", in the reference system of zone {layers.zone}" if layers.zone else ""
+            self.findings.unseen(f"the reference system of {LAYERS}: the tracks have no record")
+        where = f", in the reference system of zone {layers.zone}" if layers.zone else f", in {layers.crs}" if layers.crs else ""
         if self.findings.hold(layers.fault(), f"the layers of {LAYERS} have the polygons that another method computes, with "
                               f"their corners, numbers and hectares{where}"):
             self.alike.append(LAYERS)
 
     def page(self):
         """The page, by the template of this clone."""
-        if PAGE not in self.listed or self.is_unknown(PAGE):
+        if PAGE not in self.listed:
             return
         template = self.tools.parent / "python" / "homerange" / "page.html"
         run = Run(self.about["unit"], self.levels, self.about["program"], self.about["program sha256"],
@@ -292,6 +310,9 @@ class Verification:
         if PAGE in drawn:
             self.findings.note(f"whether what was typed into {PAGE} is right: title, study, species, by whom, the boundary, "
                                "the day")
+        if self.split and self.split.crs:
+            self.findings.note(f"how the reference system {self.split.crs} is defined, and how areas on its grid differ from those "
+                               "on the ground")
         if drawn:
             self.findings.note(f"whether the drawings in {listed(drawn)} show the ranges: the polygons are in {LAYERS}, "
                                "which any GIS draws")

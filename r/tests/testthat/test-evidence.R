@@ -15,6 +15,12 @@ ranges_by_hand <- function(levels = c(100, 75)) {
   quietly(home_range(fixes_by_hand(), levels = levels, zone = if (requireNamespace("sf", quietly = TRUE)) "33N"))
 }
 
+# The record of a folder's tracks, but for what made them.
+record_of <- function(folder) {
+  lines <- readLines(file.path(folder, "tracks", "split.txt"), encoding = "UTF-8")
+  lines[!startsWith(lines, "tool,")]
+}
+
 # Evidence in a folder that is gone when the test ends.
 local_evidence <- function(ranges, frame = parent.frame()) {
   folder <- file.path(local_folder(frame), "hand-in")
@@ -28,11 +34,11 @@ about_of <- function(folder) {
 }
 
 # What the verifier says, with its status.
-verified <- function(folder) {
+verified <- function(folder, export = NULL) {
   named <- Sys.getenv("HOMERANGE_VERIFIER")
   verifier <- if (nzchar(named)) named else file.path(dirname(dirname(homerange_program())), "tools", "verify.py")
   skip_if_not(nzchar(Sys.which("python3")) && file.exists(verifier), "the verifier of the repository")
-  words <- shQuote(c(verifier, folder, "--program", homerange_program()))
+  words <- shQuote(c(verifier, folder, export, "--program", homerange_program()))
   suppressWarnings(system2("python3", words, stdout = TRUE, env = "PYTHONDONTWRITEBYTECODE=1"))
 }
 
@@ -41,7 +47,7 @@ test_that("evidence has fixes, report, record, tables and checksums", {
   folder <- local_evidence(ranges)
   files <- setdiff(list.files(folder, recursive = TRUE), c("ranges.gpkg", "build.log"))
   wanted <- c("SHA256SUMS", "animals.csv", "evidence.txt", "overlaps.csv", "report.html", "report.txt",
-              "summary.csv", "tracks/old_boar.csv", "tracks/one.csv", "tracks/vixen.csv")
+              "summary.csv", "tracks/old_boar.csv", "tracks/one.csv", "tracks/split.txt", "tracks/vixen.csv")
   expect_setequal(files, wanted)
   expect_identical(file.exists(file.path(folder, "ranges.gpkg")), requireNamespace("sf", quietly = TRUE))
   expect_identical(system(paste("cd", shQuote(folder), "&& sha256sum -c --strict --quiet SHA256SUMS")), 0L)
@@ -55,9 +61,54 @@ test_that("evidence has fixes, report, record, tables and checksums", {
   expect_match(about[["program"]], "^homerange [0-9]")
   expect_match(about[["made"]], "^20[0-9-]{8}T[0-9:]{8}Z$")
   expect_identical(about[c("evidence", "unit", "levels", "runs")], c(evidence = "1", unit = "m", levels = "100,75", runs = "1"))
-  expect_match(about[["notes"]], "1 outliers: left out; ", fixed = TRUE)
-  expect_match(about[["notes"]], "is named old_boar$")
-  expect_false(any(c("export", "shift", "crs") %in% names(about)))
+  expect_identical(about[["export"]], "none")
+  expect_false(any(c("export sha256", "notes", "zone", "shift", "crs") %in% names(about)))
+})
+
+test_that("its tracks have a record", {
+  folder <- local_evidence(ranges_by_hand())
+  sums <- checksums_of(file.path(folder, "tracks"))
+  has_sf <- requireNamespace("sf", quietly = TRUE)
+  expect_identical(record_of(folder), c(
+    "unit,m", if (has_sf) c("zone,33N", "option,zone,33N") else "zone,none", "said,1 outliers: left out",
+    if (has_sf) "said,coordinates are those of the table; zone: 33N",
+    "said,columns: animal, time, easting, northing; 3 animals, box 0.400 by 0.400 km", "said,animal 'old/boar' is named old_boar",
+    "left,old_boar,1,outlier", paste0("track,old_boar,4,4,", sums[["old_boar.csv"]]), paste0("track,vixen,2,2,", sums[["vixen.csv"]]),
+    paste0("track,one,1,1,", sums[["one.csv"]])
+  ))
+  lines <- readLines(file.path(folder, "tracks", "split.txt"))
+  expect_match(lines[length(lines)], "^tool,homerange for R [0-9.]+,[0-9a-f]{64}$")
+  record <- read_record(file.path(folder, "tracks", "split.txt"))
+  expect_identical(lines_of_record(record), lines)
+  expect_identical(record$said[1], "1 outliers: left out")
+})
+
+test_that("what a call was told is in the record", {
+  asked <- new_asked(list(animal = c("a", "b,c"), max_dop = 5, max_speed = 0.25, months = c(3, 4), hours = c(18, 6.5), every = 2,
+                          zone = "33n", since = as.Date("2024-05-01"), until = as.POSIXct("2024-05-31 18:00", tz = "Europe/Berlin"),
+                          tz = "UTC", name = "a\\b\n"), is_frame = TRUE)
+  lines <- one_line(option_lines(options_told(asked, "ok")))
+  expect_identical(lines, paste0("option,", c(
+    "animal,a,b,c", "every,2h", "hours,18,6.5", "max-dop,5", "max-speed,0.25", "months,3,4", "name,a\\\\b\\x0a", "since,2024-05-01",
+    "tz,UTC", "until,2024-05-31T16:00:00Z", "use,ok", "zone,33n")))
+  expect_identical(options_of_lines(sub("^option,", "", lines))$name, "a\\b\n")
+  bare <- new_asked(list(every = "30min", until = "2024-05-31 18:00", skip_unnamed = TRUE), is_frame = TRUE)
+  expect_identical(option_lines(options_told(bare, TRUE)),
+                   c("option,every,30min", "option,skip-unnamed", "option,until,2024-05-31 18:00", "option,use"))
+  expect_null(option_lines(options_told(new_asked(list(), is_frame = TRUE), c(TRUE, FALSE))))
+})
+
+test_that("another reference system than that of a zone is in the record", {
+  skip_without_program()
+  skip_if_not_installed("sf")
+  folder <- local_evidence(quietly(home_range(walk("a", 40, 1, at = c(4321000, 3210000)), crs = 3035)))
+  expect_identical(record_of(folder)[1:4],
+                   c("unit,m", "zone,none", "crs,EPSG:3035 (ETRS89-extended / LAEA Europe)", "option,crs,EPSG:3035"))
+  said <- verified(folder)
+  expect_identical(attr(said, "status"), 3L)
+  expect_true(any(endsWith(said, "hectares, in EPSG:3035 (ETRS89-extended / LAEA Europe)")))
+  expect_identical(text_of_crs(sf::st_crs(32733)), "EPSG:32733 (WGS 84 / UTM zone 33S)")
+  expect_identical(code_of_crs(sf::st_crs("+proj=laea +lat_0=52 +lon_0=10 +ellps=GRS80 +units=m")), "unknown")
 })
 
 test_that("the log of a program that was built here goes with it", {
@@ -119,7 +170,6 @@ test_that("layers have the polygons with an area", {
                    list(animal = "old_boar", level = 75L, kept = 3L, corners = 3L, hectares = 2))
   expect_equal(as.numeric(sf::st_area(layer)), 20000)
   expect_identical(sf::st_crs(layer)$epsg, 32633L)
-  expect_identical(about_of(folder)[["zone"]], "33N")
 })
 
 test_that("the verifier holds it, but for the export", {
@@ -127,7 +177,10 @@ test_that("the verifier holds it, but for the export", {
   said <- verified(local_evidence(ranges_by_hand()))
   expect_identical(attr(said, "status"), 3L)
   expect_false(any(startsWith(said, "did not hold")))
+  expect_identical(grep("^not looked at", said, value = TRUE), paste0(
+    "not looked at: whether the tracks are those of the data frame that they were made of, which is not there"))
   expect_true("held: run again the program makes the same report, byte for byte" %in% said)
+  for (part in c("animals.csv", "report.html")) expect_true(any(startsWith(said, "held") & grepl(part, said, fixed = TRUE)))
   folder <- local_evidence(ranges_by_hand())
   cat("more\n", file = file.path(folder, "summary.csv"), append = TRUE)
   expect_identical(attr(verified(folder), "status"), 1L)
@@ -138,7 +191,7 @@ test_that("the verifier holds odd names, decimetres, grids of one's own, and mor
   odd <- rbind(walk("\u017diga \u00c4, it's", 40, 1, at = c(-50, 20)), walk("a b", 9, 2, at = c(0, 0)), walk("a", 9, 3, at = c(9, 9)))
   odd$easting <- odd$easting + 0.1
   folder <- local_evidence(quietly(home_range(odd, levels = c(33, 95), unit = "dm")))
-  expect_match(about_of(folder)[["shift"]], "^[0-9]+,[0-9]+$")
+  expect_match(record_of(folder)[3], "^shift,[0-9]+,[0-9]+$")
   expect_match(about_of(folder)[["arguments"]],
                "-- 'tracks/a b.csv' tracks/a.csv 'tracks/\u017diga \u00c4_ it'\"'\"'s.csv'", fixed = TRUE)
   expect_identical(attr(verified(folder), "status"), 3L)
@@ -146,6 +199,101 @@ test_that("the verifier holds odd names, decimetres, grids of one's own, and mor
   folder <- local_evidence(quietly(home_range(many, levels = 95)))
   expect_identical(about_of(folder)[["runs"]], "6 of groups of 32 animals")
   expect_identical(attr(verified(folder), "status"), 3L)
+})
+
+# The export of the repository, its tracks in a folder, and their report.
+split_by_hand <- function(frame = parent.frame()) {
+  export <- file.path(dirname(dirname(homerange_program())), "examples", "export.csv")
+  named <- Sys.getenv("HOMERANGE_VERIFIER")
+  if (nzchar(named)) export <- file.path(dirname(dirname(named)), "examples", "export.csv")
+  skip_if_not(file.exists(export), "the export of the repository")
+  folder <- local_folder(frame)
+  old <- options(homerange.code = c("1.0.0", strrep("0", 64)))
+  at_end(bquote(options(.(old))), frame)
+  split_text(export, file.path(folder, "tracks"), list(), identity)
+  files <- list.files(file.path(folder, "tracks"), "[.]csv$", full.names = TRUE)
+  report <- file.path(folder, "report.txt")
+  system2(homerange_program(), c("--percent", "95,100", shQuote(rev(files))), stdout = report)
+  list(export = export, report = report, files = files, record = file.path(folder, "tracks", "split.txt"))
+}
+
+test_that("evidence of a report and its files is held with the export", {
+  skip_without_program()
+  own <- split_by_hand()
+  ranges <- read_report(own$report, files = own$files, record = own$record)
+  expect_identical(left_out(ranges), data.frame(animal = "vixen", reason = "coordinates", fixes = 1))
+  expect_identical(ranges$zone, "33N")
+  folder <- local_evidence(ranges)
+  expect_identical(about_of(folder)[["export"]], "export.csv")
+  expect_identical(readLines(file.path(folder, "tracks", "split.txt")), readLines(own$record))
+  said <- verified(folder, own$export)
+  expect_null(attr(said, "status"), info = said)
+  # The record beside the files goes with them too, and one from elsewhere.
+  expect_null(attr(verified(local_evidence(read_report(own$report, files = own$files)), own$export), "status"))
+  elsewhere <- file.path(local_folder(), "record.txt")
+  file.rename(own$record, elsewhere)
+  expect_null(attr(verified(local_evidence(read_report(own$report, files = own$files, record = elsewhere)), own$export), "status"))
+})
+
+test_that("evidence of the files of a frame has its record", {
+  skip_without_program()
+  first <- local_evidence(ranges_by_hand())
+  tracks <- file.path(first, "tracks")
+  ranges <- read_report(file.path(first, "report.txt"), files = list.files(tracks, "csv$", full.names = TRUE),
+                        record = file.path(tracks, "split.txt"))
+  expect_identical(as.list(left_out(ranges)), list(animal = "old_boar", reason = "outlier", fixes = 1))
+  again <- local_evidence(ranges)
+  expect_identical(record_of(again), record_of(first))
+  expect_identical(attr(verified(again), "status"), 3L)
+})
+
+test_that("files that are not those of their report or record are refused", {
+  skip_without_program()
+  own <- split_by_hand()
+  into <- file.path(local_folder(), "hand-in")
+  refused <- function(call, text, class) {
+    expect_error(call, text, class = class)
+    expect_length(list.files(dirname(into)), 0)
+  }
+  expect_error(evidence(read_report(own$report), into), "evidence needs the fixes", class = "homerange_option_error")
+  ranges <- read_report(own$report, files = own$files)
+  refused(evidence(read_report(own$report, files = own$files[1]), into), "no file has the animal", "homerange_report_error")
+  lines <- readLines(own$files[2])
+  writeLines(sub(",562", ",563", lines), own$files[2])
+  refused(read_report(own$report, files = own$files), "the polygon of the file of vixen is not that", "homerange_report_error")
+  refused(evidence(ranges, into), "vixen.csv was changed since it was split", "homerange_text_error")
+  writeLines(lines[-3], own$files[2])
+  refused(read_report(own$report, files = own$files), "the file of vixen has other fixes", "homerange_report_error")
+  unlink(own$record)
+  refused(evidence(ranges, into), "reports other numbers", "homerange_check_error")
+  writeLines(lines, own$files[2])
+  copy <- file.path(local_folder(), basename(own$files[1]))
+  file.copy(own$files[1], copy)
+  ranges$files <- c(own$files, copy)
+  refused(evidence(ranges, into), "have the same name", "homerange_name_error")
+})
+
+test_that("a record that is none is refused", {
+  path <- file.path(local_folder(), "split.txt")
+  good <- c("unit,m", "zone,none", "track,a,2,2")
+  for (bad in c("left,a,x,outlier", "place,33N", "unit,dm", "shift,1", "unit", "track,a,2")) {
+    writeLines(c(good, bad), path)
+    expect_error(read_record(path), "line 4 is '.*', which does not fit there", class = "homerange_text_error")
+  }
+  writeLines(good[-1], path)
+  expect_error(read_record(path), "has no line 'unit'", class = "homerange_text_error")
+  writeLines(c("sha256,0", good), path)
+  expect_error(read_record(path), "has no line 'export'", class = "homerange_text_error")
+  expect_error(read_report(1), class = "homerange_option_error")
+  report <- system.file("extdata", "report.txt", package = "homerange")
+  expect_error(read_report(report, record = path, files = 1), "names of files", class = "homerange_option_error")
+  expect_error(read_report(report, record = tempfile()), "there is no such file", class = "homerange_file_error")
+  expect_error(read_report(report, files = tempfile()), "there is no such file", class = "homerange_file_error")
+})
+
+test_that("ways turn as exact numbers have it", {
+  expect_identical(is_right_turn(2^27, 2^27 - 1, c(2^27 - 1, 2^27, 2^27 - 1), c(2^27 - 2, 2^27 - 1, 2^27 - 1)), c(TRUE, FALSE, FALSE))
+  expect_identical(is_right_turn(1, 0, c(0, 0), c(-1, 1)), c(TRUE, FALSE))
 })
 
 test_that("what cannot be right is refused, and leaves nothing", {

@@ -23,6 +23,34 @@ test_that("a page has the numbers of its report", {
   expect_identical(lengths(regmatches(page, gregexpr("<figure class=\"of3\">", page))), 3L)
 })
 
+test_that("one pair and several that do not meet are said, and animals without a range", {
+  skip_without_program()
+  herd <- do.call(rbind, lapply(1:3, function(at) walk(letters[at], 9, at, 5, c(560000 + 3000 * at, 5134000))))
+  expect_match(page_of(quietly(home_range(herd[herd$animal != "c", ]))), "in the range of another (1 pair).", fixed = TRUE)
+  expect_match(page_of(quietly(home_range(herd))), "in the range of another (3 pairs).", fixed = TRUE)
+  herd$use <- herd$animal != "c"
+  page <- page_of(quietly(home_range(herd)))
+  expect_match(page, "none of their fixes is used (fixes of the data): <bdi>c</bdi> (9).", fixed = TRUE)
+  expect_match(page, "Of 27 fixes of the data 9 were left out: 9 marked as outliers.", fixed = TRUE)
+})
+
+test_that("lines that are not quoted are counted", {
+  expect_match(said_text(paste("line", 1:13)), "; and 1 line more.", fixed = TRUE)
+  expect_match(said_text(paste("line", 1:15)), "; and 3 lines more.", fixed = TRUE)
+})
+
+test_that("the command that a page names has no export where none is known", {
+  expect_match(page_of(example_ranges()), "<code>python3 tools/verify.py FOLDER</code>", fixed = TRUE)
+  expect_match(verify_text(list(export = "export.csv"), "0"), "verify.py FOLDER EXPORT</code>", fixed = TRUE)
+})
+
+test_that("of pairs that meet the one with the greatest share is first", {
+  counts <- matrix(c(10, 5, 0, 9, 10, 8, 0, 1, 10), 3)
+  expect_identical(pairs_that_meet(counts, c(10, 10, 10)), rbind(c(1L, 2L), c(2L, 3L)))
+  expect_identical(pairs_that_meet(t(counts)[3:1, 3:1], c(10, 10, 10)), rbind(c(2L, 3L), c(1L, 2L)))
+  expect_identical(pairs_that_meet(counts, c(100, 100, 10)), rbind(c(2L, 3L), c(1L, 2L)))
+})
+
 test_that("what is typed in is escaped, and places in it stay", {
   page <- page_of(example_ranges(), title = "{{sentences}} <script>", study = "a & b", by = "M\u202ea")
   expect_match(page, "<title>{{sentences}} &lt;script&gt;</title>", fixed = TRUE)

@@ -1,0 +1,145 @@
+# The record of tracks, split.txt in their folder: of which export or of what frame they were made, how, and by what.
+# docs/TABLES.md, The record, has its lines.
+
+kinds_of_lines <- c("export", "sha256", "unit", "zone", "shift", "crs", "option", "said", "left", "track", "tool")
+single_lines <- kinds_of_lines[1:6]
+reasons_of_all <- c("animal", "coordinates", "zero", "sensor", "outlier", "class", "no dop", "dop", "type", "before", "after",
+                    "grid", "speed", "months", "hours", "every", "use")  # use is an argument that left rows out
+no_options <- c("skip-lines", "mark", "skip-unnamed")  # whose value may be that of no wish
+
+# The lines of a record. What was left out is by the names that animals have in files.
+lines_of_record <- function(record) {
+  left <- record$left[order(record$left$animal, match(record$left$reason, reasons_of_all), record$left$fixes, method = "radix"), ]
+  tracks <- record$tracks
+  one_line(c(
+    if (!is.null(record$export)) c(paste0("export,", record$export), paste0("sha256,", record$checksum)),
+    paste0("unit,", record$unit), paste0("zone,", if (is.null(record$zone)) "none" else record$zone),
+    if (any(record$shift != 0)) sprintf("shift,%.0f,%.0f", record$shift[1], record$shift[2]),
+    if (!is.null(record$crs)) paste0("crs,", record$crs), option_lines(record$options),
+    if (length(record$said)) paste0("said,", record$said),
+    if (nrow(left)) sprintf("left,%s,%.0f,%s", left$animal, left$fixes, left$reason),
+    sprintf("track,%s,%.0f,%.0f,%s", tracks$animal, tracks$records, tracks$used, tracks$checksum), sprintf("tool,%s", record$tools)
+  ))
+}
+
+# The options that were given, by name; the unit has a line of its own. Signs of control are escaped, and the backslash.
+option_lines <- function(options) {
+  given <- options[!vapply(options, is.null, NA)]
+  names(given) <- gsub("_", "-", names(given), fixed = TRUE)
+  given <- given[setdiff(names(given), "unit")]
+  is_wish <- !(names(given) %in% no_options & vapply(given, function(value) isTRUE(value == 0), NA))
+  given <- given[is_wish]
+  if (!length(given)) return(NULL)
+  given <- given[order(names(given), method = "radix")]
+  values <- vapply(given, function(value) {
+    if (isTRUE(value)) "" else paste0(",", gsub("\\", "\\\\", if (is.numeric(value)) sprintf("%.0f", value) else value, fixed = TRUE))
+  }, "")
+  paste0("option,", names(given), values)
+}
+
+# Values of options as they were before their signs were escaped.
+unescaped <- function(texts) {
+  places <- gregexpr("\\\\(\\\\|x[0-9a-f]{2}|u[0-9a-f]{4})", texts)
+  regmatches(texts, places) <- lapply(regmatches(texts, places), function(signs) {
+    vapply(signs, function(sign) if (sign == "\\\\") "\\" else intToUtf8(strtoi(substring(sign, 3), 16)), "")
+  })
+  texts
+}
+
+# What made the tracks, by its name, its version and the checksum of its code, and what projected.
+tools_of <- function(name, code, is_projected) {
+  c(sprintf("%s %s,%s", name, code[1], code[2]),
+    if (isTRUE(is_projected)) {
+      sprintf("sf %s (PROJ %s)", utils::packageVersion("sf"), sf::sf_extSoftVersion()[["PROJ"]])
+    })
+}
+
+# The version of this package, and the checksum of its functions and constants as deparse writes them, each below its name.
+code_of_this_package <- function() {
+  own <- topenv()
+  lines <- unlist(lapply(sort(ls(own), method = "radix"), function(name) c(name, deparse(get(name, own)))))
+  text <- tempfile("code")
+  on.exit(unlink(text))
+  write_lines(text, iconv(enc2utf8(lines), "UTF-8", "ASCII", sub = "Unicode"))
+  c(as.character(utils::packageVersion("homerange")), checksum_of(text))
+}
+
+# What a record says.
+read_record <- function(path) {
+  if (!file.exists(path) || dir.exists(path)) refuse("file", path, ": there is no such file")
+  lines <- readLines(path, warn = FALSE, encoding = "UTF-8")
+  kinds <- sub(",.*", "", lines)
+  rest <- substring(lines, nchar(kinds) + 2)
+  refuse_line <- function(bad) {
+    if (length(bad)) refuse("text", path, ": line ", bad[1], " is '", lines[bad[1]], "', which does not fit there")
+  }
+  refuse_line(which(!kinds %in% kinds_of_lines | kinds == lines | duplicated(kinds) & kinds %in% single_lines))
+  single <- as.list(`names<-`(rest, kinds)[kinds %in% single_lines])
+  wanted <- c(if (any(c("export", "sha256") %in% kinds)) c("export", "sha256"), "unit", "zone")
+  missing <- setdiff(wanted, kinds)
+  if (length(missing)) refuse("text", path, " has no line '", missing[1], "': is it a record of split?")
+  refuse_line(which(kinds == "shift" & !grepl("^-?[0-9]+,-?[0-9]+$", rest)))
+  refuse_line(which(kinds == "left" & !grepl("^[^,]*,[0-9]+,[^,]+$", rest)))
+  refuse_line(which(kinds == "track" & !grepl("^[^,]+,[0-9]+,[0-9]+(,[0-9a-f]{64})?$", rest)))
+  of_kind <- function(kind) rest[kinds == kind]
+  list(
+    export = single$export, checksum = single$sha256, unit = single$unit, zone = if (single$zone != "none") single$zone,
+    shift = if (is.null(single$shift)) c(0, 0) else as.numeric(strsplit(single$shift, ",")[[1]]), crs = single$crs,
+    options = options_of_lines(of_kind("option")), said = of_kind("said"), left = left_of_lines(of_kind("left")),
+    tracks = tracks_of_lines(of_kind("track")), tools = of_kind("tool")
+  )
+}
+
+# Options by name; TRUE is the value of one that has none.
+options_of_lines <- function(lines) {
+  has_value <- grepl(",", lines, fixed = TRUE)
+  values <- as.list(unescaped(sub("^[^,]*,", "", lines)))
+  values[!has_value] <- TRUE
+  `names<-`(values, sub(",.*", "", lines))
+}
+
+left_of_lines <- function(lines) {
+  data.frame(animal = sub(",.*", "", lines), reason = sub(".*,", "", lines),
+             fixes = as.numeric(sub("^[^,]*,([0-9]+),.*", "\\1", lines)))
+}
+
+tracks_of_lines <- function(lines) {
+  form <- "^([^,]*),([0-9]+),([0-9]+),?(.*)$"
+  data.frame(animal = sub(form, "\\1", lines), records = as.numeric(sub(form, "\\2", lines)),
+             used = as.numeric(sub(form, "\\3", lines)), checksum = sub(form, "\\4", lines))
+}
+
+# The record of the tracks of a folder; NULL where there is none.
+record_in <- function(folder) {
+  path <- file.path(folder, "split.txt")
+  if (file.exists(path)) read_record(path)
+}
+
+# How many fixes were left out, by animal and reason. Records that are written and not used are outliers that are marked.
+left_out_of_record <- function(record) {
+  marked <- record$tracks[record$tracks$used < record$tracks$records, ]
+  rbind(record$left, data.frame(animal = marked$animal, reason = rep("outlier", nrow(marked)), fixes = marked$records - marked$used))
+}
+
+# The code of the reference system for sf; NULL where none is known, or where it has no code.
+code_of_record <- function(record) {
+  if (!is.null(record$zone)) return(code_of_zone(record$zone))
+  if (isTRUE(grepl("^[A-Za-z]+:[A-Za-z0-9]+ [(]", record$crs))) sub(" [(].*", "", record$crs)
+}
+
+# What the fixes were in.
+source_of <- function(record) if (is.null(record$export)) "data" else "export"
+
+# Refuses tracks in a folder that are not those of their record.
+check_record <- function(record, folder) {
+  files <- list.files(folder, "[.]csv$", all.files = TRUE)
+  made <- paste0(record$tracks$animal, ".csv")
+  again <- ", by split.txt beside them: split the export again"
+  odd <- sort(c(setdiff(files, made), setdiff(made, files)), method = "radix")
+  if (length(odd)) refuse("text", odd[1], if (odd[1] %in% made) " is not among the tracks" else " was not made by it", again)
+  if (!all(nzchar(record$tracks$checksum))) {
+    refuse("text", "split.txt has no checksums of the tracks, as older versions wrote it: split the export again")
+  }
+  changed <- made[checksums_of(folder)[made] != record$tracks$checksum]
+  if (length(changed)) refuse("text", changed[1], " was changed since it was split: split the export again")
+}
