@@ -33,11 +33,22 @@ if is_r_ready; then
     holds 'its vignette has two pictures' [ "$(grep -c 'src="data:image/png' $page)" -eq 2 ]
     if python3 -c 'import geopandas, pandas' 2>errors; then
         "$HOMERANGE" "$top"/examples/fox.csv "$top"/examples/badger.csv "$top"/examples/otter.csv >report.txt
-        holds 'cases of pages' python3 "$tools/tests/same_pages.py" make .
-        mkdir by_r by_python
-        holds 'its evidence and its page' env R_LIBS="$PWD/homerange.Rcheck" Rscript "$tools/tests/same_pages.R" .
+        mkdir -p pages/by_r pages/by_python frames
+        mv report.txt pages
+        export PYTHONDONTWRITEBYTECODE=1
+        holds 'cases of pages' python3 "$tools/tests/same_pages.py" make pages
+        holds 'its evidence and its page' env R_LIBS="$PWD/homerange.Rcheck" Rscript "$tools/tests/same_pages.R" pages
         holds 'they are those of the package for Python, byte for byte, and hold' \
-            env PYTHONDONTWRITEBYTECODE=1 python3 "$tools/tests/same_pages.py" hold .
+            python3 "$tools/tests/same_pages.py" hold pages
+        holds 'its evidence of frames' env R_LIBS="$PWD/homerange.Rcheck" Rscript "$tools/tests/frames.R" frames
+        holds 'it is that of the package for Python, byte for byte, and holds' python3 "$tools/tests/same_frames.py" frames
+        for by in by_python by_r; do
+            python3 "$tools/tests/forged_frames.py" "$HOMERANGE" "frames/$by" >forged 2>&1
+            holds "all evidence of frames $by was forged" [ "$(grep -c '^ok ' forged)" -ge 45 ]
+            while read -r how name; do
+                holds "forgery $by: $name" [ "$how" = ok ]
+            done <forged
+        done
     else
         skip "pages of both packages: $(tail -n 1 errors)"
     fi

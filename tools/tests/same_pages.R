@@ -1,5 +1,5 @@
-# same_pages.R FOLDER: makes in by_r the evidence of the cases that same_pages.py wrote into the folder, that of deer, which it
-# writes to deer.csv, and the page of report.txt.
+# same_pages.R FOLDER: makes in by_r the evidence of the cases that same_pages.py wrote into the folder, and the page of
+# report.txt.
 suppressMessages(library(homerange))
 setwd(commandArgs(TRUE))
 day <- as.Date("2026-11-26")
@@ -15,6 +15,4 @@ make_by_r <- function(own) {
 
 cases <- read.csv("cases.csv", colClasses = "character", na.strings = "?", encoding = "UTF-8")
 for (at in seq_len(nrow(cases))) suppressMessages(make_by_r(cases[at, ]))
-write.csv(deer, "deer.csv", row.names = FALSE)
-suppressMessages(evidence(home_range(deer), file.path("by_r", "deer"), title = "<b> & deer", made = day))
 write_page(read_report("report.txt"), file.path("by_r", "report.html"), made = day)

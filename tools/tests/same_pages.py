@@ -1,15 +1,13 @@
 """same_pages.py make FOLDER, and same_pages.py hold FOLDER: whether the packages for R and for Python make the same bytes of
-the same ranges, and a page that tools/verify.py holds, which shares no code with either.
+the same ranges, and evidence that tools/verify.py holds, which shares no code with either.
 
 The first writes cases into a folder: fixes, and cases.csv, which says with what same_pages.R makes their evidence, in by_r.
 The second makes that of the package for Python, in by_python, and prints what does not hold. HOMERANGE is the program."""
 import csv
 import os
 import random
-import shutil
 import subprocess
 import sys
-import tempfile
 import warnings
 from datetime import date
 from pathlib import Path
@@ -90,22 +88,11 @@ def make_by_python(folder, own):
         reserve_name=own["boundary_name"], made=date(2026, 11, 26))
 
 
-def fault_of_page(folder, own):
-    """What the verifier says of the page and the tables, as of files of fixes without a record, where they do not hold. Of
-    lines that were said of a data frame it knows nothing."""
-    if "this was said" in (folder / "report.html").read_text("utf-8"):
-        return None
-    with tempfile.TemporaryDirectory() as room:
-        shutil.copytree(folder / "tracks", Path(room, "tracks"))
-        words = ["--percent", own["levels"], "--unit", own["unit"]]
-        subprocess.run([TOOLS / "evidence.py", "--report", room, *words], check=True)
-        for name in TABLES:
-            shutil.copy(folder / name, room)
-        subprocess.run([TOOLS / "evidence.py", "--sums", room], check=True)
-        run = subprocess.run(
-            [TOOLS / "verify.py", room, "--program", os.environ["HOMERANGE"]], stdout=subprocess.PIPE, text=True)
-    held = [line for line in run.stdout.split("\n") if line.startswith("held: the tables and sentences of report.html")]
-    return None if run.returncode == 3 and held else run.stdout
+def fault_of(folder):
+    """What the verifier says of evidence, where all but the table of fixes does not hold."""
+    run = subprocess.run(
+        [sys.executable, TOOLS / "verify.py", folder, "--program", os.environ["HOMERANGE"]], stdout=subprocess.PIPE, text=True)
+    return None if run.returncode == 3 and "did not hold" not in run.stdout else run.stdout
 
 
 def other_files(folder, names):
@@ -115,22 +102,19 @@ def other_files(folder, names):
 
 def hold(folder):
     """Prints what does not hold, and answers whether something does not."""
-    from homerange import home_range, read_report, write_page
-    import pandas
+    from homerange import read_report, write_page
 
     warnings.simplefilter("ignore")
     with open(folder / "cases.csv", encoding="utf-8", newline="") as file:
         known = list(csv.DictReader(file))
     for own in known:
         make_by_python(folder, own)
-    day, by_python = date(2026, 11, 26), folder / "by_python"
-    home_range(pandas.read_csv(folder / "deer.csv")).evidence(by_python / "deer", title="<b> & deer", made=day)
-    write_page(read_report(folder / "report.txt"), by_python / "report.html", made=day)
-    names = [*(own["name"] for own in known), "deer"]
+    write_page(read_report(folder / "report.txt"), folder / "by_python" / "report.html", made=date(2026, 11, 26))
+    names = [own["name"] for own in known]
     faults = [f"not the same bytes: {name}" for name in other_files(folder, [
         "report.html", *(f"{name}/{file}" for name in names for file in FILES)])]
-    pages = [(own["name"], fault_of_page(folder / "by_r" / own["name"], own)) for own in known]
-    faults += [f"the page {name} does not hold: {fault}" for name, fault in pages if fault]
+    pages = [(name, fault_of(folder / "by_r" / name)) for name in names]
+    faults += [f"the evidence {name} does not hold: {fault}" for name, fault in pages if fault]
     print("\n".join(faults))
     return bool(faults)
 

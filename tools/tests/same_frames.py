@@ -1,0 +1,81 @@
+"""same_frames.py FOLDER: of the tables of frames.R in a folder, and of the evidence that the package for R makes of them in
+by_r, it makes that of the package for Python in by_python, and says which files are not the same bytes, or whose evidence
+the verifier of the repository does not hold."""
+import subprocess
+import sys
+import warnings
+from datetime import date, datetime, timezone
+from pathlib import Path
+
+TOOLS = Path(__file__).resolve().parents[1]
+sys.path.insert(0, str(TOOLS.parent / "python"))
+
+import pandas
+
+from homerange import home_range, read_report
+from homerange.program import find_program
+
+OWN = ("made: ", "commit: ", "tool,")  # how lines begin that say what made a folder, and when
+CALLS = {
+    "deer": {},
+    "told": {
+        "levels": (50, 95, 100), "zone": "33N", "tz": "Europe/Ljubljana", "every": 6, "since": date(2024, 4, 2),
+        "until": datetime(2024, 5, 10, 12, tzinfo=timezone.utc), "hours": (3, 22.5), "months": (5, 4), "max_dop": "6",
+        "max_speed": 0.5},
+    "system": {"crs": "EPSG:3035", "unit": "dm", "use": "ok", "animal": "animal"},
+    "truths": {"levels": (33, 90), "crs": 3035, "use": lambda frame: [at % 5 > 0 for at in range(1, len(frame) + 1)]},
+    "grid": {"name": "Fox", "since": "2024-04-20 05:00"},
+    "degrees": {"zone": "33N", "use": True},
+    "many": {"levels": 95, "skip_unnamed": True}}
+
+
+def hand_in(folder, name, words):
+    """Makes the evidence of a table as a data frame."""
+    frame = pandas.read_csv(folder / f"{name}.csv")
+    words = {word: value(frame) if callable(value) else value for word, value in words.items()}
+    title = "<b> & deer" if name == "deer" else None
+    home_range(frame, **words).evidence(folder / "by_python" / name, title=title, made=DAY)
+
+
+def hand_in_again(folder):
+    """Makes the evidence of a report and its files, with their record, which the package for R made."""
+    made = folder / "by_r" / "told"
+    files = sorted((made / "tracks").glob("*.csv"))
+    found = read_report(made / "report.txt", files=files, record=made / "tracks" / "split.txt")
+    found.evidence(folder / "by_python" / "again", made=DAY)
+
+
+def shared(path):
+    """What both packages write into a file of evidence."""
+    lines = path.read_bytes().split(b"\n")
+    return [line for line in lines if not line.startswith(tuple(begin.encode() for begin in OWN))]
+
+
+def others(folder, name):
+    """The files of the evidence of a table that are not the same in both languages. Bases of layers have the moment in them."""
+    one, other = (folder / by / name for by in ("by_python", "by_r"))
+    files, again = ({path.relative_to(each) for path in each.rglob("*") if path.is_file()} for each in (one, other))
+    both = {path for path in files & again if path.name not in ("SHA256SUMS", "ranges.gpkg")}
+    unlike = {path for path in both if shared(one / path) != shared(other / path)}
+    return [f"{name}/{path}" for path in sorted((files ^ again) | unlike)]
+
+
+def unheld(folder, name):
+    """The evidence of a table that is not held but for the table."""
+    for by in ("by_python", "by_r"):
+        words = [sys.executable, TOOLS / "verify.py", folder / by / name, "--program", find_program(None)]
+        run = subprocess.run(words, capture_output=True, text=True)
+        if run.returncode != 3 or not run.stdout.endswith("verify.py: 10 held, 0 did not, 1 not looked at\n"):
+            yield f"{by}/{name}: {run.stdout}"
+
+
+folder, DAY = Path(sys.argv[1]), date(2026, 11, 26)
+warnings.simplefilter("ignore")
+(folder / "by_python").mkdir()
+for name, words in CALLS.items():
+    hand_in(folder, name, words)
+hand_in_again(folder)
+names = [*CALLS, "again"]
+found = [path for name in names for path in others(folder, name)]
+faults = [f"not the same bytes: {', '.join(found)}"] if found else []
+sys.exit("\n".join([*faults, *(fault for name in names for fault in unheld(folder, name))]) or 0)
