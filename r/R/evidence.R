@@ -10,14 +10,32 @@ evidence <- function(x, folder, ...) {
   folder <- sub("(.)/+$", "\\1", folder)
   if (is_there(folder)) refuse("text", folder, " is there already: name another folder")
   names <- if (is.null(x$files)) names_of_files(x$animals$animal) else x$animals$animal
+  local_utf8(names)
   program <- identity_of(homerange_program())
   part <- paste0(folder, ".part")
   if (is_there(part)) refuse("text", part, " is there already: is another call at work?")
-  on.exit(unlink(part, recursive = TRUE))
+  on.exit(unlink(part, recursive = TRUE), add = TRUE, after = FALSE)
   make_folder(file.path(part, "tracks"))
   fill_evidence(x, part, names, program, ...)
   if (!file.rename(part, folder)) refuse("text", folder, ": it cannot be made")
   invisible(folder)
+}
+
+# The names of the files of a folder that have this form, in UTF-8.
+files_in <- function(folder, pattern) {
+  names <- list.files(folder, pattern, all.files = TRUE)
+  Encoding(names) <- "UTF-8"
+  names
+}
+
+# Has files named in UTF-8 until the function in this frame ends, which other locales cannot do.
+local_utf8 <- function(names, frame = parent.frame()) {
+  if (l10n_info()[["UTF-8"]]) return(invisible())
+  old <- Sys.getlocale("LC_CTYPE")
+  set <- suppressWarnings(Sys.setlocale("LC_CTYPE", "C.UTF-8"))
+  if (nzchar(set)) return(do.call(on.exit, list(bquote(Sys.setlocale("LC_CTYPE", .(old))), add = TRUE), envir = frame))
+  odd <- names[grepl("[^ -~]", names, useBytes = TRUE)]
+  if (length(odd)) refuse("name", odd[1], " can be the name of a file in a locale of UTF-8 alone, such as LC_ALL=C.UTF-8")
 }
 
 fill_evidence <- function(x, folder, names, program, ...) {
@@ -98,7 +116,7 @@ put_files <- function(x, folder) {
 
 # The files of a folder's tracks that have a used fix, by their names within the folder in order of bytes.
 used_tracks <- function(folder) {
-  files <- sort(paste0("tracks/", list.files(file.path(folder, "tracks"), "[.]csv$", all.files = TRUE)), method = "radix")
+  files <- sort(paste0("tracks/", files_in(file.path(folder, "tracks"), "[.]csv$")), method = "radix")
   files[vapply(file.path(folder, files), function(path) !has_marks(path) || any(read_track(path)$used), NA)]
 }
 

@@ -132,7 +132,7 @@ source_of <- function(record) if (is.null(record$export)) "data" else "export"
 
 # Refuses tracks in a folder that are not those of their record.
 check_record <- function(record, folder) {
-  files <- list.files(folder, "[.]csv$", all.files = TRUE)
+  files <- files_in(folder, "[.]csv$")
   made <- paste0(record$tracks$animal, ".csv")
   again <- ", by split.txt beside them: split the export again"
   odd <- sort(c(setdiff(files, made), setdiff(made, files)), method = "radix")

@@ -21,19 +21,6 @@ class Runner(Hand):
         self.call(sys.executable, TOOLS / "split.py", "--into", "tracks", "export.csv")
         self.call(sys.executable, TOOLS / "evidence.py", "hand-in", "tracks")
 
-    def run(self, *words):
-        """Runs the program over the tracks as they are now, and writes the report."""
-        files = sorted(f"tracks/{path.name}" for path in self.path("tracks").glob("*.csv"))
-        words = words or ("--percent", "50,95,100", "--unit", "m")
-        self.path("report.txt").write_bytes(self.call(self.program, *words, "--", *files, folder=self.folder))
-        listed = " ".join(f"'{name}'" if "'" not in name and re.search("[^a-zA-Z0-9/.]", name) else name for name in files)
-        about = re.sub("(?m)^arguments: .*", f"arguments: {' '.join(words)} -- {listed}", self.path("evidence.txt").read_text())
-        self.path("evidence.txt").write_text(about)
-
-    def sealed_run(self, *words):
-        self.run(*words)
-        self.seal()
-
 
 def move_fix(hand):
     hand.sub("tracks/Bor.csv", "^(Bor,[0-9]+),[0-9]+", r"\1,561234")

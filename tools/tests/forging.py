@@ -100,6 +100,19 @@ class Hand:
         self.sub(name, old, new, count)
         self.seal()
 
+    def run(self, *words):
+        """Runs the program over the tracks as they are now, and writes the report."""
+        files = sorted(f"tracks/{path.name}" for path in self.path("tracks").glob("*.csv"))
+        words = words or ("--percent", "50,95,100", "--unit", "m")
+        self.path("report.txt").write_bytes(self.call(self.program, *words, "--", *files, folder=self.folder))
+        listed = " ".join(f"'{name}'" if "'" not in name and re.search("[^a-zA-Z0-9/.]", name) else name for name in files)
+        about = re.sub("(?m)^arguments: .*", f"arguments: {' '.join(words)} -- {listed}", self.path("evidence.txt").read_text())
+        self.path("evidence.txt").write_text(about)
+
+    def sealed_run(self, *words):
+        self.run(*words)
+        self.seal()
+
     def sealed_sql(self, *statements):
         """Changes ranges.gpkg, whose triggers want functions that are not there."""
         with closing(sqlite3.connect(self.path("ranges.gpkg"))) as base:

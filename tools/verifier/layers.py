@@ -30,12 +30,15 @@ def parameters_of(zone):
 
 
 def is_named(crs, organization, number, definition):
-    """Whether a reference system has this code and name. A code that is no number, or none, is not looked at."""
+    """Whether a reference system has this code and name. A code that is no number, or none, is not looked at; one that is
+    given by its definition in PROJ has no name."""
     code, name, alone = NAMED.fullmatch(crs).groups()
+    if code is None:
+        name = "unknown" if alone.startswith("+proj=") else alone
     is_number = code is not None and code.split(":")[1].isdecimal()
     own = re.match(r'[A-Z]+\["([^"]*)"', definition)
     is_code = not is_number or f"{organization}:{number}".upper() == code.upper()
-    return is_code and own is not None and own[1] == (alone if code is None else name)
+    return is_code and own is not None and own[1] == name
 
 
 class Reader:

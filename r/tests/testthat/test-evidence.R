@@ -296,6 +296,19 @@ test_that("ways turn as exact numbers have it", {
   expect_identical(is_right_turn(1, 0, c(0, 0), c(-1, 1)), c(TRUE, FALSE))
 })
 
+test_that("files have the animals' names in each locale", {
+  skip_without_program()
+  ranges <- quietly(home_range(walk("\u010carli", 9, 1)))
+  folder <- file.path(local_folder(), "hand-in")
+  old <- Sys.getlocale("LC_CTYPE")
+  on.exit(Sys.setlocale("LC_CTYPE", old), add = TRUE, after = FALSE)
+  Sys.setlocale("LC_CTYPE", "C")
+  quietly(evidence(ranges, folder))
+  expect_identical(Sys.getlocale("LC_CTYPE"), "C")
+  Sys.setlocale("LC_CTYPE", old)
+  expect_identical(list.files(file.path(folder, "tracks")), c("split.txt", "\u010carli.csv"))
+})
+
 test_that("what cannot be right is refused, and leaves nothing", {
   ranges <- ranges_by_hand()
   folder <- local_folder()
