@@ -1,5 +1,5 @@
 -- The edges of a polygon, tried one after another, and what they decide.
-use Rattle.std.proofs.Common.{◌≡◌, refl, ℕ, zero, suc, ◌+◌, ◌-◌, ◌<◌, ◌≤◌, pos, ◌≤ℤ◌, ℤ, Bool, ◌&&◌, List, [], ◌∷◌, length, arith}
+use Rattle.std.proofs.Common.{◌≡◌, refl, ℕ, zero, suc, ◌+◌, ◌-◌, ◌<◌, ◌≤◌, pos, ◌≤ℤ◌, ℤ, Bool, true, add-one, ◌&&◌, List, [], ◌∷◌, length, arith}
 use Rattle.std.proofs.lemmas.List.{get_or_default}
 use borrow.Author.Count.{below_more}
 use Rattle.std.specs.Bool.{Decides}
@@ -11,6 +11,7 @@ use Rattle.range_plane.specs.Edges.{at}
 use Rattle.range_plane.specs.Laws.{CoveredIsDecided, LargerSetsCoverMore, ManyCoverTheLeftOfTheirEdges, OnSegmentIsDecided, TwoCoverTheirSegment}
 use Rattle.range_plane.specs.Plane.{Position, origin, turn}
 use Rattle.range_plane.specs.Polygon.{IsPolygon}
+use Rattle.range_lanes.specs.EdgeLines.{before}
 use Rattle.range_lanes.specs.Lanes.{is_not_negative}
 
 not_negative_decided : (x : ℤ) → Decides (is_not_negative x) (pos 0 ≤ℤ x)
@@ -19,46 +20,39 @@ not_negative_decided x = (λ e. omega (arith, ints, e), λ h. grind (arith, ints
 abbrev pub is_left : Position → Position → Position → Bool
 is_left a b q = is_not_negative (turn a b q)
 
--- q is on the left of the closing edge and of the first k others, or on them
+-- q is on the left of the edges that end at the first k corners, or on them
 abbrev pub is_left_of_first : List Position → ℕ → Position → Bool
-is_left_of_first L zero q = is_left (at L (length L - 1)) (at L 0) q
-is_left_of_first L (suc k) q = is_left_of_first L k q && is_left (at L k) (at L (k + 1)) q
+is_left_of_first L zero q = true
+is_left_of_first L (suc k) q = is_left_of_first L k q && is_left (before L k) (at L k) q
 
-record IsLeftOfFirst (L : List Position) (n : ℕ) (q : Position) : Type 0 where
-  closing : pos 0 ≤ℤ turn (at L (length L - 1)) (at L 0) q
-  edges : (k : ℕ) → k < n → pos 0 ≤ℤ turn (at L k) (at L (k + 1)) q
+abbrev IsLeftOfFirst : List Position → ℕ → Position → Type 0
+IsLeftOfFirst L n q = (k : ℕ) → k < n → pos 0 ≤ℤ turn (before L k) (at L k) q
 
 first_decided : (L : List Position) (n : ℕ) (q : Position) → Decides (is_left_of_first L n q) (IsLeftOfFirst L n q)
-first_decided L zero q =
-    Decides-like _ (λ h. record { closing = h; edges = λ k l. absurd (omega arith) }) (λ f. f.closing)
-    (not_negative_decided (turn (at L (length L - 1)) (at L 0) q))
+first_decided L zero q = (λ e k l. absurd (omega arith), λ h. refl)
 first_decided L (suc n) q =
-    Decides-like _ (λ h. record {
-      closing = h.0.closing;
-      edges = λ k l. below_more (λ k. pos 0 ≤ℤ turn (at L k) (at L (k + 1)) q) n h.0.edges h.1 k
-          (omega arith);
-    })
-    (λ f. (record { closing = f.closing; edges = λ k l. f.edges k (omega arith) }, f.edges n (omega arith)))
-    (Decides-and _ _ (first_decided L n q) (not_negative_decided (turn (at L n) (at L (n + 1)) q)))
+    Decides-like _ (λ h k l. below_more (λ k. pos 0 ≤ℤ turn (before L k) (at L k) q) n h.0 h.1 k (omega arith))
+    (λ f. (λ k l. f k (omega arith), f n (omega arith)))
+    (Decides-and _ _ (first_decided L n q) (not_negative_decided (turn (before L n) (at L n) q)))
 
-left_of_all : (L : List Position) (q : Position) → IsLeftOfFirst L (length L - 1) q → IsLeftOfEdges L q
+left_of_all : (L : List Position) (q : Position) → IsLeftOfFirst L (length L) q → IsLeftOfEdges L q
 left_of_all L q h =
     record {
-      edges = λ k d l. rw (get_or_default L k d origin (omega arith), get_or_default L (k + 1) d origin l) (h.edges k (omega arith));
+      edges = λ k d l. rw (get_or_default L k d origin (omega arith), get_or_default L (k + 1) d origin l, add-one) (h (suc k) (omega arith));
       closing = λ k d l. let e : k ≡ length L - 1 = omega arith in
-          rw (get_or_default L k d origin (omega arith), get_or_default L 0 d origin (omega arith), e) h.closing;
+          rw (get_or_default L k d origin (omega arith), get_or_default L 0 d origin (omega arith), e) (h 0 (omega arith));
     }
 
-left_of_first : (L : List Position) (q : Position) → 0 < length L → IsLeftOfEdges L q → IsLeftOfFirst L (length L - 1) q
-left_of_first L q some h =
-    record { closing = h.closing (length L - 1) origin (omega arith); edges = λ k l. h.edges k origin (omega arith) }
+left_of_first : (L : List Position) (q : Position) → 0 < length L → IsLeftOfEdges L q → IsLeftOfFirst L (length L) q
+left_of_first L q some h zero l = h.closing (length L - 1) origin (omega arith)
+left_of_first L q some h (suc k) l = rw (← add-one) (h.edges k origin (omega arith))
 
 -- ---- what corners cover, by the laws of the plane
 pub many_cover : CoveredIsDecided → ManyCoverTheLeftOfTheirEdges → (L : List Position) (q : Position) → IsPolygon L L → 2 < length L
-    → is_left_of_first L (length L - 1) q ≡ is_covered L q
+    → is_left_of_first L (length L) q ≡ is_covered L q
 many_cover decided by_edges L q p many =
     let all = by_edges L L p many q in
-    same_from_decides _ _ (Decides-like _ (left_of_all L q) (left_of_first L q (omega arith)) (first_decided L (length L - 1) q))
+    same_from_decides _ _ (Decides-like _ (left_of_all L q) (left_of_first L q (omega arith)) (first_decided L (length L) q))
     (Decides-like _ all.0 all.1 (decided L q))
 
 pub few_cover : CoveredIsDecided → OnSegmentIsDecided → LargerSetsCoverMore → TwoCoverTheirSegment → (L : List Position) (a b q : Position) → 0 < length L

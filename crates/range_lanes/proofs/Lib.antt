@@ -1,8 +1,10 @@
 pub mod Eights
 pub mod Choosing
+pub mod CornerBoxes
 pub mod Counting
 pub mod Known
 pub mod LaneEdges
+pub mod Lines
 pub mod Signed
 pub mod Summing
 pub mod Taken

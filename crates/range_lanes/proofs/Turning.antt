@@ -95,7 +95,7 @@ negated_sign (pos zero) = refl
 negated_sign (pos (suc n)) = grind (arith, ints)
 negated_sign (negsuc n) = grind (arith, ints)
 
-signs_of_negated : (f : Position → ℤ) (vs : List Position) (xs ys : List ℤ) → xs ≡ map f vs → ys ≡ map (λ x. pos 0 -ℤ x) xs
+pub signs_of_negated : (f : Position → ℤ) (vs : List Position) (xs ys : List ℤ) → xs ≡ map f vs → ys ≡ map (λ x. pos 0 -ℤ x) xs
     → map is_not_negative ys ≡ map (λ p. int_le (f p) (pos 0)) vs
 signs_of_negated f vs xs ys e h =
     ap (map is_not_negative) (h ∙ ap (map (λ x. pos 0 -ℤ x)) e ∙ map-map (λ x. pos 0 -ℤ x) f vs)

@@ -1,3 +1,4 @@
+pub mod EdgeLines
 pub mod Extent
 pub mod InnerPlaces
 pub mod Lanes

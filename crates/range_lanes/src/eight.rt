@@ -1,9 +1,9 @@
 // Eight points of columns.
 
-ghost use Rattle.std.specs.Prelude.{◌≡◌, ◌+◌, ◌≤◌, ◌-ℤ◌, length, map};
+ghost use Rattle.std.specs.Prelude.{◌≡◌, ◌+◌, ◌≤◌, ◌-ℤ◌, length, map, true};
 ghost use Rattle.std.specs.Simd.Lanes.{chunk, Each1};
 ghost use Rattle.range_plane.specs.Plane.{IsCoordinate, coordinate_limit};
-ghost use Rattle.range_lanes.specs.Lanes.{IsBounded};
+ghost use Rattle.range_lanes.specs.Lanes.{IsBounded, is_not_negative};
 
 use crate::lanes::{LANE_COUNT, Lanes};
 use range_plane::Columns;
@@ -41,6 +41,15 @@ impl Eight {
             eastings: Lanes::load(cols.eastings(), at),
             northings: Lanes::load(cols.northings(), at),
         }
+    }
+
+    // A number for each point, 0.
+    #[inline(always)]
+    pub(crate) fn zeros(&self) -> Lanes
+        ensures { map is_not_negative result ≡ map (λ p. true) self.now }
+    {
+        let _ = &self.eastings;
+        Lanes::splat(0)
     }
 
     // How far each point lies east of the easting `e`.

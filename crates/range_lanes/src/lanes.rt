@@ -147,6 +147,16 @@ impl Lanes {
         Lanes::splat(factor).times(self)
     }
 
+    // `by` and each number.
+    #[inline(always)]
+    pub(crate) fn raised(self, by: i64) -> Lanes
+        requires small { Each1 (IsBounded turn_limit) self }
+        requires by { IsBounded turn_limit by }
+        ensures { result ≡ map (λ x. by +ℤ x) self }
+    {
+        Lanes::splat(by).plus(self)
+    }
+
     // 0 less each number.
     #[inline(always)]
     pub(crate) fn negated(self) -> Lanes

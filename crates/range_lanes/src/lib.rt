@@ -1,6 +1,8 @@
 //! What a polygon covers of many points, and their box and sums, eight points at once.
 #![tactic(auto)]
 
+mod corner_box;
+mod edge_lines;
 mod eight;
 mod extent;
 mod inner;

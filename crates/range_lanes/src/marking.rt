@@ -1,33 +1,70 @@
-// On which side of a polygon's edges eight points lie.
+// Which of eight points a polygon of a few corners covers, by the side of each edge on which they lie.
 
-ghost use Rattle.std.specs.Prelude.{◌≡◌, ◌<◌, length, map};
+ghost use Rattle.std.specs.Prelude.{◌≡◌, ◌<◌, ◌≤◌, length, map};
 ghost use Rattle.std.specs.Simd.Lanes.{Each1};
 ghost use Rattle.range_plane.specs.Covering.{scalar_product, is_covered, is_on_segment};
 ghost use Rattle.range_plane.specs.Plane.{turn, turn_limit};
 ghost use Rattle.range_plane.specs.Polygon.{IsPolygon};
+ghost use Rattle.range_lanes.specs.EdgeLines.{AreLinesOf};
 ghost use Rattle.range_lanes.specs.Lanes.{IsBounded, is_not_negative};
 
+use crate::edge_lines::{EdgeLine, LANE_CORNERS, lines_of};
 use crate::eight::Eight;
 use crate::lanes::Lanes;
 use range_plane::{
     Point, covered_is_decided, few_cover_little, larger_sets_cover_more,
     many_cover_the_left_of_their_edges,
 };
+use std::marker::Model;
 
-// A number for each point, which is at least 0 exactly where the corners cover the point.
-#[inline(always)]
-pub(crate) fn margins(corners: &[Point], group: &Eight) -> Lanes
-    requires polygon { IsPolygon corners.now corners.now }
-    requires some { 0 < length corners.now }
-    ensures { map is_not_negative result ≡ map (is_covered corners.now) group.now }
-{
-    if corners.len() <= 2 {
-        covered_is_decided();
-        larger_sets_cover_more();
-        few_cover_little();
-        margins_of_segment(corners[0], corners[corners.len() - 1], group)
-    } else {
-        margins_of_edges(corners, group)
+// The edges of a polygon of a few corners. Contracts see the corners.
+#[derive(Drop)]
+pub(crate) struct Edges<'a> {
+    corners: &'a [Point],
+    lines: [EdgeLine; LANE_CORNERS],
+}
+
+impl<'a> Model for Edges<'a> {
+    ghost use Rattle.std.specs.Prelude.{◌<◌, List, length};
+    ghost use Rattle.range_plane.specs.Plane.{Position};
+    ghost use Rattle.range_plane.specs.Polygon.{IsPolygon};
+    ghost use Rattle.range_lanes.specs.EdgeLines.{AreLinesOf};
+
+    ghost Value = { List Position };
+
+    ghost view = { λ edges. edges.corners.now };
+
+    ghost invariant = { λ edges. IsPolygon edges.corners.now edges.corners.now
+        × (0 < length edges.corners.now)
+        × AreLinesOf edges.corners.now edges.lines };
+}
+
+impl<'a> Edges<'a> {
+    // The edges between these corners; of one corner the way from it to itself.
+    pub(crate) fn of(corners: &'a [Point]) -> Edges<'a>
+        requires polygon { IsPolygon corners.now corners.now }
+        requires some { 0 < length corners.now }
+        requires few { length corners.now ≤ LANE_CORNERS }
+        ensures { result ≡ corners.now }
+    {
+        let lines = lines_of(corners);
+        Edges { corners, lines }
+    }
+
+    // A number for each point, which is at least 0 exactly where the corners cover the point.
+    #[inline(always)]
+    pub(crate) fn margins(&self, group: &Eight) -> Lanes
+        ensures { map is_not_negative result ≡ map (is_covered self.now) group.now }
+    {
+        let corners = self.corners;
+        if corners.len() <= 2 {
+            covered_is_decided();
+            larger_sets_cover_more();
+            few_cover_little();
+            margins_of_segment(corners[0], corners[corners.len() - 1], group)
+        } else {
+            margins_of_lines(corners, &self.lines, group)
+        }
     }
 }
 
@@ -44,19 +81,19 @@ fn margins_of_segment(a: Point, b: Point, group: &Eight) -> Lanes
         .negative_in_either(products.negated())
 }
 
-// The same for three or more corners: below 0 exactly where the point's turn from some edge is.
+// The same for three or more corners: below 0 exactly where the point lies on the right of some edge.
 #[inline(always)]
-fn margins_of_edges(corners: &[Point], group: &Eight) -> Lanes
+fn margins_of_lines(corners: &[Point], lines: &[EdgeLine], group: &Eight) -> Lanes
     requires polygon { IsPolygon corners.now corners.now }
     requires many { 2 < length corners.now }
+    requires lines { AreLinesOf corners.now lines.now }
     ensures { map is_not_negative result ≡ map (is_covered corners.now) group.now }
 {
     covered_is_decided();
     many_cover_the_left_of_their_edges();
-    let last = corners.len() - 1;
-    let mut margins = turns(corners[last], corners[0], group);
-    for i in 0..last {
-        margins = margins.negative_in_either(turns(corners[i], corners[i + 1], group));
+    let mut margins = group.zeros();
+    for i in 0..corners.len() {
+        margins = margins.negative_in_either(lines[i].sides(group));
     }
     margins
 }

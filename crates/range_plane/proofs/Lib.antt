@@ -1,6 +1,7 @@
 pub mod Areas
 pub mod AtMost
 pub mod Bounds
+pub mod Boxes
 pub mod Corners
 pub mod Decided
 pub mod Ends

@@ -1,7 +1,7 @@
 -- Laws of what sets cover and of polygons, each the contract of a function of `src/laws.rt`.
 use Rattle.std.specs.Prelude.{◌<◌, pos, ◌≤ℤ◌, ◌≡◌, ◌≢◌, ◌↔◌, AllPairs, IsTrue, List, [], ◌∷◌, length, Contains}
 use Rattle.range_plane.specs.Covering.{Covers, advance, IsLeftOfEdges, IsOnSegment, is_covered, is_on_segment}
-use Rattle.range_plane.specs.Plane.{Position}
+use Rattle.range_plane.specs.Plane.{IsInBox, Position}
 use Rattle.range_plane.specs.Polygon.{BeginsWithLeast, IsPolygon, TurnsLeft, area2}
 
 abbrev pub LargerSetsCoverMore : Type 0
@@ -16,6 +16,11 @@ ReachesEveryWay S q = (d : Position) → (s : Position) × Contains S s × (pos 
 
 abbrev pub CoveringIsReaching : Type 0
 CoveringIsReaching = (S : List Position) (q : Position) → Covers S q ↔ ReachesEveryWay S q
+
+-- a box that has each member of a set has all that the set covers
+abbrev pub BoxesHoldWhatIsCovered : Type 0
+BoxesHoldWhatIsCovered =
+    (S : List Position) (low high q : Position) → ((s : Position) → Contains S s → IsInBox low high s) → Covers S q → IsInBox low high q
 
 abbrev pub CoveringIsTransitive : Type 0
 CoveringIsTransitive = (S T : List Position) (q : Position) → ((t : Position) → Contains T t → Covers S t) → Covers T q → Covers S q

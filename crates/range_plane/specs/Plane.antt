@@ -34,6 +34,13 @@ IsWithinLimits p = IsCoordinate p.e × IsCoordinate p.n
 unfoldable pub turn : Position → Position → Position → ℤ
 turn a b c = (b.e -ℤ a.e) *ℤ (c.n -ℤ a.n) -ℤ (b.n -ℤ a.n) *ℤ (c.e -ℤ a.e)
 
+-- p lies in the box from its southwestern corner to its northeastern one, or on its boundary
+pub record IsInBox (low high p : Position) : Type 0 where
+  pub west : low.e ≤ℤ p.e
+  pub south : low.n ≤ℤ p.n
+  pub east : p.e ≤ℤ high.e
+  pub north : p.n ≤ℤ high.n
+
 -- a is not after b, by easting and then by northing
 abbrev pub IsAtMost : Position → Position → Type 0
 IsAtMost a b = (a.e <ℤ b.e) ⊎ ((a.e ≡ b.e) × (a.n ≤ℤ b.n))

@@ -2,7 +2,7 @@
 // promises the law, for the proofs of the crates above and for who reads what is promised.
 
 ghost use Rattle.std.specs.Prelude.{◌≡◌, pos};
-ghost use Rattle.range_plane.specs.Laws.{AreasAreNotNegative, CornersCoverTheSet, CornersStandForTheSet, CoveredIsDecided, CoveredPointsChangeNothing, CoveringIsReaching, CoveringIsTransitive, CoveringMembersAreCorners, EverySetHasAPolygon, LargerSetsCoverMore, ManyCoverTheLeftOfTheirEdges, NoneCoversNothing, OnSegmentIsDecided, OneCoversItself, OnePolygon, PolygonOfItsCorners, SetsCoverTheirMembers, TwoCoverTheirSegment};
+ghost use Rattle.range_plane.specs.Laws.{AreasAreNotNegative, BoxesHoldWhatIsCovered, CornersCoverTheSet, CornersStandForTheSet, CoveredIsDecided, CoveredPointsChangeNothing, CoveringIsReaching, CoveringIsTransitive, CoveringMembersAreCorners, EverySetHasAPolygon, LargerSetsCoverMore, ManyCoverTheLeftOfTheirEdges, NoneCoversNothing, OnSegmentIsDecided, OneCoversItself, OnePolygon, PolygonOfItsCorners, SetsCoverTheirMembers, TwoCoverTheirSegment};
 
 use crate::fix::{FIX_LIMIT, SECOND_LIMIT};
 use crate::point::COORDINATE_LIMIT;
@@ -29,6 +29,11 @@ pub fn sets_cover_their_members()
 /// A set covers a point exactly where no direction strictly separates the two.
 pub fn covering_is_reaching()
     ensures { CoveringIsReaching }
+{}
+
+/// A box that has each member of a set has all that the set covers.
+pub fn boxes_hold_what_is_covered()
+    ensures { BoxesHoldWhatIsCovered }
 {}
 
 /// A set that covers each point of another covers all that the other covers.

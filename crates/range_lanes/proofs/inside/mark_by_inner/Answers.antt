@@ -1,12 +1,13 @@
-use Rattle.std.proofs.Common.{◌≡◌, ◌+◌, ◌*◌, take, sym, arith}
+use Rattle.std.proofs.Common.{◌≡◌, ◌+◌, ◌++◌, ◌*◌, map, take, sym, ◌∙◌, ap, arith}
 use lib.Lanes.{chunk}
 use Rattle.std.proofs.Math.Seq.{take-add}
 use Rattle.std.proofs.lemmas.List.{map-append}
 use Rattle.range_plane.specs.Covering.{is_covered}
 use Rattle.range_lanes.proofs.inside.mark_by_inner.Goals as goal
+use Rattle.range_lanes.proofs.inside.mark_by_inner.Goals.{then-tries-eq0, else-tries-eq0+then-mark_group, else-tries-eq0+else-mark_group}
 
 pub mark_group-requires-clause-within : goal.mark_group-requires-clause-within
-mark_group-requires-clause-within g c = rw (sym c.corners.ensures.value) c.inner_of-inner.ensures.within
+mark_group-requires-clause-within g c = rw (sym c.corners.ensures.value, c.of-inner.ensures) c.inner_of-taken.ensures.within
 
 pub loop-group-preserved : goal.loop-group-preserved
 loop-group-preserved g c =
@@ -14,4 +15,9 @@ loop-group-preserved g c =
     let test = is_covered c.args.polygon.now in
     let at = 8 * c.loop-group.group in
     let next : 8 * (c.loop-group.group + 1) ≡ at + 8 = omega arith in
-    rw (next, c.mark_group.ensures, c.loop-group.invariant, take-add at 8 ps, map-append test (take at ps) (chunk at 8 ps))
+    let marked : take (at + 8) c.if-tries-eq0.out ≡ take at c.loop-group.out ++ map test (chunk at 8 ps) = elim c.if-tries-eq0.branch [
+      | then-tries-eq0 w ↦ ap (take (at + 8)) w.out-is ∙ w.mark_each.ensures
+      | else-tries-eq0+then-mark_group w ↦ ap (take (at + 8)) w.out-is ∙ w.mark_group.ensures
+      | else-tries-eq0+else-mark_group w ↦ ap (take (at + 8)) w.out-is ∙ w.mark_group.ensures
+    ] in
+    rw (next, marked, c.loop-group.invariant, take-add at 8 ps, map-append test (take at ps) (chunk at 8 ps))

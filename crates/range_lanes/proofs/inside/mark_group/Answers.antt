@@ -7,15 +7,15 @@ use Rattle.range_lanes.proofs.Counting.{all_pass, count_signs}
 use Rattle.range_lanes.proofs.Known.{passes_where_not_negative}
 use Rattle.range_lanes.proofs.inside.mark_group.Goals as goal
 
-pub returns-then-count_not_negative-eq-LANE_COUNT : goal.returns-then-count_not_negative-eq-LANE_COUNT
-returns-then-count_not_negative-eq-LANE_COUNT g c =
+pub returns-then-told-eq-LANE_COUNT : goal.returns-then-told-eq-LANE_COUNT
+returns-then-told-eq-LANE_COUNT g c =
     let inner = c.args.inner.now in
     let polygon = c.args.polygon.now in
     let group = c.load-group.result in
     let decided = c.covered_is_decided.ensures.set in
     let size : length group ≡ 8 = ap length c.load-group.ensures ∙ length-chunk c.args.at 8 c.args.cols.now.points c.requires.room in
-    let all : c.count_not_negative.result ≡ length group = c.if-count_not_negative-eq-LANE_COUNT.true ∙ sym size in
-    let counted = sym (c.count_not_negative.ensures ∙ count_signs (is_covered inner) group c.margins-quick.result c.margins-quick.ensures) ∙ all in
+    let all : c.count_not_negative-told.result ≡ length group = c.if-told-eq-LANE_COUNT.true ∙ sym size in
+    let counted = sym (c.count_not_negative-told.ensures ∙ count_signs (is_covered inner) group c.margins-quick.result c.margins-quick.ensures) ∙ all in
     let covered = all_pass (is_covered inner) (is_covered polygon)
     (λ q within. (decided polygon q).1 (c.larger_sets_cover_more.ensures inner polygon q c.requires.within ((decided inner q).0 within))) group counted in
     c.mark.ensures

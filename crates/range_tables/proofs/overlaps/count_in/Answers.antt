@@ -18,5 +18,5 @@ returns-then-are_apart_by_northing c =
       | else-are_apart_by_easting w ↦ or_right (are_apart_by_easting a b) (are_apart_by_northing a b)
           (sym w.are_apart_by_northing.ensures ∙ (sym w.value-is ∙ c.if-are_apart_by_northing.true))
     ] in
-    sym (apart_overlap_is_none c.covering_is_reaching.ensures c.covered_is_decided.ensures.set animal.fixes.points range.fixes.points a b
+    sym (apart_overlap_is_none c.boxes_hold_what_is_covered.ensures c.covered_is_decided.ensures.set animal.fixes.points range.fixes.points a b
     c.requires.animal.extent c.requires.range.extent apart)

@@ -1,6 +1,6 @@
 use Rattle.std.proofs.Common.{◌≡◌, ◌*◌, take, count_by}
 use Rattle.range_plane.specs.Covering.{is_covered}
-use Rattle.range_lanes.proofs.inside.count_groups.Given as goal
+use Rattle.range_lanes.proofs.inside.count_by_inner.Given as goal
 
 abbrev pub invariant-loop-group : goal.invariant-loop-group
-invariant-loop-group g l = l.count ≡ count_by (is_covered l.corners) (take (8 * l.group) l.cols.points)
+invariant-loop-group g l = l.count ≡ count_by (is_covered l.polygon) (take (8 * l.group) l.cols.points)
