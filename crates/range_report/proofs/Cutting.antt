@@ -31,11 +31,12 @@ last_text text old new part pushed = ap (flat_map text) pushed ∙ flat_map-appe
     ∙ ap (λ l. flat_map text old ++ l) (append-nil (text part))
 
 -- a part, parts of two kinds, and a part
-pub four_texts : {P A : Type 0} (text : P → List A) (p0 p1 p2 p3 p4 : List P) (first last : P) (b b′ c c′ : List A) → p0 ≡ [] → p1 ≡ p0 ++ first ∷ []
+pub four_texts : {P A : Type 0} (text : P → List A) (p0 p1 p2 p3 p4 : List P) (first last : P) (b b′ c c′ : List A) → p1 ≡ p0 ++ first ∷ []
     → flat_map text p2 ≡ flat_map text p1 ++ b′ → b′ ≡ b
-    → flat_map text p3 ≡ flat_map text p2 ++ c′ → c′ ≡ c → p4 ≡ p3 ++ last ∷ [] → flat_map text p4 ≡ text first ++ b ++ c ++ text last
-four_texts text p0 p1 p2 p3 p4 first last b b′ c c′ none one two of_two three of_three four =
-    rw (last_text text p3 p4 last four, three, of_three, two, of_two, last_text text p0 p1 first one, none) (simp append_assoc)
+    → flat_map text p3 ≡ flat_map text p2 ++ c′ → c′ ≡ c → p4 ≡ p3 ++ last ∷ []
+    → flat_map text p4 ≡ flat_map text p0 ++ (text first ++ b ++ c ++ text last)
+four_texts text p0 p1 p2 p3 p4 first last b b′ c c′ one two of_two three of_three four =
+    rw (last_text text p3 p4 last four, three, of_three, two, of_two, last_text text p0 p1 first one) (simp append_assoc)
 
 -- the members from a place on, part_lines of them at most, by places that lie within the list
 pub members_from : {A : Type 0} (xs : List A) (from a b : ℕ) → a ≡ min from (length xs) → b ≡ min part_lines (length (take (length xs - a) (drop a xs)))

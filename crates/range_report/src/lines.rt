@@ -3,7 +3,7 @@
 ghost use Rattle.std.specs.Prelude.{◌≡◌, ◌+◌, ◌-◌, ◌++◌, ◌<◌, ◌^◌, All, IfOk, IfSome, OnOk, codes, decimal, length, map};
 ghost use Rattle.std.specs.List.{flat_map};
 ghost use Rattle.range_tables.specs.Names.{name_at};
-ghost use Rattle.range_report.specs.Report.{animal_line, box_line, corner_line, end_line, lines_from, overlap_line, percent_line, point_text, row_head, row_line, row_tail};
+ghost use Rattle.range_report.specs.Report.{animal_line, box_line, corner_line, end_line, field, lines_from, overlap_line, percent_line, point_text, row_head, row_line, row_tail};
 
 use itoa::{Buffer, Integer};
 use range_estimator::Row;
@@ -27,6 +27,16 @@ fn push_field<A: Allocator, I: Integer>(text: &mut Vec<u8, A>, n: I) -> Result<(
 {
     text.extend_from_slice(b",")?;
     push_number(text, n)
+}
+
+// Appends a doubled area behind a comma: most fit in 64 bits, whose digits are made in fewer steps.
+fn push_area<A: Allocator>(text: &mut Vec<u8, A>, area2: u128) -> Result<(), AllocError>
+    ensures { OnOk result (text.new.items ≡ text.old.items ++ field area2) }
+{
+    match u64::try_from(area2) {
+        Ok(area2) => push_field(text, area2),
+        Err(_) => push_field(text, area2),
+    }
 }
 
 // Appends the line of an animal and the number of its fixes.
@@ -101,7 +111,7 @@ fn set_tail<A: Allocator>(
     }
     tail.clear();
     push_field(tail, row.corners)?;
-    push_field(tail, row.area2)?;
+    push_area(tail, row.area2)?;
     tail.extend_from_slice(b"\n")
 }
 
@@ -221,7 +231,7 @@ fn push_percent<A: Allocator>(
     push_field(text, row.level)?;
     push_field(text, row.kept)?;
     push_field(text, row.corners)?;
-    push_field(text, row.area2)?;
+    push_area(text, row.area2)?;
     text.extend_from_slice(b"\n")?;
     Ok(())
 }

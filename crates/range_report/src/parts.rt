@@ -55,31 +55,41 @@ fn push_numbered<'a, A: Allocator>(
     Ok(())
 }
 
-// The parts of an animal, in the order of its lines.
-pub(crate) fn parts_of<A: Allocator>(
-    alloc: A,
-    animal: &Animal,
-) -> Result<Vec<Part<'_>, A>, AllocError>
-    ensures { IfOk result (λ parts. flat_map text_of parts.items ≡ animal_text animal.now) }
+// Appends the parts of an animal, in the order of its lines.
+fn push_parts<'a, A: Allocator>(
+    parts: &mut Vec<Part<'a>, A>,
+    animal: &'a Animal,
+) -> Result<(), AllocError>
+    ensures { OnOk result (flat_map text_of parts.new.items ≡ flat_map text_of parts.old.items
+        ++ animal_text animal.now) }
 {
-    let mut parts = Vec::new(alloc);
     let head = Part {
         animal,
         lines: Lines::Head,
         from: 0,
     };
-    let corners = animal.polygon.corners().len();
     parts.push(head)?;
-    push_numbered(
-        &mut parts,
-        animal,
-        Lines::Rows,
-        animal.rows.as_slice().len(),
-    )?;
-    push_numbered(&mut parts, animal, Lines::Corners, corners)?;
+    push_numbered(parts, animal, Lines::Rows, animal.rows.as_slice().len())?;
+    let corners = animal.polygon.corners().len();
+    push_numbered(parts, animal, Lines::Corners, corners)?;
     parts.push(Part {
         lines: Lines::Percents,
         ..head
     })?;
+    Ok(())
+}
+
+// The parts of animals, one after the other.
+pub(crate) fn parts_of<A: Allocator>(
+    alloc: A,
+    animals: &[Animal],
+) -> Result<Vec<Part<'_>, A>, AllocError>
+    ensures { IfOk result (λ parts. flat_map text_of parts.items
+        ≡ flat_map animal_text animals.now) }
+{
+    let mut parts = Vec::new(alloc);
+    for animal in animals {
+        push_parts(&mut parts, animal)?;
+    }
     Ok(parts)
 }

@@ -21,6 +21,13 @@ const LINE_ROOM: usize = 56;
 // How many bytes a line of an overlap, or the last line, has at most.
 const OVERLAP_ROOM: usize = 96;
 
+// How many rows animals have, taken together, whose lines several threads make before the animals are let go. The last
+// of them may have more.
+const ROUND_ROWS: usize = 1 << 20;
+
+// How many bytes two texts have at most of which one is made.
+const JOINED_BYTES: usize = 1 << 16;
+
 // The first line of a report, which one in metres does not have.
 fn head_of(unit: Scale) -> &'static [u8]
     ensures { result.now ≡ unit_line unit }
@@ -31,16 +38,30 @@ fn head_of(unit: Scale) -> &'static [u8]
     }
 }
 
-// How many bytes the lines of a part have, or some more.
-fn room_of(part: &Part<'_>) -> usize {
+// How many lines a part has.
+fn line_count(part: &Part<'_>) -> usize {
     let animal = part.animal;
-    let lines = match part.lines {
+    match part.lines {
         Lines::Head => 2,
         Lines::Rows => some_of(animal.rows.as_slice(), part.from).len(),
         Lines::Corners => some_of(animal.polygon.corners(), part.from).len(),
         Lines::Percents => animal.percents.as_slice().len(),
-    };
-    lines.saturating_mul(animal.name.as_slice().len().saturating_add(LINE_ROOM))
+    }
+}
+
+// How many bytes the lines of a part have, or some more.
+fn room_of(part: &Part<'_>) -> usize {
+    let name = part.animal.name.as_slice().len();
+    line_count(part).saturating_mul(name.saturating_add(LINE_ROOM))
+}
+
+// How many parts a thread takes at least: all of them, where they have no more lines than one part may have.
+fn least_parts(parts: &[Part<'_>]) -> usize {
+    let mut lines: usize = 0;
+    for part in parts {
+        lines = lines.saturating_add(line_count(part));
+    }
+    if lines > PART_LINES { 1 } else { parts.len() }
 }
 
 // The rows or corners of a part that begins with this place.
@@ -79,7 +100,7 @@ fn part_text<A: Allocator + Copy>(alloc: A, part: &Part<'_>) -> Result<Vec<u8, A
     Ok(text)
 }
 
-// The lines of each part. Several are written at once.
+// The lines of each part. Several are written at once, where there are many lines.
 fn part_texts<R: Threads + Sync, A: Allocator + Clone + Copy + Send + Sync>(
     rt: &R,
     alloc: A,
@@ -90,7 +111,7 @@ fn part_texts<R: Threads + Sync, A: Allocator + Clone + Copy + Send + Sync>(
 {
     parts
         .par_iter()
-        .with_min_len(1)
+        .with_min_len(least_parts(parts))
         .map(
             |part: &Part<'_>| -> Result<Vec<u8, A>, AllocError>
                 ensures { IfOk result (λ text. text.items ≡ text_of part.now) }
@@ -99,20 +120,56 @@ fn part_texts<R: Threads + Sync, A: Allocator + Clone + Copy + Send + Sync>(
         .collect::<Result<Vec<Vec<u8, A>, A>, AllocError>>(rt, alloc)?
 }
 
-// The lines of an animal, in parts that several threads write.
+// The lines of animals, in parts that several threads write.
 fn animal_texts<R: Threads + Sync, A: Allocator + Clone + Copy + Send + Sync>(
     rt: &R,
     alloc: A,
-    animal: &Animal,
+    animals: &[Animal],
 ) -> Result<Vec<Vec<u8, A>, A>, AllocError>
     ensures { IfOk result (λ texts. flat_map (λ text. text.items) texts.items
-        ≡ animal_text animal.now) }
+        ≡ flat_map animal_text animals.now) }
 {
-    let parts = parts_of(alloc, animal)?;
+    let parts = parts_of(alloc, animals)?;
     part_texts(rt, alloc, &parts)
 }
 
-// Appends the lines of animals, in parts. Each animal is let go once its lines are there.
+// Appends a text: to the one before, where they are short.
+fn push_text<A: Allocator>(
+    texts: &mut Vec<Vec<u8, A>, A>,
+    text: Vec<u8, A>,
+) -> Result<(), AllocError>
+    ensures { OnOk result (flat_map (λ text. text.items) texts.new.items
+        ≡ flat_map (λ text. text.items) texts.old.items ++ text.items) }
+{
+    if let Some(mut last) = texts.pop() {
+        if last.len().saturating_add(text.len()) <= JOINED_BYTES {
+            last.extend_from_slice(&text)?;
+            texts.push(last)?;
+            return Ok(());
+        }
+        texts.push(last)?;
+    }
+    texts.push(text)?;
+    Ok(())
+}
+
+// Appends the lines of animals that are taken at once.
+fn push_round<R: Threads + Sync, A: Allocator + Clone + Copy + Send + Sync>(
+    rt: &R,
+    alloc: A,
+    texts: &mut Vec<Vec<u8, A>, A>,
+    animals: &[Animal],
+) -> Result<(), AllocError>
+    ensures { OnOk result (flat_map (λ text. text.items) texts.new.items
+        ≡ flat_map (λ text. text.items) texts.old.items ++ flat_map animal_text animals.now) }
+{
+    for text in animal_texts(rt, alloc, animals)? {
+        push_text(texts, text)?;
+    }
+    Ok(())
+}
+
+// Appends the lines of animals. Some at a time are let go, once their lines are there.
 fn push_animals<R: Threads + Sync, A: Allocator + Clone + Copy + Send + Sync>(
     rt: &R,
     alloc: A,
@@ -122,10 +179,18 @@ fn push_animals<R: Threads + Sync, A: Allocator + Clone + Copy + Send + Sync>(
     ensures { OnOk result (flat_map (λ text. text.items) texts.new.items
         ≡ flat_map (λ text. text.items) texts.old.items ++ flat_map animal_text animals.items) }
 {
+    let mut round = Vec::new(alloc);
+    let mut rows: usize = 0;
     for animal in animals {
-        texts.append(&mut animal_texts(rt, alloc, &animal)?)?;
+        rows = rows.saturating_add(animal.rows.as_slice().len());
+        round.push(animal)?;
+        if rows >= ROUND_ROWS {
+            push_round(rt, alloc, texts, &round)?;
+            round.clear();
+            rows = 0;
+        }
     }
-    Ok(())
+    push_round(rt, alloc, texts, &round)
 }
 
 // The lines of overlaps, and the last line.
@@ -158,9 +223,9 @@ fn push_texts<A: Allocator>(
     Ok(())
 }
 
-/// The report of an analysis in parts, of which some may be empty: one after the other, they are what [`report`]
-/// gives. Several threads make them. Each animal is let go once its lines are there, so that memory never holds
-/// all rows beside all text.
+/// The report of an analysis in parts: one after the other, they are what [`report`] gives. A short report is one part.
+/// Several threads make them. Animals are let go once their lines are there, some at a time, so that memory never
+/// holds all rows of many beside all text.
 ///
 /// # Errors
 ///
@@ -180,7 +245,7 @@ pub fn report_parts<R: Threads + Sync, A: Allocator + Clone + Copy + Send + Sync
     let mut texts = Vec::new(alloc);
     texts.push(head)?;
     push_animals(rt, alloc, &mut texts, animals.into_vec())?;
-    texts.push(tail)?;
+    push_text(&mut texts, tail)?;
     Ok(texts)
 }
 
@@ -204,9 +269,10 @@ pub fn report<R: Threads + Sync, A: Allocator + Clone + Copy + Send + Sync>(
     ensures { IfOk result (λ text. text.items ≡ report_text analysis.now) }
 {
     let mut text = Vec::from_slice(alloc, head_of(analysis.unit))?;
-    for animal in analysis.animals.as_slice() {
-        push_texts(&mut text, animal_texts(rt, alloc, animal)?)?;
-    }
+    push_texts(
+        &mut text,
+        animal_texts(rt, alloc, analysis.animals.as_slice())?,
+    )?;
     text.extend_from_slice(&tail_of(alloc, analysis)?)?;
     Ok(text)
 }

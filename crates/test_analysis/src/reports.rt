@@ -8,7 +8,9 @@ use range_report::{report, report_parts};
 use range_stats::PercentRow;
 use range_tables::{Analysis, Animal, Animals, OverlapRow, Overlaps, Percents};
 use std::alloc::Global;
+use std::process::Abort;
 use std::test::Fail;
+use std::thread::Threads;
 
 const REPORT: &[u8] =
     b"animal,A,fixes,5\nbox,A,0,0,10,10\nrow,A,1,0,1,0\nrow,A,2,60,2,0\nrow,A,3,120,3,100\nrow,A,4,180,4,200\nrow,A,5,240,4,200\ncorner,A,1,0,0\ncorner,A,2,10,0\ncorner,A,3,10,10\ncorner,A,4,0,10\npercent,A,50,3,3,50\npercent,A,95,5,4,200\npercent,A,100,5,4,200\nanimal,B,fixes,3\nbox,B,5,5,20,5\nrow,B,1,0,1,0\nrow,B,2,60,2,0\nrow,B,3,120,2,0\ncorner,B,1,5,5\ncorner,B,2,20,5\npercent,B,50,2,2,0\npercent,B,95,3,2,0\npercent,B,100,3,2,0\noverlap,A,B,1,5\noverlap,B,A,2,3\nend,2\n";
@@ -120,17 +122,29 @@ fn reports_two_animals(rt: HostRuntime) -> Result<(), Fail> {
     Ok(())
 }
 
-// The parts of a report, one after the other.
-#[test]
-fn parts_of_two_animals(rt: HostRuntime) -> Result<(), Fail> {
-    let alloc = rt.alloc();
-    let analysis = two_animals(alloc)?;
+// The parts of a report, one after the other, are the report.
+fn expect_parts<R: Threads + Sync + Abort>(
+    rt: &R,
+    alloc: Global,
+    analysis: Analysis,
+    parts: usize,
+    report: &[u8],
+) -> Result<(), Fail> {
+    let texts = report_parts(rt, alloc, analysis).ok().ok_or("memory")?;
+    assert_eq!(rt; texts.len(), parts);
     let mut text = Vec::new(alloc);
-    for part in report_parts(&rt, alloc, analysis).ok().ok_or("memory")? {
+    for part in texts {
         text.extend_from_slice(&part)?;
     }
-    assert_eq!(rt; text.as_slice(), REPORT);
+    assert!(rt; text.as_slice() == report);
     Ok(())
+}
+
+// A short report is one part.
+#[test]
+fn parts_of_two_animals(rt: HostRuntime) -> Result<(), Fail> {
+    let analysis = two_animals(rt.alloc())?;
+    expect_parts(&rt, rt.alloc(), analysis, 1, REPORT)
 }
 
 // The rows of one animal, more than a part has, are counted on from part to part.
@@ -159,7 +173,7 @@ fn rows_of_two_parts(rt: HostRuntime) -> Result<(), Fail> {
     };
     let text = report(&rt, alloc, &analysis).ok().ok_or("memory")?;
     assert!(rt; text.as_slice() == lines.as_slice());
-    Ok(())
+    expect_parts(&rt, alloc, analysis, 3, &lines)
 }
 
 // The same of the corners of one animal.

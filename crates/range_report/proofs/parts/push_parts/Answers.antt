@@ -6,7 +6,7 @@ use Rattle.range_report.specs.declared.parts.Lines.TheVariants.{Corners, Rows}
 use Rattle.range_report.specs.Parts.{part_count, part_lines, part_text, text_of}
 use Rattle.range_report.specs.Report.{animal_text, corner_line, row_line}
 use Rattle.range_report.proofs.Cutting.{four_texts, numbered_cut}
-use Rattle.range_report.proofs.parts.parts_of.Goals as goal
+use Rattle.range_report.proofs.parts.push_parts.Goals as goal
 
 -- the parts of so many rows or corners
 abbrev texts : Animal → Lines → ℕ → List ℕ
@@ -20,6 +20,6 @@ returns g c =
     rw (c.as_slice.ensures) at c.in_ok-push_numbered.ensures in
     let corners : flat_map text_of c.push_numbered-2.new.parts.items ≡ flat_map text_of c.push_numbered.new.parts.items ++ texts animal Corners
     (length animal.polygon) = rw (c.corners-corners.ensures.value) at c.in_ok-push_numbered-2.ensures in
-    four_texts text_of c.new-parts.result.items c.push.new.self.items c.push_numbered.new.parts.items c.push_numbered-2.new.parts.items c.push-2.new.self.items
-    _ _ _ _ _ _ c.new-parts.ensures.items c.in_ok-push.ensures.items
+    four_texts text_of c.args.parts.now.items c.push.new.self.items c.push_numbered.new.parts.items c.push_numbered-2.new.parts.items
+    c.push-2.new.self.items _ _ _ _ _ _ c.in_ok-push.ensures.items
     rows (numbered_cut (row_line animal.name) animal.rows) corners (numbered_cut (corner_line animal.name) animal.polygon) c.in_ok-push-2.ensures.items
