@@ -1,6 +1,7 @@
 #!/bin/sh
-# setup.sh [--missing]: installs, as root, what ./test uses of Debian's packages, beside the toolchain. With --missing it
-# installs nothing, and prints in one line those that are not installed.
+# setup.sh [--qgis | --missing]: installs, as root, what ./test uses of Debian's packages, beside the toolchain. With --qgis
+# it installs QGIS too, which is a gigabyte, and without which the tests of its plugin are skipped. With --missing it
+# installs nothing, and prints in one line those that are not installed, QGIS left out.
 #
 # Packages of Python are for Debian's own, /usr/bin/python3.
 set -eu
@@ -10,6 +11,7 @@ python3-pytest python3-scipy python3-shapely r-base-core r-cran-knitr r-cran-rma
 r-cran-xml2 shellcheck slurm-wlm snakemake'
 case $*: in
     :) ;;
+    --qgis:) packages="$packages qgis python3-qgis qgis-providers" ;;
     --missing:)
         missing=''
         for package in $packages; do
@@ -19,7 +21,7 @@ case $*: in
         exit
         ;;
     *)
-        echo 'setup.sh: it takes --missing alone' >&2
+        echo 'setup.sh: it takes --qgis or --missing alone' >&2
         exit 2
         ;;
 esac
