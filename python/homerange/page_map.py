@@ -156,17 +156,27 @@ class Numbers:
     def __init__(self, frame: Frame, size: float) -> None:
         self.frame, self.size, self.taken = frame, size, list[Box]()
 
-    def put(self, shape: Shape) -> str:
-        """The number of an animal, in the middle of its innermost polygon or near it."""
+    def find(self, shape: Shape) -> tuple[Point, Point]:
+        """Where the innermost polygon of an animal has its middle, and the place of its number there or near it."""
         west, south, east, north = box_of(shape.polygons[-1])
-        x, y = self.frame.at(((west + east) / 2, (south + north) / 2))
-        half, text = 0.31 * self.size * len(str(shape.number)) + 1, str(shape.number)
+        middle = self.frame.at(((west + east) / 2, (south + north) / 2))
+        half = 0.31 * self.size * len(str(shape.number)) + 1
         is_flat = len(shape.polygons[-1]) < 3  # and would be covered
-        free = (at for at in islice(self.places(x, y), int(is_flat), None) if self.is_free(at, half))
-        to_x, to_y = next(free, (x, y))
-        self.taken.append(self.box((to_x, to_y), half))
-        leader = line(x, y, to_x, to_y, ' class="leader"') if abs(to_x - x) + abs(to_y - y) > 1.5 * self.size else ""
-        return leader + text_at(to_x, to_y + 0.35 * self.size, text, f' class="number {colour(shape.number)}"')
+        free = (at for at in islice(self.places(*middle), int(is_flat), None) if self.is_free(at, half))
+        at = next(free, middle)
+        self.taken.append(self.box(at, half))
+        return middle, at
+
+    def has_leader(self, middle: Point, at: Point) -> bool:
+        """Whether a number stands so far from the middle that a line leads to it."""
+        return abs(at[0] - middle[0]) + abs(at[1] - middle[1]) > 1.5 * self.size
+
+    def put(self, shape: Shape) -> str:
+        """The number of an animal."""
+        (x, y), (to_x, to_y) = self.find(shape)
+        leader = line(x, y, to_x, to_y, ' class="leader"') if self.has_leader((x, y), (to_x, to_y)) else ""
+        return leader + text_at(
+            to_x, to_y + 0.35 * self.size, str(shape.number), f' class="number {colour(shape.number)}"')
 
     def places(self, x: float, y: float) -> Iterable[Point]:
         """Places around one, nearer ones first."""

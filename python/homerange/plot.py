@@ -2,114 +2,268 @@
 
 from __future__ import annotations
 
-from typing import Any, Sequence
+from typing import Any, Iterable, Sequence
 
-import numpy
+import pandas  # type: ignore[import]
 
-from .ranges import HomeRanges
+from .asked import UNITS
+from .errors import refuse
+from .formats import Clock
+from .page_curves import layout
+from .page_text import system_of
+from .plot_map import FOOT, Map, frame_of, rings_over, shapes_of
+from .plot_style import (
+    EDGE, LEAST_TEXT, LEVELS, SMALL, Drawn, add_key, area_axis, area_text, drawn_animals, halo, key_room, label,
+    number_axes,
+)
+from .ranges import HomeRanges, whole_numbers
 
-COLOURS = ("#0072B2", "#D55E00", "#009E73", "#CC79A7", "#E69F00", "#56B4E9", "#000000")  # of Okabe and Ito
-STYLES = ("solid", "dashed", "dotted", "dashdot")
-LEGEND_ROWS = 20
-
-
-def _styles(animals: Sequence[str]) -> list[dict[str, Any]]:
-    """A colour and a kind of line for each animal; both differ from one animal to the next, so that a picture can be
-    printed in grey. Where there are more animals than can be told apart all are grey."""
-    if _legend_columns(animals) == 0:
-        return [{"color": "#555555", "linewidth": 0.8, "alpha": 0.7}] * len(animals)
-    rounds = [divmod(place, len(COLOURS)) for place in range(len(animals))]
-    return [
-        {"color": COLOURS[colour], "linestyle": STYLES[(colour + turn) % len(STYLES)], "linewidth": 1.6}
-        for turn, colour in rounds
-    ]
+AROUND = (1.25, 0.9)  # inches of a new figure around its axes, across and up
 
 
-def _axes(ax: Any, animals: Sequence[str]) -> Any:
-    """The axes to draw in: those that are there, or of a new figure, with room for the legend."""
-    if ax is not None:
-        return ax
+def new_axes(width: float, height: float, texts: Sequence[str], animals: int) -> Any:
+    """Axes of so many points in a new figure, with room for the key."""
     from matplotlib import pyplot  # type: ignore[import]
 
-    return pyplot.subplots(figsize=(6 + 2 * _legend_columns(animals), 5), dpi=150, layout="constrained")[1]
+    beside, below = key_room(texts, animals, width / 72)
+    size = (width / 72 + AROUND[0] + beside, height / 72 + AROUND[1] + below)
+    return pyplot.subplots(figsize=size, dpi=150, layout="constrained")[1]
 
 
-def _legend_columns(animals: Sequence[str]) -> int:
-    """How many columns the legend has, none where there are too many animals for one."""
-    return -(-len(animals) // LEGEND_ROWS) if len(animals) <= len(COLOURS) * len(STYLES) else 0
+def new_panels(animals: Sequence[Drawn], ratio: float) -> list[Any]:
+    """Axes for each animal in a new figure, as many beside each other as the page has."""
+    from matplotlib import pyplot
+
+    columns = layout(len(animals))[0]
+    rows = -(-len(animals) // columns)
+    width = max(11.0 / columns, 1.3)
+    figure, grid = pyplot.subplots(
+        rows, columns, figsize=(width * columns, (width * ratio + 0.35) * rows), dpi=150, layout="constrained", squeeze=False)
+    panels = list(grid.flat)
+    for empty in panels[len(animals):]:
+        empty.remove()
+    return panels[:len(animals)]
 
 
-def _legend(axes: Any, animals: Sequence[str]) -> None:
-    """A legend beside the axes, or how many animals there are, where they are too many for one."""
-    columns = _legend_columns(animals)
-    if columns == 0:
-        axes.annotate(f"{len(animals)} animals", (1, 1.02), xycoords="axes fraction", ha="right")
-    else:
-        axes.legend(loc="upper left", bbox_to_anchor=(1.01, 1), ncol=columns, borderaxespad=0, frameon=False,
-                    handlelength=3, fontsize="medium" if columns == 1 else "small")
+def handle_of(animal: Drawn, text: str) -> Any:
+    """An animal in the key."""
+    from matplotlib.lines import Line2D  # type: ignore[import]
+
+    return Line2D([], [], color=animal.colour, linewidth=2, label=text)
 
 
-def _area_scale(hectares: float) -> tuple[float, str]:
-    """By what hectares are divided in a picture whose greatest area this is, and the unit's sign."""
-    return (100, "km²") if hectares >= 10_000 else (1, "ha")
+class Line:
+    """The area curve of an animal: fixes or times, and areas in the unit of the axis or shares of the last one. Where the
+    area stays, only the ends are kept."""
+
+    def __init__(self, ranges: HomeRanges, animal: Drawn, by: str, share: bool) -> None:
+        rows = ranges.report.tables[animal.name].rows
+        last = rows[-1][2]
+        kept = [at for at in range(len(rows)) if at in (0, len(rows) - 1) or rows[at][2] != rows[at - 1][2]]
+        whole = last / 100 if share else float(UNITS[ranges.unit].hectare)
+        self.fixes = [at + 1 for at in kept]
+        self.seconds = [rows[at][0] for at in kept]
+        self.areas = [rows[at][2] / whole if whole else 0.0 for at in kept]
+        self.animal, self.by = animal, by
+
+    def across(self, ranges: HomeRanges, clock: Clock) -> list[Any]:
+        """Where the curve is along its axis: numbers of fixes, moments, or days since the files' own start."""
+        if self.by == "fix":
+            return list(self.fixes)
+        if clock.is_calendar:
+            times = pandas.to_datetime(self.seconds, unit="s", utc=True).tz_convert(ranges.tz)
+            return list(times.to_pydatetime())
+        return [second / 86_400 for second in self.seconds]
 
 
-def plot_curve(ranges: HomeRanges, ax: Any = None) -> Any:
+def number_line(axes: Any, animal: Drawn, x: Any, y: float) -> None:
+    """The number of an animal beside its curve."""
+    axes.annotate(str(animal.number), (x, y), xytext=(3, 0), textcoords="offset points", color=animal.colour,
+                  fontsize=SMALL, va="center", annotation_clip=False, path_effects=halo(), zorder=4)
+
+
+def number_ends(axes: Any, lines: Sequence[tuple[Drawn, Sequence[Any], Sequence[float]]], height: float) -> None:
+    """The numbers of animals at the ends of their curves, as many as there is room for beside these."""
+    step, lowest = SMALL * axes.get_ylim()[1] / height, float("-inf")
+    for animal, across, areas in sorted(lines, key=lambda line: line[2][-1]):
+        place = max(areas[-1], lowest + step)
+        if place <= areas[-1] + step:
+            lowest = place
+            number_line(axes, animal, across[-1], place)
+
+
+def number_halves(axes: Any, lines: Sequence[tuple[Drawn, Sequence[Any], Sequence[float]]]) -> None:
+    """The numbers of animals where their curves of shares, which all end at the same height, pass a half of it; each on
+    the next of five heights, since many do so at about the same fix."""
+    for place, (animal, across, areas) in enumerate(lines):
+        half = 30 + 10 * (place % 5)
+        at = next((at for at, area in enumerate(areas) if area >= half), None)
+        if at is not None:
+            number_line(axes, animal, across[at], half)
+
+
+def draw_line(axes: Any, line: Line, across: Sequence[Any], factor: float) -> None:
+    areas = [area * factor for area in line.areas]
+    marker = "o" if len(areas) == 1 else None
+    axes.step(across, areas, where="post", color=line.animal.colour, linewidth=1.6, marker=marker, markersize=4,
+              label=label(line.animal.name))
+
+
+def plot_curve(
+    ranges: HomeRanges, ax: Any = None, *, animals: Iterable[str] | str | None = None, by: str = "fix",
+    share: bool = False, facets: bool = False, colours: Any = None,
+) -> Any:
     """Draws the area of each animal's minimum convex polygon after each fix (incremental area analysis, Harris et al.
-    1990): a curve that levels off says that the range is known. Answers with the axes of matplotlib, which are those
-    that were given, or of a new figure. The legend is beside them."""
-    axes, curve = _axes(ax, ranges.animals), ranges.curve()
-    divisor, sign = _area_scale(curve["hectares"].max())
-    for name, style in zip(ranges.animals, _styles(ranges.animals)):
-        own = curve[curve["animal"] == name]
-        axes.step(own["n"], own["hectares"] / divisor, where="post", label=_label(name), **style)
-    axes.set(xlabel="Fixes", ylabel=f"Area of the minimum convex polygon ({sign})")
-    axes.set_xlim(left=0)
+    1990): a curve that levels off says that the range is known.
+
+    ax: axes of matplotlib to draw in; else a new figure is made.
+    animals: the names to draw; if left out, all. An animal has its number and colour in each picture.
+    by: 'fix', or 'date' for the time of each fix; where the seconds are not since 1970, days of the files' own start.
+    share: areas as per cent of the final one of each animal.
+    facets: a panel for each animal, in a new figure.
+    colours: one, several in turn, or a mapping of names to colours.
+
+    Answers with the axes, or with facets a list of them. Numbers at the ends of curves are those of the key, which has
+    all animals; where ends lie close together some have no room.
+    """
+    if by not in ("fix", "date"):
+        refuse(f"by={by!r} is neither 'fix' nor 'date'")
+    if facets and ax is not None:
+        refuse("facets make a figure of their own: leave ax out")
+    drawn = drawn_animals(ranges, animals, colours)
+    lines = [Line(ranges, animal, by, share) for animal in drawn]
+    clock = Clock(ranges.tz, (second for line in lines for second in (line.seconds[0], line.seconds[-1])))
+    factor, sign = (1.0, "% of the final one") if share else area_axis(max(line.areas[-1] for line in lines))
+    texts = [f"{animal.number} {label(animal.name)}" for animal in drawn] if len(drawn) > 1 else [label(drawn[0].name)]
+    named = f"Area of the minimum convex polygon ({sign})"
+    below = "Fixes" if by == "fix" else f"Date ({ranges.tz})" if clock.is_calendar else "Days from the files' start"
+    if facets:
+        return curve_panels(ranges, lines, (clock, factor), (below, f"Area ({sign})"))
+    axes = new_axes(480.0, 300.0, texts, len(drawn)) if ax is None else ax
+    for line in lines:
+        draw_line(axes, line, line.across(ranges, clock), factor)
+    axes.set(xlabel=below, ylabel=named)
+    if by == "fix":
+        axes.set_xlim(left=0)
     axes.set_ylim(bottom=0)
-    _grid(axes)
-    _legend(axes, ranges.animals)
+    number_axes(axes, clock.info if by == "date" and clock.is_calendar else None)
+    height = 300.0 if ax is None else size_of(axes)[1]
+    found = [(line.animal, line.across(ranges, clock), [area * factor for area in line.areas]) for line in lines]
+    if len(drawn) > 1 and share:
+        number_halves(axes, found)
+    elif len(drawn) > 1:
+        number_ends(axes, found, height)
+    add_key(axes, list(map(handle_of, drawn, texts)), len(drawn), 480.0 / 72, height / 72)
     return axes
 
 
-def _label(name: str) -> str:
-    """A name as matplotlib shows it: no formula, and in a legend even where it begins with an underscore."""
-    text = name.replace("$", r"\$")
-    return "\u200b" + text if text.startswith("_") else text
+def curve_panels(
+    ranges: HomeRanges, lines: Sequence[Line], scales: tuple[Clock, float], names: tuple[str, str],
+) -> list[Any]:
+    """A panel for each animal, with its number, its name and its area above."""
+    clock, factor = scales
+    panels = new_panels([line.animal for line in lines], 0.62)
+    few = len(lines) <= 12
+    for axes, line in zip(panels, lines):
+        draw_line(axes, line, line.across(ranges, clock), factor)
+        area = area_text(ranges, line.animal.name, 100)
+        axes.set_title(f"{line.animal.number} {label(line.animal.name)}, {area}", fontsize=9 if few else LEAST_TEXT, loc="left",
+                       color=line.animal.colour)
+        axes.set_ylim(bottom=0)
+        number_axes(axes, clock.info if line.by == "date" and clock.is_calendar else None)
+        axes.tick_params(labelsize=8 if few else 4.5)
+    panels[0].figure.supxlabel(names[0], fontsize=9)
+    panels[0].figure.supylabel(names[1], fontsize=9)
+    return panels
 
 
-def plot_ranges(ranges: HomeRanges, ax: Any = None, level: int = 100) -> Any:
-    """Draws each animal's polygon at a level, over its fixes where they are known. The axes have one scale, in
-    kilometres of the grid, or in metres where all is small. Answers as plot_curve does."""
-    axes, corners = _axes(ax, ranges.animals), ranges.corners(level)
-    points = numpy.array([point for polygon in corners.values() for point in polygon])
-    small = max(numpy.ptp(points, axis=0)) < 2000
-    scale, sign = (1, "m") if small else (1000, "km")
-    divisor, area_sign = _area_scale(max(ranges.hectares(name, level) for name in ranges.animals))
-    is_dense = len(ranges.curve()) > 200
-    dot = {"s": 4, "alpha": 0.35} if is_dense else {"s": 14, "alpha": 0.7}
-    for name, style in zip(ranges.animals, _styles(ranges.animals)):
-        polygon = numpy.array([*corners[name], corners[name][0]]) / scale
-        fixes = ranges.fixes(name)
-        if fixes is not None:
-            axes.scatter(*(fixes / scale).T, color=style["color"], linewidths=0, zorder=1, **dot)
-        axes.fill(*polygon.T, color=style["color"], alpha=0.08, zorder=2)
-        label = f"{_label(name)} ({ranges.hectares(name, level) / divisor:,.4g} {area_sign})"
-        axes.plot(*polygon.T, label=label, zorder=3, **style)
-    axes.set_aspect("equal", adjustable="datalim")
-    axes.set(xlabel=f"Easting ({sign})", ylabel=f"Northing ({sign})")
-    grid = f" ({ranges.crs})" if ranges.crs is not None else ""
-    axes.set_title(f"Minimum convex polygons, {level} % of the fixes{grid}", fontsize="medium", loc="left")
-    _grid(axes)
-    _legend(axes, ranges.animals)
+def levels_drawn(ranges: HomeRanges, level: Any) -> list[int]:
+    """The levels of a map, from the highest on."""
+    found = whole_numbers(level, 1, 100, "level")
+    return sorted({*found}, reverse=True)
+
+
+def title_of(ranges: HomeRanges, levels: Sequence[int]) -> str:
+    """What a map shows, and the name of its reference system."""
+    text = system_of(ranges.crs, [next(iter(ranges.corners().values()))[0]]).text
+    return f"Minimum convex polygons, {', '.join(map(str, levels))} % of the fixes\n{text}"
+
+
+def map_handles(ranges: HomeRanges, drawn: Sequence[Drawn], levels: Sequence[int], over: str | None) -> list[Any]:
+    """The key of a map: the lines of levels, the boundary, and each animal with the area of the highest level."""
+    from matplotlib.lines import Line2D
+
+    lines = [Line2D([], [], color="black", linewidth=LEVELS[at % len(LEVELS)][0], linestyle=LEVELS[at % len(LEVELS)][1],
+                    label=f"{level} %") for at, level in enumerate(levels)]
+    found = lines if len(levels) > 1 else []
+    if over is not None:
+        found = [*found, Line2D([], [], color=EDGE, linewidth=2.4, label=label(over))]
+    for animal in drawn:
+        number = f"{animal.number} " if len(drawn) > 1 else ""
+        text = f"{number}{label(animal.name)}, {area_text(ranges, animal.name, levels[0])}"
+        found = [*found, handle_of(animal, text)]
+    return found
+
+
+def plot_ranges(
+    ranges: HomeRanges, ax: Any = None, level: int | Iterable[int] = 100, *, animals: Iterable[str] | str | None = None,
+    fixes: bool = True, over: Any = None, over_name: str = "boundary", facets: bool = False, colours: Any = None,
+) -> Any:
+    """Draws each animal's polygons at a level, or at several, over its fixes where they are known: a map with a bar of
+    scale and an arrow to the north of the grid, in metres or, where it is wide, kilometres.
+
+    ax, animals, facets, colours: as in plot_curve.
+    level: one, or several: the kinds of lines are those of the page, the same for all animals.
+    fixes: whether fixes are drawn; of those that would cover each other one is.
+    over, over_name: a boundary, as of a reserve, as share_inside takes it, and what it is called. Where it is more than
+        six times as wide as all ranges, the map shows the ranges.
+
+    Answers as plot_curve does. The numbers at polygons are those of the key, which has the area of the highest level.
+    """
+    if facets and ax is not None:
+        refuse("facets make a figure of their own: leave ax out")
+    levels, drawn = levels_drawn(ranges, level), drawn_animals(ranges, animals, colours)
+    shapes, rings = shapes_of(ranges, drawn, levels, fixes), rings_over(ranges, over)
+    if facets:
+        return map_panels(ranges, drawn, shapes, levels)
+    handles = map_handles(ranges, drawn, levels, None if over is None else over_name)
+    size = None if ax is None else size_of(ax)
+    frame = frame_of(ranges, shapes, rings, size)
+    texts = [handle.get_label() for handle in handles]
+    axes = new_axes(frame.width, frame.height + FOOT, texts, len(drawn)) if ax is None else ax
+    draw_map(Map(axes, frame), shapes, drawn, rings)
+    axes.set_title(title_of(ranges, levels), fontsize=9, loc="left")
+    number_axes(axes)
+    add_key(axes, handles, len(drawn), frame.width / 72, frame.height / 72)
     return axes
 
 
-def _grid(axes: Any) -> None:
-    """Numbers with commas between thousands, few enough not to run into each other, and a grid behind the curves."""
-    from matplotlib.ticker import FuncFormatter, MaxNLocator  # type: ignore[import]
+def size_of(axes: Any) -> tuple[float, float]:
+    """The width and the height of axes, in points."""
+    width, height = axes.get_window_extent().size
+    return 72 * width / axes.figure.dpi, 72 * height / axes.figure.dpi
 
-    for axis in (axes.xaxis, axes.yaxis):
-        axis.set_major_locator(MaxNLocator(6, steps=[1, 2, 5, 10]))
-        axis.set_major_formatter(FuncFormatter(lambda value, _: f"{value:,.10g}"))
-    axes.grid(color="#dddddd", linewidth=0.6)
-    axes.set_axisbelow(True)
+
+def draw_map(own: Map, shapes: Sequence[Any], drawn: Sequence[Drawn], rings: Sequence[Any]) -> None:
+    own.draw_over(rings)
+    own.draw_fixes(shapes, drawn)
+    own.draw_polygons(shapes, drawn)
+    if len(drawn) > 1:
+        own.draw_numbers(shapes, drawn)
+    own.draw_scale()
+
+
+def map_panels(ranges: HomeRanges, drawn: Sequence[Drawn], shapes: Sequence[Any], levels: Sequence[int]) -> list[Any]:
+    """A map for each animal, with its number, its name and its area above, and a bar of scale of its own."""
+    panels = new_panels(drawn, 0.9)
+    few = len(drawn) <= 12
+    side = 72 * panels[0].figure.get_figwidth() / layout(len(drawn))[0] - 12
+    for axes, animal, shape in zip(panels, drawn, shapes):
+        frame = frame_of(ranges, [shape], [], (side, 0.8 * side))
+        draw_map(Map(axes, frame), [shape], [animal], [])
+        area = area_text(ranges, animal.name, levels[0])
+        axes.set_title(f"{animal.number} {label(animal.name)}, {area}", fontsize=9 if few else LEAST_TEXT, loc="left",
+                       color=animal.colour)
+        axes.set(xlabel="", ylabel="", xticks=[], yticks=[])
+    panels[0].figure.suptitle(title_of(ranges, levels), fontsize=9)
+    return panels
