@@ -23,10 +23,10 @@ const OVERLAP_ROOM: usize = 96;
 
 // How many rows animals have, taken together, whose lines several threads make before the animals are let go. The last
 // of them may have more.
-const ROUND_ROWS: usize = 1 << 20;
+const ROUND_ROWS: usize = 1 << 17;
 
 // How many bytes two texts have at most of which one is made.
-const JOINED_BYTES: usize = 1 << 16;
+const JOINED_BYTES: usize = 1 << 17;
 
 // The first line of a report, which one in metres does not have.
 fn head_of(unit: Scale) -> &'static [u8]
