@@ -7,8 +7,15 @@
 # be built.
 set -u
 top=$(cd "$(dirname "$0")/.." && pwd)
+# shellcheck source=tools/answers.sh
+. "$top/tools/answers.sh"
 # shellcheck source=tools/sources.sh
 . "$top/tools/sources.sh"
+answer_words "$@"
+case $*: in
+    : | --anew:) ;;
+    *) misuse "it takes --anew alone, and not $*" ;;
+esac
 out=$top/out
 room=
 

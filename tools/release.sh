@@ -6,8 +6,11 @@
 # here, and, byte for byte, the program that is built of them now.
 set -eu
 top=$(cd "$(dirname "$0")/.." && pwd)
+# shellcheck source=tools/answers.sh
+. "$top/tools/answers.sh"
 # shellcheck source=tools/sources.sh
 . "$top/tools/sources.sh"
+answer_words "$@"
 release=$top/release
 
 fail() {
@@ -46,5 +49,5 @@ case $*: in
         install -m 644 "$built/SOURCES" "$release/SOURCES"
         checksums >"$release/SHA256SUMS"
         ;;
-    *) fail 'it takes --check alone' ;;
+    *) misuse "it takes --check alone, and not $*" ;;
 esac

@@ -5,6 +5,10 @@
 #
 # Packages of Python are for Debian's own, /usr/bin/python3.
 set -eu
+top=$(cd "$(dirname "$0")/.." && pwd)
+# shellcheck source=tools/answers.sh
+. "$top/tools/answers.sh"
+answer_words "$@"
 packages='chromium fonts-dejavu-core fuse3 gcc iproute2 libc6-dev gnuplot-nox man-db munge mypy openssh-client openssl
 pandoc poppler-utils python3 python3-fusepy python3-geopandas python3-matplotlib python3-pandas python3-pyproj
 python3-pytest python3-scipy python3-shapely r-base-core r-cran-knitr r-cran-rmarkdown r-cran-sf r-cran-testthat
@@ -20,10 +24,7 @@ case $*: in
         echo "${missing# }"
         exit
         ;;
-    *)
-        echo 'setup.sh: it takes --qgis or --missing alone' >&2
-        exit 2
-        ;;
+    *) misuse "it takes --qgis or --missing alone, and not $*" ;;
 esac
 export DEBIAN_FRONTEND=noninteractive
 # Before this no package is found.

@@ -1,7 +1,6 @@
 #!/bin/sh
-# Tests the scripts, what pages quote, and the program run for real, in a folder of its own that it removes.
-#
-#     tools/test.sh [PROGRAM [PART ..]]
+# test.sh [PROGRAM [PART ..]]: tests the scripts, what pages quote, and the program run for real, in a folder of its own
+# that it removes.
 #
 # PROGRAM is the program (if left out, that of tools/program.sh), and a PART a file of tools/tests without its `.sh`. If
 # parts are left out all are run, as many at once as there are processors; those whose names begin with the same word are
@@ -10,8 +9,13 @@
 # ', K skipped' behind it where some were; the status is 0 where none failed.
 set -u
 tools=$(cd "$(dirname "$0")" && pwd)
-# shellcheck disable=SC2034
 top=${tools%/*}
+# shellcheck source=tools/answers.sh
+. "$top/tools/answers.sh"
+answer_words "$@"
+case ${1:-} in
+    -*) misuse "it takes no option $1" ;;
+esac
 command -v python3 >/dev/null || {
     echo 'test.sh: it needs python3; tools/setup.sh installs what the tests use' >&2
     exit 1
