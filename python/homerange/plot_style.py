@@ -56,7 +56,7 @@ def label(name: str) -> str:
     """A name as matplotlib shows it: in one line, no formula, in a legend even where it begins with an underscore, and
     no longer than leaves a picture its room."""
     text = one_line(name)
-    text = text if len(text) <= LONGEST else f"{text[:LONGEST - 1]}\u2026"
+    text = text if len(text) <= LONGEST else f"{text[:LONGEST - 3]}..."
     text = text.replace("$", r"\$")
     return "\u200b" + text if text.startswith("_") else text
 

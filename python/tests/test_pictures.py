@@ -184,7 +184,7 @@ def test_of_many_animals_each_has_a_number_and_a_name(count):
 
 def test_long_names_leave_the_map_its_room():
     axes = plot_ranges(home_range(frame_of(**{"W" * 32: cloud(1, 9), "x" * 32: cloud(2, 9)})))
-    assert labels(axes)[0].startswith("1 " + "W" * 23 + "\u2026, ")
+    assert labels(axes)[0].startswith("1 " + "W" * 21 + "..., ")
     own, legend, figure = boxes(axes)
     assert own.width > 0.5 * figure.width and legend.x1 <= figure.x1
 
