@@ -1,81 +1,10 @@
 #!/usr/bin/env python3
-"""check.py [--percent LIST] [--unit UNIT] REPORT FILE ..: recomputes each line of a report from the files, by other methods
-than the program's (verifier/lines.py), and says how many lines agree; the status is 0 where all do and none is missing.
-Lines are compared as bytes, and end in a line feed alone. Of a folder that evidence.py wrote verify.py does this too."""
-
-import argparse
-import itertools
-import re
+"""homerange-check, for a clone: homerange_verifier/check.py of python/ has it."""
 import sys
 from pathlib import Path
-from typing import NoReturn
 
-sys.path.insert(0, str(Path(__file__).resolve().parent / "verifier"))
+sys.path[0] = str(Path(__file__).resolve().parents[1] / "python")
 
-from findings import one_line
-from lines import Fault, Range, overlaps_of, read_track, report_lines, shown
+from homerange_verifier.check import main
 
-LEVELS = re.compile("(100|[1-9][0-9]?)(,(100|[1-9][0-9]?)){0,7}")
-
-
-class Options(argparse.ArgumentParser):
-    """Options; what is wrong with them is said in one line."""
-
-    def error(self, message: str) -> NoReturn:
-        self.exit(2, f"check.py: {one_line(message)}\n")
-
-
-def read_options():
-    parser = Options(description=__doc__, allow_abbrev=False)
-    parser.add_argument("report", metavar="REPORT", type=Path)
-    parser.add_argument("files", metavar="FILE", nargs="+", type=Path, help="the files of the run, in its order")
-    parser.add_argument("--percent", metavar="LIST", help="the levels that were asked for [default: as in the report]")
-    parser.add_argument("--unit", choices=("m", "dm"), help="the unit that was asked for [default: as in the report]")
-    options = parser.parse_args()
-    if options.percent is not None and not LEVELS.fullmatch(options.percent):
-        parser.error(f"--percent {options.percent}: up to eight levels from 1 to 100 are wanted, such as 50,95,100")
-    return options
-
-
-def levels_of(lines, name):
-    """The levels that the report has for an animal."""
-    first = f"percent,{name},"
-    levels = [line[len(first):].split(",")[0] for line in lines if line.startswith(first)]
-    if not LEVELS.fullmatch(",".join(levels)):
-        raise Fault(f"the report has no levels of {shown(name)}: name them by --percent")
-    return ",".join(levels)
-
-
-def check(options):
-    """Whether a report is what the files come to."""
-    tracks = list(map(read_track, options.files))
-    found = options.report.read_bytes().decode("latin-1").split("\n")
-    if found.pop():
-        raise Fault("the last line of the report has no end")
-    unit = options.unit or ("dm" if found[:1] == ["unit,dm"] else "m")
-    levels = options.percent or levels_of(found, tracks[0].name)
-    ranges = [Range(track, list(map(int, levels.split(",")))) for track in tracks]
-    wanted = list(report_lines(ranges, overlaps_of(ranges), unit))
-    agree = [line == other for line, other in itertools.zip_longest(wanted, found)]
-    if not all(agree):
-        at = agree.index(False)
-        line = shown(wanted[at]) if at < len(wanted) else "nothing"
-        other = shown(found[at]) if at < len(found) else "not there"
-        print(f"line {at + 1} is {other}; {line} is wanted")
-    print(f"in {'decimetres' if unit == 'dm' else 'metres'}, at the levels {levels}")
-    print(f"{sum(agree)} of {len(wanted)} lines agree; the report has {len(found)}")
-    return all(agree)
-
-
-def main():
-    options = read_options()
-    try:
-        sys.exit(not check(options))
-    except Fault as fault:
-        sys.exit(f"check.py: {one_line(fault)}")
-    except OSError as fault:
-        sys.exit(f"check.py: {one_line(fault.filename)}: {fault.strerror}")
-
-
-if __name__ == "__main__":
-    main()
+main("check.py")

@@ -4,7 +4,6 @@ what it shows, and how it is checked."""
 from __future__ import annotations
 
 import csv
-import hashlib
 import itertools
 import os
 import re
@@ -18,22 +17,13 @@ from pathlib import Path
 from typing import Any, Callable, Iterable, Iterator, NamedTuple, Sequence, TextIO
 
 from .errors import FAULTS, UNPRINTABLE, ProgramError, ReportError, one_line, refuse
-from .program import GROUP, MOST_ANIMALS, PACKAGE, steps_of
+from .program import CLONE, GROUP, MOST_ANIMALS, Program, checksum_of, program_of, steps_of
 from .record import Record, difference_from_record, record_in
 from .report import TEXT, Animal, Lines, check_end
 
-CLONE = PACKAGE.parents[1] if PACKAGE.parent.name == "python" else None
 SOURCES = ["crates.txt", "HANDLES", *(f":(glob)crates/*/{part}/**" for part in ("src", "specs", "proofs")), "python/homerange",
-           "r/R", "release", "tools"]
+           "python/homerange_verifier", "r/R", "release", "tools"]
 SUMS, ABOUT, REPORT, TRACKS = "SHA256SUMS", "evidence.txt", "report.txt", "tracks"
-
-
-class Program(NamedTuple):
-    """A program: its path, what it says of its version, and its checksum."""
-
-    path: str
-    version: str
-    checksum: str
 
 
 class Wish(NamedTuple):
@@ -42,23 +32,6 @@ class Wish(NamedTuple):
     levels: str  # whole numbers between commas
     unit: str | None  # None is that of the record of the tracks, or else metres
     program: Program
-
-
-def checksum_of(path: str | os.PathLike[str]) -> str:
-    with open(path, "rb") as file:
-        return hashlib.file_digest(file, "sha256").hexdigest()
-
-
-def program_of(path: str) -> Program:
-    """The program at a path, which has to say that it is homerange."""
-    try:
-        said = subprocess.run([path, "--version"], stdin=subprocess.DEVNULL, capture_output=True)
-    except OSError as fault:
-        raise ProgramError(f"{path} does not run: {fault.strerror}") from fault
-    version = said.stdout.decode("utf-8", "replace").rstrip("\n")
-    if said.returncode != 0 or not version.startswith("homerange ") or UNPRINTABLE.search(version):
-        raise ProgramError(f"{path} is not homerange: its --version says {one_line(version)!r}")
-    return Program(path, version, checksum_of(path))
 
 
 def read_animal(path: Path) -> tuple[str, int]:
@@ -306,6 +279,8 @@ def new_folder(into: Path, fill: Callable[[Path], object]) -> None:
     if os.path.lexists(into):
         refuse(f"{into} is there already: name another folder", "text")
     part = into.with_name(f"{into.name}.part")
+    if part.exists():
+        refuse(f"{part} is there: another call is at work, or was killed and left it to be removed", "text")
     part.mkdir()
     try:
         fill(part)

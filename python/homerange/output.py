@@ -10,11 +10,11 @@ from pathlib import Path
 from typing import Any, Iterator, Mapping
 
 from .errors import ReportError, refuse
-from .evidence import REPORT, TRACKS, Wish, checksum_of, copy_tracks, make_report, new_folder, program_of, used_tracks
+from .evidence import REPORT, TRACKS, Wish, copy_tracks, make_report, new_folder, used_tracks
 from .exports import clean, clean_names, write_track
 from .frames import Tracks
 from .page import write_page
-from .program import find_program
+from .program import checksum_of, find_program, program_of
 from .ranges import HomeRanges, read_report
 from .record import Made, Record, given, in_order, read_record, tools_of, write_record
 from .report import Report, read
@@ -111,8 +111,8 @@ def ranges_in(folder: Path, ranges: HomeRanges, tracks: Tracks, names: Mapping[s
     if ranges.files:
         return read_report(
             folder / REPORT, files=[folder / name for name in used_tracks(folder)], crs=ranges.crs, tz=ranges.tz,
-            shift=ranges.shift, program=ranges.program, record=split if split.is_file() else None)
-    found = HomeRanges(report, tracks_in_order(tracks, names, report), crs=ranges.crs, tz=ranges.tz, program=ranges.program)
+            shift=ranges.shift, program=ranges.named, record=split if split.is_file() else None)
+    found = HomeRanges(report, tracks_in_order(tracks, names, report), crs=ranges.crs, tz=ranges.tz, program=ranges.program, named=ranges.named)
     found.record, found.checksum = read_record(split), checksum_of(folder / REPORT)
     return found
 
@@ -123,7 +123,7 @@ def write_folder(ranges: HomeRanges, into: str | os.PathLike[str], page: Mapping
     tracks = tracks_of(ranges)
     names = {name: name for name in ranges.animals} if ranges.files else clean_names(ranges.animals)
     said = renames(names)
-    wish = Wish(",".join(map(str, ranges.levels)), ranges.unit, program_of(find_program(ranges.program)))
+    wish = Wish(",".join(map(str, ranges.levels)), ranges.unit, program_of(find_program(ranges.named)))
 
     def fill(folder: Path) -> None:
         put_tracks(ranges, tracks, names, folder)

@@ -3,10 +3,8 @@ text and its looks stand in page.html beside this module, with named places that
 
 from __future__ import annotations
 
-import hashlib
 import os
 import re
-import subprocess
 from datetime import date, datetime
 from pathlib import Path
 from typing import Any, Mapping, Sequence
@@ -20,7 +18,7 @@ from .page_curves import Curve, curves
 from .page_map import STYLES, Maps, Point, Shape, maps
 from .page_tables import Overlaps, animals_table, without_range
 from .page_text import System, checksums, left_out, method, options_of, said, sentences, system_of, verify
-from .program import find_program
+from .program import find_program, program_of
 from .ranges import HomeRanges, boundary_of
 
 TEMPLATE = Path(__file__).with_name("page.html")
@@ -103,15 +101,14 @@ def ground(system: System, drawn: Maps, has_fixes: bool, has_boundary: bool) -> 
     return " ".join(found)
 
 
-def identity(program: Any) -> tuple[str, str | None]:
-    """What the program says that it is, and its checksum."""
+def identity(ranges: HomeRanges) -> tuple[str, str | None]:
+    """What the program says that it is, and its checksum: the one that made the ranges; of a report that was read the one
+    that is found here."""
     try:
-        found = find_program(program)
-        run = subprocess.run([found, "--version"], stdin=subprocess.DEVNULL, capture_output=True)
-        said_version = run.stdout.decode("utf-8", errors="replace").strip()
-        return said_version or "homerange", hashlib.sha256(Path(found).read_bytes()).hexdigest()
+        own = ranges.program or program_of(find_program(ranges.named))
     except (OSError, ProgramError):
         return "homerange", None
+    return own.version, own.checksum
 
 
 def typed(**words: str | None) -> str:
@@ -186,7 +183,7 @@ def write_page(
     day = made or datetime.now(zone_of_time(zone)).date()
     rows = ranges.rows()
     clock = Clock(zone, (second for row in rows for second in (row.first, row.last)))
-    version, program = identity(ranges.program)
+    version, program = identity(ranges)
     places, system = drawn_map(ranges, reserve, reserve_name)
     head = title or heading(ranges.animals)
     lines = ranges.record.said if ranges.record else ranges.notes

@@ -2,6 +2,7 @@
 
 from __future__ import annotations
 
+import hashlib
 import itertools
 import os
 import re
@@ -9,27 +10,75 @@ import shutil
 import subprocess
 import tempfile
 from concurrent.futures import ThreadPoolExecutor
+from functools import cache
 from pathlib import Path
-from typing import Any, Callable, Mapping, Sequence
+from typing import Any, Callable, Mapping, NamedTuple, Sequence
 
-from .errors import FAULTS, ProgramError, ReportError, one_line
+from .errors import FAULTS, UNPRINTABLE, ProgramError, ReportError, one_line
 from .report import Report, lines_of, overlaps_of, parse
 
 MOST_ANIMALS = 64  # of one run
 GROUP = 32  # animals of a group, where there are more
 PACKAGE = Path(__file__).resolve().parent
+OWN = PACKAGE / "release" / "homerange"  # what a wheel has
 
 
-def find_program(program: str | os.PathLike[str] | None) -> str:
-    """The path of the program."""
-    clone = PACKAGE.parents[1] / "release" / "homerange"
-    if program is None:
-        is_clone = PACKAGE.parent.name == "python" and os.access(clone, os.X_OK)
-        program = os.environ.get("HOMERANGE") or (clone if is_clone else "homerange")
-    found = shutil.which(program)
+class Program(NamedTuple):
+    """A program: its path, what it says of its version, and its checksum."""
+
+    path: str
+    version: str
+    checksum: str
+
+
+def clone_of(package: Path) -> Path | None:
+    """The clone whose sources a package is; None where it is installed."""
+    top = package.parent.parent
+    is_clone = (package.parent / "pyproject.toml").is_file() and (top / "crates.txt").is_file()
+    return top if is_clone else None
+
+
+CLONE = clone_of(PACKAGE)
+
+
+def checksum_of(path: str | os.PathLike[str]) -> str:
+    with open(path, "rb") as file:
+        return hashlib.file_digest(file, "sha256").hexdigest()
+
+
+def find_program(program: str | os.PathLike[str] | None = None) -> str:
+    """The path of the program, by the rule of README.md, Which program runs."""
+    named = program or os.environ.get("HOMERANGE")
+    released = CLONE and CLONE / "release" / "homerange"
+    if not named and OWN.is_file():
+        check_own(OWN)
+        return str(OWN)
+    if not named and released and os.access(released, os.X_OK):
+        return str(released)
+    found = shutil.which(named or "homerange")
     if found is None:
-        raise ProgramError(f"there is no program {program}: name it by program=.. or in the environment as HOMERANGE")
+        raise ProgramError(f"there is no program {named or 'homerange'}: name it by program=.. or in the environment as HOMERANGE")
     return os.path.abspath(found)
+
+
+@cache
+def check_own(path: Path) -> None:
+    """Refuses the program of a wheel that is not as it was built."""
+    wanted = path.with_name("SHA256SUMS").read_text("utf-8").split(" ")[0]
+    if checksum_of(path) != wanted or not os.access(path, os.X_OK):
+        raise ProgramError(f"{path} is not the program that this package was built with: install the package again")
+
+
+def program_of(path: str) -> Program:
+    """The program at a path, which has to say that it is homerange."""
+    try:
+        said = subprocess.run([path, "--version"], stdin=subprocess.DEVNULL, capture_output=True)
+    except OSError as fault:
+        raise ProgramError(f"{path} does not run: {fault.strerror}") from fault
+    version = said.stdout.decode("utf-8", "replace").rstrip("\n")
+    if said.returncode != 0 or not version.startswith("homerange ") or UNPRINTABLE.search(version):
+        raise ProgramError(f"{path} is not homerange: its --version says {one_line(version)!r}")
+    return Program(path, version, checksum_of(path))
 
 
 def _call(program: str, levels: str, unit: str, folder: str, numbers: Sequence[int], names: Sequence[str]) -> str:

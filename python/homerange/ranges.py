@@ -21,7 +21,7 @@ from .exports import LISTS, read_text
 from .frames import Tracks, read_frame
 from .levelling import share
 from .overview import Row, reasons_of, rows_of
-from .program import MOST_ANIMALS, Runs, find_program
+from .program import MOST_ANIMALS, Program, Runs, find_program, program_of
 from .record import Record, read_record
 from .report import Corners, Percent, Report, Table, kept_places, polygon_of, read as read_lines
 from .tables import Said
@@ -46,15 +46,17 @@ class HomeRanges:
     """The home ranges of some animals: what the program reported, in hectares and metres.
 
     ``animals`` has their names, ``levels`` the levels of the percent polygons, ``unit`` is 'm' or 'dm', that of the
-    program's coordinates, ``crs`` the reference system of the coordinates (None where it is not known), and ``notes``
-    are the texts of the warnings.
+    program's coordinates, ``crs`` the reference system of the coordinates (None where it is not known), ``notes`` are the
+    texts of the warnings, and ``program`` has the ``path``, the ``version`` and the ``checksum`` (SHA-256) of the program that
+    made the ranges, None where a report was read.
     """
 
     def __init__(
-        self, report: Report, tracks: Tracks | None, *, crs: Any = None, tz: str = "UTC",
-        program: str | os.PathLike[str] | None = None,
+        self, report: Report, tracks: Tracks | None, *, crs: Any = None, tz: str = "UTC", program: Program | None = None,
+        named: str | os.PathLike[str] | None = None,
     ) -> None:
         self._report, self._tracks, self.program = report, tracks, program
+        self.named = named or program and program.path  # the program of later runs; None finds one
         self._corners: dict[int, dict[str, Corners]] = {}
         self.record: Record | None = None  # of how the files were made, where they were read with one
         self.split: Path | None = None  # its file
@@ -213,7 +215,7 @@ class HomeRanges:
         tables: dict[str, Table] = {}
         for first in range(0, len(kept), MOST_ANIMALS):
             part = dict(itertools.islice(kept.items(), first, first + MOST_ANIMALS))
-            tables.update(Runs(find_program(self.program), part, "100", self.unit).report().tables)
+            tables.update(Runs(find_program(self.named), part, "100", self.unit).report().tables)
         for name, table in tables.items():
             if Percent(level, len(table.rows), *table.rows[-1][1:]) != self._percent(name, level):
                 raise ReportError(f"the {level} per cent polygon of {name} is not that of the report")
@@ -375,8 +377,8 @@ def home_range(
     hours: two hours of the day, the second not included; (18, 6) is the night.
     tz: the time zone of since, until, months, hours and every and of the times in the answers; if left out, that of the
         column of times, or UTC.
-    program: the program; if left out, that in the environment as HOMERANGE, release/homerange of the clone that this
-        package is in, or homerange on PATH.
+    program: the program; if left out, that in the environment as HOMERANGE, the package's own, that of the clone that the
+        package is in, or homerange on PATH (README.md, Which program runs).
     progress: is called with how many of how many runs are done. More than 64 animals are several runs.
 
     What is left out or changed is said in warnings (HomeRangeNote), and what was taken (HomeRangeInfo). Raises
@@ -396,11 +398,11 @@ def home_range(
         months=None if months is None else sorted({*whole_numbers(months, 1, 12, "months")}),
         hours=None if hours is None else hours_of(hours), every=either(every, every_hours, "every", "every_hours"))
     asked.check()
-    found = find_program(program)
+    found = program_of(find_program(program))
     tracks = read_frame(frame, asked, lambda line: None, use, crs)
     tell(tracks.notes)
-    report = Runs(found, tracks.by_name, ",".join(map(str, wanted)), unit).report(progress)
-    return HomeRanges(report, tracks, crs=tracks.crs, tz=tracks.tz, program=program)
+    report = Runs(found.path, tracks.by_name, ",".join(map(str, wanted)), unit).report(progress)
+    return HomeRanges(report, tracks, crs=tracks.crs, tz=tracks.tz, program=found)
 
 
 def read_export(path: str | os.PathLike[str], **options: Any) -> Any:
@@ -494,7 +496,7 @@ def read_report(
     split = read_record(record) if record is not None else None
     if split is not None:
         shift, crs = split.shift, split.system if crs is None else crs
-    ranges = HomeRanges(report, _tracks_of(report, paths), crs=crs, tz=tz, program=program)
+    ranges = HomeRanges(report, _tracks_of(report, paths), crs=crs, tz=tz, named=program)
     ranges.shift, ranges.record, ranges.checksum = shift, split, hashlib.sha256(Path(path).read_bytes()).hexdigest()
     ranges.files, ranges.split = paths, None if record is None else Path(record)
     return ranges

@@ -253,12 +253,12 @@ def test_what_is_refused_of_frames_and_programs(ranges, tmp_path):
     (tmp_path / "there").mkdir()
     with pytest.raises(FrameError, match="is there already"):
         ranges.evidence(tmp_path / "there")
-    ranges.program = "/bin/true"
+    ranges.named = "/bin/true"
     refuses(ranges.evidence, ProgramError, "is not homerange", tmp_path)
     program = tmp_path / "program"
     program.write_text(f'#!/bin/sh\n[ "$1" = --version ] || echo "# more" >>{program}\nexec {find_program(None)} "$@"\n')
     program.chmod(0o755)
-    ranges.program = program
+    ranges.named = program
     refuses(ranges.evidence, ProgramError, "changed while it ran", tmp_path)
     program.write_text(f'#!/bin/sh\n[ "$1" = --version ] || shift 2\nexec {find_program(None)} "$@"\n')
     refuses(ranges.evidence, ReportError, "has other levels than 95,100", tmp_path)

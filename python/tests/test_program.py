@@ -14,6 +14,7 @@ from homerange.program import find_program
 
 POINTS = cloud(6, 20)
 CLONE = Path(homerange.__file__).parents[2]
+VERSION = '[ "$1" != --version ] || exec echo "homerange of a test"'
 
 
 @pytest.fixture
@@ -22,7 +23,7 @@ def stand_in(tmp_path):
 
     def make(*lines):
         path = tmp_path / "homerange"
-        path.write_text("\n".join(["#!/bin/sh", *lines]) + "\n")
+        path.write_text("\n".join(["#!/bin/sh", VERSION, *lines]) + "\n")
         path.chmod(path.stat().st_mode | stat.S_IXUSR)
         return path
 
@@ -91,7 +92,7 @@ def test_where_the_program_is_looked_for(tmp_path, monkeypatch, stand_in):
     monkeypatch.delenv("HOMERANGE")
     if os.access(CLONE / "release" / "homerange", os.X_OK):
         assert find_program(None) == str(CLONE / "release" / "homerange")
-    monkeypatch.setattr(runs, "PACKAGE", tmp_path / "elsewhere" / "homerange")
+    monkeypatch.setattr(runs, "CLONE", None)
     monkeypatch.setenv("PATH", str(tmp_path), prepend=os.pathsep)
     assert calls()
 

@@ -3,7 +3,7 @@
 #
 # Writes OUT/groups/NNNN, the files TRACKS/*.csv in groups of at most 32, one per line; OUT/sums/NNNN, their checksums;
 # OUT/options, the options of homerange, one per line; OUT/program, the checksum and the name of the program, which
-# HOMERANGE names (if left out, homerange); and OUT/steps, the runs, one per line: 'A A' for the tables of group A, 'A B'
+# HOMERANGE names (if left out, that of program.sh); and OUT/steps, the runs, one per line: 'A A' for the tables of group A, 'A B'
 # for the overlaps of groups A and B. A run that stands is made again where one of these is another, whatever times files
 # have. OUT/report.txt is removed.
 set -eu
@@ -15,8 +15,8 @@ fail() {
 }
 [ $# -ge 2 ] || fail 'give the folder of the tracks and the folder to make'
 [ -d "$1" ] || fail "there is no folder $1"
-program=$(command -v "${HOMERANGE:-homerange}") ||
-    fail "there is no program ${HOMERANGE:-homerange}: HOMERANGE has to name it"
+[ -n "${HOMERANGE:-}" ] || HOMERANGE=$("$(dirname "$0")/../program.sh") || fail 'there is no program'
+program=$(command -v "$HOMERANGE") || fail "there is no program $HOMERANGE: HOMERANGE has to name it"
 program=$(readlink -f "$program")
 tracks=$(cd "$1" && pwd)
 mkdir -p "$2/groups" "$2/sums" "$2/reports" "$2/pairs"

@@ -71,4 +71,4 @@ done
 refuses_corners 'level 1 is not a whole number from 1 to 100' 2 "$tools/corners.py" 101 corners/boar.csv
 refuses_corners 'corners/none.csv: No such file' 1 "$tools/corners.py" 50 corners/none.csv
 refuses_corners 'invalid int value' 2 "$tools/corners.py" half corners/boar.csv
-refuses_corners 'does not run' 1 env HOMERANGE=corners/none "$tools/corners.py" 50 corners/boar.csv
+refuses_corners 'there is no program corners/none' 1 env HOMERANGE=corners/none "$tools/corners.py" 50 corners/boar.csv

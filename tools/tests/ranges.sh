@@ -213,7 +213,7 @@ assert {*corners} == {(-300, -400), (-200, -400), (-200, -300)}, [*corners]'
     refuses_ranges 2 'the export and the folder to make are wanted' "$make" "$export"
     refuses_ranges 2 '--depth=9 is no option' "$make" --depth=9 "$export" plan/none
     refuses_ranges 1 'plan/nothing.gpkg cannot be read' "$make" --over plan/nothing.gpkg "$export" plan/none
-    refuses_ranges 1 "tz='Mars' is no time zone" "$make" --clock Mars "$export" plan/none
+    refuses_ranges 2 "tz='Mars' is no time zone" "$make" --clock Mars "$export" plan/none
     refuses_ranges 2 'invalid choice' "$make" --unit km "$export" plan/none
     refuses_ranges 1 'plan/nothing.csv cannot be read' "$make" plan/nothing.csv plan/none
     printf '%s\n' animal,second,x a,1,2 >plan/export.csv

@@ -5,7 +5,7 @@
 rm -rf house stand-in
 mkdir house stand-in
 # A copy of what the program is built from, and of what runs it.
-(cd "$top" && find crates.txt HANDLES homerange python/homerange release tools docs/homerange.1 crates/*/src crates/*/specs \
+(cd "$top" && find crates.txt HANDLES homerange python release tools docs/homerange.1 crates/*/src crates/*/specs \
     crates/*/proofs crates/homerange/std* -type f -print0 | xargs -0 cp --parents -t "$work/house") 2>/dev/null
 cat >stand-in/rt <<'END'
 #!/bin/sh

@@ -4,7 +4,7 @@ import re
 from html.parser import HTMLParser
 from typing import NamedTuple
 
-from lines import Fault
+from .lines import Fault
 
 BLOCKS = {"title", "style", "h1", "h2", "p", "li", "th", "td", "figcaption"}
 WITHIN = {"bdi", "span", "b", "code", "br"}  # in the text of a piece

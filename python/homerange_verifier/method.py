@@ -3,9 +3,9 @@ those on the ground."""
 from collections import Counter
 from math import cosh
 
-from facts import PER_METRE, REASONS
-from folder import unescaped
-from shown import fixes, listed, number, text_of
+from .facts import PER_METRE, REASONS
+from .folder import unescaped
+from .shown import fixes, listed, number, text_of
 
 UNITS = {"m": "metres", "dm": "decimetres"}
 PHRASES = {

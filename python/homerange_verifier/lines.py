@@ -6,7 +6,7 @@ import io
 import itertools
 from typing import NamedTuple
 
-from hull import Hull
+from .hull import Hull
 
 TITLES = ["animal", "second", "easting", "northing"]
 MARKS = ("\xef\xbb\xbf", "\xef\xbb\xbf")  # a byte order mark, of which a file may have two

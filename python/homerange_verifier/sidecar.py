@@ -5,9 +5,9 @@ import shlex
 from functools import cached_property
 from pathlib import PurePosixPath
 
-from folder import SUM, checksum_of, is_within, lines_of, words_of
-from lines import Fault
-from steps import Verification
+from .folder import SUM, checksum_of, is_within, lines_of, words_of
+from .lines import Fault
+from .steps import Verification
 
 ABOUT = re.compile("# ([a-z]+): (.*)")
 

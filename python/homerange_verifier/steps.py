@@ -1,7 +1,6 @@
 """The steps of a verification, from the checksums to the page."""
 import os
 import subprocess
-import sys
 import tempfile
 from functools import cache, cached_property
 from itertools import combinations_with_replacement
@@ -9,16 +8,17 @@ from pathlib import Path
 from shutil import copyfile
 from typing import NamedTuple
 
-from facts import Animal
-from folder import SIGNATURES, SUMS, Split, about_of, check_sums, checksum_of, sums_of, words_of
-from layers import Layers
-from lines import Fault, Range, first_difference, overlaps_of, read_track, report_lines
-from page import difference as page_difference
-from page import page_of
-from said import fault_of as contradiction
-from shown import NoZone, listed
-from tables import difference as table_difference
-from tables import tables
+from . import beside
+from .facts import Animal
+from .folder import SIGNATURES, SUMS, Split, about_of, check_sums, checksum_of, sums_of, words_of
+from .layers import Layers
+from .lines import Fault, Range, first_difference, overlaps_of, read_track, report_lines
+from .page import difference as page_difference
+from .page import page_of
+from .said import fault_of as contradiction
+from .shown import NoZone, listed
+from .tables import difference as table_difference
+from .tables import tables
 
 MOST_ANIMALS, GROUP = 64, 32
 TABLES, LAYERS, PAGE, PICTURES = ("summary.csv", "animals.csv", "overlaps.csv"), "ranges.gpkg", "report.html", (
@@ -42,10 +42,11 @@ class Verification:
 
     report_name = "report.txt"
 
-    def __init__(self, findings, tools, folder, export, program):
-        self.findings, self.tools, self.folder, self.export = findings, tools, folder, export
-        self.program = program or tools.parent / "release" / "homerange"
-        self.is_named = program is not None
+    def __init__(self, findings, folder, export, program):
+        self.findings, self.folder, self.export = findings, folder, export
+        released, owner = beside.program()
+        self.program, self.is_named = program or released, program is not None
+        self.whose = "the program that was named" if self.is_named else f"the release of this {owner}"
 
     def steps(self):
         return (self.sums, self.record, self.tracks, self.split_again, self.run_again, self.recompute, self.tables,
@@ -192,7 +193,7 @@ class Verification:
         with tempfile.TemporaryDirectory() as room:
             name = self.split.single["export"]
             copyfile(self.export, Path(room, name))
-            words = [sys.executable, str(self.tools / "split.py"), *self.split.words(), "--into", "tracks", "--", name]
+            words = [*beside.SPLIT, *self.split.words(), "--into", "tracks", "--", name]
             run = subprocess.run(words, cwd=room, stdin=subprocess.DEVNULL, capture_output=True)
             if run.returncode != 0:
                 said = run.stderr.decode("utf-8", "replace").strip().split("\n")[-1]
@@ -217,9 +218,8 @@ class Verification:
             self.findings.unseen("whether the program makes the same report: it runs on Linux")
             return
         wanted = self.about["program sha256"]
-        where = "the program that was named" if self.is_named else "the release of this clone"
-        other = f"the program of the record has the checksum {wanted}, and is not {where}"
-        self.findings.hold(other if checksum_of(self.program) != wanted else None, f"the program of the record is {where}")
+        other = f"the program of the record has the checksum {wanted}, and is not {self.whose}"
+        self.findings.hold(other if checksum_of(self.program) != wanted else None, f"the program of the record is {self.whose}")
         self.findings.hold(None if self.made_again() == self.report else "run again the program makes another report",
                            "run again the program makes the same report, byte for byte")
 
@@ -282,14 +282,13 @@ class Verification:
             self.alike.append(LAYERS)
 
     def page(self):
-        """The page, by the template of this clone."""
+        """The page, by the template that all pages share."""
         if PAGE not in self.listed:
             return
-        template = self.tools.parent / "python" / "homerange" / "page.html"
         run = Run(self.about["unit"], self.levels, self.about["program"], self.about["program sha256"],
                   checksum_of(self.folder / self.report_name), self.split)
         try:
-            fault = page_difference(page_of(self.folder / PAGE), page_of(template), self.facts, self.overlaps, run)
+            fault = page_difference(page_of(self.folder / PAGE), page_of(beside.TEMPLATE), self.facts, self.overlaps, run)
         except NoZone as zone:
             self.findings.unseen(f"{PAGE}: its dates are of {zone}, and Python has no time zones here: pip install tzdata")
             return

@@ -5,8 +5,8 @@ import sqlite3
 import struct
 from contextlib import closing
 
-from facts import HECTARE, PER_METRE
-from lines import Fault
+from .facts import HECTARE, PER_METRE
+from .lines import Fault
 
 COLUMNS = ["fid", "geom", "animal", "level", "kept", "corners", "hectares"]
 OWN = re.compile("gpkg_.*|rtree_.*|sqlite_.*")  # tables of the format

@@ -5,11 +5,11 @@ import re
 from itertools import combinations, zip_longest
 from os.path import commonprefix
 
-import shown
-from facts import reasons_of
-from html_blocks import Block, Blocks, blanked
-from lines import Fault
-from method import SCALED, ground, method, records_of, source_of
+from . import shown
+from .facts import reasons_of
+from .html_blocks import Block, Blocks, blanked
+from .lines import Fault
+from .method import SCALED, ground, method, records_of, source_of
 
 FREE, DAY, DRAWN = "\0", "\1", "\2"  # any text, a date, and what is said of the map's drawing
 FORMS = {

@@ -6,8 +6,8 @@ from fractions import Fraction
 from math import floor
 from zoneinfo import ZoneInfo, available_timezones
 
-from facts import HECTARE
-from lines import Fault
+from .facts import HECTARE
+from .lines import Fault
 
 NOTHING = "\u2013"
 MONTHS = "Jan Feb Mar Apr May Jun Jul Aug Sep Oct Nov Dec".split()

@@ -4,7 +4,7 @@ import csv
 import io
 from datetime import datetime, timedelta
 
-from facts import HECTARE, reasons_of
+from .facts import HECTARE, reasons_of
 
 LAST_SECOND = (2 ** 63 - 1) // 10 ** 9  # pandas writes no time behind it, which is in 2262
 

@@ -4,7 +4,7 @@ import re
 import shlex
 from pathlib import PurePosixPath
 
-from lines import Fault
+from .lines import Fault
 
 SUMS = "SHA256SUMS"
 SIGNATURES = (".sig", ".tsq", ".tsr")  # of files that may lie beside the list: its signature, and stamps of time

@@ -1,0 +1,42 @@
+"""What the commands share: options whose faults are one line, and the program that they run."""
+
+from __future__ import annotations
+
+import argparse
+import io
+import os
+import subprocess
+import sys
+from typing import NoReturn, TextIO
+
+from .. import __version__
+from ..errors import one_line
+from ..program import CLONE, find_program
+
+
+class Options(argparse.ArgumentParser):
+    """Options of a command of this name; what is wrong with them is said in one line, and with status 2."""
+
+    def __init__(self, name: str, about: str | None, said_by: str | None = None) -> None:
+        super().__init__(prog=name, description=about, formatter_class=argparse.RawDescriptionHelpFormatter, allow_abbrev=False)
+        self.said_by = said_by or name
+        self.add_argument("--version", action="version", version=f"homerange for Python {__version__}")
+
+    def error(self, message: str) -> NoReturn:
+        self.exit(2, f"{self.said_by}: {one_line(message)}\n")
+
+
+def show_all(stream: TextIO) -> None:
+    """Has a stream write escaped what its coding does not have."""
+    if isinstance(stream, io.TextIOWrapper):
+        stream.reconfigure(errors="backslashreplace")
+
+
+def program_of_command() -> str:
+    """The path of the program. In a clone it is that of the sources as they stand, which is built where there is none."""
+    if os.environ.get("HOMERANGE") or CLONE is None:
+        return find_program(None)
+    found = subprocess.run([CLONE / "tools" / "program.sh"], stdout=subprocess.PIPE, text=True)
+    if found.returncode != 0:
+        sys.exit(found.returncode)
+    return found.stdout.rstrip("\n")

@@ -1,0 +1,112 @@
+"""Tables, layers, pictures and a page of the report FOLDER/report.txt, into the same folder.
+
+FOLDER/tracks has the files that the report was made from; the zone is the UTM zone of their coordinates. Where
+homerange-split made them, the report has to have the animals and fixes of its record, and coordinates that it shifted are
+shifted back. Files made:
+
+    summary.csv    for each animal and level the fixes, the kept ones, corners and hectares
+    animals.csv    for each animal what was left out, times, intervals, hectares, and whether its curve levelled off
+    overlaps.csv   which share of the fixes of the row's animal lie in the polygon of the column's
+    ranges.gpkg    the polygons, a layer for each level, such as mcp_95
+    curves.png     the area after each fix
+    ranges.png     the polygons of all fixes
+    report.html    the page: one file to read, to print and to hand in
+
+Numbers are those of the report. Polygons below 100 per cent are those of the fixes that the level keeps, which the
+program is run on, and are compared with the report."""
+
+from __future__ import annotations
+
+import argparse
+import sys
+from pathlib import Path
+from typing import TYPE_CHECKING, Callable
+
+from ..asked import zone_of_time
+from ..errors import HomeRangeError, refuse
+from ..record import difference_from_record, record_in
+from ..zones import crs_of, zone_of
+from .options import Options
+
+if TYPE_CHECKING:
+    from ..ranges import HomeRanges
+
+TYPED = {
+    "title": "the title of the page", "study": "the study that the page names",
+    "species": "the species that the page names", "by": "who made the page"}
+
+
+def add_page_options(parser: argparse.ArgumentParser) -> None:
+    """Adds the options of the page."""
+    for name, text in TYPED.items():
+        parser.add_argument(f"--{name}", metavar="TEXT", help=text)
+    parser.add_argument("--over", type=Path, metavar="FILE", help="a boundary for the map of the page, as of a reserve")
+
+
+def read_ranges(folder: Path, crs: str | None, program: str | None) -> HomeRanges:
+    """The ranges of the report, once it is seen that they are those of the tracks as they were split."""
+    from ..ranges import read_report
+
+    record = record_in(folder / "tracks")
+    files = sorted(path for path in (folder / "tracks").iterdir() if path.name.endswith(".csv"))
+    split = folder / "tracks" / "split.txt" if record else None
+    ranges = read_report(folder / "report.txt", files=files, crs=crs, record=split, program=program)
+    summary = ranges.summary()
+    fault = record and difference_from_record(record, dict(zip(summary["animal"], summary["fixes"])))
+    if fault:
+        refuse(fault)
+    return ranges
+
+
+def write_pictures(ranges: HomeRanges, folder: Path) -> None:
+    """Writes the curves and the polygons of all fixes."""
+    import matplotlib
+
+    from ..plot import plot_curve, plot_ranges
+
+    matplotlib.use("Agg")
+    for name, draw in (("curves.png", plot_curve), ("ranges.png", plot_ranges)):
+        draw(ranges).figure.savefig(folder / name, dpi=300)
+
+
+def write_results(
+    folder: Path, page: argparse.Namespace, tz: str, say: Callable[[str], None], zone: str | None = None,
+    program: str | None = None,
+) -> None:
+    """Writes all that is made of a report into its folder; the page has what its options say."""
+    from ..output import write_layers, write_tables
+    from ..page import write_page
+
+    zone_of_time(tz)
+    ranges = read_ranges(folder, zone and crs_of(zone_of(zone)), program)
+    if ranges.crs is None:
+        say("no UTM zone is known: ranges.gpkg has no reference system")
+    write_tables(ranges, folder)
+    for line in write_layers(ranges, folder / "ranges.gpkg"):
+        say(line)
+    write_pictures(ranges, folder)
+    write_page(
+        ranges, folder / "report.html", **{name: getattr(page, name) for name in TYPED}, tz=tz,
+        reserve=boundary_in(page.over), reserve_name=page.over and page.over.stem)
+
+
+def boundary_in(path: Path | None) -> object:
+    """The boundary in a file, if one was named."""
+    if path is None:
+        return None
+    import geopandas
+
+    return geopandas.read_file(path)
+
+
+def main(name: str = "homerange-tables") -> None:
+    parser = Options(name, __doc__)
+    parser.add_argument("folder", type=Path, metavar="FOLDER", help="the folder with report.txt and tracks")
+    parser.add_argument("--zone", metavar="33N", help="the UTM zone; without it that of the record of the tracks")
+    add_page_options(parser)
+    parser.add_argument("--tz", default="UTC", metavar="ZONE", help="the zone of dates on the page [default: UTC]")
+    options = parser.parse_args()
+    try:
+        write_results(options.folder, options, options.tz, lambda line: print(f"{name}: {line}", file=sys.stderr), options.zone)
+    except (HomeRangeError, OSError, ValueError) as fault:
+        sys.exit(f"{name}: {fault}")

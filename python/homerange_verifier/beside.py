@@ -1,0 +1,19 @@
+"""What a verification takes of the package homerange that stands beside this one, in a clone or where both are installed:
+the program, the template of the page, and the command that splits an export. Nothing of it is imported."""
+
+from __future__ import annotations
+
+import sys
+from pathlib import Path
+
+PACKAGE = Path(__file__).resolve().parents[1] / "homerange"
+TEMPLATE = PACKAGE / "page.html"
+# The folder of the export may have files of any name, of which Python is to import none.
+SPLIT = (sys.executable, "-P", "-c", "import sys; sys.path.insert(0, sys.argv.pop(1)); "
+         "from homerange.commands.split import main; main()", str(PACKAGE.parent))
+
+
+def program() -> tuple[Path, str]:
+    """The program of the release, and whose it is."""
+    own = PACKAGE / "release" / "homerange"
+    return (own, "package") if own.is_file() else (PACKAGE.parents[1] / "release" / "homerange", "clone")
