@@ -8,10 +8,10 @@ import re
 import sys
 from collections import Counter
 from dataclasses import dataclass, field, replace
-from typing import Any, Callable, NamedTuple, Sequence
+from typing import TYPE_CHECKING, Any, Callable, NamedTuple, Sequence
 
 import numpy
-import pandas  # type: ignore[import]
+import pandas
 
 from .asked import Asked, told, zone_of_time
 from .cells import DATE, TRUTHS, Bad, Moment
@@ -20,6 +20,9 @@ from .tables import Said, Table
 from .titles import ANIMALS, TIMES, Titles, find_columns, plain
 from .tracks import make_tracks
 from .zones import Scale, code_of_crs, crs_of, scale_of_crs
+
+if TYPE_CHECKING:
+    import geopandas
 
 BAD_NAME = re.compile("[\x00-\x1f\x7f\ud800-\udfff]")
 MOST_EXACT = 2 ** 53
@@ -30,7 +33,7 @@ POINT = (-1, -2)
 class Tracks:
     """The fixes of each animal in the order of time, and what became of the others."""
 
-    by_name: dict[str, Any]  # data frames of second, easting and northing in whole units
+    by_name: dict[str, pandas.DataFrame]  # of second, easting and northing in whole units
     left_out: dict[str, int]
     crs: Any = None
     shift: tuple[int, int] = (0, 0)  # metres that were added to coordinates
@@ -45,7 +48,7 @@ class Columns(NamedTuple):
     """The columns of a frame that may be taken, with those of its index that are wanted."""
 
     titles: list[str]
-    series: list[Any]
+    series: list[pandas.Series]
 
 
 def is_missing(value: Any) -> bool:
@@ -78,7 +81,7 @@ def moment_of(value: clock.datetime) -> Any:
     return Moment(86400 * since.days + since.seconds, part)
 
 
-def moments_of(series: Any) -> list[Any]:
+def moments_of(series: pandas.Series) -> list[Any]:
     """The moments of a column of date-times."""
     times = series.dt.tz_convert("UTC").dt.tz_localize(None) if series.dt.tz is not None else series
     whole = times.to_numpy(dtype="datetime64[ns]")
@@ -88,7 +91,7 @@ def moments_of(series: Any) -> list[Any]:
     return [None if gone else Moment(second, part) for second, part, gone in pairs]
 
 
-def cells_of(series: Any) -> list[Any]:
+def cells_of(series: pandas.Series) -> list[Any]:
     """The cells of a column."""
     kind = series.dtype
     if isinstance(kind, pandas.CategoricalDtype):
@@ -139,12 +142,12 @@ def names_of(cells: Sequence[Any]) -> list[Any]:
     return found
 
 
-def index_level(frame: Any, at: int) -> tuple[Any, Any]:
+def index_level(frame: pandas.DataFrame, at: int) -> tuple[Any, pandas.Series]:
     """A level of a frame's index: its name, and the values as a column."""
     return frame.index.names[at], frame.index.get_level_values(at).to_series(index=pandas.RangeIndex(len(frame)))
 
 
-def columns_of(frame: Any, asked: Asked, has_points: bool) -> Columns:
+def columns_of(frame: pandas.DataFrame, asked: Asked, has_points: bool) -> Columns:
     """The columns of a frame, and the levels of its index that stand for what no column has."""
     titles = [str(title) for title in frame.columns]
     series = [frame.iloc[:, at].set_axis(pandas.RangeIndex(len(frame))) for at in range(len(titles))]
@@ -171,7 +174,7 @@ def columns_of(frame: Any, asked: Asked, has_points: bool) -> Columns:
     return Columns(titles, series)
 
 
-def points_of(frame: Any, asked: Asked, crs: Any) -> Any:
+def points_of(frame: pandas.DataFrame, asked: Asked, crs: Any) -> geopandas.GeoSeries | None:
     """The points of a GeoDataFrame, whose reference system has to be a plane one in metres; None for another frame."""
     geopandas = sys.modules.get("geopandas")
     is_named = any((asked.easting, asked.northing, asked.lon, asked.lat))
@@ -219,7 +222,7 @@ def crs_named(crs: Any) -> Any:
     return found
 
 
-def place_cells(points: Any) -> tuple[list[Any], list[Any]]:
+def place_cells(points: geopandas.GeoSeries) -> tuple[list[Any], list[Any]]:
     """The eastings and northings of points; missing where there is none, and Bad where there is another shape."""
     kinds = points.geom_type.tolist()
     empty = (points.isna() | points.is_empty).tolist()
@@ -237,7 +240,7 @@ def place_cells(points: Any) -> tuple[list[Any], list[Any]]:
     return east, north
 
 
-def truths_of(frame: Any, use: Any) -> list[bool] | None:
+def truths_of(frame: pandas.DataFrame, use: Any) -> list[bool] | None:
     """Which rows an argument says to use: a column, truths for each row, or all; None where there is no argument."""
     if use is None:
         return None
@@ -258,7 +261,7 @@ def truths_of(frame: Any, use: Any) -> list[bool] | None:
     return [row_truth(mark, at) for at, mark in enumerate(marks)]
 
 
-def aligned(use: Any, frame: Any) -> list[Any]:
+def aligned(use: pandas.Series, frame: pandas.DataFrame) -> list[Any]:
     """A series of truths in the order of the frame's rows, by its index."""
     if use.index.equals(frame.index):
         return list(use.tolist())
@@ -276,7 +279,7 @@ def row_truth(mark: Any, at: int) -> bool:
     return found
 
 
-def own_zone(series: Any) -> str | None:
+def own_zone(series: pandas.Series) -> str | None:
     """The time zone of a column of times, where it has one."""
     kind = series.dtype.categories.dtype if isinstance(series.dtype, pandas.CategoricalDtype) else series.dtype
     zone = getattr(kind, "tz", None)
@@ -304,7 +307,7 @@ def is_known_zone(name: str) -> bool:
 class Frame:
     """A data frame that is read."""
 
-    def __init__(self, frame: Any, asked: Asked, use: Any, crs: Any) -> None:
+    def __init__(self, frame: pandas.DataFrame, asked: Asked, use: Any, crs: Any) -> None:
         if not isinstance(frame, pandas.DataFrame) or not len(frame):
             refuse("frame is not a data frame with a row for each fix", "empty")
         self.labels, self.asked = frame.index, asked
@@ -424,7 +427,9 @@ class Frame:
         return Counter(name for name in names_of(cells_of(self.columns.series[at])) if isinstance(name, str))
 
 
-def read_frame(frame: Any, asked: Asked, tell: Callable[[str], None], use: Any = None, crs: Any = None) -> Tracks:
+def read_frame(
+    frame: pandas.DataFrame, asked: Asked, tell: Callable[[str], None], use: Any = None, crs: Any = None,
+) -> Tracks:
     """The tracks of a data frame."""
     options = told(asked, use)
     own = Frame(frame, asked, use, crs)

@@ -7,7 +7,7 @@ import shutil
 from dataclasses import replace
 from importlib.util import find_spec
 from pathlib import Path
-from typing import Any, Iterator, Mapping
+from typing import TYPE_CHECKING, Any, Iterator, Mapping
 
 from .errors import ReportError, refuse
 from .evidence import REPORT, TRACKS, Wish, copy_tracks, make_report, new_folder, used_tracks
@@ -21,10 +21,13 @@ from .report import Report, read
 from .tracks import Track
 from .zones import text_of_crs, zone_of_crs
 
+if TYPE_CHECKING:
+    import pandas
+
 PLACES = dict.fromkeys(("days", "median_hours", "longest_hours", "last_tenth", "last_quarter"), 4)
 
 
-def with_times(table: Any, *titles: str) -> Any:
+def with_times(table: pandas.DataFrame, *titles: str) -> pandas.DataFrame:
     """The table with its times as text in UTC."""
     times = {title: table[title].dt.tz_convert("UTC").dt.strftime("%Y-%m-%dT%H:%M:%SZ") for title in titles}
     return table.assign(**times)

@@ -11,9 +11,10 @@ import warnings
 from collections import Counter
 from datetime import date, datetime
 from pathlib import Path
-from typing import Any, Callable, Iterable, Sequence, Union
+from typing import TYPE_CHECKING, Any, Callable, Iterable, Sequence, Union
 
-import pandas  # type: ignore[import]
+import numpy
+import pandas
 
 from .asked import UNITS, Asked, seconds_of
 from .errors import FrameError, HomeRangeInfo, HomeRangeNote, ReportError, one_line, refuse
@@ -26,18 +27,22 @@ from .record import Record, read_record
 from .report import Corners, Percent, Report, Table, kept_places, polygon_of, read as read_lines
 from .tables import Said
 
+if TYPE_CHECKING:
+    import geopandas
+    from numpy.typing import NDArray
+
 Moment = Union[str, date, datetime]
 Words = Union[str, Iterable[Any]]
 # How lines begin that say what was taken, and nothing that was left out or changed.
 TAKEN = ("columns: ", "UTM coordinates are", "coordinates are those", "longitude and latitude are", "days and hours are")
 
 
-def _clock(seconds: Any, tz: str) -> Any:
+def _clock(seconds: pandas.Series, tz: str) -> pandas.Series:
     """The times by the clock of tz; NaT after the year 2262, where pandas' times end."""
     return pandas.to_datetime(seconds, unit="s", utc=True, errors="coerce").dt.tz_convert(tz)
 
 
-def _kept(track: Any, level: int) -> Any:
+def _kept(track: pandas.DataFrame, level: int) -> pandas.DataFrame:
     """The fixes of a track that a level keeps."""
     return track.iloc[kept_places(track["easting"].tolist(), track["northing"].tolist(), level)]
 
@@ -80,14 +85,14 @@ class HomeRanges:
     def _hectares(self, area2: int) -> float:
         return area2 / UNITS[self.unit].hectare
 
-    def _times(self, seconds: Sequence[int]) -> Any:
+    def _times(self, seconds: Sequence[int] | pandas.Series) -> pandas.Series:
         return _clock(pandas.Series(seconds, dtype="int64"), self.tz)
 
     def _in_metres(self, points: Iterable[tuple[int, int]]) -> list[tuple[float, float]]:
         scale, (east, north) = UNITS[self.unit].per_metre, self.shift
         return [(easting / scale - east, northing / scale - north) for easting, northing in points]
 
-    def summary(self) -> Any:
+    def summary(self) -> pandas.DataFrame:
         """A row for each animal and level: ``animal``; ``first`` and ``last``, the times of its first and last fix;
         ``fixes``, how many there are, and ``left_out``, how many rows of the frame are not among them (missing where it
         is not known); ``level`` in per cent; ``kept``, how many fixes the level keeps; and ``corners`` and ``hectares``
@@ -123,7 +128,7 @@ class HomeRanges:
         """The facts of each animal in whole numbers, of which ``overview`` makes a table."""
         return rows_of(self._report.tables, self.of_source(), self.reasons())
 
-    def overview(self) -> Any:
+    def overview(self) -> pandas.DataFrame:
         """A row for each animal: ``animal``; ``records``, its fixes in the export or the frame (missing where it is not
         known); ``left_REASON`` for each reason that occurs, how many were left out for it; ``used``, how many fixes the
         range has; ``first`` and ``last``, their times; ``days`` from the one to the other; ``median_hours`` and
@@ -145,7 +150,7 @@ class HomeRanges:
         levelling = self.levelling().drop(columns=["animal", "fixes", "hectares"])
         return pandas.concat([pandas.DataFrame(table), levelling], axis="columns")
 
-    def levelling(self) -> Any:
+    def levelling(self) -> pandas.DataFrame:
         """Whether the area of all fixes levelled off with their number (incremental area analysis, Harris et al. 1990),
         a row for each animal: ``animal``; ``fixes``; ``hectares`` of all of them; ``within_95_fix`` and
         ``within_95_time``, the number and the time of the first fix from which on the area stayed within 95 per cent of
@@ -164,13 +169,13 @@ class HomeRanges:
             "last_quarter": [share(own.quarter, own.area2) for own in found],
             "verdict": [own.verdict for own in found]})
 
-    def left_out(self) -> Any:
+    def left_out(self) -> pandas.DataFrame:
         """How many fixes were left out of the frame, a row for each ``animal`` and ``reason``, with ``fixes``. The reasons
         are those of docs/TABLES.md, and use, where the argument or the column of that name left them out."""
         rows = [(name, reason, count) for (name, reason), count in sorted(self.reasons().items()) if count]
         return pandas.DataFrame(rows, columns=["animal", "reason", "fixes"])
 
-    def curve(self) -> Any:
+    def curve(self) -> pandas.DataFrame:
         """The table of incremental area analysis (Harris et al. 1990), a row for each fix: ``animal``; ``n``, the
         number of the fix; its ``time``; and ``corners`` and ``hectares`` of the polygon of the first n fixes."""
         tables = self._report.tables
@@ -180,7 +185,7 @@ class HomeRanges:
         curve["hectares"] = curve.pop("area2") / UNITS[self.unit].hectare
         return curve
 
-    def overlap(self, share: bool = False) -> Any:
+    def overlap(self, share: bool = False) -> pandas.DataFrame:
         """How many of the fixes of the row's animal lie in the polygon of the column's, its edges included; with
         ``share`` which share of its fixes, 0 to 1. All fixes of an animal lie in its own polygon."""
         fixes = {name: len(table.rows) for name, table in self._report.tables.items()}
@@ -243,22 +248,23 @@ class HomeRanges:
         """Whether the fixes are known."""
         return self._tracks is not None
 
-    def fixes(self, animal: str) -> Any:
+    def fixes(self, animal: str) -> NDArray[numpy.float64] | None:
         """The fixes of an animal in the order of time, an array of eastings and northings in metres; None where they
         are not known."""
         if self._tracks is None:
             return None
-        return self._tracks.by_name[animal][["easting", "northing"]].to_numpy() / UNITS[self.unit].per_metre - self.shift
+        places = self._tracks.by_name[animal][["easting", "northing"]].to_numpy(dtype="float64")
+        return numpy.asarray(places / UNITS[self.unit].per_metre - self.shift, dtype="float64")
 
-    def polygons(self, level: int = 100) -> Any:
+    def polygons(self, level: int = 100) -> geopandas.GeoDataFrame:
         """The polygons at a level, as a GeoDataFrame in metres: ``animal``, ``level``, ``kept``, ``corners``,
         ``hectares`` and ``geometry``, which of one corner is a point and of two a line. Where geopandas is not there,
         what ``corners`` answers. See there for levels below 100."""
         level = self._level(level)
         corners = self.corners(level)
         try:
-            import geopandas  # type: ignore[import]
-            from shapely import geometry  # type: ignore[import]
+            import geopandas
+            from shapely import geometry
         except ImportError:
             return corners
         shapes = {1: lambda points: geometry.Point(points[0]), 2: geometry.LineString}
@@ -347,7 +353,7 @@ def either(new: Any, old: Any, name: str, old_name: str) -> Any:
 
 
 def home_range(
-    frame: Any, levels: int | Iterable[int] = (50, 95, 100), unit: str = "m", *, animal: Words | None = None,
+    frame: pandas.DataFrame, levels: int | Iterable[int] = (50, 95, 100), unit: str = "m", *, animal: Words | None = None,
     time: Words | None = None, easting: str | None = None, northing: str | None = None, lon: str | None = None,
     lat: str | None = None, name: str = "animal", zone: str | None = None, crs: Any = None,
     use: str | Sequence[bool] | bool | None = None, skip_unnamed: bool = False, sensor: Words | None = None,
@@ -405,7 +411,7 @@ def home_range(
     return HomeRanges(report, tracks, crs=tracks.crs, tz=tracks.tz, program=found)
 
 
-def read_export(path: str | os.PathLike[str], **options: Any) -> Any:
+def read_export(path: str | os.PathLike[str], **options: Any) -> pandas.DataFrame:
     """The fixes of a table of text, such as an export of Movebank or of a collar, as a data frame for ``home_range``.
 
     path: the file.
@@ -442,7 +448,7 @@ def read_export(path: str | os.PathLike[str], **options: Any) -> Any:
         "use": [bool(records.used[at]) for at in order]})
 
 
-def _read_track(path: str | os.PathLike[str]) -> tuple[str, Any, int]:
+def _read_track(path: str | os.PathLike[str]) -> tuple[str, pandas.DataFrame, int]:
     """The animal of a file, its used fixes, of which there may be none, and how many are not used."""
     with open(path, encoding="utf-8-sig", newline="") as file:
         rows = [row for row in csv.DictReader(file)]
@@ -522,7 +528,7 @@ def boundary_of(ranges: HomeRanges, reserve: Any) -> Any:
     return reserve
 
 
-def share_inside(ranges: HomeRanges, reserve: Any, level: int = 100) -> Any:
+def share_inside(ranges: HomeRanges, reserve: Any, level: int = 100) -> pandas.DataFrame:
     """How much of each animal's range lies in a reserve: a row for each animal with ``animal``, ``level``, ``hectares``,
     ``inside`` (hectares in the reserve) and ``share`` (0 to 1; NaN for a range without an area).
 

@@ -20,7 +20,12 @@ else
     holds 'the tests of the Python package' [ "$status" -eq 0 ]
     if python3 -c 'import mypy' 2>errors; then
         holds 'types of the Python package' \
-            python3 -m mypy --strict --cache-dir "$work/mypy" "$top/python/homerange"
+            python3 -m mypy --config-file "$top/python/pyproject.toml" --cache-dir "$work/mypy" "$top/python/homerange"
+        # What a user's script is told of results, with names of classes in place of the stubs that Debian has not.
+        MYPYPATH="$top/python/tests/types/stubs:$top/python" python3 -m mypy --strict --follow-imports=silent \
+            --cache-dir "$work/user" "$top/python/tests/types/user.py" >types 2>&1
+        sed -n 's/.*Revealed type is "\(.*\)"$/\1/p' types >revealed
+        holds 'types that a user sees' cmp "$top/python/tests/types/wanted" revealed
     else
         skip 'types of the Python package: no mypy'
     fi

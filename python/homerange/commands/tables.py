@@ -65,8 +65,8 @@ def write_pictures(ranges: HomeRanges, folder: Path) -> None:
     from ..plot import plot_curve, plot_ranges
 
     matplotlib.use("Agg")
-    for name, draw in (("curves.png", plot_curve), ("ranges.png", plot_ranges)):
-        draw(ranges).figure.savefig(folder / name, dpi=300)
+    for name, axes in (("curves.png", plot_curve(ranges)), ("ranges.png", plot_ranges(ranges))):
+        axes.figure.savefig(folder / name, dpi=300)
 
 
 def write_results(

@@ -1,0 +1,9 @@
+# In place of stubs of geopandas: names alone.
+from typing import Any
+
+from pandas import DataFrame, Series
+
+class GeoDataFrame(DataFrame): ...
+class GeoSeries(Series): ...
+
+def __getattr__(name: str) -> Any: ...

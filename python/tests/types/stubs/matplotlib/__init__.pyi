@@ -1,0 +1,1 @@
+# In place of stubs of matplotlib: a name alone.
