@@ -1,4 +1,4 @@
-"""Files of ranges, to hand in: tables, layers for a GIS, and with the page the whole folder of evidence."""
+"""Files of ranges, to hand in: tables, and with layers and the page the whole folder of evidence."""
 
 from __future__ import annotations
 
@@ -7,7 +7,7 @@ import shutil
 from dataclasses import replace
 from importlib.util import find_spec
 from pathlib import Path
-from typing import TYPE_CHECKING, Any, Iterator, Mapping
+from typing import TYPE_CHECKING, Any, Mapping
 
 from .errors import ReportError, refuse
 from .evidence import REPORT, TRACKS, Wish, copy_tracks, make_report, new_folder, used_tracks
@@ -41,18 +41,6 @@ def write_tables(ranges: HomeRanges, folder: Path) -> None:
     for table, name in ((summary, "summary.csv"), (animals, "animals.csv")):
         table.to_csv(folder / name, index=False, lineterminator="\n")
     ranges.overlap(share=True).round(4).to_csv(folder / "overlaps.csv", lineterminator="\n")
-
-
-def write_layers(ranges: HomeRanges, path: Path) -> Iterator[str]:
-    """Writes a layer for each level, with the polygons that have an area; says which have none. Wants geopandas."""
-    for level in ranges.levels:
-        polygons = ranges.polygons(level)
-        has_area = polygons["corners"] > 2
-        if not has_area.all():
-            names = ", ".join(polygons.loc[~has_area, "animal"])
-            yield f"not in {path.name}, since they have no area at {level} %: {names}"
-        if has_area.any():
-            polygons[has_area].to_file(path, driver="GPKG", layer=f"mcp_{level}")
 
 
 def record_of(ranges: HomeRanges, tracks: Tracks, names: Mapping[str, str], made: dict[str, Made]) -> Record:
@@ -134,6 +122,8 @@ def write_folder(ranges: HomeRanges, into: str | os.PathLike[str], page: Mapping
         found = ranges_in(folder, ranges, tracks, names)
         write_tables(found, folder)
         if find_spec("geopandas"):
+            from .layers import write_layers
+
             said.extend(write_layers(found, folder / "ranges.gpkg"))
         write_page(found, folder / "report.html", **page)
 

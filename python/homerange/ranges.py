@@ -37,8 +37,8 @@ Words = Union[str, Iterable[Any]]
 TAKEN = ("columns: ", "UTM coordinates are", "coordinates are those", "longitude and latitude are", "days and hours are")
 
 
-def _clock(seconds: pandas.Series, tz: str) -> pandas.Series:
-    """The times by the clock of tz; NaT after the year 2262, where pandas' times end."""
+def times_of(seconds: pandas.Series, tz: str) -> pandas.Series:
+    """Seconds since 1970 by the clock of tz; NaT after the year 2262, where pandas' times end."""
     return pandas.to_datetime(seconds, unit="s", utc=True, errors="coerce").dt.tz_convert(tz)
 
 
@@ -86,7 +86,7 @@ class HomeRanges:
         return area2 / UNITS[self.unit].hectare
 
     def _times(self, seconds: Sequence[int] | pandas.Series) -> pandas.Series:
-        return _clock(pandas.Series(seconds, dtype="int64"), self.tz)
+        return times_of(pandas.Series(seconds, dtype="int64"), self.tz)
 
     def _in_metres(self, points: Iterable[tuple[int, int]]) -> list[tuple[float, float]]:
         scale, (east, north) = UNITS[self.unit].per_metre, self.shift
@@ -256,24 +256,23 @@ class HomeRanges:
         places = self._tracks.by_name[animal][["easting", "northing"]].to_numpy(dtype="float64")
         return numpy.asarray(places / UNITS[self.unit].per_metre - self.shift, dtype="float64")
 
-    def polygons(self, level: int = 100) -> geopandas.GeoDataFrame:
-        """The polygons at a level, as a GeoDataFrame in metres: ``animal``, ``level``, ``kept``, ``corners``,
-        ``hectares`` and ``geometry``, which of one corner is a point and of two a line. Where geopandas is not there,
-        what ``corners`` answers. See there for levels below 100."""
-        level = self._level(level)
-        corners = self.corners(level)
+    def polygons(self, levels: int | Iterable[int] = 100) -> geopandas.GeoDataFrame:
+        """The polygons at one level, or at several below each other, as a GeoDataFrame in metres: ``animal``, ``level``,
+        ``fixes``, ``kept``, ``corners``, ``hectares`` and ``geometry``, which of one corner is a point and of two a line.
+        Wants geopandas: ``corners`` answers without it. See there for levels below 100."""
         try:
             import geopandas
             from shapely import geometry
         except ImportError:
-            return corners
+            refuse("polygons want geopandas, which is not installed (python3-geopandas): corners(level) does without")
+        wanted = [self._level(level) for level in levels_of(levels)]
         shapes = {1: lambda points: geometry.Point(points[0]), 2: geometry.LineString}
         rows = []
-        for name, points in corners.items():
+        for level, (name, points) in ((level, own) for level in wanted for own in self.corners(level).items()):
             _, kept, count, area2 = self._percent(name, level)
             shape = shapes.get(len(points), geometry.Polygon)(points)
-            rows.append((name, level, kept, count, self._hectares(area2), shape))
-        titles = ["animal", "level", "kept", "corners", "hectares", "geometry"]
+            rows.append((name, level, len(self._report.tables[name].rows), kept, count, self._hectares(area2), shape))
+        titles = ["animal", "level", "fixes", "kept", "corners", "hectares", "geometry"]
         return geopandas.GeoDataFrame(pandas.DataFrame(rows, columns=titles), geometry="geometry", crs=self.crs)
 
     def evidence(self, folder: str | os.PathLike[str], **page: Any) -> None:

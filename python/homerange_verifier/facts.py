@@ -13,7 +13,7 @@ class Animal:
     """The facts of an animal. Areas are doubled, in squares of the unit; times are seconds."""
 
     def __init__(self, number, own, split):
-        self.number, self.percents, self.seconds = number, own.percents, own.track.seconds
+        self.number, self.percents, self.seconds, self.points = number, own.percents, own.track.seconds, own.track.points
         self.name = own.track.name.encode("latin-1").decode("utf-8", "replace")
         self.areas = [area2 for _, area2 in own.curve]
         self.hull, self.used, self.first, self.last = own.hull, len(own.curve), self.seconds[0], self.seconds[-1]

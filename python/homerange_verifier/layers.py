@@ -1,20 +1,27 @@
-"""The layers of ranges.gpkg, read by sqlite3 and struct, and what is wrong with them. Of each level there is a layer, with a
-polygon for each animal that has an area there, in metres and where the tracks were before they were shifted."""
+"""The layers of ranges.gpkg, read by sqlite3 and struct, and what is wrong with them. The layer `ranges` has a polygon for each
+animal and level with an area, and `fixes` each used fix, in metres and where the tracks were before they were shifted. How
+they are drawn is as in all such files, so that a style can neither hide nor add anything."""
 import re
 import sqlite3
 import struct
 from contextlib import closing
 
+from . import beside
 from .facts import HECTARE, PER_METRE
 from .lines import Fault
+from .tables import moment
 
-COLUMNS = ["fid", "geom", "animal", "level", "kept", "corners", "hectares"]
+COLUMNS = {"ranges": ["fid", "geom", "animal", "level", "fixes", "kept", "corners", "hectares", "first", "last", "unit"],
+           "fixes": ["fid", "geom", "animal", "n", "time"]}
+NUMBERS = COLUMNS["ranges"][4:]
+STYLES = "layer_styles"
 OWN = re.compile("gpkg_.*|rtree_.*|sqlite_.*")  # tables of the format
 ENVELOPES = {0: 0, 1: 4, 2: 6, 3: 6, 4: 8}  # how many numbers the box of a shape has, by its kind
 PARAMETER = re.compile(r'PARAMETER\["([a-z_]+)",([-0-9.]+)\]')
 METRES = ('DATUM["WGS_1984"', 'PROJECTION["Transverse_Mercator"]', 'UNIT["metre",1')
 NAMED = re.compile(r"(?:([A-Za-z]+:[A-Za-z0-9]+) \((.*)\)|(.*))", re.DOTALL)  # a reference system with its code, or without
-POLYGON = 3
+UNDEFINED = -1  # the number of an undefined plane one
+POINT, POLYGON = 1, 3
 NEAR = 1e-6  # of a unit: what is lost where a number of decimetres is written in metres
 
 
@@ -58,26 +65,29 @@ class Reader:
 
 
 def shape_of(content):
-    """The reference system, the box and the corners of a polygon without holes, the last of which is the first again."""
+    """The reference system, the kind and the places of a shape: a point, or a polygon without holes, whose last corner is the
+    first again and is left out. Its box, where it has one, has to be its own."""
     reader = Reader(content)
     magic, version, flags = reader.take("2sBB")
     reader.order_of(flags & 1)
     (system,) = reader.take("i")
     box = reader.take(f"{ENVELOPES.get(flags >> 1 & 7, 0)}d")
     reader.order_of(reader.take("B")[0])
-    kind, rings, count = reader.take("III")
+    (kind,) = reader.take("I")
+    rings, count = reader.take("II") if kind == POLYGON else (1, 1)
     numbers = reader.take(f"{2 * count}d")
-    corners = list(zip(numbers[::2], numbers[1::2]))
-    if (magic, version, kind, rings, reader.at) != (b"GP", 0, POLYGON, 1, len(content)) or corners[:1] != corners[-1:]:
+    places = list(zip(numbers[::2], numbers[1::2]))
+    if (magic, version, rings, reader.at) != (b"GP", 0, 1, len(content)) or places[:1] != places[-1:]:
         raise ValueError
-    wanted = [end(side) for side in zip(*corners) for end in (min, max)]
-    if box and [*box] != wanted:
+    if box and [*box] != [end(side) for side in zip(*places) for end in (min, max)]:
         raise ValueError
-    return system, corners[:-1]
+    return system, kind, places[:-1] if kind == POLYGON else places
 
 
 def round_from_first(corners):
     """The corners counterclockwise from the westernmost, of two such the southern."""
+    if not corners:
+        return corners
     pairs = zip(corners, corners[1:] + corners[:1])
     if sum(a[0] * b[1] - b[0] * a[1] for a, b in pairs) < 0:
         corners = corners[::-1]
@@ -103,19 +113,29 @@ class Layers:
         except sqlite3.Error as fault:
             raise Fault(f"{self.path.name} cannot be read: {fault}") from None
 
-    def with_area(self, level):
-        return {animal.name: animal.percents[level] for animal in self.animals if animal.percents[level].hull.area2}
+    def with_area(self):
+        """The kept fixes and the polygons that have an area, by animal and level."""
+        return {(animal.name, level): animal.percents[level] for animal in self.animals for level in self.levels
+                if animal.percents[level].hull.area2}
 
     def fault_of(self, base):
-        wanted = {f"mcp_{level}": level for level in self.levels if self.with_area(level)}
+        wanted = ["fixes", "ranges"] if self.with_area() else ["fixes"]
         kinds = base.execute("SELECT name, type FROM sqlite_master WHERE type IN ('table', 'view')")
         there = {name: kind for name, kind in kinds if not OWN.fullmatch(name)}
         listed = {name for name, in base.execute("SELECT table_name FROM gpkg_contents")}
-        if {*there} != {*wanted} or listed != {*wanted} or {*there.values()} - {"table"}:
-            names = ", ".join(sorted({*there} | listed)) or "none"
-            return f"{self.path.name} has other layers ({names}) than {', '.join(sorted(wanted)) or 'none'}"
-        faults = (self.system_fault(base, name) or self.layer_fault(base, name, level) for name, level in wanted.items())
-        return next(filter(None, faults), None)
+        if {*there} != {*wanted, STYLES} or listed != {*wanted, STYLES} or {*there.values()} != {"table"}:
+            names = ", ".join(sorted(({*there} | listed) - {STYLES})) or "none"
+            return f"{self.path.name} has other layers ({names}) than {', '.join(wanted)}"
+        faults = (self.system_fault(base, name) or self.columns_fault(base, name) for name in wanted)
+        return next(filter(None, faults), None) or self.style_fault(base, wanted) or (
+            self.ranges_fault(base) if "ranges" in wanted else None) or self.fixes_fault(base)
+
+    def style_fault(self, base, wanted):
+        """How the layers are drawn in another way than in all such files."""
+        rows = base.execute(f"SELECT f_table_name, styleQML, styleSLD FROM {STYLES}").fetchall()
+        own = [(name, (beside.PACKAGE / f"{name}.qml").read_text("utf-8"), "") for name in wanted]
+        return None if sorted(map(str, rows)) == sorted(map(str, own)) else (
+            f"{self.path.name} has another style than such files have: it could show other things than it has")
 
     def system_fault(self, base, name):
         """How the reference system of a layer is not the one that is known."""
@@ -132,7 +152,7 @@ class Layers:
             return None if is_named(self.crs, organization, number, definition) else (
                 f"the layer {name} of {self.path.name} has another reference system than {self.crs}")
         if self.zone is None:
-            return None if organization.upper() == "NONE" else (
+            return None if (systems[0][0], organization.upper()) == (UNDEFINED, "NONE") else (
                 f"the layer {name} of {self.path.name} has a reference system, {organization}:{number}, and none is known")
         said = {key: float(value) for key, value in PARAMETER.findall(definition)}
         is_own = (organization.upper(), number, said) == ("EPSG", number_of(self.zone), parameters_of(self.zone))
@@ -140,36 +160,64 @@ class Layers:
             return f"the layer {name} of {self.path.name} has another reference system than that of zone {self.zone}"
         return None
 
-    def layer_fault(self, base, name, level):
-        """How the polygons of a layer are not those of a level."""
-        if [row[1] for row in base.execute(f'PRAGMA table_info("{name}")')] != COLUMNS:
-            return f"the layer {name} of {self.path.name} has other columns than {', '.join(COLUMNS)}"
+    def columns_fault(self, base, name):
+        """How the columns of a layer are not those that it has in all such files."""
+        found = [row[1] for row in base.execute(f"PRAGMA table_info({name})")]
+        return None if found == COLUMNS[name] else (
+            f"the layer {name} of {self.path.name} has other columns than {', '.join(COLUMNS[name])}")
+
+    def rows_of(self, base, name):
+        """The reference system of a layer, and its rows."""
         system = base.execute("SELECT srs_id FROM gpkg_contents WHERE table_name = ?", (name,)).fetchone()[0]
-        wanted = self.with_area(level)
-        rows = base.execute(f'SELECT animal, geom, level, kept, corners, hectares FROM "{name}"').fetchall()
-        if sorted(row[0] if isinstance(row[0], str) else "" for row in rows) != sorted(wanted):
-            return f"the layer {name} of {self.path.name} has other animals than those with an area"
-        for animal, geometry, *numbers in rows:
-            kept, hull = wanted[animal]
-            own, wishes = f"the polygon of {animal} in the layer {name} of {self.path.name}", [
-                level, kept, len(hull), hull.area2 / HECTARE[self.unit]]
+        return system, base.execute(f"SELECT {', '.join(COLUMNS[name][1:])} FROM {name} ORDER BY fid").fetchall()
+
+    def ranges_fault(self, base):
+        """How the polygons are not those of the animals and levels."""
+        (system, rows), wanted = self.rows_of(base, "ranges"), self.with_area()
+        if sorted(map(str, (row[1:3] for row in rows))) != sorted(map(str, wanted)):
+            return f"the layer ranges of {self.path.name} has other animals and levels than those with an area"
+        animals = {animal.name: animal for animal in self.animals}
+        for geometry, name, level, *numbers in rows:
+            (kept, hull), animal = wanted[name, level], animals[name]
+            own = f"the polygon of {name} at {level} % in {self.path.name}"
+            wishes = [animal.used, kept, len(hull), hull.area2 / HECTARE[self.unit], time_of(animal.first), time_of(animal.last),
+                      self.unit]
             if numbers != wishes:
                 said, wish = (", ".join(map(str, each)) for each in (numbers, wishes))
-                return f"{own} has level, kept, corners and hectares {said}; {wish} are wanted"
-            if not self.is_polygon(geometry, system, hull.corners()):
+                return f"{own} has {', '.join(NUMBERS)} {said}; {wish} are wanted"
+            if round_from_first(self.places(geometry, system, POLYGON)) != hull.corners():
                 return f"{own} has other corners"
         return None
 
-    def is_polygon(self, geometry, system, wanted):
-        """Whether a shape has these corners."""
+    def fixes_fault(self, base):
+        """How the fixes are not the used ones of the tracks, in their order."""
+        (system, rows), wanted = self.rows_of(base, "fixes"), [
+            (animal.name, n, time_of(second), place) for animal in self.animals
+            for n, (second, place) in enumerate(zip(animal.seconds, animal.points), 1)]
+        if len(rows) != len(wanted):
+            return f"the layer fixes of {self.path.name} has {len(rows)} fixes; {len(wanted)} are wanted"
+        for (geometry, *numbers), (name, n, time, place) in zip(rows, wanted):
+            if numbers != [name, n, time]:
+                said, wish = (", ".join(map(str, each)) for each in (numbers, (name, n, time)))
+                return f"the layer fixes of {self.path.name} has {said}; {wish} is wanted"
+            if self.places(geometry, system, POINT) != [place]:
+                return f"fix {n} of {name} in {self.path.name} lies elsewhere"
+        return None
+
+    def places(self, geometry, system, kind):
+        """The places of a shape in whole units of the tracks; none where it is another shape."""
         try:
-            own, corners = shape_of(geometry)
-            scale, places = PER_METRE[self.unit], []
-            for corner in corners:
-                exact = [scale * (number + shift) for number, shift in zip(corner, self.shift)]
-                places.append(tuple(map(round, exact)))
-                if any(abs(number - whole) > NEAR for number, whole in zip(exact, places[-1])):
-                    return False
+            own, own_kind, found = shape_of(geometry)
+            scale = PER_METRE[self.unit]
+            exact = [tuple(scale * (number + shift) for number, shift in zip(place, self.shift)) for place in found]
+            places = [(round(east), round(north)) for east, north in exact]
         except (struct.error, TypeError, ValueError, OverflowError):
-            return False
-        return own == system and round_from_first(places) == wanted
+            return []
+        near = all(abs(number - whole) <= NEAR for pair in zip(exact, places) for number, whole in zip(*pair))
+        return places if near and (own, own_kind) == (system, kind) else []
+
+
+def time_of(second):
+    """A time as a GeoPackage has it; None where there is none."""
+    text = moment(second)
+    return f"{text[:-1]}.000Z" if text else None

@@ -8,7 +8,8 @@ Says in sentences what held, what did not, and what was not looked at:
     the program makes the same report of them, byte for byte
     each line of the report is what another method computes
     summary.csv, animals.csv and overlaps.csv are what that method comes to, byte for byte
-    ranges.gpkg has its polygons, with their corners, numbers and reference system, and no other layers
+    ranges.gpkg has its polygons, with their corners, numbers and reference system, the fixes of the tracks, and no other
+        layers
     report.html has its numbers, names, dates and checksums in tables and sentences, the text and the style that the pages of
         all share, no script and nothing from elsewhere
     unit and levels are the same in all of these

@@ -1,4 +1,6 @@
 """The numbers of home_range, compared with hulls, percent rules and overlaps that are computed here or by shapely."""
+import sys
+
 import pytest
 from exact import area2, cloud, covers, hull, nearest
 from frames import frame_of
@@ -140,6 +142,23 @@ def test_a_herd_is_made_of_groups(count, runs):
     for name, points in tracks.items():
         for other in tracks:
             assert overlap.loc[name, other] == sum(covers(polygons[other], point) for point in points)
+
+
+def test_polygons_of_several_levels_stand_in_one_frame(herd):
+    found = herd.polygons([95, 50])
+    assert found["level"].tolist() == [95] * len(HERD) + [50] * len(HERD)
+    assert found["animal"].tolist() == [*HERD] * 2
+    for row in found.itertuples():
+        assert (row.fixes, row.kept) == (len(HERD[row.animal]), (row.level * len(HERD[row.animal]) + 99) // 100)
+    for level in (50, 95):
+        own = found[found["level"] == level].geometry
+        assert all(one.equals(other) for one, other in zip(own, herd.polygons(level).geometry))
+
+
+def test_polygons_want_geopandas(herd, monkeypatch):
+    monkeypatch.setitem(sys.modules, "geopandas", None)
+    with pytest.raises(FrameError, match="polygons want geopandas, which is not installed .python3-geopandas.: corners"):
+        herd.polygons()
 
 
 def test_a_level_that_is_not_there_is_refused(herd):

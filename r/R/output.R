@@ -1,4 +1,4 @@
-# The tables and layers of a folder of evidence. Tables are the same bytes as those of the package for Python.
+# The tables of a folder of evidence, the same bytes as those of the package for Python.
 
 last_of_pandas <- 9223372036  # the last second that tables have: the times of pandas end in the year 2262
 
@@ -98,28 +98,4 @@ write_overlaps <- function(ranges, path) {
   shares <- overlap(ranges, share = TRUE)
   columns <- lapply(seq_len(ncol(shares)), function(at) rounded_text(shares[, at]))
   write_table(path, c(list(fixes_of = rownames(shares)), `names<-`(columns, colnames(shares))))
-}
-
-# Writes a layer for each level, with the polygons that have an area; says which have none.
-write_layers <- function(ranges, path) {
-  for (level in unique(ranges$percents$level)) {
-    shapes <- layer_of(ranges, level)
-    has_area <- shapes$corners > 2
-    if (!all(has_area)) {
-      message("homerange: not in ", basename(path), ", since they have no area at ", level, " %: ",
-              paste(shapes$animal[!has_area], collapse = ", "))
-    }
-    # Of shapes without a reference system sf says that they have none.
-    if (any(has_area)) suppressMessages(sf::st_write(shapes[has_area, ], path, paste0("mcp_", level), quiet = TRUE))
-  }
-}
-
-# The polygons of a level, with whole numbers as such.
-layer_of <- function(ranges, level) {
-  shapes <- as_sf(ranges, level, rings_of(ranges, level))
-  own <- ranges$percents[ranges$percents$level == level, ]
-  shapes$corners <- own$corners[match(shapes$animal, own$animal)]
-  whole <- c("level", "kept", "corners")
-  shapes[whole] <- lapply(sf::st_drop_geometry(shapes)[whole], as.integer)
-  shapes[c("animal", whole, "hectares")]
 }

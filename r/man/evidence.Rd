@@ -25,7 +25,7 @@ The program is run again, on the files in the folder, and its report has to have
 \code{summary.csv} \tab for each animal and level fixes, corners and hectares \cr
 \code{animals.csv} \tab for each animal what was left out and why, times, intervals, hectares, and \code{\link{levelling}} \cr
 \code{overlaps.csv} \tab which share of the fixes of the row's animal lie in the polygon of the column's \cr
-\code{ranges.gpkg} \tab with the package sf a layer of polygons for each level, such as \code{mcp_95} \cr
+\code{ranges.gpkg} \tab with the package sf layers for a GIS: the polygons of all levels, the fixes, and how QGIS draws them \cr
 \code{report.html} \tab the page, to read and to print \cr
 \code{build.log} \tab where the program was built, what the prover said
 }

@@ -59,7 +59,7 @@ def _(hand):
 
 
 @forgery("another zone in the record", "split.txt has the zone 34N, and says 33N",
-         f"mcp_50 of ranges.gpkg {LAYER}that of zone 34N", PAGE)
+         f"fixes of ranges.gpkg {LAYER}that of zone 34N", PAGE)
 def _(hand):
     hand.record("^zone,33N", "zone,34N")
 
@@ -69,7 +69,7 @@ def _(hand):
     hand.record("^zone,33N", "zone,none")
 
 
-@forgery("another system than a zone in the record", f"mcp_50 of ranges.gpkg {LAYER}EPSG:3035", PAGE)
+@forgery("another system than a zone in the record", f"fixes of ranges.gpkg {LAYER}EPSG:3035", PAGE)
 def _(hand):
     hand.record("^zone,33N", "zone,none\ncrs,EPSG:3035 (ETRS89-extended / LAEA Europe)")
 
@@ -80,7 +80,7 @@ def _(hand):
 
 
 @forgery("a shift in the record", "another shift than it says",
-         "the polygon of .* in the layer mcp_50 of ranges.gpkg has other corners")
+         "the polygon of .* at 50 % in ranges.gpkg has other corners")
 def _(hand):
     hand.record("^zone,33N", "zone,33N\nshift,1000000,0")
 
@@ -171,19 +171,19 @@ def _(hand):
     hand.sealed_run()
 
 
-@forgery("the number of a system in the layers", f"the layer mcp_50 of ranges.gpkg {LAYER}that of zone 33N")
+@forgery("the number of a system in the layers", f"the layer fixes of ranges.gpkg {LAYER}that of zone 33N")
 def _(hand):
     hand.sealed_sql(("UPDATE gpkg_spatial_ref_sys SET organization_coordsys_id = 3035 WHERE srs_id = 32633",))
 
 
-@forgery("the layers without a system", f"the layer mcp_50 of ranges.gpkg {LAYER}that of zone 33N")
+@forgery("the layers without a system", f"the layer fixes of ranges.gpkg {LAYER}that of zone 33N")
 def _(hand):
     hand.sealed_sql(("UPDATE gpkg_contents SET srs_id = -1",), ("UPDATE gpkg_geometry_columns SET srs_id = -1",))
 
 
-@forgery("hectares in the layers", "the polygon of Cilla in the layer mcp_95 of ranges.gpkg has level, kept, corners and")
+@forgery("hectares in the layers", "the polygon of Cilla at 95 % in ranges.gpkg has fixes, kept, corners, hectares")
 def _(hand):
-    hand.sealed_sql(("UPDATE mcp_95 SET hectares = 12.5 WHERE animal = 'Cilla'",))
+    hand.sealed_sql(("UPDATE ranges SET hectares = 12.5 WHERE animal = 'Cilla' AND level = 95",))
 
 
 @forgery("a number in the method of the page", f"{PAGE}'.*left out: 1 without coordinates, 9 marked .*' as paragraph; '")
@@ -232,12 +232,12 @@ def _(hand):
     hand.record("^tool,homerange for (Python|R) .*", f"tool,homerange for Excel 1.0.0,{64 * '0'}")
 
 
-@of_system("another code in the record", f"the layer mcp_50 of ranges.gpkg {LAYER}EPSG:3034", PAGE)
+@of_system("another code in the record", f"the layer fixes of ranges.gpkg {LAYER}EPSG:3034", PAGE)
 def _(hand):
     hand.record("^crs,EPSG:3035", "crs,EPSG:3034")
 
 
-@of_system("another name in the record", f"the layer mcp_50 of ranges.gpkg {LAYER}EPSG:3035 .ETRS89-extended / LCC", PAGE)
+@of_system("another name in the record", f"the layer fixes of ranges.gpkg {LAYER}EPSG:3035 .ETRS89-extended / LCC", PAGE)
 def _(hand):
     hand.record("^crs,EPSG:3035 .ETRS89-extended / LAEA", "crs,EPSG:3035 (ETRS89-extended / LCC")
 
@@ -247,17 +247,17 @@ def _(hand):
     hand.record("^crs,.*\n", "")
 
 
-@of_system("a zone in the record", f"the layer mcp_50 of ranges.gpkg {LAYER}that of zone 33N", PAGE)
+@of_system("a zone in the record", f"the layer fixes of ranges.gpkg {LAYER}that of zone 33N", PAGE)
 def _(hand):
     hand.record("^zone,none\ncrs,.*", "zone,33N")
 
 
-@of_system("another code in the layers", f"the layer mcp_50 of ranges.gpkg {LAYER}EPSG:3035")
+@of_system("another code in the layers", f"the layer fixes of ranges.gpkg {LAYER}EPSG:3035")
 def _(hand):
     hand.sealed_sql(("UPDATE gpkg_spatial_ref_sys SET organization_coordsys_id = 3034 WHERE srs_id = 3035",))
 
 
-@of_system("another definition in the layers", f"the layer mcp_50 of ranges.gpkg {LAYER}EPSG:3035")
+@of_system("another definition in the layers", f"the layer fixes of ranges.gpkg {LAYER}EPSG:3035")
 def _(hand):
     hand.sealed_sql(("UPDATE gpkg_spatial_ref_sys SET definition = (SELECT definition FROM gpkg_spatial_ref_sys WHERE "
                      "srs_id = 4326) WHERE srs_id = 3035",))

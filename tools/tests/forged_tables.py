@@ -13,6 +13,10 @@ from contextlib import closing
 from forging import TOOLS, Forgeries, Hand, export_text, try_export
 
 forgery = Forgeries()
+COLUMNS = ("animal", "level", "fixes", "kept", "corners", "hectares", "first", "last", "unit")
+NUMBERS = ", ".join(COLUMNS[2:])
+OTHERS = "the layer ranges of ranges.gpkg has other animals and levels than those with an area"
+BOR, VESNA = "animal = 'Bor'", "animal = 'Vesna'"
 CSV_END = re.compile(rb"(?<=,)[^,\n]+(?=\n)")
 
 
@@ -22,9 +26,9 @@ class Maker(Hand):
     def make(self):
         self.call("sh", TOOLS / "ranges.sh", "--title", "Wolves", "export.csv", "hand-in")
 
-    def shape(self, layer, animal):
+    def shape(self, animal, level):
         with closing(sqlite3.connect(self.path("ranges.gpkg"))) as base:
-            return base.execute(f"SELECT geom FROM {layer} WHERE animal = ?", (animal,)).fetchone()[0]
+            return base.execute(f"SELECT geom FROM ranges WHERE {animal} AND level = {level}").fetchone()[0]
 
 
 def moved(shape, by):
@@ -72,54 +76,93 @@ def _(hand):
     hand.seal()
 
 
-@forgery("a corner in ranges.gpkg is moved", "the polygon of Vesna in the layer mcp_95 of ranges.gpkg has other corners")
+@forgery("a corner in ranges.gpkg is moved", "the polygon of Vesna at 95 % in ranges.gpkg has other corners")
 def _(hand):
-    hand.sealed_sql(("UPDATE mcp_95 SET geom = ? WHERE animal = 'Vesna'", moved(hand.shape("mcp_95", "Vesna"), -300)))
+    hand.sealed_sql((f"UPDATE ranges SET geom = ? WHERE {VESNA} AND level = 95", moved(hand.shape(VESNA, 95), -300)))
 
 
-@forgery("a corner in ranges.gpkg is moved by a millimetre", "the polygon of Bor in the layer mcp_100 of ranges.gpkg has other")
+@forgery("a corner in ranges.gpkg is moved by a millimetre", "the polygon of Bor at 100 % in ranges.gpkg has other corners")
 def _(hand):
-    hand.sealed_sql(("UPDATE mcp_100 SET geom = ? WHERE animal = 'Bor'", moved(hand.shape("mcp_100", "Bor"), 0.001)))
+    hand.sealed_sql((f"UPDATE ranges SET geom = ? WHERE {BOR} AND level = 100", moved(hand.shape(BOR, 100), 0.001)))
 
 
-@forgery("two polygons in ranges.gpkg change places", "the polygon of Bor in the layer mcp_50 of ranges.gpkg has other corners")
+@forgery("two polygons in ranges.gpkg change places", "the polygon of Bor at 50 % in ranges.gpkg has other corners")
 def _(hand):
-    hand.sealed_sql(("UPDATE mcp_50 SET geom = ? WHERE animal = 'Bor'", hand.shape("mcp_50", "Vesna")),
-                    ("UPDATE mcp_50 SET geom = ? WHERE animal = 'Vesna'", hand.shape("mcp_50", "Bor")))
+    hand.sealed_sql((f"UPDATE ranges SET geom = ? WHERE {BOR} AND level = 50", hand.shape(VESNA, 50)),
+                    (f"UPDATE ranges SET geom = ? WHERE {VESNA} AND level = 50", hand.shape(BOR, 50)))
 
 
-@forgery("an area in ranges.gpkg",
-         "the polygon of Bor in the layer mcp_95 of ranges.gpkg has level, kept, corners and hectares")
+@forgery("a polygon in ranges.gpkg is a point", "the polygon of Bor at 95 % in ranges.gpkg has other corners")
 def _(hand):
-    hand.sealed_sql(("UPDATE mcp_95 SET hectares = 12.5 WHERE animal = 'Bor'",))
+    hand.sealed_sql((f"UPDATE ranges SET geom = (SELECT geom FROM fixes LIMIT 1) WHERE {BOR} AND level = 95",))
 
 
-@forgery("a polygon is taken out of ranges.gpkg", "the layer mcp_95 of ranges.gpkg has other animals than those with an area")
+for column, value in (("hectares", "12.5"), ("fixes", "9"), ("kept", "9"), ("corners", "3"), ("first", "'2020-01-01T00:00:00.000Z'"),
+                      ("last", "NULL"), ("unit", "'dm'")):
+    @forgery(f"{column} in ranges.gpkg", f"the polygon of Bor at 95 % in ranges.gpkg has {NUMBERS} .*; .* are wanted")
+    def _(hand, column=column, value=value):
+        hand.sealed_sql((f"UPDATE ranges SET {column} = {value} WHERE {BOR} AND level = 95",))
+
+
+@forgery("a polygon is taken out of ranges.gpkg", OTHERS)
 def _(hand):
-    hand.sealed_sql(("DELETE FROM mcp_95 WHERE animal = 'Bor'",))
+    hand.sealed_sql((f"DELETE FROM ranges WHERE {BOR} AND level = 95",))
 
 
-@forgery("a column is added to ranges.gpkg", "the layer mcp_95 of ranges.gpkg has other columns than")
+@forgery("a polygon stands twice in ranges.gpkg", OTHERS)
 def _(hand):
-    hand.sealed_sql(("ALTER TABLE mcp_95 ADD COLUMN area_ha REAL DEFAULT 12.5",))
+    hand.sealed_sql((f"INSERT INTO ranges SELECT 99, geom, {', '.join(COLUMNS)} FROM ranges WHERE {BOR} AND level = 95",))
 
 
-@forgery("a layer of ranges.gpkg is renamed",
-         r"ranges.gpkg has other layers \(mcp_100, mcp_50, mcp_99\) than mcp_100, mcp_50, mcp_95")
+@forgery("two levels change places in ranges.gpkg", f"the polygon of .* at (50|100) % in ranges.gpkg has {NUMBERS}")
 def _(hand):
-    hand.sealed_sql(("ALTER TABLE mcp_95 RENAME TO mcp_99",),
-                    ("UPDATE gpkg_contents SET table_name = 'mcp_99' WHERE table_name = 'mcp_95'",),
-                    ("UPDATE gpkg_geometry_columns SET table_name = 'mcp_99' WHERE table_name = 'mcp_95'",))
+    hand.sealed_sql(("UPDATE ranges SET level = 150 - level WHERE level <> 95",))
 
 
-@forgery("two layers of ranges.gpkg change names", "the polygon of Bor in the layer mcp_(50|100) of ranges.gpkg has level")
+@forgery("a column is added to ranges.gpkg", "the layer ranges of ranges.gpkg has other columns than")
 def _(hand):
-    hand.sealed_sql(*((f"ALTER TABLE {old} RENAME TO {new}",) for old, new in (
-        ("mcp_50", "mcp_0"), ("mcp_100", "mcp_50"), ("mcp_0", "mcp_100"))))
+    hand.sealed_sql(("ALTER TABLE ranges ADD COLUMN area_ha REAL DEFAULT 12.5",))
+
+
+@forgery("a layer of ranges.gpkg is renamed", r"ranges.gpkg has other layers \(fixes, mcp\) than fixes, ranges")
+def _(hand):
+    hand.sealed_sql(("ALTER TABLE ranges RENAME TO mcp",),
+                    ("UPDATE gpkg_contents SET table_name = 'mcp' WHERE table_name = 'ranges'",),
+                    ("UPDATE gpkg_geometry_columns SET table_name = 'mcp' WHERE table_name = 'ranges'",))
+
+
+@forgery("a fix in ranges.gpkg lies elsewhere", "fix 7 of Bor in ranges.gpkg lies elsewhere")
+def _(hand):
+    hand.sealed_sql((f"UPDATE fixes SET geom = (SELECT geom FROM fixes WHERE {VESNA} AND n = 1) WHERE {BOR} AND n = 7",))
+
+
+@forgery("a fix in ranges.gpkg was at another time", "the layer fixes of ranges.gpkg has Bor, 7, 2020-.*; Bor, 7, .* is wanted")
+def _(hand):
+    hand.sealed_sql((f"UPDATE fixes SET time = '2020-01-01T00:00:00.000Z' WHERE {BOR} AND n = 7",))
+
+
+@forgery("a fix is taken out of ranges.gpkg", "the layer fixes of ranges.gpkg has [0-9]+ fixes; [0-9]+ are wanted")
+def _(hand):
+    hand.sealed_sql((f"DELETE FROM fixes WHERE {BOR} AND n = 7",))
+
+
+@forgery("a fix in ranges.gpkg is of another animal", "the layer fixes of ranges.gpkg has Vesna, 7, .*; Bor, 7, .* is wanted")
+def _(hand):
+    hand.sealed_sql((f"UPDATE fixes SET animal = 'Vesna' WHERE {BOR} AND n = 7",))
+
+
+@forgery("a style of ranges.gpkg hides its layer", "ranges.gpkg has another style than such files have")
+def _(hand):
+    hand.sealed_sql(("UPDATE layer_styles SET styleQML = replace(styleQML, 'alpha=\"1\"', 'alpha=\"0\"')",))
+
+
+@forgery("a second style in ranges.gpkg", "ranges.gpkg has another style than such files have")
+def _(hand):
+    hand.sealed_sql(("INSERT INTO layer_styles (f_table_name, styleQML, styleSLD) VALUES ('ranges', '', '')",))
 
 
 @forgery("the number of a zone in ranges.gpkg",
-         "the layer mcp_50 of ranges.gpkg has another reference system than that of zone 33N")
+         "the layer fixes of ranges.gpkg has another reference system than that of zone 33N")
 def _(hand):
     hand.sealed_sql(("UPDATE gpkg_spatial_ref_sys SET organization_coordsys_id = 32634 WHERE srs_id = 32633",))
 

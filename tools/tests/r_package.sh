@@ -23,6 +23,10 @@ cd r_package || exit 1
 holds 'its presets are those of the package for Python' cmp "$top/r/inst/extdata/collars.csv" "$top/python/homerange/collars.csv"
 holds 'its template of the page is that of the package for Python' \
     cmp "$top/r/inst/extdata/page.html" "$top/python/homerange/page.html"
+for layer in ranges fixes; do
+    holds "its style of $layer is that of the package for Python" \
+        cmp "$top/r/inst/extdata/$layer.qml" "$top/python/homerange/$layer.qml"
+done
 if is_r_ready; then
     holds 'the package for R is built' R CMD build "$top/r"
     holds 'the package for R is checked' env _R_CHECK_FORCE_SUGGESTS_=false HOMERANGE_VERIFIER="$tools/verify.py" \

@@ -34,12 +34,22 @@ def check_layer(folder, epsg, units, level, tracks):
     drawn = {name for name in corners if area2(corners[name])}
     if not drawn:
         return
-    layer = geopandas.read_file(folder / "ranges.gpkg", layer=f"mcp_{level}")
+    layer = geopandas.read_file(folder / "ranges.gpkg", layer="ranges")
+    layer = layer[layer["level"] == level]
     assert layer.crs.to_epsg() == epsg
     assert {*layer["animal"]} == drawn
     for name, polygon in zip(layer["animal"], layer.geometry):
         points = [(round(units * east), round(units * north)) for east, north in polygon.exterior.coords]
         assert hull(points) == corners[name], (name, level)
+
+
+def check_fixes(folder, epsg, units, tracks):
+    layer = geopandas.read_file(folder / "ranges.gpkg", layer="fixes")
+    assert layer.crs.to_epsg() == epsg
+    found = {}
+    for name, point in zip(layer["animal"], layer.geometry):
+        found.setdefault(name, []).append((round(units * point.x), round(units * point.y)))
+    assert found == tracks
 
 
 def check_overlaps(folder, tracks):
@@ -72,6 +82,7 @@ def main():
     check_summary(folder, units, levels, tracks)
     for level in levels:
         check_layer(folder, epsg, units, level, tracks)
+    check_fixes(folder, epsg, units, tracks)
     check_overlaps(folder, tracks)
     check_page(folder, units, levels, tracks)
     for picture in ("curves.png", "ranges.png"):

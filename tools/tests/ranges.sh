@@ -152,7 +152,7 @@ boar,1.0" ]
     holds 'ranges of a local grid' "$make" --percent 100 plan/export.csv plan/local
     holds 'the record has the shift' grep -qx shift,1000000,1000000 plan/local/tracks/split.txt
     holds 'its corners are where they were' python3 -c 'import geopandas
-corners = geopandas.read_file("plan/local/ranges.gpkg").geometry[0].exterior.coords
+corners = geopandas.read_file("plan/local/ranges.gpkg", layer="ranges").geometry[0].exterior.coords
 assert {*corners} == {(-300, -400), (-200, -400), (-200, -300)}, [*corners]'
     holds 'a local grid is verified' verify_ranges plan/local plan/export.csv
 

@@ -7,7 +7,7 @@ shifted back. Files made:
     summary.csv    for each animal and level the fixes, the kept ones, corners and hectares
     animals.csv    for each animal what was left out, times, intervals, hectares, and whether its curve levelled off
     overlaps.csv   which share of the fixes of the row's animal lie in the polygon of the column's
-    ranges.gpkg    the polygons, a layer for each level, such as mcp_95
+    ranges.gpkg    layers for a GIS: the polygons of all levels, the fixes, and how QGIS draws them
     curves.png     the area after each fix
     ranges.png     the polygons of all fixes
     report.html    the page: one file to read, to print and to hand in
@@ -74,13 +74,14 @@ def write_results(
     program: str | None = None,
 ) -> None:
     """Writes all that is made of a report into its folder; the page has what its options say."""
-    from ..output import write_layers, write_tables
+    from ..layers import write_layers
+    from ..output import write_tables
     from ..page import write_page
 
     zone_of_time(tz)
     ranges = read_ranges(folder, zone and crs_of(zone_of(zone)), program)
     if ranges.crs is None:
-        say("no UTM zone is known: ranges.gpkg has no reference system")
+        say("no reference system is known: that of ranges.gpkg is an undefined one of metres")
     write_tables(ranges, folder)
     for line in write_layers(ranges, folder / "ranges.gpkg"):
         say(line)

@@ -164,10 +164,11 @@ test_that("layers have the polygons with an area", {
   expect_message(evidence(ranges, folder <- file.path(local_folder(), "hand-in")),
                  "not in ranges.gpkg, since they have no area at 75 %: one, vixen", fixed = TRUE)
   path <- file.path(folder, "ranges.gpkg")
-  expect_identical(sf::st_layers(path)$name, c("mcp_100", "mcp_75"))
-  layer <- sf::st_read(path, "mcp_75", quiet = TRUE)
-  expect_identical(as.list(sf::st_drop_geometry(layer)),
-                   list(animal = "old_boar", level = 75L, kept = 3L, corners = 3L, hectares = 2))
+  expect_identical(sf::st_layers(path)$name, c("ranges", "fixes", "layer_styles"))
+  layer <- sf::st_read(path, "ranges", quiet = TRUE)
+  layer <- layer[layer$level == 75, ]
+  expect_identical(as.list(sf::st_drop_geometry(layer)[c("animal", "level", "fixes", "kept", "corners", "hectares", "unit")]),
+                   list(animal = "old_boar", level = 75L, fixes = 4L, kept = 3L, corners = 3L, hectares = 2, unit = "m"))
   expect_equal(as.numeric(sf::st_area(layer)), 20000)
   expect_identical(sf::st_crs(layer)$epsg, 32633L)
 })

@@ -1,0 +1,142 @@
+"""Layers for a GIS: a GeoPackage with the polygons, the fixes, and how QGIS draws them. Two runs write the same bytes, so its
+dates are those of a run that is not known. Wants geopandas."""
+
+from __future__ import annotations
+
+import os
+import sqlite3
+from contextlib import closing, contextmanager
+from pathlib import Path
+from typing import TYPE_CHECKING, Iterator
+
+import numpy
+import pandas
+
+from .asked import UNITS
+from .ranges import HomeRanges, times_of
+
+if TYPE_CHECKING:
+    import geopandas
+
+NO_DATE = "1970-01-01T00:00:00.000Z"
+# Where no reference system is known: GDAL would take coordinates without one for degrees.
+LOCAL = 'LOCAL_CS["Undefined Cartesian SRS",UNIT["metre",1]]'
+POINT = numpy.dtype([("magic", "S2"), ("version", "u1"), ("flags", "u1"), ("system", "<i4"), ("order", "u1"), ("kind", "<u4"),
+                     ("east", "<f8"), ("north", "<f8")])
+STYLES = """
+CREATE TABLE layer_styles (
+    id INTEGER PRIMARY KEY AUTOINCREMENT NOT NULL, f_table_catalog TEXT, f_table_schema TEXT, f_table_name TEXT,
+    f_geometry_column TEXT, styleName TEXT, styleQML TEXT, styleSLD TEXT, useAsDefault BOOLEAN, description TEXT, owner TEXT,
+    ui TEXT, update_time DATETIME)
+"""
+STYLE = "INSERT INTO layer_styles VALUES (NULL, '', '', ?, 'geom', 'homerange', ?, '', 1, 'homerange', '', NULL, ?)"
+LISTED = """
+INSERT INTO gpkg_contents (table_name, data_type, identifier, description, last_change, srs_id)
+    VALUES ('layer_styles', 'attributes', 'layer_styles', '', ?, 0)
+"""
+
+
+@contextmanager
+def without_date() -> Iterator[None]:
+    """Has GDAL write one date in place of the day's."""
+    before = os.environ.get("OGR_CURRENT_DATE")
+    os.environ["OGR_CURRENT_DATE"] = NO_DATE
+    try:
+        yield
+    finally:
+        os.environ.pop("OGR_CURRENT_DATE")
+        if before is not None:
+            os.environ["OGR_CURRENT_DATE"] = before
+
+
+def placed(layer: geopandas.GeoDataFrame) -> geopandas.GeoDataFrame:
+    """A layer with a reference system: its own, or an undefined one of metres."""
+    from pyproj import CRS
+
+    return layer if layer.crs is not None else layer.set_crs(CRS.from_wkt(LOCAL))
+
+
+def polygons_of(ranges: HomeRanges) -> geopandas.GeoDataFrame:
+    """The polygons of all levels, those of an animal together, with its times and the unit."""
+    polygons, summary = ranges.polygons(ranges.levels), ranges.summary()
+    polygons = polygons.sort_values("animal", key=lambda names: names.map(ranges.animals.index), kind="stable")
+    times = summary.drop_duplicates("animal").set_index("animal")
+    ends = {title: polygons["animal"].map(times[title].dt.tz_convert("UTC")) for title in ("first", "last")}
+    found = polygons.assign(**ends, unit=ranges.unit)
+    return found[["animal", "level", "fixes", "kept", "corners", "hectares", "first", "last", "unit", "geometry"]]
+
+
+def fixes_of(ranges: HomeRanges) -> pandas.DataFrame:
+    """The fixes, numbered by the order of time, with their places in metres."""
+    assert ranges.tracks is not None
+    tracks = ranges.tracks.by_name
+    own = pandas.concat(tracks.values(), keys=tracks.keys(), names=["animal", None]).reset_index("animal")
+    scale, (east, north) = UNITS[ranges.unit].per_metre, ranges.shift
+    return own.reset_index(drop=True).assign(
+        n=numpy.concatenate([numpy.arange(1, len(track) + 1) for track in tracks.values()]),
+        time=lambda table: times_of(table["second"], "UTC"),
+        easting=own["easting"].to_numpy() / scale - east, northing=own["northing"].to_numpy() / scale - north)
+
+
+def write_fixes(ranges: HomeRanges, path: Path) -> None:
+    """Writes the layer of fixes: GDAL makes it of the first, and the others are put behind it, since one by one they take
+    150 microseconds each."""
+    import geopandas
+
+    own = fixes_of(ranges)
+    first = own.iloc[:1]
+    points = geopandas.points_from_xy(first["easting"], first["northing"])
+    layer = geopandas.GeoDataFrame(first[["animal", "n", "time"]], geometry=points, crs=ranges.crs)
+    placed(layer).to_file(path, driver="GPKG", layer="fixes", SPATIAL_INDEX="NO")
+    with closing(sqlite3.connect(path)) as base:
+        system, = base.execute("SELECT srs_id FROM gpkg_geometry_columns WHERE table_name = 'fixes'").fetchone()
+        rest = own.iloc[1:]
+        rows = zip(shapes_of(rest, system), rest["animal"], rest["n"].tolist(), times_text(rest["time"]))
+        base.executemany("INSERT INTO fixes (geom, animal, n, time) VALUES (?, ?, ?, ?)", rows)
+        box = [float(end(own[title])) for end in (min, max) for title in ("easting", "northing")]
+        base.execute("UPDATE gpkg_contents SET min_x = ?, min_y = ?, max_x = ?, max_y = ? WHERE table_name = 'fixes'", box)
+        base.commit()
+
+
+def shapes_of(fixes: pandas.DataFrame, system: int) -> list[bytes]:
+    """The points of fixes as a GeoPackage has them."""
+    shapes = numpy.zeros(len(fixes), dtype=POINT)
+    shapes["magic"], shapes["flags"], shapes["system"], shapes["order"], shapes["kind"] = b"GP", 1, system, 1, 1
+    shapes["east"], shapes["north"] = fixes["easting"], fixes["northing"]
+    content = shapes.tobytes()
+    return [content[at:at + POINT.itemsize] for at in range(0, len(content), POINT.itemsize)]
+
+
+def times_text(times: pandas.Series) -> list[str | None]:
+    """Times as a GeoPackage has them."""
+    whole = times.dt.tz_localize(None).to_numpy()
+    return [None if text == "NaT" else f"{text}Z" for text in numpy.datetime_as_string(whole, unit="ms").tolist()]
+
+
+def write_styles(path: Path, layers: list[str]) -> None:
+    """Writes how QGIS draws the layers."""
+    with closing(sqlite3.connect(path)) as base:
+        base.execute(STYLES)
+        for name in layers:
+            base.execute(STYLE, (name, Path(__file__).with_name(f"{name}.qml").read_text("utf-8"), NO_DATE))
+        base.execute(LISTED, (NO_DATE,))
+        base.commit()
+
+
+def write_layers(ranges: HomeRanges, path: Path) -> list[str]:
+    """Writes the layer of polygons that have an area, and that of fixes where these are known; answers which polygons have
+    none."""
+    polygons = polygons_of(ranges)
+    has_area = polygons["corners"] > 2
+    flat = {level: polygons.loc[~has_area & (polygons["level"] == level), "animal"] for level in ranges.levels}
+    written = ["ranges"] * bool(has_area.any()) + ["fixes"] * ranges.has_fixes
+    path.unlink(missing_ok=True)
+    with without_date():
+        if "ranges" in written:
+            placed(polygons[has_area]).to_file(path, driver="GPKG", layer="ranges")
+        if "fixes" in written:
+            write_fixes(ranges, path)
+    if written:
+        write_styles(path, written)
+    return [f"not in {path.name}, since they have no area at {level} %: {', '.join(names)}"
+            for level, names in flat.items() if len(names)]

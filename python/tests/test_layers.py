@@ -1,0 +1,106 @@
+"""The GeoPackage of ranges: its layers as sqlite3 and geopandas read them, against polygons by hand and the fixes themselves."""
+import sqlite3
+import time
+from contextlib import closing
+from pathlib import Path
+
+import pytest
+from exact import area2, cloud, hull, nearest
+from frames import frame_of
+
+import homerange
+from homerange import home_range
+from homerange.layers import write_layers
+
+geopandas = pytest.importorskip("geopandas")
+SQUARE = [(500000, 5000000), (500100, 5000000), (500100, 5000100), (500000, 5000100)]
+
+
+def query(path, text):
+    with closing(sqlite3.connect(path)) as base:
+        return base.execute(text).fetchall()
+
+
+@pytest.fixture(scope="module")
+def herd():
+    return {"fox": cloud(4, 40), "a 'b'": cloud(5, 25), "one": [(500004, 5000005)]}
+
+
+def test_polygons_of_all_levels_stand_in_one_layer(herd, tmp_path):
+    said = write_layers(home_range(frame_of(**herd), (50, 95), zone="33N"), tmp_path / "ranges.gpkg")
+    assert said == ["not in ranges.gpkg, since they have no area at 50 %: one",
+                    "not in ranges.gpkg, since they have no area at 95 %: one"]
+    layer = geopandas.read_file(tmp_path / "ranges.gpkg", layer="ranges")
+    assert [*layer.columns] == ["animal", "level", "fixes", "kept", "corners", "hectares", "first", "last", "unit", "geometry"]
+    assert [*zip(layer["animal"], layer["level"])] == [("fox", 50), ("fox", 95), ("a 'b'", 50), ("a 'b'", 95)]
+    assert layer.crs.to_epsg() == 32633 and {*layer["unit"]} == {"m"}
+    for row in layer.itertuples():
+        kept = nearest(herd[row.animal], row.level)
+        assert (row.fixes, row.kept, row.corners) == (len(herd[row.animal]), len(kept), len(hull(kept)))
+        assert row.hectares == area2(hull(kept)) / 20000
+        assert {(round(x), round(y)) for x, y in row.geometry.exterior.coords} == {*hull(kept)}
+
+
+def test_fixes_are_numbered_with_their_times(herd, tmp_path):
+    write_layers(home_range(frame_of(**herd), 100), tmp_path / "ranges.gpkg")
+    layer = geopandas.read_file(tmp_path / "ranges.gpkg", layer="fixes")
+    assert [*layer.columns] == ["animal", "n", "time", "geometry"]
+    for name, points in herd.items():
+        own = layer[layer["animal"] == name]
+        assert own["n"].tolist() == [*range(1, len(points) + 1)]
+        assert [(point.x, point.y) for point in own.geometry] == points
+    box = query(tmp_path / "ranges.gpkg", "SELECT min_x, min_y, max_x, max_y FROM gpkg_contents WHERE table_name = 'fixes'")[0]
+    sides = [*zip(*(point for points in herd.values() for point in points))]
+    assert box == (min(sides[0]), min(sides[1]), max(sides[0]), max(sides[1]))
+
+
+def test_times_are_those_of_utc(tmp_path):
+    """A clock that is two hours before UTC, and a time that pandas has not."""
+    frame = frame_of(a=SQUARE)
+    frame["timestamp"] = ["2024-05-01 00:00:02", "2024-05-01 01:00", "2024-05-01 02:00", "2024-05-01 03:00"]
+    with pytest.warns(homerange.HomeRangeNote, match="without a zone are those of UTC"):
+        ranges = home_range(frame, 100, tz="Europe/Ljubljana")
+    write_layers(ranges, tmp_path / "ranges.gpkg")
+    assert query(tmp_path / "ranges.gpkg", "SELECT first, last FROM ranges") == [
+        ("2024-05-01T00:00:02.000Z", "2024-05-01T03:00:00.000Z")]
+    assert query(tmp_path / "ranges.gpkg", "SELECT time FROM fixes WHERE n < 3") == [
+        ("2024-05-01T00:00:02.000Z",), ("2024-05-01T01:00:00.000Z",)]
+
+
+def test_times_after_2262_are_missing(tmp_path):
+    frame = frame_of(a=SQUARE).drop(columns="timestamp").assign(second=[0, 1, 2, 2 ** 40])
+    write_layers(home_range(frame, 100), tmp_path / "ranges.gpkg")
+    assert query(tmp_path / "ranges.gpkg", "SELECT first, last FROM ranges") == [("1970-01-01T00:00:00.000Z", None)]
+    assert query(tmp_path / "ranges.gpkg", "SELECT time FROM fixes WHERE n = 4") == [(None,)]
+
+
+def test_without_a_reference_system_it_is_an_undefined_one_of_metres(tmp_path):
+    write_layers(home_range(frame_of(a=SQUARE), 100), tmp_path / "ranges.gpkg")
+    assert query(tmp_path / "ranges.gpkg", "SELECT table_name, srs_id FROM gpkg_contents WHERE data_type = 'features'") == [
+        ("ranges", -1), ("fixes", -1)]
+    assert geopandas.read_file(tmp_path / "ranges.gpkg", layer="fixes").crs.axis_info[0].unit_name.lower() in ("meter", "metre")
+
+
+def test_two_runs_write_the_same_bytes(herd, tmp_path):
+    for name in ("one.gpkg", "two.gpkg"):
+        write_layers(home_range(frame_of(**herd), 100, zone="33N"), tmp_path / name)
+        time.sleep(1.1)
+    assert (tmp_path / "one.gpkg").read_bytes() == (tmp_path / "two.gpkg").read_bytes()
+
+
+def test_each_layer_has_its_style(tmp_path):
+    write_layers(home_range(frame_of(a=SQUARE), 100), tmp_path / "ranges.gpkg")
+    styles = query(tmp_path / "ranges.gpkg", "SELECT f_table_name, f_geometry_column, styleQML, useAsDefault FROM layer_styles")
+    folder = Path(homerange.__file__).parent
+    assert styles == [(name, "geom", (folder / f"{name}.qml").read_text("utf-8"), 1) for name in ("ranges", "fixes")]
+
+
+def test_ranges_without_an_area_have_their_fixes_alone(tmp_path):
+    write_layers(home_range(frame_of(a=[(1, 2), (3, 4)]), 100), tmp_path / "ranges.gpkg")
+    assert query(tmp_path / "ranges.gpkg", "SELECT table_name FROM gpkg_contents") == [("fixes",), ("layer_styles",)]
+
+
+def test_what_was_there_is_gone(tmp_path):
+    (tmp_path / "ranges.gpkg").write_bytes(b"x")
+    write_layers(home_range(frame_of(a=SQUARE), 100), tmp_path / "ranges.gpkg")
+    assert query(tmp_path / "ranges.gpkg", "SELECT count(*) FROM fixes") == [(4,)]

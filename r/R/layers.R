@@ -1,0 +1,69 @@
+# Layers for a GIS: a GeoPackage with the polygons, the fixes, and how QGIS draws them, by sf. Two runs write the same bytes, so
+# its dates are those of a run that is not known.
+
+no_date <- "1970-01-01T00:00:00.000Z"
+
+# Writes the layer of polygons that have an area, and that of fixes; says which polygons have none.
+write_layers <- function(ranges, path) {
+  polygons <- layer_of_polygons(ranges)
+  has_area <- polygons$corners > 2
+  for (level in unique(ranges$percents$level)) {
+    flat <- polygons$animal[!has_area & polygons$level == level]
+    if (length(flat)) {
+      message("homerange: not in ", basename(path), ", since they have no area at ", level, " %: ", paste(flat, collapse = ", "))
+    }
+  }
+  before <- Sys.getenv("OGR_CURRENT_DATE", NA)
+  Sys.setenv(OGR_CURRENT_DATE = no_date)
+  on.exit(if (is.na(before)) Sys.unsetenv("OGR_CURRENT_DATE") else Sys.setenv(OGR_CURRENT_DATE = before))
+  if (any(has_area)) write_layer(polygons[has_area, ], path, "ranges")
+  write_layer(layer_of_fixes(ranges), path, "fixes", "SPATIAL_INDEX=NO")
+  sf::st_write(styles_of(c("ranges"[any(has_area)], "fixes")), path, "layer_styles", quiet = TRUE, append = TRUE,
+               layer_options = "FID=id")
+}
+
+# Of shapes without a reference system sf says that they have none: they get an undefined one of metres.
+write_layer <- function(layer, path, name, options = NULL) {
+  suppressMessages(sf::st_write(layer, path, name, quiet = TRUE, append = TRUE, layer_options = options))
+}
+
+# The polygons of all levels, those of an animal together, with its times and the unit.
+layer_of_polygons <- function(ranges) {
+  levels <- unique(ranges$percents$level)
+  shapes <- do.call(rbind, lapply(levels, function(level) as_sf(ranges, level, rings_of(ranges, level))))
+  own <- ranges$percents[match(paste(shapes$animal, shapes$level), paste(ranges$percents$animal, ranges$percents$level)), ]
+  place <- match(shapes$animal, ranges$animals$animal)
+  last <- last_rows(ranges)[place]
+  shapes$fixes <- ranges$animals$fixes[place]
+  shapes$corners <- own$corners
+  whole <- c("level", "fixes", "kept", "corners")
+  shapes[whole] <- lapply(sf::st_drop_geometry(shapes)[whole], as.integer)
+  shapes$first <- layer_time(ranges$rows$second[last - shapes$fixes + 1])
+  shapes$last <- layer_time(ranges$rows$second[last])
+  shapes$unit <- rep(ranges$unit, nrow(shapes))
+  shapes[order(place), c("animal", whole, "hectares", "first", "last", "unit")]
+}
+
+# The fixes, numbered by the order of time.
+layer_of_fixes <- function(ranges) {
+  metres <- in_metres(ranges, ranges$fixes[c("easting", "northing")])
+  fixes <- data.frame(animal = ranges$fixes$animal, n = sequence(ranges$animals$fixes), time = layer_time(ranges$fixes$moment),
+                      x = metres[, 1], y = metres[, 2])
+  sf::st_as_sf(fixes, coords = c("x", "y"), crs = crs_or_none(ranges))
+}
+
+# Times of UTC, as tables have them.
+layer_time <- function(seconds) .POSIXct(ifelse(seconds <= last_of_pandas, seconds, NA_real_), tz = "UTC")
+
+# How QGIS draws layers, in the columns in which it looks for that.
+styles_of <- function(layers) {
+  style <- function(name) {
+    path <- system.file("extdata", paste0(name, ".qml"), package = "homerange", mustWork = TRUE)
+    readChar(path, file.size(path), useBytes = TRUE)
+  }
+  data.frame(
+    f_table_catalog = "", f_table_schema = "", f_table_name = layers, f_geometry_column = "geom", styleName = "homerange",
+    styleQML = vapply(layers, style, "", USE.NAMES = FALSE), styleSLD = "", useAsDefault = TRUE, description = "homerange",
+    owner = "", ui = NA_character_, update_time = .POSIXct(0, tz = "UTC")
+  )
+}
