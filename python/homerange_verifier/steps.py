@@ -277,8 +277,8 @@ class Verification:
         if self.split is None:
             self.findings.unseen(f"the reference system of {LAYERS}: the tracks have no record")
         where = f", in the reference system of zone {layers.zone}" if layers.zone else f", in {layers.crs}" if layers.crs else ""
-        if self.findings.hold(layers.fault(), f"the layers of {LAYERS} have the polygons that another method computes, with "
-                              f"their corners, numbers and hectares{where}, and the fixes of the tracks"):
+        if self.findings.hold(layers.fault(), f"the layers of {LAYERS} have the fixes of the tracks and the polygons that another "
+                              f"method computes, with their corners, numbers and hectares{where}"):
             self.alike.append(LAYERS)
 
     def page(self):

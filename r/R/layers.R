@@ -18,7 +18,7 @@ write_layers <- function(ranges, path) {
   on.exit(if (is.na(before)) Sys.unsetenv("OGR_CURRENT_DATE") else Sys.setenv(OGR_CURRENT_DATE = before))
   if (any(has_area)) write_layer(polygons[has_area, ], path, "ranges")
   write_layer(layer_of_fixes(ranges), path, "fixes", "SPATIAL_INDEX=NO")
-  sf::st_write(styles_of(c("ranges"[any(has_area)], "fixes")), path, "layer_styles", quiet = TRUE, append = TRUE,
+  sf::st_write(qgis_styles(c("ranges"[any(has_area)], "fixes")), path, "layer_styles", quiet = TRUE, append = TRUE,
                layer_options = "FID=id")
 }
 
@@ -56,7 +56,7 @@ layer_of_fixes <- function(ranges) {
 layer_time <- function(seconds) .POSIXct(ifelse(seconds <= last_of_pandas, seconds, NA_real_), tz = "UTC")
 
 # How QGIS draws layers, in the columns in which it looks for that.
-styles_of <- function(layers) {
+qgis_styles <- function(layers) {
   style <- function(name) {
     path <- system.file("extdata", paste0(name, ".qml"), package = "homerange", mustWork = TRUE)
     readChar(path, file.size(path), useBytes = TRUE)

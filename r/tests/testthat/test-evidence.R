@@ -170,6 +170,14 @@ test_that("layers have the polygons with an area", {
   expect_identical(as.list(sf::st_drop_geometry(layer)[c("animal", "level", "fixes", "kept", "corners", "hectares", "unit")]),
                    list(animal = "old_boar", level = 75L, fixes = 4L, kept = 3L, corners = 3L, hectares = 2, unit = "m"))
   expect_equal(as.numeric(sf::st_area(layer)), 20000)
+  fixes <- sf::st_read(path, "fixes", quiet = TRUE)
+  expect_identical(fixes$n, unlist(lapply(table(factor(fixes$animal, unique(fixes$animal))), seq_len), use.names = FALSE))
+  expect_identical(as.numeric(fixes$time[fixes$animal == "vixen"]), c(1714521600, 1714523400))
+  expect_identical(unname(sf::st_coordinates(fixes)[fixes$animal == "vixen", ]), rbind(c(562050, 5134050), c(562400, 5134400)))
+  again <- file.path(local_folder(), "again.gpkg")
+  Sys.sleep(1.1)
+  quietly(write_layers(ranges_of_report(ranges, folder, clean_names(ranges$animals$animal), NULL), again))
+  expect_identical(readBin(again, "raw", file.size(again)), readBin(path, "raw", file.size(path)))
   expect_identical(sf::st_crs(layer)$epsg, 32633L)
 })
 
