@@ -1,5 +1,6 @@
 # Numbers and times of plain forms, read of the bytes of a text by where they stand in it, all of one form at once.
 
+fields_at_once <- 32768L
 most_exact_digits <- 15  # of a whole number that is divided by a power of ten without an error
 minus <- charToRaw("-")
 quote_mark <- charToRaw("\"")
@@ -21,6 +22,31 @@ whole_numbers <- function(bytes, starts, places) {
   whole <- numeric(length(starts))
   for (place in as.integer(places)) whole <- 10 * whole + digits_of_codes[as.integer(bytes[starts + place])]
   whole
+}
+
+# The whole numbers of fields of digits alone. R reads those of many digits. Pieces of fields fit into a processor's cache.
+field_wholes <- function(bytes, starts, widths) {
+  ends <- starts + widths
+  wholes <- numeric(length(ends))
+  for (first in seq(1L, by = fields_at_once, length.out = ceiling(length(ends) / fields_at_once))) {
+    own <- first:min(first + fields_at_once - 1L, length(ends))
+    wholes[own] <- digits_before(bytes, ends[own], widths[own])
+  }
+  long <- which(widths > most_exact_digits)
+  wholes[long] <- vapply(long, function(at) as.numeric(rawToChar(bytes[starts[at] + seq_len(widths[at]) - 1L])), 0)
+  wholes
+}
+
+# The numbers of which the digits, from the last on, stand before these places.
+digits_before <- function(bytes, ends, widths) {
+  wholes <- numeric(length(ends))
+  least <- min(widths)
+  for (place in seq_len(min(max(widths), most_exact_digits))) {
+    digits <- as.integer(bytes[ends - place]) - 48L
+    if (place > least) digits <- digits * (widths >= place)
+    wholes <- wholes + powers_of_ten[place] * digits
+  }
+  wholes
 }
 
 # The numbers of plain fields, NA where a field is empty. Tails are the widths of the decimals with their point. R reads those

@@ -79,8 +79,8 @@ put_frame <- function(x, names, folder) {
   tracks <- file.path(folder, "tracks")
   for (place in seq_along(names)) {
     own <- x$fixes[x$fixes$animal == x$animals$animal[place], ]
-    lines <- sprintf("%s,%.0f,%.0f,%.0f", names[place], own$moment, own$easting, own$northing)
-    write_lines(file.path(tracks, paste0(names[place], ".csv")), c("animal,second,easting,northing", lines))
+    records <- c(list(second = own$moment), own[c("easting", "northing")])
+    write_track(file.path(tracks, paste0(names[place], ".csv")), records, names[place], seq_len(nrow(own)), FALSE)
   }
   left <- x$left_out
   left$animal <- clean_names(left$animal)

@@ -27,7 +27,7 @@ clone_program <- function(folder) {
   }
 }
 
-# The lines of the report of these files, of one animal each.
+# The text of the report of these files, of one animal each.
 run_program <- function(files, animals, options) {
   folder <- dirname(files[1])
   output <- tempfile("report", folder)
@@ -36,7 +36,7 @@ run_program <- function(files, animals, options) {
   words <- c(options, shQuote(files))
   status <- suppressWarnings(system2(homerange_program(), words, stdout = output, stderr = fault))
   if (status != 0) refuse_run(status, readLines(fault, warn = FALSE, encoding = "UTF-8"), files, animals)
-  readLines(output, warn = FALSE, encoding = "UTF-8")
+  report_text(output)
 }
 
 kinds_by_status <- c("file", "option", "memory", "output", "cut")
@@ -50,38 +50,31 @@ refuse_run <- function(status, lines, files, animals) {
   refuse(kind, line)
 }
 
-# Writes the fixes of each animal to a file; a column use has which are used, if it is not NULL. The file and the animal in
+# Writes the fixes of each animal to a file, of which mask says which are used, if it is not NULL. The file and the animal in
 # it are named by a number, since the program takes not each name.
-write_tracks <- function(fixes, folder, use = NULL) {
-  animals <- unique(fixes$animal)
-  animal <- factor(match(fixes$animal, animals), seq_along(animals))
-  numbers <- lapply(list(fixes$moment, fixes$easting, fixes$northing), sprintf, fmt = "%.0f")
-  text <- do.call(paste, c(list(animal), numbers, sep = ","))
-  header <- "animal,second,easting,northing"
-  if (!is.null(use)) {
-    text <- paste(text, as.integer(use), sep = ",")
-    header <- paste0(header, ",use")
-  }
-  tracks <- split(text, animal)
-  files <- file.path(folder, paste0(seq_along(tracks), ".csv"))
-  for (place in seq_along(tracks)) {
-    write_lines(files[place], c(header, tracks[[place]]))
-  }
+write_tracks <- function(fixes, folder, mask = NULL) {
+  records <- c(list(second = fixes$moment), fixes[c("easting", "northing")], list(used = mask))
+  rows <- split(seq_along(fixes$animal), as_groups(fixes$animal))
+  files <- file.path(folder, paste0(seq_along(rows), ".csv"))
+  for (at in seq_along(rows)) write_track(files[at], records, as.character(at), rows[[at]], !is.null(mask))
   files
 }
 
-# The report of these files, with the names of their animals.
-report_of <- function(files, animals, options) {
-  report <- parse_report(run_program(files, animals, options))
-  names <- `names<-`(animals, sub("[.]csv$", "", basename(files)))
-  for (table in setdiff(names(report), "unit")) {
-    for (column in intersect(c("animal", "other"), names(report[[table]]))) {
-      found <- names[report[[table]][[column]]]
-      if (anyNA(found)) refuse("check", "the report has not the animals of its files")
-      report[[table]][[column]] <- unname(found)
-    }
-  }
+# What is parsed of the report of these files, which have numbers for names, with the names of their animals.
+report_of <- function(files, animals, options, parse = parse_report) {
+  report <- parse(run_program(files, animals, options))
+  for (table in setdiff(names(report), "unit")) report[[table]] <- with_names(report[[table]], files, animals)
   report
+}
+
+# A table of a report with the names of the animals in place of those of their files.
+with_names <- function(table, files, animals) {
+  for (column in intersect(c("animal", "other"), names(table))) {
+    found <- animals[match(table[[column]], sub("[.]csv$", "", basename(files)))]
+    if (anyNA(found)) refuse("check", "the report has not the animals of its files")
+    table[[column]] <- found
+  }
+  table
 }
 
 # Calls a function with a folder of its own, which is gone afterwards.

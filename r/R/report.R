@@ -1,60 +1,126 @@
 # Reads the program's report.
 
-field_counts <- c(animal = 4, box = 6, row = 6, corner = 5, percent = 6, overlap = 5)
+# The form of a report up to its last line: of each animal its lines, which all have the name of the first, then overlaps.
+report_form <- paste0(
+  "^(?:unit,dm\n)?+(?:animal,([^,\n]++),fixes,[0-9]++\n(?:box,\\1(?:,[0-9]++){4}\n)*+(?:row,\\1(?:,[0-9]++){4}\n)*+",
+  "(?:corner,\\1(?:,[0-9]++){3}\n)*+(?:percent,\\1(?:,[0-9]++){4}\n)*+)*+(?:overlap(?:,[^,\n]++){2}(?:,[0-9]++){2}\n)*+"
+)
+end_form <- "(?<![^\n])end,([0-9]++)\n?\\z"
+# The fields of each kind of line, and how many of them are texts, which stand before the numbers.
+fields_of_kinds <- list(
+  animal = c("animal", "word", "fixes"), box = c("animal", "west", "south", "east", "north"),
+  row = c("animal", "n", "second", "corners", "area2"), corner = c("animal", "corner", "easting", "northing"),
+  percent = c("animal", "level", "kept", "corners", "area2"), overlap = c("animal", "other", "count", "fixes")
+)
+texts_of_kinds <- c(animal = 2, box = 1, row = 1, corner = 1, percent = 1, overlap = 2)
 
-# The tables of a report's lines, which are refused where they are not a whole report.
-parse_report <- function(lines, name = "the report") {
-  refuse_report <- function(...) refuse("report", name, ": ", ...)
-  if (length(lines) == 0 || !grepl("^end,[0-9]+$", lines[length(lines)])) {
-    refuse_report("there is no end line, so it is cut off or no report")
-  }
-  unit <- if (lines[1] == "unit,dm") "dm" else "m"
-  body <- lines[seq(if (unit == "dm") 2 else 1, length.out = length(lines) - (unit == "dm") - 1)]
-  fields <- strsplit(body, ",", fixed = TRUE)
-  kinds <- vapply(fields, `[`, "", 1)
-  bad <- which(!kinds %in% names(field_counts) | lengths(fields) != field_counts[kinds])[1]
-  if (!is.na(bad)) refuse_report("line ", bad + (unit == "dm"), " is none of a report: ", substr(body[bad], 1, 60))
-  table_of <- function(kind, columns, texts) report_table(fields[kinds == kind], kind, columns, texts, refuse_report)
+# The text of a report's file.
+report_text <- function(path) text_of_bytes(readBin(path, "raw", file.size(path)), path, "UTF-8")
+
+# The tables of a report's text, which is refused where it is not a whole report.
+parse_report <- function(text, name = "the report") {
+  end <- check_form(text, name)
+  lines <- lines_of_report(charToRaw(text))
+  animals <- texts_at(lines, "animal", 1)
   report <- list(
-    unit = unit,
-    animals = table_of("animal", c("animal", "word", "fixes"), c("animal", "word")),
-    boxes = table_of("box", c("animal", "west", "south", "east", "north"), "animal"),
-    rows = table_of("row", c("animal", "n", "second", "corners", "area2"), "animal"),
-    corners = table_of("corner", c("animal", "corner", "easting", "northing"), "animal"),
-    percents = table_of("percent", c("animal", "level", "kept", "corners", "area2"), "animal"),
-    overlaps = table_of("overlap", c("animal", "other", "count", "fixes"), c("animal", "other"))
+    unit = if (startsWith(text, "unit,dm\n")) "dm" else "m", animals = cbind(animal = animals, numbers_at(lines, "animal")),
+    rows = table_of_animals(lines, "row", animals), corners = table_of_animals(lines, "corner", animals),
+    percents = table_of_animals(lines, "percent", animals), overlaps = overlaps_at(lines)
   )
-  check_report(report, as.numeric(sub("end,", "", lines[length(lines)])), refuse_report)
+  check_report(report, count_lines(lines, "box", animals), end, name)
   report
 }
 
-# A data frame of the lines of one kind; all columns but those of texts are whole numbers.
-report_table <- function(fields, kind, columns, texts, refuse_report) {
-  cells <- matrix(as.character(unlist(fields)), ncol = length(columns) + 1, byrow = TRUE)[, -1, drop = FALSE]
-  table <- as.data.frame(cells)
-  names(table) <- columns
-  for (column in setdiff(columns, texts)) {
-    if (!all(grepl("^[0-9]+$", table[[column]]))) refuse_report("a line ", kind, " has no whole number as ", column)
-    table[[column]] <- as.numeric(table[[column]])
-  }
-  table
+# The overlaps alone of a report's text.
+parse_overlaps <- function(text, name = "the report") {
+  check_form(text, name)
+  first <- regexpr("\noverlap,", text, fixed = TRUE, useBytes = TRUE)
+  list(overlaps = overlaps_at(lines_of_report(charToRaw(text)[-seq_len(max(first, 0))])))
 }
 
+# Refuses a text that has not the form of a report; the number of animals that its last line says.
+check_form <- function(text, name) {
+  end <- regexpr(end_form, text, perl = TRUE, useBytes = TRUE)
+  if (end < 0) refuse("report", name, ": there is no end line, so it is cut off or no report")
+  fits <- attr(regexpr(report_form, text, perl = TRUE, useBytes = TRUE), "match.length")
+  if (fits + 1 != end) refuse_line(text, fits, name)
+  field_wholes(charToRaw(text), attr(end, "capture.start"), attr(end, "capture.length"))
+}
+
+# Refuses the line of a text that stands behind these first bytes, which are whole lines that are right.
+refuse_line <- function(text, bytes, name) {
+  number <- sum(charToRaw(text)[seq_len(bytes)] == line_ends[1]) + 1
+  line <- lines_of_text(text)[number]
+  refuse("report", name, ": line ", number, " is none of a report there: ", substr(line, 1, 60))
+}
+
+# The lines of the bytes of a report that has its form: where each ends, the places of those of each kind, where commas are, and
+# how many of them are before each line.
+lines_of_report <- function(bytes) {
+  ends <- grepRaw(line_ends[1], bytes, fixed = TRUE, all = TRUE)
+  kinds <- match(bytes[c(1L, ends + 1L)[seq_along(ends)]], charToRaw("abrcpo"), nomatch = 0L)  # as in fields_of_kinds
+  commas <- c(1L, lengths(fields_of_kinds))[kinds + 1L]
+  list(bytes = bytes, ends = ends, commas = grepRaw(as.raw(44), bytes, fixed = TRUE, all = TRUE),
+       before = cumsum(c(0L, commas))[seq_along(ends)],
+       of = lapply(`names<-`(seq_along(fields_of_kinds), names(fields_of_kinds)), function(kind) which(kinds == kind)))
+}
+
+# Where a field of these lines, counted behind the word for their kind, begins and how wide it is.
+fields_at <- function(lines, own, field, is_last) {
+  starts <- lines$commas[lines$before[own] + field] + 1L
+  list(starts = starts, widths = (if (is_last) lines$ends[own] else lines$commas[lines$before[own] + field + 1L]) - starts)
+}
+
+# The numbers of the lines of a kind, by their names.
+numbers_at <- function(lines, kind) {
+  fields <- fields_of_kinds[[kind]]
+  own <- lines$of[[kind]]
+  wanted <- setdiff(seq_along(fields), seq_len(texts_of_kinds[[kind]]))
+  columns <- lapply(wanted, function(field) {
+    at <- fields_at(lines, own, field, field == length(fields))
+    field_wholes(lines$bytes, at$starts, at$widths)
+  })
+  list2DF(`names<-`(columns, fields[wanted]))
+}
+
+# The texts in a field of the lines of a kind.
+texts_at <- function(lines, kind, field) {
+  at <- fields_at(lines, lines$of[[kind]], field, FALSE)
+  texts <- vapply(seq_along(at$starts), function(place) rawToChar(lines$bytes[at$starts[place] + seq_len(at$widths[place]) - 1L]), "")
+  Encoding(texts) <- "UTF-8"
+  texts
+}
+
+overlaps_at <- function(lines) {
+  cbind(animal = texts_at(lines, "overlap", 1), other = texts_at(lines, "overlap", 2), numbers_at(lines, "overlap"))
+}
+
+# The place of the animal of each line of a kind: its line stands before.
+animals_at <- function(lines, kind) findInterval(lines$of[[kind]], lines$of$animal)
+
+count_lines <- function(lines, kind, animals) tabulate(animals_at(lines, kind), length(animals))
+
+table_of_animals <- function(lines, kind, animals) cbind(animal = animals[animals_at(lines, kind)], numbers_at(lines, kind))
+
 # Whether the tables have what the animals' lines say.
-check_report <- function(report, end, refuse_report) {
-  animals <- report$animals
-  if (nrow(animals) == 0) refuse_report("it has no animals")
-  if (nrow(animals) != end) refuse_report("it has ", nrow(animals), " animals, and its last line says ", end)
-  if (anyDuplicated(animals$animal)) refuse_report("an animal is there twice")
-  places <- lapply(report[-1], function(table) match(table$animal, animals$animal))
-  if (anyNA(unlist(places)) || !all(report$overlaps$other %in% animals$animal)) {
+check_report <- function(report, boxes, end, name) {
+  refuse_report <- function(...) refuse("report", name, ": ", ...)
+  animals <- report$animals$animal
+  number <- length(animals)
+  if (number == 0) refuse_report("it has no animals")
+  if (number != end) refuse_report("it has ", number, " animals, and its last line says ", end)
+  if (anyDuplicated(animals)) refuse_report("an animal is there twice")
+  if (!all(c(report$overlaps$animal, report$overlaps$other) %in% animals)) {
     refuse_report("a line is of an animal that has no line animal")
   }
-  counts <- lapply(places, tabulate, nrow(animals))
-  last <- report$rows[cumsum(counts$rows), ]
-  whole <- identical(report$rows$n, as.numeric(sequence(animals$fixes))) && all(counts$rows == animals$fixes) &&
-    all(counts$boxes == 1) && all(counts$corners == last$corners) && length(unique(counts$percents)) <= 1 &&
-    all(counts$overlaps == nrow(animals) - 1)
+  counts <- lapply(report[c("rows", "corners", "percents", "overlaps")], function(table) {
+    tabulate(match(table$animal, animals), number)
+  })
+  fixes <- report$animals$fixes
+  whole <- all(counts$rows == fixes) && identical(report$rows$n, as.numeric(sequence(fixes))) && all(boxes == 1) &&
+    all(counts$corners == report$rows$corners[cumsum(fixes)]) &&
+    identical(report$corners$corner, as.numeric(sequence(counts$corners))) && length(unique(counts$percents)) == 1 &&
+    all(counts$overlaps == number - 1)
   if (!whole) refuse_report("lines are missing, or there twice")
 }
 
@@ -74,7 +140,7 @@ read_report <- function(file, start = NULL, files = NULL, record = NULL) {
   if (!is.null(files) && (!is.character(files) || !length(files) || anyNA(files))) refuse("option", "files: names of files are wanted")
   if (!is.null(record) && !is_text(record)) refuse("option", "record: the name of one file is wanted")
   if (!file.exists(file) || dir.exists(file)) refuse("file", file, ": there is no such file")
-  report <- parse_report(readLines(file, warn = FALSE, encoding = "UTF-8"), file)
+  report <- parse_report(report_text(file), file)
   animals <- report$animals$animal
   counts <- matrix(NA_real_, length(animals), length(animals), dimnames = list(animals, animals))
   report$overlaps <- put_overlaps(counts, report$overlaps)

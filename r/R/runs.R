@@ -24,7 +24,7 @@ run_all <- function(files, animals, options, progress) {
   reports <- list()
   for (step in seq_along(plan)) {
     run <- plan[[step]]
-    report <- report_of(files[run$places], animals[run$places], options)
+    report <- report_of(files[run$places], animals[run$places], options, if (run$is_pair) parse_overlaps else parse_report)
     counts <- put_overlaps(counts, report$overlaps)
     if (!run$is_pair) reports <- c(reports, list(report[setdiff(names(report), "overlaps")]))
     if (!is.null(bar)) setTxtProgressBar(bar, step)
@@ -38,6 +38,7 @@ run_all <- function(files, animals, options, progress) {
 
 # One report of the reports of groups, but for overlaps.
 join_reports <- function(reports) {
+  if (length(reports) == 1) return(reports[[1]])
   tables <- setdiff(names(reports[[1]]), "unit")
   joined <- lapply(tables, function(name) do.call(rbind, lapply(reports, `[[`, name)))
   c(list(unit = reports[[1]]$unit), `names<-`(joined, tables))

@@ -12,7 +12,10 @@ split_text <- function(path, into, options, tell) {
   on.exit(if (!is_done) unlink(into, recursive = TRUE))
   make_folder(into)
   rows <- rows_of_animals(split$tracks$herd)
-  for (animal in names(rows)) write_track(into, split, as.integer(animal), rows[[animal]], isTRUE(options$mark))
+  for (animal in names(rows)) {
+    name <- split$names[as.integer(animal)]
+    write_track(file.path(into, paste0(name, ".csv")), split$tracks$records, name, rows[[animal]], isTRUE(options$mark))
+  }
   record <- record_of_split(path, split, rows, options, checksums_of(into), said)
   write_lines(file.path(into, "split.txt"), lines_of_record(record))
   is_done <- TRUE
@@ -38,15 +41,14 @@ rows_of_animals <- function(herd) {
   split(herd$rows, as_groups(animals_of(herd)))
 }
 
-# Writes the file of an animal, in pieces.
-write_track <- function(folder, split, animal, rows, has_marks) {
-  name <- split$names[animal]
-  output <- file(file.path(folder, paste0(name, ".csv")), "wb")
+# Writes the file of an animal by its name, in pieces: these rows of records.
+write_track <- function(path, records, name, rows, has_marks) {
+  output <- file(path, "wb")
   on.exit(close(output))
   writeLines(paste0("animal,second,easting,northing", if (has_marks) ",use"), output)
   for (start in seq(1, length(rows), lines_written)) {
     piece <- rows[start:min(start + lines_written - 1, length(rows))]
-    writeBin(track_bytes(split$tracks$records, name, piece, has_marks), output)
+    writeBin(track_bytes(records, name, piece, has_marks), output)
   }
 }
 
