@@ -11,7 +11,7 @@ number_form <- "^[-+]?(?:[0-9]+[.]?[0-9]*|[.][0-9]+)(?:[eE][-+]?[0-9]+)?\\z"
 new_asked <- function(options, is_frame) {
   asked <- list2env(list(
     is_frame = is_frame, is_all_used = FALSE, unit = "m", mark = FALSE, skip_unnamed = FALSE, name = "animal", na = character(),
-    skip_lines = 0, encoding = "utf-8"
+    skip_lines = 0, encoding = "utf-8", quiet = FALSE
   ))
   list2env(options[!vapply(options, is.null, NA)], asked)
   asked$missing <- c("", "NA", asked$na)
@@ -57,7 +57,9 @@ check_asked <- function(asked) {
   if (asked$name == "" || asked$is_frame && has_control(asked$name)) {
     refuse("option", option_title(asked, "name"), ": a name without control characters is wanted")
   }
-  if (!is_truth(asked$skip_unnamed)) refuse("option", "skip_unnamed: TRUE or FALSE is wanted")
+  for (option in c("skip_unnamed", "quiet")) {
+    if (!is_truth(asked[[option]])) refuse("option", option, ": TRUE or FALSE is wanted")
+  }
   check_zone_of_time(clock_of(asked))
   asked$max_dop <- number_from_0(asked$max_dop, "max-dop")
   asked$max_speed <- number_from_0(asked$max_speed, "max-speed")

@@ -55,7 +55,7 @@ choose_sensors <- function(choice) {
     keep_records(choice, of %in% with_none(wanted), "sensor", "records of other sensors")
   }
   left <- unique(choice$records$sensor[choice$records$used])
-  if (length(left) == 1 && !left %in% c("gps", "")) say(choice$said, NULL, "all fixes are of the sensor ", left)
+  if (length(left) == 1 && !left %in% c("gps", "")) say(choice$said, NULL, "all fixes are of the sensor ", left, kind = "guessed")
 }
 
 # Leaves outliers out, unless they are written with a mark.

@@ -44,12 +44,19 @@ new_said <- function(tell) {
   said
 }
 
-# Says a text, behind its count if it has one; what counts 0 is not said.
-say <- function(said, count, ...) {
+# Says a text, behind its count if it has one; what counts 0 is not said. What is said is of a kind: what was guessed, left out,
+# sorted, moved or rounded, or what is asked.
+say <- function(said, count, ..., kind = "left_out") {
   if (identical(as.numeric(count), 0)) return(invisible())
   line <- one_line(paste0(if (!is.null(count)) paste0(sprintf("%.0f", count), " "), ...))
   said$lines <- c(said$lines, line)
-  said$tell(line)
+  said$tell(line, kind)
+}
+
+# Tells a line as a message with the classes homerange_KIND_note and homerange_note.
+tell_note <- function(line, kind) {
+  classes <- c(paste0("homerange_", kind, "_note"), "homerange_note", "message", "condition")
+  message(structure(class = classes, list(message = paste0("homerange: ", one_line(line), "\n"), call = NULL)))
 }
 
 # Counts fixes of these animals as left out for this reason.
@@ -63,7 +70,7 @@ leave_out <- function(said, animals, reason) {
   said$left <- rbind(said$left, data.frame(animal = names[!old], reason = rep(reason, sum(!old)), fixes = counts[!old]))
 }
 
-in_digits <- function(numbers) format(numbers, big.mark = ",", scientific = FALSE, trim = TRUE)
+in_digits <- function(numbers) format(numbers, big.mark = ",", decimal.mark = ".", scientific = FALSE, trim = TRUE)
 
 # A number of things in words: "1 fix", "2 fixes".
 count_of <- function(number, one, several = paste0(one, "s")) {

@@ -3,8 +3,9 @@
 # docs/EVIDENCE.md says what it shows.
 
 # Makes the folder of evidence of home ranges, whose page is written with the other arguments.
-evidence <- function(x, folder, ...) {
-  if (!inherits(x, "home_range")) refuse("option", "x: a home range is wanted")
+homerange_evidence <- function(x, folder, ...) {
+  check_ranges(x)
+  if (isTRUE(x$is_part)) refuse("option", "x: evidence is made of the ranges of one call or one report, with all their animals")
   if (is.null(x$fixes)) refuse("option", "evidence needs the fixes: read_report(file, files = ..)")
   if (!is_text(folder) || !nzchar(folder)) refuse("option", "folder: the name of a new folder is wanted")
   folder <- sub("(.)/+$", "\\1", folder)
@@ -43,7 +44,7 @@ fill_evidence <- function(x, folder, names, program, ...) {
   record <- record_in(file.path(folder, "tracks"))
   if (!is.null(record)) check_record(record, file.path(folder, "tracks"))
   made <- report_of_folder(x, folder, names, program, record)
-  for (line in renames_of(x$animals$animal, names)) message("homerange: ", one_line(line))
+  for (line in renames_of(x$animals$animal, names)) tell_note(line, "renamed")
   write_summary(made, file.path(folder, "summary.csv"))
   write_animals(made, file.path(folder, "animals.csv"))
   write_overlaps(made, file.path(folder, "overlaps.csv"))

@@ -261,7 +261,7 @@ tell_names <- function(herd, said) {
   names <- herd$names[herd_animals(herd)]
   clean <- clean_names(names)
   refuse_same_names(names, clean)
-  for (at in which(names != clean)) say(said, NULL, "animal '", names[at], "' is named ", clean[at])
+  for (at in which(names != clean)) say(said, NULL, "animal '", names[at], "' is named ", clean[at], kind = "renamed")
 }
 
 # Refuses two animals whose clean names are the same.
@@ -276,10 +276,8 @@ read_export <- function(file, ...) {
   options <- list(...)
   if (!is_text(file)) refuse("option", "file: the name of one file is wanted")
   check_options(options)
-  said <- new_said(function(line) {
-    # What the table has is neither rounded nor shifted.
-    if (!grepl("^coordinates are (rounded|shifted)", line)) message("homerange: ", line)
-  })
+  # What the table has is neither rounded nor shifted.
+  said <- new_said(function(line, kind) if (!kind %in% c("rounded", "moved")) tell_note(line, kind))
   split <- with_prefix(function(record) paste0(file, ": "), read_text(file, c(options, mark = TRUE), said))
   tracks <- split$tracks
   rows <- tracks$rows[order(tracks$records$second[tracks$rows], tracks$records$part[tracks$rows], method = "radix")]

@@ -5,7 +5,7 @@ home_range <- function(x, levels = c(50, 95, 100), unit = "m", animal = NULL, ti
                        use = NULL, from = NULL, to = NULL, months = NULL, hours = NULL, every = NULL, tz = NULL, crs = NULL,
                        progress = interactive(), lon = NULL, lat = NULL, name = "animal", zone = NULL, skip_unnamed = FALSE,
                        sensor = NULL, argos_class = NULL, argos = NULL, max_dop = NULL, dop = NULL, fix_type = NULL, fix = NULL,
-                       since = NULL, until = NULL, max_speed = NULL) {
+                       since = NULL, until = NULL, max_speed = NULL, quiet = FALSE) {
   levels <- checked_levels(levels)
   asked <- new_asked(list(
     unit = unit, animal = titles_named(animal, "animal"), time = titles_named(time, "time"), easting = easting,
@@ -13,18 +13,20 @@ home_range <- function(x, levels = c(50, 95, 100), unit = "m", animal = NULL, ti
     lat = lat, name = name, zone = zone, skip_unnamed = skip_unnamed, sensor = words_of(sensor, "sensor"),
     argos_class = words_of(argos_class, "argos_class"), argos = argos, max_dop = max_dop, dop = dop,
     fix_type = words_of(fix_type, "fix_type"), fix = fix, since = either(since, from, "since", "from"),
-    until = either(until, to, "until", "to"), max_speed = max_speed
+    until = either(until, to, "until", "to"), max_speed = max_speed, quiet = quiet
   ), is_frame = TRUE)
   check_asked(asked)
-  homerange_program()  # refuses now, and not after all has been read, where there is none
+  program <- homerange_program()  # refuses now, and not after all has been read, where there is none
   read <- read_frame(x, asked, use, crs)
   report <- in_folder(function(folder) {
     files <- write_tracks(read$fixes, folder)
-    run_all(files, unique(read$fixes$animal), c("--unit", asked$unit, "--percent", levels), isTRUE(progress))
+    run_all(program, files, unique(read$fixes$animal), c("--unit", asked$unit, "--percent", levels), isTRUE(progress))
   })
   if (!identical(report$rows$second, read$fixes$moment)) refuse("check", "the report has not the times of the fixes")
   ranges <- new_home_range(report, read$fixes$time, read$fixes, read$left_out, read$crs, read$shift, read$zone, read$notes, read$tz)
   ranges[c("options", "is_projected")] <- read[c("options", "is_projected")]
+  ranges$program <- identity_of(program)
+  ranges$call <- match.call()
   ranges
 }
 
@@ -80,11 +82,11 @@ new_home_range <- function(report, time, fixes = NULL, left_out = NULL, crs = NU
   structure(list(
     unit = report$unit, animals = report$animals[c("animal", "fixes")], rows = report$rows, corners = report$corners,
     percents = report$percents, overlaps = report$overlaps, fixes = fixes, left_out = left_out, crs = crs, shift = shift,
-    zone = zone, notes = notes, tz = tz
+    zone = zone, notes = notes, tz = tz, cache = new.env(parent = emptyenv())
   ), class = "home_range")
 }
 
 # Eastings and northings of the program in metres where they were.
 in_metres <- function(ranges, places) {
-  sweep(as.matrix(places[c("easting", "northing")]) / units_known[[ranges$unit]]$scale, 2, ranges$shift)
+  sweep(as.matrix(places[, c("easting", "northing"), drop = FALSE]) / units_known[[ranges$unit]]$scale, 2, ranges$shift)
 }

@@ -5,8 +5,8 @@ fewest_fixes <- 30  # below which nothing is said of a curve
 
 # A row for each animal: from which fix on the area stayed within 95 per cent of the final one, what the last tenth and the
 # last quarter of the fixes added, and the verdict.
-levelling <- function(x) {
-  if (!inherits(x, "home_range")) refuse("option", "x: a home range is wanted")
+homerange_levelling <- function(x) {
+  check_ranges(x)
   first <- last_rows(x) - x$animals$fixes
   found <- lapply(split(x$rows$area2, rep(seq_along(first), x$animals$fixes)), levelling_of)
   numbers_of <- function(what) vapply(found, `[[`, 0, what, USE.NAMES = FALSE)

@@ -54,7 +54,7 @@ write_animals <- function(ranges, path) {
   first <- ranges$rows$second[last_rows(ranges) - animals$fixes + 1]
   intervals <- lapply(split(ranges$rows$second, rep(seq_along(last), animals$fixes)), diff)
   of_intervals <- function(what) vapply(intervals, function(own) if (length(own)) what(own) else NA_real_, 0)
-  grown <- levelling(ranges)
+  grown <- homerange_levelling(ranges)
   write_table(path, c(
     list(animal = animals$animal, records = whole_text(animals$fixes + Reduce(`+`, left, 0))), lapply(left, whole_text),
     list(used = whole_text(animals$fixes), first = seconds_text(first), last = seconds_text(last),
@@ -95,7 +95,7 @@ hectares_by_level <- function(ranges) {
 
 # Which share of the fixes of a row's animal lie in the polygon of a column's.
 write_overlaps <- function(ranges, path) {
-  shares <- overlap(ranges, share = TRUE)
+  shares <- homerange_overlap(ranges, share = TRUE)
   columns <- lapply(seq_len(ncol(shares)), function(at) rounded_text(shares[, at]))
   write_table(path, c(list(fixes_of = rownames(shares)), `names<-`(columns, colnames(shares))))
 }

@@ -12,7 +12,8 @@ find_places <- function(table, records, said) {
   check_degrees(table, records, said)
   if (!is.null(table$columns$grid) && !table$columns$is_utm) {
     if (!is.null(wanted) || !asked$is_frame) {
-      say(said, NULL, "coordinates are those of the table; zone: ", if (is.null(wanted)) "not known" else wanted)
+      say(said, NULL, "coordinates are those of the table; zone: ", if (is.null(wanted)) "not known" else wanted,
+          kind = "guessed")
     }
     return(list(east = records$east, north = records$north, zone = wanted, is_shifted = TRUE))
   }
@@ -28,7 +29,7 @@ ask_zeros <- function(table, records, said) {
   away <- sqrt(records$east[is_there]^2 + records$north[is_there]^2)
   zeros <- sum(away == 0)
   if (zeros < length(away) && min(away[away > 0]) > far_from_corner) {
-    say(said, zeros, "fixes lie at easting 0 and northing 0: are they fixes that failed?")
+    say(said, zeros, "fixes lie at easting 0 and northing 0: are they fixes that failed?", kind = "asked")
   }
 }
 
@@ -41,7 +42,8 @@ check_degrees <- function(table, records, said) {
   north <- records$north[is_there]
   if (!all(abs(east) <= 180 & abs(north) <= 90) || all(east == floor(east) & north == floor(north))) return(invisible())
   if (columns$is_own || columns$grid[1] < 0) {
-    say(said, NULL, "all fixes lie within 180 m by 90 m of the grid's corner: are they longitude and latitude?")
+    say(said, NULL, "all fixes lie within 180 m by 90 m of the grid's corner: are they longitude and latitude?",
+        kind = "asked")
     return(invisible())
   }
   titles <- title_of(table, columns$grid)
@@ -82,7 +84,7 @@ utm_places <- function(asked, records, wanted, said) {
   if (found$number > 1 || length(bare) || !is.null(wanted) && wanted != found$first) return(NULL)
   is_other <- !has_grid
   is_other[has_grid] <- zones_of(asked, records, has_grid, found$first) != found$first
-  say(said, NULL, "UTM coordinates are those of the export; zone: ", found$counts)
+  say(said, NULL, "UTM coordinates are those of the export; zone: ", found$counts, kind = "guessed")
   list(east = replace(records$east, is_other, NA), north = records$north, zone = found$first, is_shifted = FALSE)
 }
 
@@ -100,7 +102,8 @@ projected_places <- function(table, records, wanted, said) {
            option_word(asked, "zone", sub("[NS]", "S", zones$first)))
   }
   zone <- if (is.null(wanted)) zones$first else wanted
-  say(said, NULL, "longitude and latitude are projected into zone ", zone, "; fixes by zone: ", zones$counts)
+  say(said, NULL, "longitude and latitude are projected into zone ", zone, "; fixes by zone: ", zones$counts,
+      kind = "guessed")
   places <- project(records$longitude, records$latitude, zone, asked)
   list(east = places[, 1], north = places[, 2], zone = zone, is_shifted = FALSE, is_projected = TRUE)
 }
@@ -116,7 +119,9 @@ refuse_degrees <- function(table, zone) {
 shift_of_places <- function(places, used, unit, said) {
   if (!places$is_shifted) return(c(0, 0))
   shift <- c(shift_of(places$east[used], "eastings", unit), shift_of(places$north[used], "northings", unit))
-  if (any(shift != 0)) say(said, NULL, sprintf("coordinates are shifted by %.0f m east and %.0f m north", shift[1], shift[2]))
+  if (any(shift != 0)) {
+    say(said, NULL, sprintf("coordinates are shifted by %.0f m east and %.0f m north", shift[1], shift[2]), kind = "moved")
+  }
   shift
 }
 
@@ -158,6 +163,6 @@ tell_moved <- function(places, whole, shift, unit, said) {
   furthest <- max(moved[whole$is_on & moved < 1], 0)
   if (furthest > 1e-6) {
     say(said, NULL, "coordinates are rounded to whole ", unit$name, ", which moves a fix by at most ", sprintf("%.2g", furthest),
-        " m")
+        " m", kind = "rounded")
   }
 }

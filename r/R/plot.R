@@ -38,7 +38,7 @@ check_over <- function(ranges, over) {
   if (is.null(over)) return(NULL)
   if (!inherits(over, c("sf", "sfc"))) refuse("option", "over: an sf geometry is wanted")
   if (is.null(ranges$crs) || sf::st_crs(over) != ranges$crs) {
-    refuse("option", "over: this is not in the CRS of the fixes: sf::st_transform(over, sf::st_crs(polygons(x)))")
+    refuse("option", "over: this is not in the CRS of the fixes: sf::st_transform(over, sf::st_crs(sf::st_as_sf(x)))")
   }
   sf::st_geometry(over)
 }

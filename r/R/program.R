@@ -1,6 +1,9 @@
 # Finds and runs the program homerange.
 
-# The path of the program.
+held_programs <- new.env(parent = emptyenv())  # those of packages whose checksum was looked at
+
+# The path of the program: the one that is named, the installed package's own, that of the clone that this code stands in, or
+# the one on PATH.
 homerange_program <- function() {
   named <- c("options(homerange.program)" = getOption("homerange.program", ""), "HOMERANGE" = Sys.getenv("HOMERANGE"))
   for (by in names(named)[nzchar(named)]) {
@@ -8,7 +11,8 @@ homerange_program <- function() {
     if (!nzchar(path)) refuse("program", "there is no program ", named[[by]], ", which ", by, " names")
     return(normalizePath(path))
   }
-  found <- c(clone_program(getwd()), clone_program(getNamespaceInfo("homerange", "path")), Sys.which("homerange"))
+  here <- getNamespaceInfo("homerange", "path")
+  found <- c(packed_program(here), clone_program(here), Sys.which("homerange"))
   found <- found[nzchar(found)]
   if (length(found) == 0) {
     refuse("program", "the program homerange was not found: name it by options(homerange.program = \"...\") or by ",
@@ -17,24 +21,35 @@ homerange_program <- function() {
   normalizePath(found[[1]])
 }
 
-# The program of the clone of homerange's repository that a folder stands in, or nothing.
-clone_program <- function(folder) {
-  repeat {
-    path <- file.path(folder, "release", "homerange")
-    if (file.exists(path) && file.exists(file.path(folder, "release", "SOURCES"))) return(path)
-    if (dirname(folder) == folder) return(character())
-    folder <- dirname(folder)
+# The program that was installed with the package, which has to have the checksum that was, or nothing.
+packed_program <- function(folder) {
+  path <- file.path(folder, "bin", "homerange")
+  if (!file.exists(path)) return(character())
+  if (is.null(held_programs[[path]])) {
+    lines <- readLines(file.path(folder, "bin", "SHA256SUMS"), warn = FALSE)
+    if (!paste0(checksum_of(path), "  release/homerange") %in% lines) {
+      refuse("program", path, " is not the program that was installed with the package: install the package again")
+    }
+    held_programs[[path]] <- TRUE
   }
+  path
+}
+
+# The program of the clone of homerange's repository whose folder r a folder is, or nothing.
+clone_program <- function(folder) {
+  release <- file.path(dirname(folder), "release")
+  is_clone <- basename(folder) == "r" && all(file.exists(file.path(release, c("homerange", "SOURCES"))))
+  if (is_clone) file.path(release, "homerange") else character()
 }
 
 # The text of the report of these files, of one animal each.
-run_program <- function(files, animals, options) {
+run_program <- function(program, files, animals, options) {
   folder <- dirname(files[1])
   output <- tempfile("report", folder)
   fault <- tempfile("fault", folder)
   on.exit(unlink(c(output, fault)))
   words <- c(options, shQuote(files))
-  status <- suppressWarnings(system2(homerange_program(), words, stdout = output, stderr = fault))
+  status <- suppressWarnings(system2(program, words, stdout = output, stderr = fault))
   if (status != 0) refuse_run(status, readLines(fault, warn = FALSE, encoding = "UTF-8"), files, animals)
   report_text(output)
 }
@@ -50,19 +65,19 @@ refuse_run <- function(status, lines, files, animals) {
   refuse(kind, line)
 }
 
-# Writes the fixes of each animal to a file, of which mask says which are used, if it is not NULL. The file and the animal in
-# it are named by a number, since the program takes not each name.
-write_tracks <- function(fixes, folder, mask = NULL) {
-  records <- c(list(second = fixes$moment), fixes[c("easting", "northing")], list(used = mask))
+# Writes the fixes of each animal to a file. The file and the animal in it are named by a number, since the program takes not
+# each name.
+write_tracks <- function(fixes, folder) {
+  records <- c(list(second = fixes$moment), fixes[c("easting", "northing")])
   rows <- split(seq_along(fixes$animal), as_groups(fixes$animal))
   files <- file.path(folder, paste0(seq_along(rows), ".csv"))
-  for (at in seq_along(rows)) write_track(files[at], records, as.character(at), rows[[at]], !is.null(mask))
+  for (at in seq_along(rows)) write_track(files[at], records, as.character(at), rows[[at]], FALSE)
   files
 }
 
 # What is parsed of the report of these files, which have numbers for names, with the names of their animals.
-report_of <- function(files, animals, options, parse = parse_report) {
-  report <- parse(run_program(files, animals, options))
+report_of <- function(program, files, animals, options, parse) {
+  report <- parse(run_program(program, files, animals, options))
   for (table in setdiff(names(report), "unit")) report[[table]] <- with_names(report[[table]], files, animals)
   report
 }

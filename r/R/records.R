@@ -302,10 +302,12 @@ finish_table <- function(table, said) {
 
 tell_columns_missing <- function(table, said) {
   if (!length(table$columns$animal)) {
-    say(said, NULL, "no column has a usual title for the animal: all fixes are of one, named ", table$asked$name)
+    say(said, NULL, "no column has a usual title for the animal: all fixes are of one, named ", table$asked$name,
+        kind = "guessed")
   }
   if (!length(table$columns$time)) {
-    say(said, NULL, "no column has a usual title for the time: fixes are in the order of rows, as seconds 0, 1, 2, ..")
+    say(said, NULL, "no column has a usual title for the time: fixes are in the order of rows, as seconds 0, 1, 2, ..",
+        kind = "guessed")
   }
 }
 
@@ -316,7 +318,7 @@ tell_times <- function(table, said) {
   used <- Filter(function(form) form$state$is_used, times$forms)
   texts <- vapply(used, `[[`, "", "text")
   how <- if (length(texts)) paste(texts, collapse = " and ") else "ISO text"
-  say(said, NULL, "times are read as ", how, ", in ", clock_of(table$asked))
+  say(said, NULL, "times are read as ", how, ", in ", clock_of(table$asked), kind = "guessed")
 }
 
 # The records of all pieces, by columns; the pieces are gone then.
@@ -345,8 +347,9 @@ settled_records <- function(table, records, said) {
     if (is_earlier) records$second[at] <- records$other[at]
   }
   numbers <- records$number[twice]
-  listed <- paste0(paste(sprintf("%.0f", numbers)[seq_len(min(10, length(numbers)))], collapse = ", "), if (length(numbers) > 10) ", ..")
-  say(said, length(twice), "records lie in the hour that comes twice in ", clock_of(table$asked), ": records ", listed)
+  shown <- sprintf("%.0f", numbers[seq_len(min(10, length(numbers)))])
+  listed <- paste0(paste(shown, collapse = ", "), if (length(numbers) > 10) ", ..")
+  say(said, length(twice), "records lie in the hour that comes twice in ", clock_of(table$asked), ": records ", listed, kind = "guessed")
   records$other <- NULL
   records
 }
@@ -361,7 +364,7 @@ check_animals <- function(table, said) {
     refuse("onefix", "every one of ", animals, " animals has one record: is ", title, " the animal? Name its column, as by ",
            option_word(table$asked, "animal", "COLUMN"))
   }
-  if (2 * single > animals) say(said, single, "of ", animals, " animals have one record: is ", title, " the animal?")
+  if (2 * single > animals) say(said, single, "of ", animals, " animals have one record: is ", title, " the animal?", kind = "asked")
   tell_alike(table$names, said)
 }
 
@@ -369,7 +372,8 @@ check_animals <- function(table, said) {
 tell_alike <- function(names, said) {
   plain <- tolower(trimws(names, whitespace = "[ \t\u00a0]"))
   for (at in which(duplicated(plain))) {
-    say(said, NULL, "animals '", names[match(plain[at], plain)], "' and '", names[at], "' differ in blanks or capitals alone: are they one?")
+    say(said, NULL, "animals '", names[match(plain[at], plain)], "' and '", names[at],
+        "' differ in blanks or capitals alone: are they one?", kind = "asked")
   }
 }
 

@@ -146,6 +146,7 @@ read_report <- function(file, start = NULL, files = NULL, record = NULL) {
   report$overlaps <- put_overlaps(counts, report$overlaps)
   seconds <- report$rows$second
   ranges <- new_home_range(report, time = if (is.null(start)) seconds else start + seconds)
+  ranges$call <- match.call()
   ranges$checksum <- checksum_of(file)
   if (!is.null(files)) ranges <- with_files(ranges, files)
   if (is.null(record)) return(ranges)
@@ -204,14 +205,6 @@ check_fixes <- function(fixes, ranges) {
   }
 }
 
-# Whether a way turns right, exactly for whole numbers below 2^38: all parts stay below 2^53.
-is_right_turn <- function(east, north, other_east, other_north) {
-  part <- 2^14
-  high <- (east %/% part) * other_north - (north %/% part) * other_east
-  low <- (east %% part) * other_north - (north %% part) * other_east
-  high + low %/% part < 0
-}
-
 # Ranges of tracks that have a record: what was left out and said is that of the record, and so are the reference system and
 # the shift, where none is known otherwise.
 with_record <- function(ranges, record) {
@@ -224,4 +217,30 @@ with_record <- function(ranges, record) {
   code <- code_of_record(record)
   if (!is.null(code) && has_sf()) ranges$crs <- sf::st_crs(code)
   ranges
+}
+
+# Writes the report of home ranges, with the names that animals have in files, as the program would of those.
+write_report <- function(x, path) {
+  check_ranges(x)
+  if (!is_text(path) || !nzchar(path)) refuse("option", "path: the name of one file is wanted")
+  if (anyNA(x$overlaps)) refuse("option", "x: these are ranges of several reports, whose overlaps are not known")
+  animals <- x$animals$animal
+  names <- names_of_files(animals)
+  for (line in renames_of(animals, names)) tell_note(line, "renamed")
+  tables <- lapply(x[c("rows", "corners", "percents")], function(table) split(table, factor(table$animal, animals)))
+  lines <- Map(lines_of_animal, names, x$animals$fixes, tables$rows, tables$corners, tables$percents)
+  pairs <- which(row(x$overlaps) != col(x$overlaps), arr.ind = TRUE)
+  pairs <- pairs[order(pairs[, 1], pairs[, 2]), , drop = FALSE]
+  overlaps <- sprintf("overlap,%s,%s,%.0f,%.0f", names[pairs[, 1]], names[pairs[, 2]], x$overlaps[pairs], x$animals$fixes[pairs[, 1]])
+  write_lines(path, c(if (x$unit == "dm") "unit,dm", unlist(lines), overlaps, sprintf("end,%d", length(names))))
+  invisible(path)
+}
+
+# The lines of an animal in a report.
+lines_of_animal <- function(name, fixes, rows, corners, percents) {
+  lines_of <- function(kind, columns) do.call(paste, c(list(kind, name), lapply(columns, sprintf, fmt = "%.0f"), sep = ","))
+  box <- lapply(corners[c("easting", "northing")], range)
+  c(sprintf("animal,%s,fixes,%.0f", name, fixes), lines_of("box", list(box[[1]][1], box[[2]][1], box[[1]][2], box[[2]][2])),
+    lines_of("row", rows[c("n", "second", "corners", "area2")]), lines_of("corner", corners[c("corner", "easting", "northing")]),
+    lines_of("percent", percents[c("level", "kept", "corners", "area2")]))
 }

@@ -1,9 +1,9 @@
 # How much of home ranges lies in a reserve.
 
 # A row for each animal with the hectares of its polygon, those of them in the reserve, and their share.
-share_inside <- function(x, reserve, level = 100) {
-  if (!inherits(x, "home_range")) refuse("option", "x: a home range is wanted")
-  if (!has_sf()) refuse("option", "share_inside wants the package sf, which is not installed")
+homerange_share <- function(x, reserve, level = 100) {
+  check_ranges(x)
+  if (!has_sf()) refuse("option", "homerange_share wants the package sf, which is not installed")
   boundary <- boundary_of(x, reserve)
   shapes <- sf::st_sfc(lapply(unname(rings_of(x, level)), as_shape), crs = crs_or_none(x))
   area_of <- function(shapes) sum(as.numeric(sf::st_area(shapes)))

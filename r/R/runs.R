@@ -16,7 +16,7 @@ plan_runs <- function(number) {
 }
 
 # The report of all files, as one run would give it if it took them.
-run_all <- function(files, animals, options, progress) {
+run_all <- function(program, files, animals, options, progress) {
   plan <- plan_runs(length(files))
   bar <- if (progress && length(plan) > 1) txtProgressBar(max = length(plan), style = 3)
   if (!is.null(bar)) on.exit(close(bar))
@@ -24,7 +24,8 @@ run_all <- function(files, animals, options, progress) {
   reports <- list()
   for (step in seq_along(plan)) {
     run <- plan[[step]]
-    report <- report_of(files[run$places], animals[run$places], options, if (run$is_pair) parse_overlaps else parse_report)
+    parse <- if (run$is_pair) parse_overlaps else parse_report
+    report <- report_of(program, files[run$places], animals[run$places], options, parse)
     counts <- put_overlaps(counts, report$overlaps)
     if (!run$is_pair) reports <- c(reports, list(report[setdiff(names(report), "overlaps")]))
     if (!is.null(bar)) setTxtProgressBar(bar, step)

@@ -6,7 +6,7 @@ lines_written <- 50000  # at once
 split_text <- function(path, into, options, tell) {
   if (!nzchar(into)) refuse("option", "into: the folder has no name")
   if (is_there(into)) refuse("text", into, " is there already: remove it, or name another by --into")
-  said <- new_said(tell)
+  said <- new_said(function(line, kind) tell(line))
   split <- read_text(path, options, said)
   is_done <- FALSE
   on.exit(if (!is_done) unlink(into, recursive = TRUE))
@@ -19,7 +19,8 @@ split_text <- function(path, into, options, tell) {
   record <- record_of_split(path, split, rows, options, checksums_of(into), said)
   write_lines(file.path(into, "split.txt"), lines_of_record(record))
   is_done <- TRUE
-  say(said, NULL, length(split$tracks$rows), " fixes of ", length(rows), " animals are in ", into, ", in ", unit_of(options))
+  say(said, NULL, length(split$tracks$rows), " fixes of ", length(rows), " animals are in ", into, ", in ", unit_of(options),
+      kind = "done")
 }
 
 # Whether a path names something, if a link to nothing.

@@ -1,100 +1,143 @@
 # Tables of home ranges.
 
+# Units of areas: the title of a column of them, how many hectares each has, and its name in the package units.
+areas_known <- list(
+  ha = list(title = "hectares", hectares = 1, name = "hectare"), m2 = list(title = "square_metres", hectares = 1e-4, name = "m^2"),
+  km2 = list(title = "square_kilometres", hectares = 100, name = "km^2")
+)
+
 hectares_of <- function(ranges, area2) area2 / units_known[[ranges$unit]]$hectare
+
+# A column of areas by its title, or one of the package units.
+area_column <- function(ranges, area2, area, units) {
+  if (!is_text(area) || !area %in% names(areas_known)) refuse("option", "area: \"ha\", \"m2\" or \"km2\" is wanted")
+  if (!is_truth(units)) refuse("option", "units: TRUE or FALSE is wanted")
+  unit <- areas_known[[area]]
+  values <- area2 / round(units_known[[ranges$unit]]$hectare * unit$hectares)
+  if (!units) return(`names<-`(list(values), unit$title))
+  if (!requireNamespace("units", quietly = TRUE)) refuse("option", "units = TRUE wants the package units, which is not installed")
+  list(area = units::set_units(values, unit$name, mode = "standard"))
+}
 
 # The place of the last row of each animal among all rows.
 last_rows <- function(ranges) cumsum(ranges$animals$fixes)
 
-# A data frame with a row for each animal and level.
-summary.home_range <- function(object, ...) {
+# A row for each animal and level, with the times of its fixes and how many were left out.
+summary.home_range <- function(object, area = "ha", units = FALSE, ...) {
   check_dots(...)
   place <- match(object$percents$animal, object$animals$animal)
   last <- last_rows(object)
   first <- last - object$animals$fixes + 1
-  animals <- object$animals$animal
-  left_out <- vapply(animals, function(animal) sum(object$left_out$fixes[object$left_out$animal == animal]), 0)
-  left_out <- if (is.null(object$left_out)) NA_real_ else unname(left_out)[place]
-  table <- data.frame(
-    animal = object$percents$animal,
-    first = object$rows$time[first[place]],
-    last = object$rows$time[last[place]],
-    fixes = object$animals$fixes[place],
-    left_out = left_out,
-    level = object$percents$level,
-    kept = object$percents$kept,
-    corners = object$percents$corners,
-    hectares = hectares_of(object, object$percents$area2)
+  left_out <- vapply(object$animals$animal, function(animal) sum(object$left_out$fixes[object$left_out$animal == animal]), 0)
+  columns <- list(
+    animal = object$percents$animal, first = object$rows$time[first[place]], last = object$rows$time[last[place]],
+    fixes = object$animals$fixes[place], left_out = if (is.null(object$left_out)) rep(NA_real_, length(place)) else unname(left_out)[place],
+    level = object$percents$level, kept = object$percents$kept, corners = object$percents$corners
   )
-  rownames(table) <- NULL
+  list2DF(c(columns, area_column(object, object$percents$area2, area, units)))
+}
+
+# A row for each animal and level.
+as.data.frame.home_range <- function(x, row.names = NULL, optional = FALSE, ..., area = "ha", units = FALSE) {
+  table <- summary(x, area = area, units = units, ...)
+  table <- table[c("animal", "level", setdiff(names(table), c("animal", "level", "first", "last", "left_out")))]
+  if (!is.null(row.names)) row.names(table) <- row.names
   table
 }
 
 # How many fixes were left out of the table, by animal and reason.
-left_out <- function(x) {
-  if (!inherits(x, "home_range")) refuse("option", "x: a home range is wanted")
+homerange_left_out <- function(x) {
+  check_ranges(x)
   if (is.null(x$left_out)) refuse("option", "a report does not say what was left out")
   table <- x$left_out[order(x$left_out$animal, x$left_out$reason, method = "radix"), ]
   rownames(table) <- NULL
   table
 }
 
-# The table of incremental area analysis; what is no home range goes to the function of this name in graphics.
-curve <- function(x, ...) {
-  ranges <- tryCatch(x, error = function(fault) if (inherits(fault, "homerange_error")) stop(fault))
-  if (!inherits(ranges, "home_range")) {
-    call <- sys.call()
-    call[[1]] <- quote(graphics::curve)
-    return(eval(call, parent.frame()))
-  }
-  check_dots(...)
-  rows <- ranges$rows
-  data.frame(animal = rows$animal, n = rows$n, time = rows$time, corners = rows$corners,
-             hectares = hectares_of(ranges, rows$area2))
+# The table of incremental area analysis.
+homerange_curve <- function(x, area = "ha", units = FALSE) {
+  check_ranges(x)
+  list2DF(c(as.list(x$rows[c("animal", "n", "time", "corners")]), area_column(x, x$rows$area2, area, units)))
 }
-
-overlap <- function(x, ...) UseMethod("overlap")
 
 # How many fixes, or which share, of a row's animal lie in the polygon of a column's animal.
-overlap.home_range <- function(x, share = FALSE, ...) {
-  check_dots(...)
+homerange_overlap <- function(x, share = FALSE, level = 100) {
+  check_ranges(x)
   if (!is_truth(share)) refuse("option", "share: TRUE or FALSE is wanted")
-  if (share) x$overlaps / x$animals$fixes else x$overlaps
+  check_level(x, level)
+  counts <- if (level == 100) x$overlaps else overlaps_at_level(x, level)
+  if (share) counts / x$animals$fixes else counts
 }
 
-polygons <- function(x, ...) UseMethod("polygons")
-
-# The polygons of a level: an sf, or a list of corners in metres where there is no CRS or no sf.
-polygons.home_range <- function(x, level = 100, ...) {
-  check_dots(...)
-  rings <- rings_of(x, level)
-  if (is.null(x$crs) || !has_sf()) rings else as_sf(x, level, rings)
+# The same counts of the polygons of a lower level, by the exact place of each fix.
+overlaps_at_level <- function(ranges, level) {
+  rings <- whole_rings(ranges, level)
+  tracks <- split(ranges$fixes, factor(ranges$fixes$animal, ranges$animals$animal))
+  counts_in <- function(ring) vapply(tracks, function(own) sum(is_within(own$easting, own$northing, ring)), 0)
+  counts <- vapply(rings, counts_in, numeric(length(tracks)))
+  matrix(counts, length(tracks), dimnames = list(names(tracks), names(tracks)))
 }
 
 # The corners of each animal's polygon in metres.
+homerange_corners <- function(x, level = 100) {
+  check_ranges(x)
+  rings_of(x, level)
+}
+
 rings_of <- function(ranges, level) {
-  known <- unique(c(ranges$percents$level, 100))
+  check_level(ranges, level)
+  lapply(whole_rings(ranges, level), in_metres, ranges = ranges)
+}
+
+# The levels whose polygons are known: without fixes that of all alone.
+levels_of <- function(ranges) {
+  levels <- unique(ranges$percents$level)
+  if (is.null(ranges$fixes)) 100 else levels
+}
+
+# Refuses what is no level whose polygons are known.
+check_level <- function(ranges, level) {
+  known <- sort(unique(c(ranges$percents$level, 100)))
   if (!is_number(level) || !level %in% known) {
-    refuse("option", "level: one of ", paste(sort(known), collapse = ", "),
-           " is wanted; home_range takes others as levels")
+    refuse("option", "level: one of ", paste(known, collapse = ", "), " is wanted; home_range takes others as levels")
   }
   if (level < 100 && is.null(ranges$fixes)) {
     refuse("option", "level: a report has no corners of polygons below 100; home_range makes them from fixes")
   }
-  corners <- if (level == 100) ranges$corners else percent_corners(ranges, level)
-  metres <- in_metres(ranges, corners)
-  rownames(metres) <- NULL
-  parts <- split(seq_len(nrow(corners)), factor(corners$animal, ranges$animals$animal))
-  lapply(parts, function(part) metres[part, , drop = FALSE])
 }
 
-as_sf <- function(ranges, level, rings) {
-  percents <- ranges$percents[ranges$percents$level == level, ]
-  percents <- percents[match(ranges$animals$animal, percents$animal), ]
-  area2 <- if (level == 100) ranges$rows$area2[last_rows(ranges)] else percents$area2
-  kept <- if (level == 100) ranges$animals$fixes else percents$kept
-  sf::st_sf(animal = ranges$animals$animal, level = level, kept = kept, hectares = hectares_of(ranges, area2),
+check_ranges <- function(x) if (!inherits(x, "home_range")) refuse("option", "x: a home range is wanted")
+
+# The polygons of levels as a table of sf, a row for each animal and level. Without an area a polygon is a line or a point.
+st_as_sf.home_range <- function(x, levels = NULL, drop_flat = FALSE, area = "ha", units = FALSE, ...) {
+  check_dots(...)
+  if (!is_truth(drop_flat)) refuse("option", "drop_flat: TRUE or FALSE is wanted")
+  if (is.null(levels)) levels <- levels_of(x)
+  if (!is.numeric(levels) || !length(levels) || anyDuplicated(levels)) refuse("option", "levels: different numbers are wanted")
+  rings <- unlist(lapply(levels, function(level) unname(rings_of(x, level))), recursive = FALSE)
+  table <- do.call(rbind, lapply(levels, level_table, ranges = x))
+  shown <- if (drop_flat) table$corners > 2 else TRUE
+  shapes_of(x, table[shown, ], rings[shown], area, units)
+}
+
+# The numbers of the polygons of a level, a row for each animal.
+level_table <- function(ranges, level) {
+  animals <- ranges$animals
+  own <- percents_of(ranges, level)
+  if (level == 100) own <- cbind(kept = animals$fixes, ranges$rows[last_rows(ranges), c("corners", "area2")])
+  list2DF(c(as.list(animals["animal"]), level = list(rep(level, nrow(animals))), as.list(animals["fixes"]),
+            as.list(own[c("kept", "corners", "area2")])))
+}
+
+# A table of polygons with these rings and its areas in a unit.
+shapes_of <- function(ranges, table, rings, area, units) {
+  numbers <- table[setdiff(names(table), "area2")]
+  sf::st_sf(list2DF(c(as.list(numbers), area_column(ranges, table$area2, area, units))),
             geometry = sf::st_sfc(lapply(unname(rings), as_shape), crs = crs_or_none(ranges)))
 }
+
+# The polygons of one level, with their hectares.
+as_sf <- function(ranges, level, rings) shapes_of(ranges, level_table(ranges, level), rings, "ha", FALSE)
 
 # A polygon, or of two corners a line and of one a point, since a polygon wants three.
 as_shape <- function(ring) {
@@ -106,29 +149,43 @@ as_shape <- function(ring) {
 
 # About ten lines.
 print.home_range <- function(x, ...) {
-  number <- nrow(x$animals)
-  times <- range(x$rows$time)
-  if (!is.object(times)) times <- paste("second", in_digits(times))
-  left_out <- if (is.null(x$left_out)) "" else paste0(", ", in_digits(sum(x$left_out$fixes)), " left out")
-  cat("Home ranges of ", count_of(number, "animal"), " (minimum convex polygons)\n", sep = "")
-  cat(count_of(sum(x$animals$fixes), "fix", "fixes"), " in whole ", units_known[[x$unit]]$name, left_out, ", ",
-      format(times[1]), " to ", format(times[2]), "\n", sep = "")
-  cat("Areas in hectares by percent level, and whether they levelled off with more fixes:\n")
-  shown <- seq_len(min(number, 6))
-  print(area_table(x)[shown, , drop = FALSE], row.names = FALSE)
-  if (number > length(shown)) cat("... and ", count_of(number - length(shown), "more animal"), "\n", sep = "")
+  writeLines(format(x, ...))
   invisible(x)
 }
 
-# A row for each animal, with a column for each level.
+# The lines that are printed.
+format.home_range <- function(x, ...) {
+  check_dots(...)
+  number <- nrow(x$animals)
+  times <- range(x$rows$time)
+  times <- if (is.object(times)) c(format(times[1]), format(times[2])) else paste("second", in_digits(times))
+  left_out <- if (!is.null(x$left_out)) paste0(", ", in_digits(sum(x$left_out$fixes)), " left out")
+  shown <- seq_len(min(number, 6))
+  c(paste0("Home ranges of ", count_of(number, "animal"), " (minimum convex polygons)"),
+    paste0(count_of(sum(x$animals$fixes), "fix", "fixes"), " in whole ", units_known[[x$unit]]$name, left_out, ", ", times[1],
+           " to ", times[2]),
+    "Areas in hectares by percent level, and whether they levelled off with more fixes:",
+    aligned_lines(area_table(x)[shown, , drop = FALSE]),
+    if (number > length(shown)) paste0("... and ", count_of(number - length(shown), "more animal")))
+}
+
+# The lines of a table of texts, below its titles.
+aligned_lines <- function(table) {
+  columns <- Map(function(title, column) paste0(" ", format(c(title, column), justify = "right")), names(table), table)
+  do.call(paste0, unname(columns))
+}
+
+# A row for each animal as text, with a column for each level.
 area_table <- function(ranges) {
-  animals <- ranges$animals
-  table <- data.frame(animal = animals$animal, fixes = animals$fixes)
-  for (level in unique(ranges$percents$level)) {
-    own <- ranges$percents[ranges$percents$level == level, ]
-    area2 <- own$area2[match(animals$animal, own$animal)]
-    table[[paste0(level, " %")]] <- format(hectares_of(ranges, area2), digits = 4, big.mark = ",", scientific = FALSE)
-  }
-  table$curve <- levelling(ranges)$verdict
-  table
+  areas <- lapply(levels_named(ranges), function(level) {
+    format(hectares_of(ranges, percents_of(ranges, level)$area2), digits = 4, big.mark = ",", decimal.mark = ".", scientific = FALSE)
+  })
+  list2DF(c(list(animal = ranges$animals$animal, fixes = in_digits(ranges$animals$fixes)), areas,
+            list(curve = homerange_levelling(ranges)$verdict)))
+}
+
+# The levels of the report, by how they are titled.
+levels_named <- function(ranges) {
+  levels <- unique(ranges$percents$level)
+  `names<-`(levels, paste(levels, "%"))
 }

@@ -64,9 +64,9 @@ check_scale <- function(herd, places, scale) {
   away <- scales[[worst]] - 1
   name <- said_name(herd, as.integer(levels(animal)[worst]))
   text <- if (is.infinite(away)) paste0("the fixes of ", name, " have no place on this grid") else
-    paste0("areas of ", name, " are ", sprintf("%.2f", 100 * abs(away)), " % too ", if (away > 0) "great" else "small", " on this grid")
+    sprintf("areas of %s are %.2f %% too %s on this grid", name, 100 * abs(away), if (away > 0) "great" else "small")
   if (abs(away) > scale_refused) refuse("scale", text, ": take a zone or a reference system of the place")
-  if (abs(away) > scale_told) say(herd$said, NULL, text)
+  if (abs(away) > scale_told) say(herd$said, NULL, text, kind = "scale")
 }
 
 # Puts the rows of each animal in the order of time, by the whole stamp, and says what was not.
@@ -89,9 +89,9 @@ sort_herd <- function(herd) {
 }
 
 tell_order <- function(herd, name, falls, same, places) {
-  say(herd$said, falls, "records of ", name, " come before an earlier one: sorted by time")
+  say(herd$said, falls, "records of ", name, " come before an earlier one: sorted by time", kind = "sorted")
   beside <- if (places > 0) paste0(", and ", places, " its place: kept") else ": kept"
-  say(herd$said, same, "records of ", name, " have the second of the one before", beside)
+  say(herd$said, same, "records of ", name, " have the second of the one before", beside, kind = "same")
 }
 
 filter_herd <- function(herd, unit) {
@@ -176,9 +176,10 @@ tell_animals <- function(herd, is_frame) {
   for (at in which(numbers > most_fixes | unused)) {
     name <- said_name(herd, animals[at])
     if (numbers[at] > most_fixes) {
-      say(herd$said, NULL, name, " has ", numbers[at], " records, more than the ", most_fixes, " that homerange takes")
+      say(herd$said, NULL, name, " has ", numbers[at], " records, more than the ", most_fixes, " that homerange takes",
+          kind = "limit")
     }
-    if (unused[at]) say(herd$said, NULL, "no fix of ", name, " is used, which homerange refuses")
+    if (unused[at]) say(herd$said, NULL, "no fix of ", name, " is used, which homerange refuses", kind = "limit")
   }
 }
 
@@ -189,5 +190,5 @@ tell_columns <- function(herd, unit) {
   used <- herd$rows[herd$records$used[herd$rows]]
   box <- vapply(herd$records[c("easting", "northing")], function(side) diff(range(side[used])), 0) / unit$scale / 1000
   say(herd$said, NULL, "columns: ", paste(titles, collapse = ", "), "; ", length(herd_animals(herd)), " animals, box ",
-      sprintf("%.3f by %.3f km", box[1], box[2]))
+      sprintf("%.3f by %.3f km", box[1], box[2]), kind = "guessed")
 }

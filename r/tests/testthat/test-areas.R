@@ -20,7 +20,7 @@ test_that("areas of level 100 are those of chull and of sf, exactly", {
 test_that("each row of the curve is the polygon of the first fixes", {
   skip_without_program()
   fixes <- herd_of_three()
-  table <- curve(quietly(home_range(fixes)))
+  table <- homerange_curve(quietly(home_range(fixes)))
   expect_identical(table$animal, fixes$animal)
   expect_equal(table$time, fixes$second)
   expect_equal(table$n, c(1:120, 1:90, 1:61))
@@ -34,7 +34,7 @@ test_that("each row of the curve is the polygon of the first fixes", {
 test_that("a square of 200 metres has 4 hectares", {
   skip_without_program()
   square <- data.frame(animal = "a", second = 0:3, easting = c(0, 200, 200, 0), northing = c(0, 0, 200, 200))
-  table <- curve(quietly(home_range(square)))
+  table <- homerange_curve(quietly(home_range(square)))
   expect_equal(table$hectares, c(0, 0, 2, 4))
   expect_equal(table$corners, 1:4)
 })
@@ -44,7 +44,7 @@ test_that("decimetres keep a square of 20.5 metres", {
   square <- data.frame(animal = "a", second = 0:3, easting = c(0, 20.5, 20.5, 0), northing = c(0, 0, 20.5, 20.5))
   expect_silent(suppressMessages(ranges <- home_range(square, levels = 100, unit = "dm")))
   expect_equal(summary(ranges)$hectares, 20.5^2 / 10000)
-  expect_equal(polygons(ranges)$a, cbind(easting = c(0, 20.5, 20.5, 0), northing = c(0, 0, 20.5, 20.5)))
+  expect_equal(homerange_corners(ranges)$a, cbind(easting = c(0, 20.5, 20.5, 0), northing = c(0, 0, 20.5, 20.5)))
   # In metres, halves up, it is one of 21 metres.
   expect_equal(summary(quietly(home_range(square, levels = 100)))$hectares, 21^2 / 10000)
 })
@@ -58,7 +58,7 @@ test_that("one fix, two equal fixes and two fixes have no area", {
   expect_equal(areas$hectares, rep(0, 6))
   expect_equal(areas$corners, c(1, 1, 1, 1, 1, 2))
   expect_equal(areas$kept, c(1, 1, 1, 2, 1, 2))
-  expect_equal(polygons(ranges)$one, cbind(easting = 5, northing = 6))
-  expect_equal(polygons(ranges)$two, cbind(easting = c(1, 4), northing = c(1, 5)))
-  expect_equal(overlap(ranges)["one", ], c(one = 1, same = 0, two = 0))
+  expect_equal(homerange_corners(ranges)$one, cbind(easting = 5, northing = 6))
+  expect_equal(homerange_corners(ranges)$two, cbind(easting = c(1, 4), northing = c(1, 5)))
+  expect_equal(homerange_overlap(ranges)["one", ], c(one = 1, same = 0, two = 0))
 })

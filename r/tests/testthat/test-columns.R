@@ -45,7 +45,7 @@ test_that("an amt track says its CRS", {
   skip_if_not_installed("sf")
   table <- square(c("id", "t_", "x_", "y_"))
   attr(table, "crs_") <- sf::st_crs(32633)
-  expect_identical(sf::st_crs(polygons(quietly(home_range(table)))), sf::st_crs(32633))
+  expect_identical(sf::st_crs(sf::st_as_sf(quietly(home_range(table)))), sf::st_crs(32633))
   attr(table, "crs_") <- sf::st_crs(4326)
   expect_error(quietly(home_range(table)), "no plane coordinates", class = "homerange_data_error")
 })
@@ -54,8 +54,8 @@ test_that("Movebank's zone is the CRS, and its marks of outliers are minded", {
   skip_without_program()
   skip_if_not_installed("sf")
   ranges <- quietly(home_range(deer))
-  expect_identical(sf::st_crs(polygons(ranges)), sf::st_crs(32633))
-  expect_equal(left_out(ranges), data.frame(animal = "Asta", reason = "outlier", fixes = 1))
+  expect_identical(sf::st_crs(sf::st_as_sf(ranges)), sf::st_crs(32633))
+  expect_equal(homerange_left_out(ranges), data.frame(animal = "Asta", reason = "outlier", fixes = 1))
   expect_equal(sum(quietly(home_range(deer, use = TRUE))$animals$fixes), 1080)
   table <- square(c("id", "date", "x", "y"))
   table[["manually-marked-outlier"]] <- c("", "true", "", "")
@@ -85,7 +85,7 @@ test_that("names may be numbers, factors, and what R takes for missing", {
   table$id <- factor(rep(c("NA", "NULL"), each = 4), levels = c("NULL", "none", "NA"))
   ranges <- quietly(home_range(table))
   expect_identical(ranges$animals$animal, c("NA", "NULL"))
-  expect_equal(overlap(ranges)["NA", "NULL"], 4)
+  expect_equal(homerange_overlap(ranges)["NA", "NULL"], 4)
 })
 
 test_that("times keep their class, in the time zone that is asked for", {

@@ -24,7 +24,7 @@ record_of <- function(folder) {
 # Evidence in a folder that is gone when the test ends.
 local_evidence <- function(ranges, frame = parent.frame()) {
   folder <- file.path(local_folder(frame), "hand-in")
-  quietly(evidence(ranges, folder))
+  quietly(homerange_evidence(ranges, folder))
   folder
 }
 
@@ -161,7 +161,7 @@ test_that("numbers are written with the fewest decimals", {
 test_that("layers have the polygons with an area", {
   skip_if_not_installed("sf")
   ranges <- ranges_by_hand()
-  expect_message(evidence(ranges, folder <- file.path(local_folder(), "hand-in")),
+  expect_message(homerange_evidence(ranges, folder <- file.path(local_folder(), "hand-in")),
                  "not in ranges.gpkg, since they have no area at 75 %: one, vixen", fixed = TRUE)
   path <- file.path(folder, "ranges.gpkg")
   expect_identical(sf::st_layers(path)$name, c("ranges", "fixes", "layer_styles"))
@@ -230,7 +230,7 @@ test_that("evidence of a report and its files is held with the export", {
   skip_without_program()
   own <- split_by_hand()
   ranges <- read_report(own$report, files = own$files, record = own$record)
-  expect_identical(left_out(ranges), data.frame(animal = "vixen", reason = "coordinates", fixes = 1))
+  expect_identical(homerange_left_out(ranges), data.frame(animal = "vixen", reason = "coordinates", fixes = 1))
   expect_identical(ranges$zone, "33N")
   folder <- local_evidence(ranges)
   expect_identical(about_of(folder)[["export"]], "export.csv")
@@ -250,7 +250,7 @@ test_that("evidence of the files of a frame has its record", {
   tracks <- file.path(first, "tracks")
   ranges <- read_report(file.path(first, "report.txt"), files = list.files(tracks, "csv$", full.names = TRUE),
                         record = file.path(tracks, "split.txt"))
-  expect_identical(as.list(left_out(ranges)), list(animal = "old_boar", reason = "outlier", fixes = 1))
+  expect_identical(as.list(homerange_left_out(ranges)), list(animal = "old_boar", reason = "outlier", fixes = 1))
   again <- local_evidence(ranges)
   expect_identical(record_of(again), record_of(first))
   expect_identical(attr(verified(again), "status"), 3L)
@@ -264,22 +264,22 @@ test_that("files that are not those of their report or record are refused", {
     expect_error(call, text, class = class)
     expect_length(list.files(dirname(into)), 0)
   }
-  expect_error(evidence(read_report(own$report), into), "evidence needs the fixes", class = "homerange_option_error")
+  expect_error(homerange_evidence(read_report(own$report), into), "evidence needs the fixes", class = "homerange_option_error")
   ranges <- read_report(own$report, files = own$files)
-  refused(evidence(read_report(own$report, files = own$files[1]), into), "no file has the animal", "homerange_report_error")
+  refused(homerange_evidence(read_report(own$report, files = own$files[1]), into), "no file has the animal", "homerange_report_error")
   lines <- readLines(own$files[2])
   writeLines(sub(",562", ",563", lines), own$files[2])
   refused(read_report(own$report, files = own$files), "the polygon of the file of vixen is not that", "homerange_report_error")
-  refused(evidence(ranges, into), "vixen.csv was changed since it was split", "homerange_text_error")
+  refused(homerange_evidence(ranges, into), "vixen.csv was changed since it was split", "homerange_text_error")
   writeLines(lines[-3], own$files[2])
   refused(read_report(own$report, files = own$files), "the file of vixen has other fixes", "homerange_report_error")
   unlink(own$record)
-  refused(evidence(ranges, into), "reports other numbers", "homerange_check_error")
+  refused(homerange_evidence(ranges, into), "reports other numbers", "homerange_check_error")
   writeLines(lines, own$files[2])
   copy <- file.path(local_folder(), basename(own$files[1]))
   file.copy(own$files[1], copy)
   ranges$files <- c(own$files, copy)
-  refused(evidence(ranges, into), "have the same name", "homerange_name_error")
+  refused(homerange_evidence(ranges, into), "have the same name", "homerange_name_error")
 })
 
 test_that("a record that is none is refused", {
@@ -312,7 +312,7 @@ test_that("files have the animals' names in each locale", {
   old <- Sys.getlocale("LC_CTYPE")
   on.exit(Sys.setlocale("LC_CTYPE", old), add = TRUE, after = FALSE)
   Sys.setlocale("LC_CTYPE", "C")
-  quietly(evidence(ranges, folder))
+  quietly(homerange_evidence(ranges, folder))
   expect_identical(Sys.getlocale("LC_CTYPE"), "C")
   Sys.setlocale("LC_CTYPE", old)
   expect_identical(list.files(file.path(folder, "tracks")), c("split.txt", "\u010carli.csv"))
@@ -323,13 +323,13 @@ test_that("what cannot be right is refused, and leaves nothing", {
   folder <- local_folder()
   into <- file.path(folder, "hand-in")
   report <- read_report(system.file("extdata", "report.txt", package = "homerange"))
-  expect_error(evidence(1, into), "a home range is wanted", class = "homerange_option_error")
-  expect_error(evidence(report, into), "evidence needs the fixes", class = "homerange_option_error")
-  expect_error(evidence(ranges, ""), "a new folder is wanted", class = "homerange_option_error")
-  expect_error(evidence(ranges, folder), "is there already", class = "homerange_text_error")
+  expect_error(homerange_evidence(1, into), "a home range is wanted", class = "homerange_option_error")
+  expect_error(homerange_evidence(report, into), "evidence needs the fixes", class = "homerange_option_error")
+  expect_error(homerange_evidence(ranges, ""), "a new folder is wanted", class = "homerange_option_error")
+  expect_error(homerange_evidence(ranges, folder), "is there already", class = "homerange_text_error")
   same <- fixes_by_hand()
   same$animal[6:7] <- "old\\boar"
-  expect_error(evidence(quietly(home_range(same)), into), "would both be named old_boar", class = "homerange_name_error")
+  expect_error(homerange_evidence(quietly(home_range(same)), into), "would both be named old_boar", class = "homerange_name_error")
   expect_length(list.files(folder), 0)
 })
 
@@ -339,7 +339,7 @@ test_that("programs that lie or change are refused", {
   into <- file.path(local_folder(), "hand-in")
   refused <- function(script, text, class) {
     local_program(c(paste("[ \"$1\" != --version ] || exec", real, "--version"), script))
-    expect_error(evidence(ranges, into), text, class = class)
+    expect_error(homerange_evidence(ranges, into), text, class = class)
     expect_length(list.files(dirname(into)), 0)
   }
   refused(paste(real, "\"$@\" | sed 's/^percent,old_boar,75,3,3,40000/percent,old_boar,75,3,3,40001/'"), "reports other numbers",
@@ -350,5 +350,5 @@ test_that("programs that lie or change are refused", {
   refused(c(paste(real, "\"$@\""), "echo '# more' >>\"$0\""), "changed while it ran", "homerange_program_error")
   refused("exit 3", "ended with status 3|no more", "homerange_memory_error")
   local_program("exit 0")
-  expect_error(evidence(ranges, into), "is not homerange", class = "homerange_program_error")
+  expect_error(homerange_evidence(ranges, into), "is not homerange", class = "homerange_program_error")
 })

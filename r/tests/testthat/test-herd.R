@@ -23,9 +23,9 @@ test_that("70 animals are those of a direct computation", {
   expect_identical(round(summary(ranges)$hectares[summary(ranges)$level == 100] * 20000), unname(areas))
   rings <- lapply(tracks, function(track) track[rev(grDevices::chull(track)), ])
   wanted <- vapply(rings, function(ring) vapply(tracks, function(track) sum(in_ring(track, ring)), 0), numeric(70))
-  expect_identical(overlap(ranges), wanted)
+  expect_identical(homerange_overlap(ranges), wanted)
   expect_gt(sum(wanted), 70 * 12 * 2)
-  expect_identical(names(polygons(ranges, 50)), unique(fixes$animal))
+  expect_identical(names(homerange_corners(ranges, 50)), unique(fixes$animal))
 })
 
 test_that("64 animals take one run and 65 six, and the plan compares every pair of animals", {

@@ -17,7 +17,7 @@ columns <- c("within_95_fix", "last_tenth", "last_quarter", "verdict")
 test_that("the rule is followed for each animal", {
   skip_without_program()
   fixes <- rbind(herd_of_three(), walk("few", 29, 4), walk("least", 30, 5))
-  found <- levelling(quietly(home_range(fixes)))
+  found <- homerange_levelling(quietly(home_range(fixes)))
   expect_identical(found$animal, unique(fixes$animal))
   expect_equal(found$fixes, c(120, 90, 61, 29, 30))
   for (animal in found$animal) {
@@ -52,7 +52,7 @@ test_that("tenths and quarters of numbers of fixes are rounded down", {
 test_that("of animals without an area nothing is said", {
   skip_without_program()
   fixes <- rbind(data.frame(animal = "still", second = 1:40, easting = 5, northing = 6), walk("fox", 40, 1))
-  found <- levelling(quietly(home_range(fixes)))
+  found <- homerange_levelling(quietly(home_range(fixes)))
   expect_identical(found$verdict[1], "too few fixes")
   expect_equal(found$hectares[1], 0)
   expect_true(all(is.na(unlist(found[1, c("within_95_fix", "within_95_time", "last_tenth", "last_quarter")]))))
@@ -62,7 +62,7 @@ test_that("of animals without an area nothing is said", {
 test_that("times are those of the fixes", {
   report <- system.file("extdata", "report.txt", package = "homerange")
   start <- as.POSIXct("2024-05-01", tz = "UTC")
-  found <- levelling(read_report(report, start = start))
+  found <- homerange_levelling(read_report(report, start = start))
   expect_identical(found$within_95_time, start + 1800 * (found$within_95_fix - 1))
-  expect_error(levelling(1), "a home range is wanted", class = "homerange_option_error")
+  expect_error(homerange_levelling(1), "a home range is wanted", class = "homerange_option_error")
 })

@@ -10,8 +10,8 @@ test_that("overlaps are those of st_intersects", {
   points <- lapply(tracks, function(own) sf::st_geometry(sf::st_as_sf(own, coords = c("easting", "northing"))))
   wanted <- t(vapply(points, function(own) colSums(sf::st_intersects(own, hulls, sparse = FALSE)), numeric(4)))
   colnames(wanted) <- names(tracks)
-  expect_identical(overlap(ranges), wanted)
-  expect_equal(overlap(ranges, share = TRUE), wanted / c(120, 90, 61, 100))
+  expect_identical(homerange_overlap(ranges), wanted)
+  expect_equal(homerange_overlap(ranges, share = TRUE), wanted / c(120, 90, 61, 100))
   expect_gt(sum(wanted), sum(diag(wanted)))
 })
 
@@ -20,5 +20,5 @@ test_that("edges and corners count as within", {
   square <- data.frame(animal = "a", second = 0:3, easting = c(0, 200, 200, 0), northing = c(0, 0, 200, 200))
   other <- data.frame(animal = "b", second = 0:3, easting = c(100, 200, 100, 201), northing = c(0, 200, 100, 100))
   wanted <- matrix(c(4, 3, 1, 4), 2, dimnames = list(c("a", "b"), c("a", "b")))
-  expect_equal(overlap(quietly(home_range(rbind(square, other)))), wanted)
+  expect_equal(homerange_overlap(quietly(home_range(rbind(square, other)))), wanted)
 })

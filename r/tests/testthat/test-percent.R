@@ -7,7 +7,7 @@ test_that("percent polygons are those of the nearest fixes", {
   ranges <- quietly(home_range(fixes, levels = levels))
   areas <- summary(ranges)
   for (level in levels) {
-    rings <- polygons(ranges, level)
+    rings <- homerange_corners(ranges, level)
     for (animal in unique(fixes$animal)) {
       own <- fixes[fixes$animal == animal, ]
       kept <- own[kept_directly(own$easting, own$northing, level), ]
@@ -41,11 +41,11 @@ test_that("of fixes as near the earlier are kept", {
   ranges <- quietly(home_range(square, levels = c(25, 50, 75, 76)))
   expect_equal(summary(ranges)$kept, c(1, 2, 3, 4))
   expect_equal(summary(ranges)$hectares * 20000, c(0, 0, 100, 200))
-  expect_equal(polygons(ranges, 75)$a, cbind(easting = c(0, 10, 10), northing = c(0, 0, 10)))
+  expect_equal(homerange_corners(ranges, 75)$a, cbind(easting = c(0, 10, 10), northing = c(0, 0, 10)))
   # The first row becomes the last in time.
   square$second <- c(3, 0, 1, 2)
   ranges <- quietly(home_range(square, levels = 75))
-  expect_equal(polygons(ranges, 75)$a, cbind(easting = c(0, 10, 10), northing = c(10, 0, 10)))
+  expect_equal(homerange_corners(ranges, 75)$a, cbind(easting = c(0, 10, 10), northing = c(10, 0, 10)))
 })
 
 test_that("distances are exact beyond the doubles", {
@@ -69,7 +69,7 @@ test_that("polygons of many fixes over all of the grid agree with the program", 
   fixes <- data.frame(animal = "whale", second = 1:3000, easting = stats::runif(3000, 0, 13421772),
                       northing = stats::runif(3000, 0, 13421772))
   ranges <- quietly(home_range(fixes, unit = "dm"))
-  ring <- polygons(ranges, 50)$whale
+  ring <- homerange_corners(ranges, 50)$whale
   expect_equal(doubled_ring(ring[, 1], ring[, 2]) / 20000, summary(ranges)$hectares[1])
 })
 
@@ -77,7 +77,7 @@ test_that("a polygon that is not that of the report is refused", {
   skip_without_program()
   ranges <- quietly(home_range(walk("fox", 40, 5)))
   ranges$percents$area2[2] <- ranges$percents$area2[2] + 1
-  expect_error(polygons(ranges, 95), "level 95", class = "homerange_check_error")
-  expect_error(polygons(ranges, 70), "50, 95, 100", class = "homerange_option_error")
-  expect_error(polygons(ranges, "95"), class = "homerange_option_error")
+  expect_error(homerange_corners(ranges, 95), "level 95", class = "homerange_check_error")
+  expect_error(homerange_corners(ranges, 70), "50, 95, 100", class = "homerange_option_error")
+  expect_error(homerange_corners(ranges, "95"), class = "homerange_option_error")
 })

@@ -1,4 +1,4 @@
-# What is printed, and the function curve of graphics.
+# What is printed.
 
 test_that("a home range prints in about ten lines", {
   report <- system.file("extdata", "report.txt", package = "homerange")
@@ -26,18 +26,4 @@ test_that("of many animals the first are printed", {
   lines <- capture.output(print(quietly(home_range(fixes))))
   expect_length(lines, 11)
   expect_identical(lines[11], "... and 6 more animals")
-})
-
-test_that("the function curve of graphics works as ever", {
-  path <- tempfile(fileext = ".pdf")
-  grDevices::pdf(path)
-  on.exit({
-    grDevices::dev.off()
-    unlink(path)
-  })
-  slope <- 3
-  expect_equal(curve(sin, 0, 1, n = 3)$y, sin(c(0, 0.5, 1)))
-  expect_equal(curve(slope * x^2, from = 0, to = 2, n = 3)$y, c(0, 3, 12))
-  expect_equal(curve(expr = cos, 0, 1, n = 2)$y, cos(0:1))
-  expect_error(curve(home_range(deer, levels = "95")), "levels", class = "homerange_option_error")
 })

@@ -48,44 +48,82 @@ test_that("a report that is cut off or of other animals is refused", {
   expect_error(quietly(home_range(fixes())), "not the animals of its files", class = "homerange_check_error")
 })
 
-test_that("the program is found by options, environment, clone and PATH, in this order", {
+# Makes a file that can be run, and the folders it lies in.
+runnable <- function(...) {
+  path <- file.path(...)
+  dir.create(dirname(path), showWarnings = FALSE, recursive = TRUE)
+  writeLines("#!/bin/sh", path)
+  Sys.chmod(path, "755")
+  path
+}
+
+# Has the option, the environment and the working folder as they were when a test ends.
+local_session <- function(frame = parent.frame()) {
+  old <- options(homerange.program = NULL)
+  path <- Sys.getenv(c("PATH", "HOMERANGE"))
+  at_end(bquote({
+    options(.(old))
+    do.call(Sys.setenv, as.list(.(path)))
+    setwd(.(getwd()))
+  }), frame)
+}
+
+test_that("the program is found by option, environment, package and PATH, in this order, and never by the working folder", {
   skip_on_os("windows")
   folder <- normalizePath(local_folder())
-  make <- function(...) {
-    path <- file.path(folder, ...)
-    dir.create(dirname(path), showWarnings = FALSE, recursive = TRUE)
-    writeLines("#!/bin/sh", path)
-    Sys.chmod(path, "755")
-    path
-  }
-  named <- make("named")
-  meant <- make("meant")
-  cloned <- make("clone", "release", "homerange")
-  on_path <- make("path", "homerange")
-  old <- options(homerange.program = named)
-  path <- Sys.getenv(c("PATH", "HOMERANGE"))
-  working <- getwd()
-  on.exit({
-    options(old)
-    do.call(Sys.setenv, as.list(path))
-    setwd(working)
-  }, add = TRUE, after = FALSE)
-  dir.create(file.path(folder, "clone", "r"))
-  setwd(file.path(folder, "clone", "r"))
-  Sys.setenv(HOMERANGE = meant, PATH = paste(dirname(on_path), path["PATH"], sep = ":"))
+  named <- runnable(folder, "named")
+  meant <- runnable(folder, "meant")
+  on_path <- runnable(folder, "path", "homerange")
+  runnable(folder, "archive", "release", "homerange")
+  runnable(folder, "archive", "release", "SOURCES")
+  dir.create(file.path(folder, "archive", "r"))
+  local_session()
+  setwd(file.path(folder, "archive", "r"))
+  options(homerange.program = named)
+  Sys.setenv(HOMERANGE = meant, PATH = paste(dirname(on_path), Sys.getenv("PATH"), sep = ":"))
   expect_identical(homerange_program(), named)
   options(homerange.program = NULL)
   expect_identical(homerange_program(), meant)
   Sys.setenv(HOMERANGE = "")
-  skip_if(length(clone_program(getNamespaceInfo("homerange", "path"))) > 0, "the package stands in a clone")
-  expect_identical(homerange_program(), on_path)
-  make("clone", "release", "SOURCES")
-  expect_identical(homerange_program(), cloned)
+  packed <- packed_program(getNamespaceInfo("homerange", "path"))
+  expect_identical(homerange_program(), if (length(packed)) normalizePath(packed) else on_path)
   Sys.setenv(HOMERANGE = file.path(folder, "none"))
   expect_error(homerange_program(), "/none, which HOMERANGE names", class = "homerange_program_error")
   options(homerange.program = file.path(folder, "nothing"))
   expect_error(quietly(home_range(fixes())), "/nothing, which options(homerange.program) names", fixed = TRUE,
                class = "homerange_program_error")
+})
+
+test_that("the code's own clone has a program, and other folders have none", {
+  folder <- local_folder()
+  release <- runnable(folder, "release", "homerange")
+  expect_identical(clone_program(file.path(folder, "r")), character())
+  runnable(folder, "release", "SOURCES")
+  expect_identical(clone_program(file.path(folder, "r")), release)
+  for (other in c("library/homerange", "r/R", "data", "")) expect_identical(clone_program(file.path(folder, other)), character())
+})
+
+test_that("a program that came with the package is held to its checksum", {
+  folder <- local_folder()
+  expect_identical(packed_program(folder), character())
+  path <- runnable(folder, "bin", "homerange")
+  sums <- file.path(folder, "bin", "SHA256SUMS")
+  writeLines(sub("^([0-9a-f]*).*", "\\1  release/homerange", system2("sha256sum", shQuote(path), stdout = TRUE)), sums)
+  expect_identical(packed_program(folder), path)
+  other <- local_folder()
+  file.copy(file.path(folder, "bin"), other, recursive = TRUE)
+  cat("# changed\n", file = file.path(other, "bin", "homerange"), append = TRUE)
+  expect_error(packed_program(other), "not the program that was installed with the package", class = "homerange_program_error")
+})
+
+test_that("ranges know which program made them, and by which call", {
+  skip_without_program()
+  ranges <- quietly(home_range(fixes(), levels = 95))
+  expect_identical(ranges$program$path, homerange_program())
+  expect_identical(ranges$program$version, system2(homerange_program(), "--version", stdout = TRUE))
+  sum <- system2("sha256sum", shQuote(homerange_program()), stdout = TRUE)
+  expect_identical(ranges$program$checksum, sub(" .*", "", sum))
+  expect_identical(ranges$call, quote(home_range(x = fixes(), levels = 95)))
 })
 
 test_that("a file that the program refuses is told by its animal", {

@@ -30,7 +30,7 @@ test_that("fixes that failed are left out and counted", {
   fixes <- changed("northing", 3, NaN, changed("easting", 2, NA, rbind(fixes(), fixes())))
   said <- capture_messages(ranges <- home_range(fixes))
   expect_identical(said[1], "homerange: 2 records have no coordinates: left out\n")
-  expect_equal(left_out(ranges), data.frame(animal = c("a", "b"), reason = "coordinates", fixes = 1))
+  expect_equal(homerange_left_out(ranges), data.frame(animal = c("a", "b"), reason = "coordinates", fixes = 1))
   expect_equal(summary(ranges)$left_out, rep(1, 6))
 })
 
@@ -41,16 +41,16 @@ test_that("coordinates wider than the grid or off that of UTM are refused, and i
   utm <- data.frame(id = "a", timestamp = "2024-05-01", utm.easting = c(562000, -0.6), utm.northing = 5134000, utm.zone = "33N")
   refused(utm, "row 2: -0.60 east and 5134000.00 north is off the grid, which goes from 0 to 16777216 metres")
   edges <- data.frame(id = "a", date = as.Date("2024-01-01") + 0:1, x = c(0, 16777216), y = c(-0.5, 16777216.4))
-  expect_equal(polygons(quietly(home_range(edges)))$a, cbind(easting = c(0, 16777216), northing = c(0, 16777216)))
+  expect_equal(homerange_corners(quietly(home_range(edges)))$a, cbind(easting = c(0, 16777216), northing = c(0, 16777216)))
   edges$x <- edges$y <- c(0, 13421772.8)
-  expect_equal(unname(polygons(quietly(home_range(edges, unit = "dm")))$a[2, ]), c(13421772.8, 13421772.8))
+  expect_equal(unname(homerange_corners(quietly(home_range(edges, unit = "dm")))$a[2, ]), c(13421772.8, 13421772.8))
 })
 
 test_that("times that cannot be right are refused", {
   skip_without_program()
   refused(changed("second", 3, -1), "row 3: second is -1, which is no time since 1970, and not within 0 to 1099511627776")
   refused(changed("second", 3, 1099511627777), "row 3: second is 1099511627777, which is no time since 1970")
-  expect_equal(nrow(curve(quietly(home_range(changed("second", 2, 1099511627776))))), 3)
+  expect_equal(nrow(homerange_curve(quietly(home_range(changed("second", 2, 1099511627776))))), 3)
   times <- fixes()
   times$second <- as.POSIXct(c("2024-05-01", "1969-12-31", "2024-05-01"), tz = "UTC")
   refused(times, "row 2: second is 1969-12-31 00:00:00, which is no time since 1970")
@@ -70,14 +70,14 @@ test_that("times that cannot be right are refused", {
 test_that("names that are none are refused, and all others kept", {
   skip_without_program()
   refused(changed("animal", 3, ""), "row 3: there is no animal, and skip_unnamed = TRUE leaves such records out")
-  expect_equal(nrow(curve(quietly(home_range(changed("animal", 3, ""), skip_unnamed = TRUE)))), 2)
+  expect_equal(nrow(homerange_curve(quietly(home_range(changed("animal", 3, ""), skip_unnamed = TRUE)))), 2)
   refused(changed("animal", 2, "fox\tred"), "row 2: the animal is 'fox\\x09red', which has a control character")
   refused(changed("animal", 2, "\xff\xfe"), "row 2: the animal is '?', which has a control character or is no text in UTF-8")
   for (name in c("fox,red", "fox \"red\"", "..", "1", strrep("\u00e4", 170), "5334-Golden Eagle (Aquila chrysaetos) 2010 Male")) {
     ranges <- quietly(home_range(changed("animal", 1:2, name)))
     expect_identical(ranges$animals$animal, c(name, "b"))
-    expect_identical(names(polygons(ranges, 50)), c(name, "b"))
-    expect_identical(rownames(overlap(ranges)), c(name, "b"))
+    expect_identical(names(homerange_corners(ranges, 50)), c(name, "b"))
+    expect_identical(rownames(homerange_overlap(ranges)), c(name, "b"))
   }
   latin <- changed("animal", 1:3, `Encoding<-`("Sch\xe4fer", "latin1"))
   expect_identical(summary(quietly(home_range(latin)))$animal[1], "Sch\u00e4fer")
@@ -113,7 +113,7 @@ test_that("what no column has is said", {
     "no column has a usual title for the animal: all fixes are of one, named fox\n",
     "no column has a usual title for the time: fixes are in the order of rows, as seconds 0, 1, 2, ..\n"
   )))
-  expect_equal(curve(ranges)[1:3], data.frame(animal = "fox", n = 1:3, time = 0:2))
+  expect_equal(homerange_curve(ranges)[1:3], data.frame(animal = "fox", n = 1:3, time = 0:2))
   refused(fixes()[3:4], "every: no column has a usual title for the time", "homerange_option_error", every = 2)
 })
 
@@ -133,16 +133,16 @@ test_that("fixes of several UTM zones are refused", {
   export <- data.frame(individual.local.identifier = "a", timestamp = as.Date("2024-05-01") + 0:3, utm.easting = 562000 + 1:4,
                        utm.northing = 1:4, utm.zone = c("33N", "33N", "32N", "33N"))
   refused(export, "fixes lie in several zones (33N 3, 32N 1): name the zone of all, such as zone = \"33N\"")
-  expect_equal(nrow(curve(quietly(home_range(export, use = export$utm.zone == "33N")))), 3)
+  expect_equal(nrow(homerange_curve(quietly(home_range(export, use = export$utm.zone == "33N")))), 3)
 })
 
 test_that("fixes of several types of sensors are refused", {
   skip_without_program()
   export <- cbind(fixes(), sensor.type = c("gps", "argos", "gps"))
   refused(export, "several sensors (gps 2, argos 1): name those to take, such as sensor = \"gps\"")
-  expect_equal(nrow(curve(quietly(home_range(export, sensor = "gps")))), 2)
+  expect_equal(nrow(homerange_curve(quietly(home_range(export, sensor = "gps")))), 2)
   export <- rbind(export, export)
-  expect_equal(nrow(curve(quietly(home_range(export, use = export[["sensor.type"]] == "gps")))), 4)
+  expect_equal(nrow(homerange_curve(quietly(home_range(export, use = export[["sensor.type"]] == "gps")))), 4)
 })
 
 test_that("marks of use that are none are refused", {
@@ -160,7 +160,7 @@ test_that("arguments that cannot be right are refused", {
   skip_without_program()
   option <- "homerange_option_error"
   refused(fixes(), "unit: \"m\" for metres or \"dm\" for decimetres", option, unit = "km")
-  expect_equal(nrow(curve(quietly(home_range(fixes(), unit = NULL)))), 3)
+  expect_equal(nrow(homerange_curve(quietly(home_range(fixes(), unit = NULL)))), 3)
   refused(fixes(), "skip_unnamed: TRUE or FALSE is wanted", option, skip_unnamed = "yes")
   refused(fixes()[-1], "name: a name without control characters is wanted", option, name = "")
   refused(fixes()[-1], "name: a name without control characters is wanted", option, name = "a\tb")

@@ -24,10 +24,10 @@ test_that("a report is read", {
   expect_equal(areas$first, c(10, 10, 5, 5))
   expect_equal(areas$last, c(40, 40, 5, 5))
   expect_identical(areas$left_out, rep(NA_real_, 4))
-  expect_equal(curve(ranges)$hectares, c(0, 0, 2, 4, 0))
-  expect_equal(overlap(ranges), matrix(c(4, 1, 0, 1), 2, dimnames = list(c("NA", "Ha\u0219e"), c("NA", "Ha\u0219e"))))
-  expect_equal(polygons(ranges)[["NA"]], cbind(easting = c(0, 200, 200, 0), northing = c(0, 0, 200, 200)))
-  expect_error(polygons(ranges, 50), "no corners of polygons below 100", class = "homerange_option_error")
+  expect_equal(homerange_curve(ranges)$hectares, c(0, 0, 2, 4, 0))
+  expect_equal(homerange_overlap(ranges), matrix(c(4, 1, 0, 1), 2, dimnames = list(c("NA", "Ha\u0219e"), c("NA", "Ha\u0219e"))))
+  expect_equal(homerange_corners(ranges)[["NA"]], cbind(easting = c(0, 200, 200, 0), northing = c(0, 0, 200, 200)))
+  expect_error(homerange_corners(ranges, 50), "no corners of polygons below 100", class = "homerange_option_error")
 })
 
 test_that("lines may end as those of other systems do, and numbers have any digits", {
@@ -41,7 +41,7 @@ test_that("lines may end as those of other systems do, and numbers have any digi
 test_that("the unit is that of the first line", {
   ranges <- read_report(written(c("unit,dm", square)))
   expect_equal(summary(ranges)$hectares[2], 0.04)
-  expect_equal(unname(polygons(ranges)[["NA"]][3, ]), c(20, 20))
+  expect_equal(unname(homerange_corners(ranges)[["NA"]][3, ]), c(20, 20))
 })
 
 test_that("seconds become times from a start", {
@@ -69,7 +69,7 @@ test_that("what is no whole report is refused", {
   refused(square[c(1:2, 7, 3:6, 8:21)], "line 4 is none of a report there: row,NA,1,10,1,0$")
   refused(c(square[19:20], square[-(19:20)]), "line 3 is none of a report there: animal,NA,fixes,4$")
   refused(c(square, "", ""), "there is no end line")
-  refused(replace(square, 13, "animal,NA,fixes,1"), "an animal is there twice")
+  refused(sub("Ha\u0219e", "NA", square), "an animal is there twice")
   refused(replace(square, 15, "row,Hare,1,5,1,0"), "line 15 is none of a report there: row,Hare,1,5,1,0$")
   refused(replace(square, 19, "overlap,NA,Hare,0,4"), "an animal that has no line animal")
   expect_error(read_report(tempfile()), "there is no such file", class = "homerange_file_error")
@@ -88,11 +88,11 @@ test_that("a report of the program reads as its run", {
       write_lines(files[at], c("animal,second,easting,northing", lines))
     }
     path <- file.path(folder, "report.txt")
-    writeLines(run_program(files, ranges$animals$animal, c("--percent", "95,50")), path, sep = "", useBytes = TRUE)
+    writeLines(run_program(homerange_program(), files, ranges$animals$animal, c("--percent", "95,50")), path, sep = "", useBytes = TRUE)
     read_report(path)
   })
   expect_equal(summary(report)[-5], summary(ranges)[-5])
-  expect_identical(curve(report), curve(ranges))
-  expect_identical(overlap(report), overlap(ranges))
-  expect_identical(polygons(report), polygons(ranges))
+  expect_identical(homerange_curve(report), homerange_curve(ranges))
+  expect_identical(homerange_overlap(report), homerange_overlap(ranges))
+  expect_identical(homerange_corners(report), homerange_corners(ranges))
 })

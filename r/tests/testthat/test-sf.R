@@ -13,7 +13,7 @@ test_that("points of a projected CRS go in, and polygons of this CRS come out", 
   points <- points_of()
   ranges <- quietly(home_range(points))
   for (level in c(50, 95, 100)) {
-    range <- polygons(ranges, level)
+    range <- sf::st_as_sf(ranges, level)
     at <- sf::st_coordinates(points)
     kept <- kept_directly(at[, "X"], at[, "Y"], level)
     wanted <- sf::st_convex_hull(sf::st_union(points[kept, ]))
@@ -31,7 +31,7 @@ test_that("ranges without an area are lines and points", {
   skip_if_not_installed("sf")
   fixes <- data.frame(id = c("one", "two", "two", "three", "three", "three"), date = as.Date("2024-05-01") + 0:5,
                       x = c(1, 1, 2, 1, 2, 1), y = c(1, 1, 2, 1, 1, 2))
-  ranges <- polygons(quietly(home_range(fixes, crs = 32633)))
+  ranges <- sf::st_as_sf(quietly(home_range(fixes, crs = 32633)), 100)
   expect_identical(as.character(sf::st_geometry_type(ranges)), c("POINT", "LINESTRING", "POLYGON"))
   expect_equal(ranges$hectares, c(0, 0, 0.00005))
 })
@@ -39,7 +39,7 @@ test_that("ranges without an area are lines and points", {
 test_that("decimetres come out as metres", {
   skip_without_program()
   skip_if_not_installed("sf")
-  ranges <- polygons(quietly(home_range(points_of(), unit = "dm")))
+  ranges <- sf::st_as_sf(quietly(home_range(points_of(), unit = "dm")))
   expect_equal(as.numeric(sf::st_area(ranges)) / 10000, ranges$hectares)
 })
 
@@ -69,8 +69,8 @@ test_that("a table whose coordinates cannot be taken is refused, with the call t
   empty <- points_of()
   sf::st_geometry(empty)[3] <- sf::st_point()
   expect_match(capture_messages(home_range(empty)), "1 records have no coordinates: left out", all = FALSE)
-  expect_equal(nrow(curve(quietly(home_range(empty[!sf::st_is_empty(empty), ])))), 49)
-  expect_equal(nrow(curve(quietly(home_range(empty, use = !sf::st_is_empty(empty))))), 49)
+  expect_equal(nrow(homerange_curve(quietly(home_range(empty[!sf::st_is_empty(empty), ])))), 49)
+  expect_equal(nrow(homerange_curve(quietly(home_range(empty, use = !sf::st_is_empty(empty))))), 49)
   expect_error(quietly(home_range(points_of(), easting = "x", northing = "y")), "brings its own",
                class = "homerange_option_error")
 })
@@ -86,8 +86,8 @@ test_that("the CRS of columns is that of the argument", {
   skip_without_program()
   skip_if_not_installed("sf")
   fixes <- walk("hare", 20, 3)
-  expect_type(polygons(quietly(home_range(fixes))), "list")
-  expect_identical(sf::st_crs(polygons(quietly(home_range(fixes, crs = 25833)))), sf::st_crs(25833))
+  expect_identical(sf::st_crs(sf::st_as_sf(quietly(home_range(fixes)))), sf::NA_crs_)
+  expect_identical(sf::st_crs(sf::st_as_sf(quietly(home_range(fixes, crs = 25833)))), sf::st_crs(25833))
   expect_error(quietly(home_range(fixes, crs = 4326)), "sf::st_transform(sf::st_as_sf(x", fixed = TRUE,
                class = "homerange_data_error")
   expect_error(quietly(home_range(fixes, crs = NA)), "no such coordinate reference system", class = "homerange_crs_error")

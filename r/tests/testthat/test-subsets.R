@@ -61,7 +61,7 @@ test_that("each subset says how many it leaves out", {
   expect_identical(grep("left out", said, value = TRUE), paste0("homerange: ", c(
     "3 fixes are after 2024-04-01: left out\n", "7 fixes are in other months than 4: left out\n",
     "2 fixes are at other hours than 5 to 6: left out\n")))
-  expect_equal(left_out(ranges), data.frame(
+  expect_equal(homerange_left_out(ranges), data.frame(
     animal = rep(c("boar", "hare"), each = 4), reason = rep(c("after", "hours", "months", "use"), 2),
     fixes = c(1, 1, 4, 1, 2, 1, 3, 1)
   ))

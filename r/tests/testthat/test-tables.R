@@ -30,7 +30,7 @@ test_that("text of times is read, whatever midnight there is among it", {
   ranges <- quietly(home_range(table))
   expect_equal(ranges$fixes$row, c(2, 1, 3, 4))
   wanted <- as.POSIXct("2024-05-01", tz = "UTC") + c(0, 1800, 10800, 14400.5)
-  expect_equal(curve(ranges)$time, wanted)
+  expect_equal(homerange_curve(ranges)$time, wanted)
   expect_equal(quietly(home_range(table, hours = c(3, 5)))$fixes$row, 3:4)
   table$date <- factor(table$date)
   expect_equal(quietly(home_range(table))$fixes$row, c(2, 1, 3, 4))
@@ -79,13 +79,13 @@ test_that("cells that are no text in UTF-8 are refused by row, and titles that a
   refused(table, "fixes are of several sensors (<e4> 1, gps 1)", "sensor")
   table$sensor.type <- "gps"
   names(table)[5] <- wrong
-  expect_equal(nrow(curve(suppressMessages(home_range(table)))), 2)
+  expect_equal(nrow(homerange_curve(suppressMessages(home_range(table)))), 2)
 })
 
 test_that("a class is known where its package is not loaded, and text of any class is text", {
   skip_without_program()
   table <- data.frame(id = structure(c("a", "a"), class = c("glue", "character")), date = "2024-05-01", x = c(1000, 1100), y = 1000)
-  expect_equal(nrow(curve(suppressMessages(home_range(table)))), 2)
+  expect_equal(nrow(homerange_curve(suppressMessages(home_range(table)))), 2)
   table$x <- structure(table$x, class = "labelled")
   refused(table, "x is labelled and not a number", "number")
   table$x <- structure(c(1, 2), class = "chron")
@@ -100,7 +100,7 @@ test_that("columns that are joined have to be text", {
   table <- data.frame(id = "a", day = as.Date("2024-05-01"), clock = c("01:00", "02:00"), x = c(1000, 1100), y = 1000)
   refused(table, "row 1: day clock is not text in all columns: make text of them", "time", time = c("day", "clock"))
   table$day <- format(table$day)
-  expect_equal(as.numeric(diff(curve(suppressMessages(home_range(table, time = c("day", "clock"))))$time), units = "secs"), 3600)
+  expect_equal(as.numeric(diff(homerange_curve(suppressMessages(home_range(table, time = c("day", "clock"))))$time), units = "secs"), 3600)
 })
 
 test_that("units are turned into metres, and other classes are refused by name", {
@@ -123,7 +123,7 @@ test_that("units are turned into metres, and other classes are refused by name",
   table[c("lon", "lat")] <- list(in_units(15 + 1:4 / 1000, "\u00b0"), in_units(rep(46, 4), "\u00b0"))
   table[c("x", "y")] <- NULL
   skip_if_not_installed("sf")
-  expect_equal(nrow(curve(quietly(home_range(table, zone = "33N")))), 4)
+  expect_equal(nrow(homerange_curve(quietly(home_range(table, zone = "33N")))), 4)
   table$lat <- in_units(rep(0.8, 4), "rad")
   refused(table, "lat is in rad and not in degrees", "number", zone = "33N")
 })
@@ -156,8 +156,8 @@ test_that("a local grid comes back where it was", {
   table <- transform(square(), x = x - 562100, y = y - 5234000)
   said <- capture_messages(ranges <- home_range(table))
   expect_true("homerange: coordinates are shifted by 1000000 m east and 1000000 m north\n" %in% said)
-  expect_equal(polygons(ranges)$hare, as.matrix(table[c("x", "y")]), ignore_attr = TRUE)
-  expect_equal(polygons(ranges, 50)$hare, as.matrix(table[1:2, c("x", "y")]), ignore_attr = TRUE)
+  expect_equal(homerange_corners(ranges)$hare, as.matrix(table[c("x", "y")]), ignore_attr = TRUE)
+  expect_equal(homerange_corners(ranges, 50)$hare, as.matrix(table[1:2, c("x", "y")]), ignore_attr = TRUE)
   expect_equal(summary(ranges)$hectares[3], 4)
 })
 
@@ -193,7 +193,7 @@ test_that("a zone and a reference system have to be of one place", {
   skip_without_program()
   skip_if_not_installed("sf")
   expect_square(square(), zone = "33 n", crs = 25833)
-  expect_identical(sf::st_crs(polygons(quietly(home_range(square(), zone = "33n")))), sf::st_crs(32633))
+  expect_identical(sf::st_crs(sf::st_as_sf(quietly(home_range(square(), zone = "33n")))), sf::st_crs(32633))
   refused(square(), "the coordinates are of the zone 33N, and the CRS EPSG:32632 is that of 32N", "zone", zone = "33N", crs = 32632)
   refused(square(), "is none of UTM", "zone", zone = "33N", crs = 3035)
 })
@@ -211,7 +211,7 @@ test_that("filters are arguments, and what they leave out is counted", {
   skip_without_program()
   table <- square(hdop = c(1, 2, 3, NA), fixtype = c("3D", "2D", "3D", "3D"))
   ranges <- quietly(home_range(table, max_dop = 2, fix_type = "3D"))
-  expect_equal(left_out(ranges), data.frame(animal = "hare", reason = c("dop", "no dop", "type"), fixes = 1))
+  expect_equal(homerange_left_out(ranges), data.frame(animal = "hare", reason = c("dop", "no dop", "type"), fixes = 1))
   expect_equal(quietly(home_range(table, max_dop = 2.5, dop = "hdop"))$fixes$row, 1:2)
   refused(square(argos_lc = c("3", "2", "B", "Z")), "argos_class = \"3,2,1\"", "argos")
   expect_equal(quietly(home_range(square(argos_lc = c("3", "2", "B", "Z")), argos_class = c(3, 2)))$fixes$row, 1:2)

@@ -1,0 +1,71 @@
+# Some of the animals of home ranges, and the animals of several together.
+
+tables_of_animals <- c("animals", "rows", "corners", "percents", "fixes", "left_out")
+
+# The home ranges of these animals, by their names, their places or truths, in this order.
+`[.home_range` <- function(x, i) {
+  if (missing(i)) return(x)
+  known <- x$animals$animal
+  names <- if (is.character(i)) i else known[i]
+  odd <- setdiff(names, known)
+  if (length(odd)) refuse("option", "there is no animal ", if (is.na(odd[1])) "at this place" else odd[1])
+  if (anyDuplicated(names)) refuse("option", "animal ", names[duplicated(names)][1], " is named twice")
+  if (!length(names)) refuse("option", "no animal is named")
+  for (table in tables_of_animals) x[[table]] <- rows_of_names(x[[table]], names)
+  x$overlaps <- x$overlaps[names, names, drop = FALSE]
+  as_part(x)
+}
+
+# The rows of a table that are of these animals, in their order.
+rows_of_names <- function(table, names) {
+  if (is.null(table)) return(NULL)
+  place <- match(table$animal, names)
+  table <- table[order(place, na.last = NA), ]
+  rownames(table) <- NULL
+  table
+}
+
+# Ranges that are no longer those of one call or one report, of which evidence is made.
+as_part <- function(ranges) {
+  ranges[c("files", "record", "record_file", "checksum")] <- NULL
+  ranges$cache <- new.env(parent = emptyenv())
+  ranges$is_part <- TRUE
+  ranges
+}
+
+# The home ranges of all animals of several, which have to be alike in what one call makes alike.
+c.home_range <- function(...) {
+  all <- list(...)
+  for (one in all) check_alike(one, all[[1]])
+  whole <- all[[1]]
+  for (table in tables_of_animals) whole[table] <- list(joined_tables(lapply(all, `[[`, table)))
+  if (anyDuplicated(whole$animals$animal)) {
+    refuse("option", "animal ", whole$animals$animal[duplicated(whole$animals$animal)][1], " is in two of them")
+  }
+  whole$notes <- unlist(lapply(all, `[[`, "notes"))
+  whole <- as_part(whole)
+  whole$overlaps <- joined_overlaps(whole, lapply(all, `[[`, "overlaps"))
+  whole
+}
+
+# Refuses home ranges that differ from others in what one table says of all.
+check_alike <- function(one, first) {
+  check_ranges(one)
+  what <- c(unit = "unit", shift = "shift", zone = "zone", crs = "CRS", tz = "zone of times", program = "program")
+  differs <- !vapply(names(what), function(own) identical(one[[own]], first[[own]]), NA)
+  if (any(differs)) refuse("option", "they differ in their ", what[differs][1])
+  if (!identical(unique(one$percents$level), unique(first$percents$level))) refuse("option", "they differ in their levels")
+  if (!identical(class(one$rows$time), class(first$rows$time))) refuse("option", "they differ in their times, which are no times in one")
+}
+
+# Tables one below the other; NULL where one is not known.
+joined_tables <- function(tables) if (!any(vapply(tables, is.null, NA))) do.call(rbind, tables)
+
+# The overlaps of all animals: those of each part, and between the parts those of the fixes; NA where these are not known.
+joined_overlaps <- function(whole, parts) {
+  names <- whole$animals$animal
+  unknown <- matrix(NA_real_, length(names), length(names), dimnames = list(names, names))
+  counts <- if (is.null(whole$fixes)) unknown else overlaps_at_level(whole, 100)
+  for (own in parts) counts[rownames(own), colnames(own)] <- own
+  counts
+}

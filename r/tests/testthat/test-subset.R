@@ -1,0 +1,74 @@
+# Some animals of home ranges, and several home ranges together, against the ranges of a table of those.
+
+without_call <- function(ranges) {
+  unclass(ranges)[setdiff(names(ranges), c("call", "cache", "notes", "options", "is_part", "is_projected", "fixes"))]
+}
+
+test_that("some animals are those of a table of them", {
+  skip_without_program()
+  fixes <- herd_of_three()
+  ranges <- quietly(home_range(fixes))
+  chosen <- c("alter Keiler \u00e4\u6f22", "fox")
+  wanted <- quietly(home_range(rbind(fixes[fixes$animal == chosen[1], ], fixes[fixes$animal == chosen[2], ])))
+  for (some in list(ranges[chosen], ranges[c(3, 1)], ranges[c("fox", chosen[1])][2:1], ranges[c(TRUE, FALSE, TRUE)][c(2, 1)])) {
+    expect_identical(without_call(some), without_call(wanted))
+    expect_identical(some$fixes[-1], wanted$fixes[-1])
+    expect_identical(homerange_corners(some, 50), homerange_corners(wanted, 50))
+  }
+  expect_identical(homerange_left_out(ranges[1]), homerange_left_out(ranges)[0, ])
+})
+
+test_that("what is no animal is refused", {
+  report <- read_report(system.file("extdata", "report.txt", package = "homerange"))
+  refused <- function(call, text) expect_error(call, text, class = "homerange_option_error")
+  refused(report["wolf"], "there is no animal wolf")
+  refused(report[4], "there is no animal at this place")
+  refused(report[c("fox", "fox")], "fox is named twice")
+  refused(report[character()], "no animal is named")
+})
+
+test_that("several home ranges together are those of one table, with their overlaps", {
+  skip_without_program()
+  fixes <- rbind(herd_of_three(), walk("lynx", 100, 9, stride = 60))
+  one <- quietly(home_range(fixes[fixes$animal %in% c("fox", "NA"), ]))
+  two <- quietly(home_range(fixes[!fixes$animal %in% c("fox", "NA"), ]))
+  whole <- quietly(home_range(fixes))
+  joined <- c(one, two)
+  expect_identical(without_call(joined), without_call(whole))
+  expect_gt(sum(homerange_overlap(whole)[1:2, 3:4]), 0)
+  expect_identical(joined$fixes[-1], whole$fixes[-1])
+  expect_identical(joined$notes, c(one$notes, two$notes))
+  expect_identical(homerange_corners(joined, 50), homerange_corners(whole, 50))
+})
+
+test_that("home ranges that cannot stand together are refused", {
+  skip_without_program()
+  fixes <- walk("fox", 40, 1)
+  other <- walk("hare", 40, 2)
+  ranges <- quietly(home_range(fixes))
+  refused <- function(other, text) expect_error(c(ranges, other), text, class = "homerange_option_error")
+  refused(ranges, "fox is in two of them")
+  refused(quietly(home_range(other, unit = "dm")), "they differ in their unit")
+  refused(quietly(home_range(other, levels = 50)), "they differ in their levels")
+  refused(quietly(home_range(transform(other, easting = easting - 1e6))), "they differ in their shift")
+  refused(1, "a home range is wanted")
+  days <- data.frame(animal = "wolf", date = as.Date("2024-05-01") + 0:2, x = 1:3, y = c(1, 5, 2))
+  refused(quietly(home_range(days)), "they differ in their times")
+})
+
+test_that("of reports the overlaps between them are not known", {
+  report <- read_report(system.file("extdata", "report.txt", package = "homerange"))
+  joined <- c(report["otter"], report[c("fox", "badger")])
+  wanted <- homerange_overlap(report)[c(3, 1, 2), c(3, 1, 2)]
+  wanted["otter", c("fox", "badger")] <- NA
+  wanted[c("fox", "badger"), "otter"] <- NA
+  expect_identical(homerange_overlap(joined), wanted)
+  expect_error(write_report(joined, tempfile()), "whose overlaps are not known", class = "homerange_option_error")
+})
+
+test_that("no evidence is made of parts", {
+  skip_without_program()
+  ranges <- quietly(home_range(herd_of_three()))
+  expect_error(homerange_evidence(ranges[1], tempfile()), "with all their animals", class = "homerange_option_error")
+  expect_error(homerange_evidence(c(ranges[1], ranges[2]), tempfile()), "with all their animals", class = "homerange_option_error")
+})
