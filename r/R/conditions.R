@@ -70,6 +70,12 @@ leave_out <- function(said, animals, reason) {
   said$left <- rbind(said$left, data.frame(animal = names[!old], reason = rep(reason, sum(!old)), fixes = counts[!old]))
 }
 
+# Has numbers written by digits, with a point, until the function in this frame ends, whatever the options of the session are.
+local_numbers <- function(frame = parent.frame()) {
+  old <- options(scipen = 15, OutDec = ".", digits = 7)
+  do.call(on.exit, list(bquote(options(.(old))), add = TRUE), envir = frame)
+}
+
 in_digits <- function(numbers) format(numbers, big.mark = ",", decimal.mark = ".", scientific = FALSE, trim = TRUE)
 
 # A number of things in words: "1 fix", "2 fixes".

@@ -4,6 +4,7 @@
 
 # Makes the folder of evidence of home ranges, whose page is written with the other arguments.
 homerange_evidence <- function(x, folder, ...) {
+  local_numbers()
   check_ranges(x)
   if (isTRUE(x$is_part)) refuse("option", "x: evidence is made of the ranges of one call or one report, with all their animals")
   if (is.null(x$fixes)) refuse("option", "evidence needs the fixes: read_report(file, files = ..)")

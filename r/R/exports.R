@@ -273,6 +273,7 @@ refuse_same_names <- function(names, clean) {
 
 # The fixes of a table of text as a data frame for home_range.
 read_export <- function(file, ...) {
+  local_numbers()
   options <- list(...)
   if (!is_text(file)) refuse("option", "file: the name of one file is wanted")
   check_options(options)

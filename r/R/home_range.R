@@ -6,6 +6,7 @@ home_range <- function(x, levels = c(50, 95, 100), unit = "m", animal = NULL, ti
                        progress = interactive(), lon = NULL, lat = NULL, name = "animal", zone = NULL, skip_unnamed = FALSE,
                        sensor = NULL, argos_class = NULL, argos = NULL, max_dop = NULL, dop = NULL, fix_type = NULL, fix = NULL,
                        since = NULL, until = NULL, max_speed = NULL, quiet = FALSE) {
+  local_numbers()
   levels <- checked_levels(levels)
   asked <- new_asked(list(
     unit = unit, animal = titles_named(animal, "animal"), time = titles_named(time, "time"), easting = easting,

@@ -7,6 +7,7 @@ least_of_map <- c(m = 100, dm = 10)  # metres that a map is wide at least, whose
 # Writes the page.
 write_page <- function(x, path, title = NULL, study = NULL, species = NULL, by = NULL, reserve = NULL, reserve_name = NULL,
                        tz = NULL, made = NULL) {
+  local_numbers()
   check_ranges(x)
   if (!is_text(path) || !nzchar(path)) refuse("option", "path: the name of one file is wanted")
   zone <- if (!is.null(tz)) tz else if (is.null(x$tz)) "UTC" else x$tz

@@ -2,12 +2,13 @@
 
 plot.home_range <- function(x, what = c("ranges", "curve"), level = 100, animals = NULL, over = NULL,
                             label = "boundary", main = "", reset = TRUE, ...) {
+  local_numbers()
   check_title(...)
   what <- tryCatch(match.arg(what), error = function(fault) refuse("option", "what: \"ranges\" or \"curve\" is wanted"))
   shown <- shown_animals(x, animals)
   over <- check_over(x, over)
   old <- par("mai")
-  if (reset) on.exit(par(mai = old))
+  if (reset) on.exit(par(mai = old), add = TRUE)
   if (what == "curve") {
     draw_curves(x, shown, main, ...)
   } else {

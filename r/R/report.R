@@ -135,6 +135,7 @@ put_overlaps <- function(counts, overlaps) {
 
 # The home ranges of a report that was made elsewhere, of its files where they are named, and of the record of these.
 read_report <- function(file, start = NULL, files = NULL, record = NULL) {
+  local_numbers()
   if (!is_text(file)) refuse("option", "file: the name of one file is wanted")
   if (!is.null(start) && !inherits(start, "POSIXct")) refuse("option", "start: a time as POSIXct is wanted")
   if (!is.null(files) && (!is.character(files) || !length(files) || anyNA(files))) refuse("option", "files: names of files are wanted")
@@ -221,13 +222,14 @@ with_record <- function(ranges, record) {
 
 # Writes the report of home ranges, with the names that animals have in files, as the program would of those.
 write_report <- function(x, path) {
+  local_numbers()
   check_ranges(x)
   if (!is_text(path) || !nzchar(path)) refuse("option", "path: the name of one file is wanted")
   if (anyNA(x$overlaps)) refuse("option", "x: these are ranges of several reports, whose overlaps are not known")
   animals <- x$animals$animal
   names <- names_of_files(animals)
   for (line in renames_of(animals, names)) tell_note(line, "renamed")
-  tables <- lapply(x[c("rows", "corners", "percents")], function(table) split(table, factor(table$animal, animals)))
+  tables <- lapply(unclass(x)[c("rows", "corners", "percents")], function(table) split(table, factor(table$animal, animals)))
   lines <- Map(lines_of_animal, names, x$animals$fixes, tables$rows, tables$corners, tables$percents)
   pairs <- which(row(x$overlaps) != col(x$overlaps), arr.ind = TRUE)
   pairs <- pairs[order(pairs[, 1], pairs[, 2]), , drop = FALSE]

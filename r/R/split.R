@@ -4,12 +4,13 @@ lines_written <- 50000  # at once
 
 # Makes the folder of tracks of a table of text. What is said is told by tell.
 split_text <- function(path, into, options, tell) {
+  local_numbers()
   if (!nzchar(into)) refuse("option", "into: the folder has no name")
   if (is_there(into)) refuse("text", into, " is there already: remove it, or name another by --into")
   said <- new_said(function(line, kind) tell(line))
   split <- read_text(path, options, said)
   is_done <- FALSE
-  on.exit(if (!is_done) unlink(into, recursive = TRUE))
+  on.exit(if (!is_done) unlink(into, recursive = TRUE), add = TRUE)
   make_folder(into)
   rows <- rows_of_animals(split$tracks$herd)
   for (animal in names(rows)) {

@@ -97,6 +97,7 @@ levels_of <- function(ranges) {
 
 # Refuses what is no level whose polygons are known.
 check_level <- function(ranges, level) {
+  local_numbers()
   known <- sort(unique(c(ranges$percents$level, 100)))
   if (!is_number(level) || !level %in% known) {
     refuse("option", "level: one of ", paste(known, collapse = ", "), " is wanted; home_range takes others as levels")
@@ -155,6 +156,7 @@ print.home_range <- function(x, ...) {
 
 # The lines that are printed.
 format.home_range <- function(x, ...) {
+  local_numbers()
   check_dots(...)
   number <- nrow(x$animals)
   times <- range(x$rows$time)
