@@ -1,6 +1,7 @@
 \name{home_range}
 \alias{home_range}
 \alias{print.home_range}
+\alias{format.home_range}
 \title{Home Ranges of Tagged Animals}
 \description{
 Checks a table of location fixes, runs the program \code{homerange} on them, and reads what it answers: for each animal
@@ -14,13 +15,16 @@ home_range(x, levels = c(50, 95, 100), unit = "m", animal = NULL, time = NULL,
            progress = interactive(), lon = NULL, lat = NULL, name = "animal",
            zone = NULL, skip_unnamed = FALSE, sensor = NULL, argos_class = NULL,
            argos = NULL, max_dop = NULL, dop = NULL, fix_type = NULL, fix = NULL,
-           since = NULL, until = NULL, max_speed = NULL)
+           since = NULL, until = NULL, max_speed = NULL, quiet = FALSE)
 
 \method{print}{home_range}(x, ...)
+
+\method{format}{home_range}(x, ...)
 }
 \arguments{
 \item{x}{for \code{home_range} a data frame with a row for each fix, or an \code{sf} table of points whose coordinate
-  reference system (CRS) is projected and in metres. For \code{print} a home range.}
+  reference system (CRS) is projected and in metres. For \code{print} and \code{format} a home
+  range.}
 \item{levels}{the levels of the percent polygons: 1 to 8 different whole numbers from 1 to 100.}
 \item{unit}{to what coordinates are rounded: \code{"m"} for whole metres, \code{"dm"} for whole decimetres. The
   coordinates of \code{x} are in metres in either case.}
@@ -39,7 +43,7 @@ home_range(x, levels = c(50, 95, 100), unit = "m", animal = NULL, time = NULL,
 \item{tz}{the time zone of days, months and hours, and of times that are shown; \code{\link{OlsonNames}} lists them. If left
   out, that of the column of times, which is said; of text and numbers UTC.}
 \item{crs}{the CRS of the columns of coordinates, as \code{sf::st_crs} takes it, such as 32633 for UTM zone 33 north. It
-  changes no number: \code{\link{polygons}} are given in it. If left out, it is that of an amt track, or of the UTM zone.}
+  changes no number: \code{\link[=st_as_sf.home_range]{polygons}} are given in it. If left out, it is that of an amt track, or of the UTM zone.}
 \item{zone}{the UTM zone of the coordinates, such as \code{"33N"}; longitude and latitude are projected into it, which takes
   the package sf.}
 \item{skip_unnamed}{whether rows without an animal are left out and counted, and not refused.}
@@ -49,13 +53,15 @@ home_range(x, levels = c(50, 95, 100), unit = "m", animal = NULL, time = NULL,
 \item{argos, dop, fix}{the names of the columns of Argos classes, dilution of precision and types of fixes, where they have
   no usual titles.}
 \item{progress}{whether a bar shows how far many runs of the program have come.}
-\item{...}{not used.}
+\item{quiet}{whether what is guessed or left out is not said, and kept in \code{notes} alone.}
+\item{...}{none; others are refused.}
 }
 \details{
 \strong{How a table is read} stands in \file{docs/TABLES.md} of homerange's repository, once for
 R, Python and the commands: the usual titles of columns, times and coordinates, marks of outliers, sensors and filters, what
-is left out, sorted, moved or rounded, and what is refused. What is guessed or left out is said in messages, a line for each;
-\code{\link{left_out}} counts fixes by animal and reason. A \code{move2} table says itself which columns have the animal and
+is left out, sorted, moved or rounded, and what is refused. What is guessed or left out is said in messages, a line for each, of
+classes that \link{homerange-package} lists;
+\code{\link{homerange_left_out}} counts fixes by animal and reason. A \code{move2} table says itself which columns have the animal and
 the time. Times of class \code{POSIXct} that have no zone are by the clock of the session.
 
 \strong{The percent rule.} Of n fixes, level p keeps the \code{(p * n + 99) \%/\% 100} that lie nearest to the mean of all
@@ -68,9 +74,11 @@ that every pair of animals is compared.
 The files of the runs are in a folder of their own below \code{\link{tempdir}}, which is removed at the end.
 }
 \value{
-An object of class \code{home_range}. \code{print} shows about ten lines of it. See
-\code{\link[=summary.home_range]{summary}} for areas, \code{\link{curve}} for incremental area analysis,
-\code{\link{overlap}}, \code{\link{polygons}} and \code{\link[=plot.home_range]{plot}}.
+An object of class \code{home_range}. \code{print} shows about ten lines of it, which \code{format} gives. See
+\code{\link[=summary.home_range]{summary}} for areas, \code{\link{homerange_curve}} for incremental area analysis,
+\code{\link{homerange_overlap}}, \code{\link[=st_as_sf.home_range]{st_as_sf}} for polygons and
+\code{\link[=plot.home_range]{plot}}. Beside its tables it has \code{notes}, what was said; \code{program}, the path of the
+program, what it says of its version, and its checksum; and \code{call}.
 }
 \section{Limits and errors}{
 What cannot be right is refused with an error of class \code{homerange_data_error}, in one line with the row and the remedy;

@@ -12,12 +12,33 @@ its report. Each function of that program is proved to meet its contract, and it
 package itself is tested, and not proved.
 
 \code{\link{home_range}} makes home ranges from a table, \code{\link{read_report}} reads them from a report.
-\code{\link[=summary.home_range]{summary}}, \code{\link{curve}}, \code{\link{overlap}} and \code{\link{polygons}} give
-tables and polygons of them, \code{\link{levelling}} says whether areas levelled off, \code{\link{share_inside}} gives their
-share in a reserve, \code{\link[=plot.home_range]{plot}} draws
-them. \code{\link{write_page}} writes a page of all this, and \code{\link{evidence}} makes a folder to hand in.
+\code{\link[=summary.home_range]{summary}} and \code{as.data.frame} give tables of them,
+\code{\link[=st_as_sf.home_range]{sf::st_as_sf}} and \code{\link{homerange_corners}} polygons,
+\code{\link[=plot.home_range]{plot}} draws them, and \code{\link[=c.home_range]{[ and c}} take some animals and put several
+together. \code{\link{homerange_curve}} has the areas after each fix, \code{\link{homerange_levelling}} says whether they levelled
+off, \code{\link{homerange_overlap}} has the fixes of one animal in the range of another, \code{\link{homerange_share}} the share of
+ranges in a reserve, and \code{\link{homerange_left_out}} the fixes that were left out. \code{\link{write_page}} writes a page of
+all this, \code{\link{write_report}} the report, and \code{\link{homerange_evidence}} makes a folder to hand in.
 \code{\link{read_export}} reads exports of Movebank and of collars. \code{\link{homerange_program}} says which
-program is run. \code{vignette("homerange")} goes from an export to a map.
+program is run. \code{vignette("homerange")} goes from an export to the share of ranges in a reserve.
+
+The options \code{scipen}, \code{OutDec} and \code{digits} of a session change nothing of what the package reads, says, prints and
+writes.
+}
+\section{Messages}{
+Each message has the class \code{homerange_note} and another, by which a handler of \code{\link{withCallingHandlers}} can tell
+them apart and \code{suppressMessages(.., classes = "homerange_rounded_note")} can silence some:
+\tabular{ll}{
+\code{homerange_left_out_note} \tab fixes were left out, or an animal has none left \cr
+\code{homerange_guessed_note} \tab what columns, times, zones and sensors were taken for \cr
+\code{homerange_asked_note} \tab a question: something may be other than it was taken for \cr
+\code{homerange_sorted_note}, \code{homerange_same_note} \tab fixes were sorted by time, or have the same second \cr
+\code{homerange_moved_note}, \code{homerange_rounded_note} \tab coordinates were shifted, or rounded \cr
+\code{homerange_scale_note} \tab areas differ on the grid from those on the ground \cr
+\code{homerange_limit_note} \tab the program refuses what follows \cr
+\code{homerange_renamed_note} \tab an animal has another name in files
+}
+With \code{home_range(.., quiet = TRUE)} nothing is said, and the lines are in \code{notes} of the object all the same.
 }
 \section{Errors}{
 Each error of the package has the class \code{homerange_error} and another, which \code{\link{tryCatch}} can tell apart:

@@ -7,12 +7,14 @@ homerange_program()
 }
 \details{
 The first of these counts: the file that \code{options(homerange.program = "...")} names; the file that the environment's
-\code{HOMERANGE} names; \code{release/homerange} of the clone of homerange's repository that the working folder or the package
-stands in; \code{homerange} on \code{PATH}.
+\code{HOMERANGE} names; the program that came with the installed package, in its folder \file{bin}, as it does where the package
+was installed from a clone of homerange's repository; \file{release/homerange} of the clone whose folder \file{r} the package was
+loaded from; \code{homerange} on \code{PATH}. The working folder, and folders above it, are never looked in. A program that came
+with the package is held to its checksum before it first runs.
 }
 \value{The path of the program.}
 \section{Errors}{
-Where there is no program, or the one that is named is not there, the call stops with an error of class
+Where there is no program, the one that is named is not there, or the package's own has another checksum, the call stops with an error of class
 \code{homerange_program_error}.
 }
 \examples{

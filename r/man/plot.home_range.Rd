@@ -12,7 +12,7 @@ that is made to the right of the plot.
 \arguments{
 \item{x}{a home range, from \code{\link{home_range}} or \code{\link{read_report}}.}
 \item{what}{\code{"ranges"} for a map, \code{"curve"} for the curves of incremental area analysis.}
-\item{level}{for a map the level or the levels of the polygons, as \code{\link{polygons}} takes them. The polygons of the
+\item{level}{for a map the level or the levels of the polygons, as \code{\link{homerange_corners}} takes them. The polygons of the
   greatest level have thicker lines.}
 \item{animals}{the names of the animals to draw; all, if left out.}
 \item{over}{for a map an \code{sf} geometry of polygons or lines in the CRS of the fixes, such as the boundary of a reserve. It

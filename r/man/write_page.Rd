@@ -13,12 +13,12 @@ write_page(x, path, title = NULL, study = NULL, species = NULL, by = NULL,
 \item{x}{a home range, from \code{\link{home_range}} or \code{\link{read_report}}.}
 \item{path}{the file, such as \code{report.html}, which is written over.}
 \item{title, study, species, by}{text for the head of the page.}
-\item{reserve, reserve_name}{a boundary for the map, as \code{\link{share_inside}} takes it, and what it is called.}
+\item{reserve, reserve_name}{a boundary for the map, as \code{\link{homerange_share}} takes it, and what it is called.}
 \item{tz}{the time zone of dates; if left out, that of the ranges.}
 \item{made}{the day of making, a \code{Date}; if left out, today.}
 }
 \value{The path, invisibly.}
-\seealso{\code{\link{evidence}}, which makes a whole folder with such a page.}
+\seealso{\code{\link{homerange_evidence}}, which makes a whole folder with such a page.}
 \examples{
 report <- system.file("extdata", "report.txt", package = "homerange")
 path <- tempfile(fileext = ".html")

@@ -1,17 +1,15 @@
-\name{curve}
-\alias{curve}
+\name{homerange_curve}
+\alias{homerange_curve}
 \title{The Table of Incremental Area Analysis}
 \description{The area of an animal's range after each fix (Harris et al. 1990).}
 \usage{
-curve(x, ...)
+homerange_curve(x, area = "ha", units = FALSE)
 }
 \arguments{
 \item{x}{a home range, from \code{\link{home_range}} or \code{\link{read_report}}.}
-\item{...}{of a home range none; others are refused.}
-}
-\details{
-The function of the same name in the package graphics, which this one hides, draws functions. What is no home range is handed
-on to it, so \code{curve(sin, 0, pi)} works as ever.
+\item{area}{the unit of areas: \code{"ha"} for a column \code{hectares}, \code{"m2"} for \code{square_metres},
+  \code{"km2"} for \code{square_kilometres}.}
+\item{units}{whether areas are of the package units, in a column \code{area}.}
 }
 \value{
 A data frame with a row for each fix and the columns
@@ -19,7 +17,7 @@ A data frame with a row for each fix and the columns
 \item{n}{the number of the fix, from 1 for each animal, in the order of time.}
 \item{time}{its time; for a report without \code{start} its second.}
 \item{corners}{how many corners the minimum convex polygon of the first n fixes has.}
-\item{hectares}{the area of that polygon in hectares.}
+\item{hectares}{the area of that polygon in hectares, or in the unit that is asked for.}
 }
 \references{
 Harris, S., Cresswell, W. J., Forde, P. G., Trewhella, W. J., Woollard, T. and Wray, S. (1990) Home-range analysis using
@@ -29,5 +27,5 @@ radio-tracking data -- a review of problems and techniques particularly as appli
 \seealso{\code{\link{plot.home_range}} draws it.}
 \examples{
 report <- system.file("extdata", "report.txt", package = "homerange")
-tail(curve(read_report(report)))
+tail(homerange_curve(read_report(report)))
 }

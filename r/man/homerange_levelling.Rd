@@ -1,12 +1,12 @@
-\name{levelling}
-\alias{levelling}
+\name{homerange_levelling}
+\alias{homerange_levelling}
 \title{Whether Areas Levelled Off}
 \description{
 Says of each animal whether its area levelled off with more fixes, so whether it was followed for long enough, by incremental
 area analysis (Harris et al. 1990).
 }
 \usage{
-levelling(x)
+homerange_levelling(x)
 }
 \arguments{
 \item{x}{a home range, from \code{\link{home_range}} or \code{\link{read_report}}.}
@@ -30,8 +30,8 @@ Harris, S., Cresswell, W. J., Forde, P. G., Trewhella, W. J., Woollard, T. and W
 radio-tracking data -- a review of problems and techniques particularly as applied to the study of mammals.
 \emph{Mammal Review} 20, 97--123.
 }
-\seealso{\code{\link{curve}} has the areas, and \code{\link{plot.home_range}} draws them.}
+\seealso{\code{\link{homerange_curve}} has the areas, and \code{\link{plot.home_range}} draws them.}
 \examples{
 report <- system.file("extdata", "report.txt", package = "homerange")
-levelling(read_report(report))
+homerange_levelling(read_report(report))
 }

@@ -1,15 +1,15 @@
-\name{share_inside}
-\alias{share_inside}
+\name{homerange_share}
+\alias{homerange_share}
 \title{The Share of Home Ranges in a Reserve}
 \description{How much of each animal's polygon lies in a reserve, also of those that lie outside it.}
 \usage{
-share_inside(x, reserve, level = 100)
+homerange_share(x, reserve, level = 100)
 }
 \arguments{
 \item{x}{a home range, from \code{\link{home_range}} or \code{\link{read_report}}.}
 \item{reserve}{an \code{sf} geometry of polygons, which are taken together. It may be in another coordinate reference system
   (CRS) than the ranges; where those have none, it must have none, and its coordinates are theirs.}
-\item{level}{the level of the polygons in per cent, as \code{\link{polygons}} takes it.}
+\item{level}{the level of the polygons in per cent, as \code{\link{homerange_corners}} takes it.}
 }
 \value{
 A data frame with a row for each animal, in the order of \code{x}:
@@ -27,6 +27,6 @@ A boundary that crosses itself, one without an area, and what is no \code{sf} ge
 found <- tryCatch(nzchar(homerange_program()), homerange_program_error = function(fault) FALSE)
 if (found && requireNamespace("sf", quietly = TRUE)) {
   reserve <- sf::st_buffer(sf::st_sfc(sf::st_point(c(562000, 5134000)), crs = 32633), 1000)
-  share_inside(home_range(deer), reserve, level = 95)
+  homerange_share(home_range(deer), reserve, level = 95)
 }
 }

@@ -1,12 +1,12 @@
-\name{evidence}
-\alias{evidence}
+\name{homerange_evidence}
+\alias{homerange_evidence}
 \title{A Folder to Hand In}
 \description{
 Makes a new folder with all that an authority needs to check home ranges: the fixes, the report that the program makes of
 them, a record of the run, tables, polygons, a page and checksums.
 }
 \usage{
-evidence(x, folder, ...)
+homerange_evidence(x, folder, ...)
 }
 \arguments{
 \item{x}{a home range, from \code{\link{home_range}}, or from \code{\link{read_report}} with its \code{files}.}
@@ -23,7 +23,7 @@ The program is run again, on the files in the folder, and its report has to have
 \code{tracks} \tab the fixes, a file for each animal, and \code{split.txt}, the record of how they were made: unit, reference
   system, shift, the arguments of \code{home_range}, what was said and left out, checksums, and what made them \cr
 \code{summary.csv} \tab for each animal and level fixes, corners and hectares \cr
-\code{animals.csv} \tab for each animal what was left out and why, times, intervals, hectares, and \code{\link{levelling}} \cr
+\code{animals.csv} \tab for each animal what was left out and why, times, intervals, hectares, and \code{\link{homerange_levelling}} \cr
 \code{overlaps.csv} \tab which share of the fixes of the row's animal lie in the polygon of the column's \cr
 \code{ranges.gpkg} \tab with the package sf layers for a GIS: the polygons of all levels, the fixes, and how QGIS draws them \cr
 \code{report.html} \tab the page, to read and to print \cr
@@ -40,12 +40,12 @@ In names of files and animals \code{/}, \code{\\}, comma, double quote and contr
 start too, and what is over 32 bytes is cut off; two names that come out the same are refused. It wants \code{sha256sum}.
 }
 \value{The name of the folder, invisibly.}
-\seealso{\code{\link{write_page}}, \code{\link{levelling}}}
+\seealso{\code{\link{write_page}}, \code{\link{homerange_levelling}}}
 \examples{
 found <- tryCatch(nzchar(homerange_program()), homerange_program_error = function(fault) FALSE)
 if (found) {
   folder <- file.path(tempdir(), "hand-in")
-  evidence(home_range(deer), folder)
+  homerange_evidence(home_range(deer), folder)
   list.files(folder)
   unlink(folder, recursive = TRUE)
 }

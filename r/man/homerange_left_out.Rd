@@ -1,9 +1,9 @@
-\name{left_out}
-\alias{left_out}
+\name{homerange_left_out}
+\alias{homerange_left_out}
 \title{Fixes That Were Left Out}
 \description{Counts the rows of a table that are not among the fixes of a home range, by animal and reason.}
 \usage{
-left_out(x)
+homerange_left_out(x)
 }
 \arguments{
 \item{x}{a home range, from \code{\link{home_range}}, or from \code{\link{read_report}} with files or a record.}
@@ -17,5 +17,5 @@ A data frame with a row for each animal and reason:
 }
 \examples{
 found <- tryCatch(nzchar(homerange_program()), homerange_program_error = function(fault) FALSE)
-if (found) left_out(home_range(deer, hours = c(18, 6)))
+if (found) homerange_left_out(home_range(deer, hours = c(18, 6)))
 }
