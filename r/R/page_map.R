@@ -147,20 +147,28 @@ boxes_meet <- function(box, others) {
 
 # The numbers of animals, each in the middle of its innermost polygon or near it, where it covers no other.
 map_numbers <- function(shapes, frame, size) {
+  places <- places_of_numbers_on(shapes, frame, size)
+  vapply(seq_along(shapes), function(at) {
+    place <- places[at, ]
+    number <- shapes[[at]]$number
+    leader <- if (place[5]) svg_line(place[1], place[2], place[3], place[4], " class=\"leader\"") else ""
+    paste0(leader, svg_text(place[3], place[4] + 0.35 * size, number, paste0(" class=\"number ", colour_class(number), "\"")))
+  }, "")
+}
+
+# Of each animal the middle of its innermost polygon, the place of its number, and whether a line leads there.
+places_of_numbers_on <- function(shapes, frame, size) {
   taken <- matrix(0, 0, 4)
-  found <- character()
-  for (shape in shapes) {
-    polygon <- shape$polygons[[length(shape$polygons)]]
+  found <- matrix(0, length(shapes), 5)
+  for (at in seq_along(shapes)) {
+    polygon <- shapes[[at]]$polygons[[length(shapes[[at]]$polygons)]]
     box <- box_of(polygon)
     x <- frame_x(frame, (box[1] + box[3]) / 2)
     y <- frame_y(frame, (box[2] + box[4]) / 2)
-    half <- 0.31 * size * nchar(shape$number) + 1
+    half <- 0.31 * size * nchar(shapes[[at]]$number) + 1
     to <- free_place(x, y, half, size, frame, taken, nrow(polygon) < 3)
     taken <- rbind(taken, number_box(to, half, size))
-    is_far <- abs(to[1] - x) + abs(to[2] - y) > 1.5 * size
-    leader <- if (is_far) svg_line(x, y, to[1], to[2], " class=\"leader\"")
-    found <- c(found, paste0(leader, svg_text(to[1], to[2] + 0.35 * size, shape$number,
-                                              paste0(" class=\"number ", colour_class(shape$number), "\""))))
+    found[at, ] <- c(x, y, to, abs(to[1] - x) + abs(to[2] - y) > 1.5 * size)
   }
   found
 }
