@@ -3,14 +3,13 @@
 program in it. ZIP is homerange-qgis-VERSION.zip in the working folder, if left out. Two calls write the same bytes."""
 
 import argparse
-import hashlib
 import re
 import sys
 import zipfile
 from pathlib import Path
 
 TOP = Path(__file__).resolve().parents[1]
-PLUGIN, PACKAGE, PROGRAM = TOP / "qgis/homerange", TOP / "python/homerange", TOP / "release/homerange"
+PLUGIN, PACKAGE, RELEASE = TOP / "qgis/homerange", TOP / "python/homerange", TOP / "release"
 TIME = (2026, 1, 1, 0, 0, 0)  # that of each file in the archive
 KINDS = {".py", ".html", ".svg", ".txt", ".csv", ".typed"}
 
@@ -29,10 +28,11 @@ def content():
     for path in files_in(PLUGIN):
         yield f"homerange/{path.relative_to(PLUGIN)}", path.read_bytes(), 0o644
     for path in files_in(PACKAGE):
-        yield f"homerange/package/{path.relative_to(PACKAGE)}", path.read_bytes(), 0o644
-    program = PROGRAM.read_bytes()
-    yield "homerange/bin/homerange", program, 0o755
-    yield "homerange/bin/homerange.sha256", f"{hashlib.sha256(program).hexdigest()}  homerange\n".encode(), 0o644
+        if path.parent.name != "commands":
+            yield f"homerange/package/{path.relative_to(PACKAGE)}", path.read_bytes(), 0o644
+    # As in a wheel: the package has a program of its own, and holds it to its checksum.
+    for name, rights in (("homerange", 0o755), ("SOURCES", 0o644), ("SHA256SUMS", 0o644)):
+        yield f"homerange/package/release/{name}", (RELEASE / name).read_bytes(), rights
 
 
 def write(path):

@@ -2,9 +2,9 @@
 
 from __future__ import annotations
 
-from typing import Any, Iterable, Sequence
+from typing import TYPE_CHECKING, Any, Iterable, Literal, Sequence, overload
 
-import pandas  # type: ignore[import]
+import pandas
 
 from .asked import UNITS
 from .errors import refuse
@@ -18,12 +18,15 @@ from .plot_style import (
 )
 from .ranges import HomeRanges, whole_numbers
 
+if TYPE_CHECKING:
+    from matplotlib.axes import Axes
+
 AROUND = (1.25, 0.9)  # inches of a new figure around its axes, across and up
 
 
 def new_axes(width: float, height: float, texts: Sequence[str], animals: int) -> Any:
     """Axes of so many points in a new figure, with room for the key."""
-    from matplotlib import pyplot  # type: ignore[import]
+    from matplotlib import pyplot
 
     beside, below = key_room(texts, animals, width / 72)
     size = (width / 72 + AROUND[0] + beside, height / 72 + AROUND[1] + below)
@@ -47,7 +50,7 @@ def new_panels(animals: Sequence[Drawn], ratio: float) -> list[Any]:
 
 def handle_of(animal: Drawn, text: str) -> Any:
     """An animal in the key."""
-    from matplotlib.lines import Line2D  # type: ignore[import]
+    from matplotlib.lines import Line2D
 
     return Line2D([], [], color=animal.colour, linewidth=2, label=text)
 
@@ -109,10 +112,24 @@ def draw_line(axes: Any, line: Line, across: Sequence[Any], factor: float) -> No
               label=label(line.animal.name))
 
 
+@overload
 def plot_curve(
-    ranges: HomeRanges, ax: Any = None, *, animals: Iterable[str] | str | None = None, by: str = "fix",
+    ranges: HomeRanges, ax: Axes | None = None, *, animals: Iterable[str] | str | None = None, by: str = "fix",
+    share: bool = False, facets: Literal[False] = False, colours: Any = None,
+) -> Axes: ...
+
+
+@overload
+def plot_curve(
+    ranges: HomeRanges, ax: None = None, *, animals: Iterable[str] | str | None = None, by: str = "fix",
+    share: bool = False, facets: Literal[True], colours: Any = None,
+) -> list[Axes]: ...
+
+
+def plot_curve(
+    ranges: HomeRanges, ax: Axes | None = None, *, animals: Iterable[str] | str | None = None, by: str = "fix",
     share: bool = False, facets: bool = False, colours: Any = None,
-) -> Any:
+) -> Axes | list[Axes]:
     """Draws the area of each animal's minimum convex polygon after each fix (incremental area analysis, Harris et al.
     1990): a curve that levels off says that the range is known.
 
@@ -177,10 +194,9 @@ def curve_panels(
     return panels
 
 
-def levels_drawn(ranges: HomeRanges, level: Any) -> list[int]:
+def levels_of_map(level: Any) -> list[int]:
     """The levels of a map, from the highest on."""
-    found = whole_numbers(level, 1, 100, "level")
-    return sorted({*found}, reverse=True)
+    return sorted({*whole_numbers(level, 1, 100, "level")}, reverse=True)
 
 
 def title_of(ranges: HomeRanges, levels: Sequence[int]) -> str:
@@ -205,10 +221,26 @@ def map_handles(ranges: HomeRanges, drawn: Sequence[Drawn], levels: Sequence[int
     return found
 
 
+@overload
 def plot_ranges(
-    ranges: HomeRanges, ax: Any = None, level: int | Iterable[int] = 100, *, animals: Iterable[str] | str | None = None,
-    fixes: bool = True, over: Any = None, over_name: str = "boundary", facets: bool = False, colours: Any = None,
-) -> Any:
+    ranges: HomeRanges, ax: Axes | None = None, level: int | Iterable[int] = 100, *,
+    animals: Iterable[str] | str | None = None, fixes: bool = True, over: Any = None, over_name: str = "boundary",
+    facets: Literal[False] = False, colours: Any = None,
+) -> Axes: ...
+
+
+@overload
+def plot_ranges(
+    ranges: HomeRanges, ax: None = None, level: int | Iterable[int] = 100, *, animals: Iterable[str] | str | None = None,
+    fixes: bool = True, over: Any = None, over_name: str = "boundary", facets: Literal[True], colours: Any = None,
+) -> list[Axes]: ...
+
+
+def plot_ranges(
+    ranges: HomeRanges, ax: Axes | None = None, level: int | Iterable[int] = 100, *,
+    animals: Iterable[str] | str | None = None, fixes: bool = True, over: Any = None, over_name: str = "boundary",
+    facets: bool = False, colours: Any = None,
+) -> Axes | list[Axes]:
     """Draws each animal's polygons at a level, or at several, over its fixes where they are known: a map with a bar of
     scale and an arrow to the north of the grid, in metres or, where it is wide, kilometres.
 
@@ -222,7 +254,7 @@ def plot_ranges(
     """
     if facets and ax is not None:
         refuse("facets make a figure of their own: leave ax out")
-    levels, drawn = levels_drawn(ranges, level), drawn_animals(ranges, animals, colours)
+    levels, drawn = levels_of_map(level), drawn_animals(ranges, animals, colours)
     shapes, rings = shapes_of(ranges, drawn, levels, fixes), rings_over(ranges, over)
     if facets:
         return map_panels(ranges, drawn, shapes, levels)

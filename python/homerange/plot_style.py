@@ -63,7 +63,7 @@ def label(name: str) -> str:
 
 def halo() -> list[Any]:
     """What makes a text legible over lines."""
-    from matplotlib import patheffects  # type: ignore[import]
+    from matplotlib import patheffects
 
     return [patheffects.withStroke(linewidth=2, foreground="white")]
 
@@ -90,7 +90,7 @@ def key_size(animals: int) -> float:
 
 def key_width(texts: Sequence[str], size: float) -> float:
     """How wide a column of a key is, in inches."""
-    from matplotlib.textpath import TextPath  # type: ignore[import]
+    from matplotlib.textpath import TextPath
 
     widest = max(TextPath((0, 0), text, size=size).get_extents().width for text in texts)
     return float(widest + 3.6 * size) / 72
@@ -122,8 +122,8 @@ def number_axes(axes: Any, zone: Any = None) -> None:
     """Numbers with commas between thousands and as many digits as tell them apart, few enough not to run into each other,
     and a grid behind what is drawn. Where a time zone is given, dates of it stand below."""
     has_dates = zone is not None
-    from matplotlib.dates import AutoDateLocator, ConciseDateFormatter  # type: ignore[import]
-    from matplotlib.ticker import FuncFormatter, MaxNLocator  # type: ignore[import]
+    from matplotlib.dates import AutoDateLocator, ConciseDateFormatter
+    from matplotlib.ticker import FuncFormatter, MaxNLocator
 
     if has_dates:
         locator = AutoDateLocator(tz=zone, maxticks=7)

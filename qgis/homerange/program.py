@@ -1,11 +1,6 @@
 """The package for Python and the program, as they lie in the plugin."""
 
-import hashlib
 import os
-from pathlib import Path
-
-HERE = Path(__file__).resolve().parent
-PROGRAM = HERE / "bin" / "homerange"
 
 
 class ProgramFault(Exception):
@@ -28,10 +23,10 @@ def load():
 
 
 def program():
-    """The path of the program, once it is seen to be the one that was packed. An archive keeps no right to run it."""
-    wanted = PROGRAM.with_name("homerange.sha256").read_text().split()[0]
-    if hashlib.sha256(PROGRAM.read_bytes()).hexdigest() != wanted:
-        raise ProgramFault(f"{PROGRAM} is not the program of this plugin: install the plugin anew")
-    if not os.access(PROGRAM, os.X_OK):
-        PROGRAM.chmod(0o755)
-    return str(PROGRAM)
+    """The path of the package's own program, which is held to its checksum. What QGIS unpacks has no right to run."""
+    from .package.program import OWN, check_own
+
+    if not os.access(OWN, os.X_OK):
+        OWN.chmod(0o755)
+    check_own(OWN)
+    return str(OWN)

@@ -30,7 +30,7 @@ else
     python3 "$top/qgis/pack.py" two.zip
     holds 'it is packed as the same bytes' cmp one.zip two.zip
     python3 -m zipfile -e one.zip "$plugins"
-    holds 'its program is the released one' cmp "$plugins/homerange/bin/homerange" "$top/release/homerange"
+    holds 'its program is the released one' cmp "$plugins/homerange/package/release/homerange" "$top/release/homerange"
     holds 'QGIS takes it' process plugins enable homerange
     holds 'its algorithm is there' process help homerange:ranges
     holds 'its help has what it refuses' grep -q 'one in degrees is refused' said
@@ -54,7 +54,7 @@ else
     sed -n 's/^failed: //p' layers | while read -r said; do holds "the plugin for QGIS: $said" false; done
     holds 'the tests of layers ended' grep -qx '[1-9][0-9]* passed, 0 failed' layers
 
-    echo >>"$plugins/homerange/bin/homerange"
-    holds 'another program is refused' is_refused_with 'install the plugin anew' INPUT=fixes.gpkg
+    echo >>"$plugins/homerange/package/release/homerange"
+    holds 'another program is refused' is_refused_with 'is not the program that this package was built with' INPUT=fixes.gpkg
     cd "$work" || exit 1
 fi

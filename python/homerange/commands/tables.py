@@ -31,6 +31,7 @@ from .options import Options
 if TYPE_CHECKING:
     from ..ranges import HomeRanges
 
+MANY = 12  # animals whose curves are drawn into one picture at most
 TYPED = {
     "title": "the title of the page", "study": "the study that the page names",
     "species": "the species that the page names", "by": "who made the page"}
@@ -59,13 +60,16 @@ def read_ranges(folder: Path, crs: str | None, program: str | None) -> HomeRange
 
 
 def write_pictures(ranges: HomeRanges, folder: Path) -> None:
-    """Writes the curves and the polygons of all fixes."""
+    """Writes the curves, of many animals each in a panel of its own, and the polygons of all levels that can be had."""
     import matplotlib
 
+    from ..page import levels_drawn
     from ..plot import plot_curve, plot_ranges
 
     matplotlib.use("Agg")
-    for name, axes in (("curves.png", plot_curve(ranges)), ("ranges.png", plot_ranges(ranges))):
+    many = len(ranges.animals) > MANY
+    curves = plot_curve(ranges, facets=True)[0] if many else plot_curve(ranges)
+    for name, axes in (("curves.png", curves), ("ranges.png", plot_ranges(ranges, level=levels_drawn(ranges)))):
         axes.figure.savefig(folder / name, dpi=300)
 
 
