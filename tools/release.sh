@@ -1,9 +1,11 @@
 #!/bin/sh
-# release.sh [--check]: builds the program and makes the release of it: the folder release with homerange, SOURCES (the
-# checksum of what it was made from, and of the logic that it was proved in) and SHA256SUMS (of it and its manual page).
+# release.sh [--check | --deb [FOLDER]]: builds the program and makes the release of it: the folder release with homerange,
+# SOURCES (the checksum of what it was made from, and of the logic that it was proved in) and SHA256SUMS (of it and its
+# manual page).
 #
 # With --check it changes nothing. The status is 0 where the release is whole, of these sources and of the logic that is
-# here, and, byte for byte, the program that is built of them now.
+# here, and, byte for byte, the program that is built of them now. With --deb it makes of the release, which has to be of
+# these sources, a Debian package in the folder (if left out, the working folder), by deb.py.
 set -eu
 top=$(cd "$(dirname "$0")/.." && pwd)
 # shellcheck source=tools/answers.sh
@@ -30,10 +32,15 @@ checksums() {
     (cd "$top" && sha256sum release/homerange docs/homerange.1)
 }
 
-check() {
+# Refuses a release that is not of these sources, or not whole.
+check_whole() {
     sum_sources
     is_of_sum "$release" || fail 'the release is not that of these sources: tools/release.sh makes it'
     checksums | cmp - "$release/SHA256SUMS" || fail 'the release is not that of its checksums'
+}
+
+check() {
+    check_whole
     build
     cmp "$built/SOURCES" "$release/SOURCES" || fail 'the release is of another logic'
     cmp "$built/homerange" "$release/homerange" || fail 'the release is not what these sources build'
@@ -42,6 +49,15 @@ check() {
 
 case $*: in
     --check:) check ;;
+    --deb:)
+        check_whole
+        exec "$top/tools/deb.py" .
+        ;;
+    '--deb '[!-]*)
+        [ $# -eq 2 ] || misuse "--deb takes one folder"
+        check_whole
+        exec "$top/tools/deb.py" "$2"
+        ;;
     :)
         build
         mkdir -p "$release"
@@ -49,5 +65,5 @@ case $*: in
         install -m 644 "$built/SOURCES" "$release/SOURCES"
         checksums >"$release/SHA256SUMS"
         ;;
-    *) misuse "it takes --check alone, and not $*" ;;
+    *) misuse "it takes --check or --deb, and not $*" ;;
 esac

@@ -18,7 +18,7 @@ from typing import Any, Iterator
 
 HERE = Path(__file__).resolve().parents[1]
 TAG = "manylinux_2_34_x86_64"  # what the released program needs
-HERD = ("plan.sh", "step.sh")
+HERD = ("plan.sh", "step.sh", "words.sh")
 LEFT = shutil.ignore_patterns("__pycache__", "tests", "build", "dist", "*.egg-info", ".*")
 
 

@@ -3,9 +3,9 @@
 #
 # Writes OUT/groups/NNNN, the files TRACKS/*.csv in groups of at most 32, one per line; OUT/sums/NNNN, their checksums;
 # OUT/options, the options of homerange, one per line; OUT/program, the checksum and the name of the program, which
-# HOMERANGE names (if left out, that of program.sh); and OUT/steps, the runs, one per line: 'A A' for the tables of group A, 'A B'
-# for the overlaps of groups A and B. A run that stands is made again where one of these is another, whatever times files
-# have. OUT/report.txt is removed.
+# HOMERANGE names (if left out, that of program.sh); and OUT/steps, the runs, one per line: 'A A' for the tables of group A,
+# 'A B' for the overlaps of groups A and B. A run that stands is made again where one of these is another, whatever times
+# files have. OUT/report.txt is removed. OPTION .. may stand before TRACKS too; what homerange refuses of them is refused here.
 set -eu
 LC_ALL=C
 export LC_ALL
@@ -13,15 +13,28 @@ fail() {
     echo "plan.sh: $1" >&2
     exit 1
 }
-[ $# -ge 2 ] || fail 'give the folder of the tracks and the folder to make'
-[ -d "$1" ] || fail "there is no folder $1"
-[ -n "${HOMERANGE:-}" ] || HOMERANGE=$("$(dirname "$0")/../program.sh") || fail 'there is no program'
+here=$(cd "$(dirname "$0")" && pwd)
+# shellcheck source=tools/herd/words.sh
+. "$here/words.sh"
+answer_words "$@"
+read_words "$@"
+[ -d "$tracks" ] || fail "there is no folder $tracks"
+[ -n "${HOMERANGE:-}" ] || HOMERANGE=$("$here/../program.sh") || fail 'there is no program'
 program=$(command -v "$HOMERANGE") || fail "there is no program $HOMERANGE: HOMERANGE has to name it"
 program=$(readlink -f "$program")
-tracks=$(cd "$1" && pwd)
-mkdir -p "$2/groups" "$2/sums" "$2/reports" "$2/pairs"
-cd "$2"
-shift 2
+# Of an empty file homerange tells no option, where it takes them all.
+set --
+while IFS= read -r option; do
+    [ -z "$option" ] || set -- "$@" "$option"
+done <<END
+$options
+END
+status=0
+said=$("$program" "$@" -- /dev/null 2>&1 >/dev/null) || status=$?
+[ "$status" -ne 2 ] || misuse "${said#homerange: }"
+tracks=$(cd "$tracks" && pwd)
+mkdir -p "$out/groups" "$out/sums" "$out/reports" "$out/pairs"
+cd "$out"
 rm -f report.txt
 
 # Puts standard input into a file, if the file is not that already: by times of files Snakemake tells what is new.
@@ -49,9 +62,7 @@ for group in groups/*; do
     keep "sums/${group##*/}" <sums.part
 done
 rm sums.part
-for option; do
-    printf '%s\n' "$option"
-done | keep options
+printf %s "$options" | keep options
 sha256sum "$program" | keep program
 for group in groups/*; do
     printf '%s\n' "${group##*/}"

@@ -6,8 +6,10 @@
 # OUT/report.txt is there where all went well, and only then.
 set -eu
 here=$(cd "$(dirname "$0")" && pwd)
-[ $# -ge 2 ] || exec "$here/plan.sh" "$@"
-out=$2
+# shellcheck source=tools/herd/words.sh
+. "$here/words.sh"
+answer_words "$@"
+read_words "$@"
 rm -f "$out/report.txt"
 "$here/plan.sh" "$@"
 xargs -P "${JOBS:-$(nproc)}" -L 1 "$here/step.sh" "$out" <"$out/steps"

@@ -3,14 +3,18 @@
 # each of which makes its share of the runs one after the other, and a job behind them that merges, if all went well.
 #
 # OPTION .. are those of sbatch, for both, such as --partition=short. A run gets a minute and 500 MB, the merge an hour
-# and 4 GB, unless --time and --mem say otherwise. What jobs say is in OUT/logs. The last line is the number of the merge's job. Where a job failed or was
-# killed, this is called again, and goes on where it was: runs that stand are not made again.
+# and 4 GB, unless --time and --mem say otherwise. What jobs say is in OUT/logs. The last line is the number of the merge's
+# job. Where a job failed or was killed, this is called again, and goes on where it was: runs that stand are not made again.
 set -eu
 here=$(cd "$(dirname "$0")" && pwd)
-[ $# -ge 2 ] || {
-    echo 'slurm.sh: give the folder that plan.sh planned and the number of jobs' >&2
-    exit 1
-}
+# shellcheck source=tools/herd/words.sh
+. "$here/words.sh"
+answer_words "$@"
+[ $# -ge 2 ] || misuse 'give the folder that plan.sh planned and the number of jobs'
+case $2 in
+    *[!0-9]* | 0*) misuse "$2 is no number of jobs" ;;
+esac
+[ -f "$1/steps" ] || misuse "$1 is no folder that plan.sh planned"
 out=$(cd "$1" && pwd)
 jobs=$2
 shift 2

@@ -9,7 +9,12 @@ set -eu
 # Names are bytes.
 LC_ALL=C
 export LC_ALL
-cd "$1"
+here=$(cd "$(dirname "$0")" && pwd)
+# shellcheck source=tools/herd/words.sh
+. "$here/words.sh"
+answer_words "$@"
+[ $# -eq 3 ] || misuse 'give the folder that plan.sh planned and two groups'
+cd -- "$1"
 sha256sum --status -c program 2>/dev/null || {
     echo "step.sh: the program is not that of $1/program: call plan.sh" >&2
     exit 255

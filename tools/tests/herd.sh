@@ -28,6 +28,8 @@ holds 'what it is not in is not made again' [ "$(stat -c %y herd/reports/0000.tx
 "$HOMERANGE" --unit dm --percent 95 tracks/*.csv >direct
 holds 'a herd runs with options' $herd --unit dm --percent 95
 holds 'other options are run anew' cmp direct herd/report.txt
+holds 'options may stand before the folders' "$tools/herd/run.sh" --unit dm --percent=95 tracks herd
+holds 'the report is the same' cmp direct herd/report.txt
 rm tracks/deer0006?.csv tracks/deer0004?.csv
 "$HOMERANGE" tracks/*.csv >direct
 holds 'a herd runs of fewer files' $herd
@@ -38,7 +40,8 @@ printf '#!/bin/sh\necho >>"%s/called"\nexec "%s" "$@"\n' "$work" "$HOMERANGE" >a
 chmod +x another
 touch -d '1 day ago' another
 holds 'a herd runs by a new program' env HOMERANGE=./another $herd
-holds 'a new program makes each run' [ "$(wc -l <called)" -eq "$(wc -l <herd/steps)" ]
+# The plan asks it once for its options.
+holds 'a new program makes each run' [ "$(wc -l <called)" -eq $(($(wc -l <herd/steps) + 1)) ]
 holds 'a new program is run anew' cmp direct herd/report.txt
 echo '# Changed.' >>another
 holds 'a changed program is no longer that of the plan' is_refused "$tools/herd/step.sh" herd 0000 0000
@@ -115,6 +118,9 @@ asks() {
 for script in plan run; do
     holds "$script.sh without a folder to make" asks 'give the folder of the tracks' "$tools/herd/$script.sh" tracks
     holds "$script.sh without tracks" asks 'plan.sh: there is no folder none' "$tools/herd/$script.sh" none unmade
+done
+for wrong in '--percnt 95' '--percent 101' --unit '-u dm' three; do
+    holds "a plan refuses $wrong" asks "${wrong%% *}" "$tools/herd/run.sh" tracks unmade $wrong
 done
 holds 'slurm.sh without a number of jobs' asks 'slurm.sh: give the folder that plan.sh' "$tools/herd/slurm.sh" herd
 holds 'no folder is made' [ ! -e unmade ]

@@ -199,12 +199,26 @@ def run(out: str, program: str) -> bool:
         return not any(pool.map(lambda groups: call("step.sh", [out, *groups], program), steps))
 
 
+def folders_of(words: Sequence[str]) -> list[str]:
+    """The words that are no options of homerange, each of which has a value."""
+    found, left = list[str](), list(words)
+    while left:
+        word = left.pop(0)
+        if not word.startswith("--"):
+            found.append(word)
+        elif "=" not in word and left:
+            left.pop(0)
+    return found
+
+
 def read_options(name: str) -> argparse.Namespace:
     parser = Options(name, __doc__)
     parser.add_argument("what", choices=("plan", "run", "merge"), help="what to do")
     parser.add_argument("words", nargs=argparse.REMAINDER, metavar="..", help="the folders, and the options of homerange")
     options = parser.parse_args()
-    if (len(options.words) != 1) if options.what == "merge" else (len(options.words) < 2):
+    for word in {"-h", "--help", "--version"}.intersection(options.words):
+        parser.parse_args([word])
+    if (len(options.words) != 1) if options.what == "merge" else (len(folders_of(options.words)) != 2):
         parser.error("give the folder OUT alone" if options.what == "merge" else
                      "give the folder of the tracks and the folder to make")
     return options
@@ -217,9 +231,10 @@ def main(name: str = "homerange-herd") -> None:
             merge(Path(options.words[0]), name)
             return
         program = program_of_command()
-        if call("plan.sh", options.words, program) or options.what == "run" and not run(options.words[1], program):
-            sys.exit(1)
+        planned = call("plan.sh", options.words, program)
+        if planned or options.what == "run" and not run(folders_of(options.words)[1], program):
+            sys.exit(planned or 1)
         if options.what == "run":
-            merge(Path(options.words[1]), name)
+            merge(Path(folders_of(options.words)[1]), name)
     except HomeRangeError as fault:
         sys.exit(f"{name}: {fault}")
