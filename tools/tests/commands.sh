@@ -1,0 +1,48 @@
+# Tests what all scripts answer: --help says what the script does, --version which one it is, and a word that is none is
+# refused in one line with status 2, before anything is made.
+# shellcheck shell=sh disable=SC2154
+
+# Whether a script says what it does, with status 0.
+helps() {
+    (cd commands && "$@" --help >said 2>errors) && [ "$(wc -l <commands/said)" -gt 2 ] && [ ! -s commands/errors ]
+}
+
+# Whether a script says its version.
+is_versioned() {
+    (cd commands && "$@" --version 2>errors) | grep -qE '^[a-z].* 1\.[0-9]+\.[0-9]+$' && [ ! -s commands/errors ]
+}
+
+# Whether a script refuses an option that there is not, in one line.
+refuses_words() {
+    (cd commands && "$@" --nonsense >said 2>errors)
+    [ $? -eq 2 ] && [ "$(wc -l <commands/errors)" -eq 1 ] && [ ! -s commands/said ]
+}
+
+rm -rf commands
+mkdir commands
+if python3 -c 'import pandas' 2>errors; then python=1; else
+    python=
+    skip "what scripts of Python answer: $(tail -n 1 errors)"
+fi
+for script in "$top"/test "$tools"/*.sh "$tools"/herd/*.sh "$tools"/*.py "$tools"/herd/*.py "$top/qgis/pack.py"; do
+    case ${script#"$tools/"} in
+        # These are read by others, and no commands.
+        answers.sh | sources.sh | herd/words.sh | progress.py | */progress.py) continue ;;
+    esac
+    case $script in
+        *.py) [ -n "$python" ] || continue ;;
+    esac
+    name=${script#"$top/"}
+    holds "$name --help" helps "$script"
+    holds "$name --version" is_versioned "$script"
+    holds "$name --nonsense" refuses_words "$script"
+done
+if is_here Rscript 'what scripts of R answer'; then
+    for script in check.R split.R; do
+        holds "$script --help" helps Rscript "$tools/$script"
+        holds "$script --version" is_versioned Rscript "$tools/$script"
+        holds "$script --nonsense" refuses_words Rscript "$tools/$script"
+    done
+fi
+holds 'nothing was made' [ "$(LC_ALL=C ls commands)" = "errors
+said" ]
