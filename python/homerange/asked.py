@@ -66,6 +66,7 @@ class Asked:
     every: Any = None
     months: Sequence[int] | None = None
     hours: tuple[float, float] | None = None
+    by: str | None = None  # the periods of a calendar by which fixes are grouped
     missing: frozenset[str] = field(init=False)
 
     def __post_init__(self) -> None:
@@ -90,7 +91,7 @@ class Asked:
     def needs_time(self) -> str | None:
         """An option that needs a time, if there is one."""
         wishes = {"since": self.since, "until": self.until, "max-speed": self.max_speed, "every": self.every,
-                  "months": self.months, "hours": self.hours}
+                  "months": self.months, "hours": self.hours, "by": self.by}
         return next((name for name, wish in wishes.items() if wish is not None), None)
 
     def check(self) -> None:

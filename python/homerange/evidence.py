@@ -11,13 +11,12 @@ import shlex
 import shutil
 import subprocess
 import tempfile
-from concurrent.futures import ThreadPoolExecutor
 from datetime import datetime, timezone
 from pathlib import Path
 from typing import Any, Callable, Iterable, Iterator, NamedTuple, Sequence, TextIO
 
 from .errors import FAULTS, UNPRINTABLE, ProgramError, ReportError, one_line, refuse
-from .program import CLONE, GROUP, MOST_ANIMALS, Program, checksum_of, program_of, steps_of
+from .program import CLONE, GROUP, MOST_ANIMALS, Program, checksum_of, program_of, steps_of, workers
 from .record import Record, difference_from_record, record_in
 from .report import TEXT, Animal, Lines, check_end
 
@@ -109,7 +108,7 @@ def run_groups(program: str, options: Sequence[str], tracks: Sequence[str], fold
     """Has the program report of many tracks in groups, and writes the report that one run would make of them all. How its
     lines fit each other is not looked at."""
     steps = steps_of(tracks)
-    with tempfile.TemporaryDirectory(prefix="homerange-") as room, ThreadPoolExecutor(os.cpu_count()) as pool:
+    with tempfile.TemporaryDirectory(prefix="homerange-") as room, workers(None) as pool:
         parts = [Path(room, str(number)) for number in range(len(steps))]
         calls = ([*options, "--", *itertools.chain(*step)] for step in steps)
         list(pool.map(lambda words, part: run_once(program, words, folder, part), calls, parts))

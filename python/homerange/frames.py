@@ -18,6 +18,7 @@ from .cells import DATE, TRUTHS, Bad, Moment
 from .errors import FrameError, refuse
 from .tables import Said, Table
 from .titles import ANIMALS, TIMES, Titles, find_columns, plain
+from .tracks import Tracks as AnyTracks
 from .tracks import make_tracks
 from .zones import Scale, code_of_crs, crs_of, scale_of_crs
 
@@ -42,6 +43,7 @@ class Tracks:
     reasons: Counter[tuple[str, str]] = field(default_factory=Counter)  # fixes left out, by animal and why
     options: dict[str, Any] = field(default_factory=dict)  # what was told of how the frame is read
     is_projected: bool = False
+    places: dict[str, Any] = field(default_factory=dict)  # of each fix its row in the frame
 
 
 class Columns(NamedTuple):
@@ -160,7 +162,8 @@ def columns_of(frame: pandas.DataFrame, asked: Asked, has_points: bool) -> Colum
     found = find_columns(Titles(titles, asked), has_points)
     for name, values in levels:
         title = "index" if name is None else str(name)
-        is_time = pandas.api.types.is_datetime64_any_dtype(values.dtype)
+        is_time = pandas.api.types.is_datetime64_any_dtype(values.dtype) or isinstance(values.dtype, pandas.PeriodDtype)
+        title = f"index {title}" if is_time and title in titles else title
         if title in titles or isinstance(frame.index, pandas.RangeIndex):
             continue
         if not found.time and (is_time or plain(title) in map(plain, TIMES)) and asked.time is None:
@@ -188,6 +191,12 @@ def points_of(frame: pandas.DataFrame, asked: Asked, crs: Any) -> geopandas.GeoS
         refuse("crs: points bring their own CRS; frame.set_crs names it, and frame.to_crs projects them into another")
     check_crs(points.crs, "frame")
     return points
+
+
+def frame_given(frame: Any) -> Any:
+    """A frame as it was given, or that of the points of a trajectory or a collection of movingpandas."""
+    points = None if isinstance(frame, pandas.DataFrame) else getattr(frame, "to_point_gdf", None)
+    return points() if callable(points) else frame
 
 
 def check_crs(crs: Any, what: str) -> None:
@@ -251,7 +260,7 @@ def truths_of(frame: pandas.DataFrame, use: Any) -> list[bool] | None:
             refuse(f"there is no column {use!r}", "columns")
         use = frame[use].tolist()
     elif isinstance(use, pandas.Series):
-        use = aligned(use, frame)
+        use = aligned(use, frame, "use").tolist()
     try:
         marks = list(use)
     except TypeError:
@@ -261,15 +270,15 @@ def truths_of(frame: pandas.DataFrame, use: Any) -> list[bool] | None:
     return [row_truth(mark, at) for at, mark in enumerate(marks)]
 
 
-def aligned(use: pandas.Series, frame: pandas.DataFrame) -> list[Any]:
-    """A series of truths in the order of the frame's rows, by its index."""
-    if use.index.equals(frame.index):
-        return list(use.tolist())
-    if len(use) == len(frame) and use.index.is_unique and frame.index.is_unique and not (
-            len(frame.index.difference(use.index))):
-        return list(use.reindex(frame.index).tolist())
-    refuse("use is a Series with another index than the frame: take use.to_numpy() to go by position, or "
-           "use.reindex(frame.index)")
+def aligned(series: pandas.Series, frame: pandas.DataFrame, what: str) -> pandas.Series:
+    """A series with a value for each row of a frame, in the order of its rows, by its index."""
+    if series.index.equals(frame.index):
+        return series
+    if len(series) == len(frame) and series.index.is_unique and frame.index.is_unique and not (
+            len(frame.index.difference(series.index))):
+        return series.reindex(frame.index)
+    refuse(f"{what} is a Series with another index than the frame: take {what}.to_numpy() to go by position, or "
+           f"{what}.reindex(frame.index)")
 
 
 def row_truth(mark: Any, at: int) -> bool:
@@ -326,7 +335,7 @@ class Frame:
 
     def check_calendar(self) -> None:
         """Refuses months and hours of times that have none."""
-        wished = next((name for name in ("months", "hours") if getattr(self.asked, name) is not None), None)
+        wished = next((name for name in ("months", "hours", "by") if getattr(self.asked, name) is not None), None)
         if wished is None or len(self.table.columns.time) != 1:
             return
         title, series = (own[self.table.columns.time[0]] for own in self.columns)
@@ -399,7 +408,12 @@ class Frame:
         left_out = {name: counts[name] - len(track) for name, track in by_name.items()}
         self.count_unused(counts, said)
         return Tracks(by_name, left_out, crs, tracks.shift, self.asked.clock, said.lines, said.left,
-                      is_projected=tracks.places.is_projected)
+                      is_projected=tracks.places.is_projected, places=self.rows_of(tracks))
+
+    def rows_of(self, tracks: AnyTracks) -> dict[str, Any]:
+        """Of each fix of an animal its row in the frame."""
+        numbers, positions = numpy.asarray(tracks.table.records.number), numpy.asarray(self.positions)
+        return {name: positions[numbers[numpy.asarray(rows)] - 1] for name, rows in tracks.rows.items()}
 
     def count_unused(self, counts: Counter[str], said: Said) -> None:
         """Counts the rows that an argument left out."""

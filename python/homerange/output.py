@@ -15,7 +15,7 @@ from .exports import clean, clean_names, write_track
 from .frames import Tracks
 from .page import write_page
 from .program import checksum_of, find_program, program_of
-from .ranges import HomeRanges, read_report
+from .ranges import HomeRanges, check_whole, read_report
 from .record import Made, Record, given, in_order, read_record, tools_of, write_record
 from .report import Report, read
 from .tracks import Track
@@ -112,6 +112,7 @@ def write_folder(ranges: HomeRanges, into: str | os.PathLike[str], page: Mapping
     """Makes the folder of evidence of some ranges, whose page is written with these arguments; answers what there is to
     say of it."""
     tracks = tracks_of(ranges)
+    check_whole(ranges, "evidence")
     names = {name: name for name in ranges.animals} if ranges.files else clean_names(ranges.animals)
     said = renames(names)
     wish = Wish(",".join(map(str, ranges.levels)), ranges.unit, program_of(find_program(ranges.named)))

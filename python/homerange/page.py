@@ -19,7 +19,7 @@ from .page_map import STYLES, Maps, Point, Shape, maps
 from .page_tables import Overlaps, animals_table, without_range
 from .page_text import System, checksums, left_out, method, options_of, said, sentences, system_of, verify
 from .program import find_program, program_of
-from .ranges import HomeRanges, boundary_of
+from .ranges import HomeRanges, boundary_of, check_whole
 
 TEMPLATE = Path(__file__).with_name("page.html")
 PLACE = re.compile(r"\{\{([a-z]+)\}\}")
@@ -179,6 +179,7 @@ def write_page(
     tz: the time zone of dates; if left out, that of the ranges.
     made: the day of making; if left out, today.
     """
+    check_whole(ranges, "a page")
     zone = tz or ranges.tz
     day = made or datetime.now(zone_of_time(zone)).date()
     rows = ranges.rows()

@@ -20,6 +20,7 @@ from .report import Report, lines_of, overlaps_of, parse
 MOST_ANIMALS = 64  # of one run
 GROUP = 32  # animals of a group, where there are more
 PACKAGE = Path(__file__).resolve().parent
+Progress = Callable[[int, int], object]  # is called with how many of how many runs are done
 OWN = PACKAGE / "release" / "homerange"  # what a wheel has
 
 
@@ -112,6 +113,14 @@ def steps_of(names: Sequence[str]) -> list[tuple[Sequence[str], ...]]:
     return [*((group,) for group in groups), *itertools.combinations(groups, 2)]
 
 
+def workers(jobs: int | None) -> ThreadPoolExecutor:
+    """Threads that call programs, as many as there are processors for this process, or as were wished. What they call is
+    kept to so many processors."""
+    own = sorted(os.sched_getaffinity(0))
+    wished = len(own) if jobs is None else jobs
+    return ThreadPoolExecutor(wished, initializer=os.sched_setaffinity, initargs=(0, own[:wished]))
+
+
 class Runs:
     """The runs of tracks."""
 
@@ -141,10 +150,10 @@ class Runs:
             report.tables.update({names[number]: table for number, table in found.tables.items()})
         report.overlaps.update({(names[one], names[other]): count for (one, other), count in overlaps.items()})
 
-    def report(self, progress: Callable[[int, int], None] | None = None) -> Report:
-        """The report of all tracks."""
+    def report(self, progress: Progress | None = None, jobs: int | None = None) -> Report:
+        """The report of all tracks, by so many processors."""
         report = Report(self.unit, {}, {})
-        with tempfile.TemporaryDirectory(prefix="homerange-") as folder, ThreadPoolExecutor(os.cpu_count()) as pool:
+        with tempfile.TemporaryDirectory(prefix="homerange-") as folder, workers(jobs) as pool:
             _write_tracks(folder, self.tracks)
             texts = pool.map(lambda step: self.text(folder, step), self.steps)
             try:

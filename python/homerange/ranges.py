@@ -17,9 +17,11 @@ import numpy
 import pandas
 
 from .asked import UNITS, Asked, seconds_of
+from .bar import progress_of
 from .errors import FrameError, HomeRangeInfo, HomeRangeNote, ReportError, one_line, refuse
 from .exports import LISTS, read_text
-from .frames import Tracks, read_frame
+from .frames import Tracks, frame_given, read_frame
+from .groups import Group, check_by, group_tracks
 from .levelling import share
 from .overview import Row, reasons_of, rows_of
 from .program import MOST_ANIMALS, Program, Runs, find_program, program_of
@@ -34,7 +36,8 @@ if TYPE_CHECKING:
 Moment = Union[str, date, datetime]
 Words = Union[str, Iterable[Any]]
 # How lines begin that say what was taken, and nothing that was left out or changed.
-TAKEN = ("columns: ", "UTM coordinates are", "coordinates are those", "longitude and latitude are", "days and hours are")
+TAKEN = ("columns: ", "UTM coordinates are", "coordinates are those", "longitude and latitude are", "days and hours are",
+         "ranges are by group")
 
 
 def times_of(seconds: pandas.Series, tz: str) -> pandas.Series:
@@ -52,7 +55,8 @@ class HomeRanges:
 
     ``animals`` has their names, ``levels`` the levels of the percent polygons, ``unit`` is 'm' or 'dm', that of the
     program's coordinates, ``crs`` the reference system of the coordinates (None where it is not known), ``notes`` are the
-    texts of the warnings, and ``program`` has the ``path``, the ``version`` and the ``checksum`` (SHA-256) of the program that
+    texts of the warnings, ``groups`` has by name of which animal and of which group a range is, where they are by groups (then
+    ``animals`` has the names of ranges, such as 'fox 2024', and tables have a column ``group``), and ``program`` has the ``path``, the ``version`` and the ``checksum`` (SHA-256) of the program that
     made the ranges, None where a report was read.
     """
 
@@ -62,6 +66,8 @@ class HomeRanges:
     ) -> None:
         self._report, self._tracks, self.program = report, tracks, program
         self.named = named or program and program.path  # the program of later runs; None finds one
+        self.jobs: int | None = None  # of later runs
+        self.groups: dict[str, Group] = {}  # what ranges are of, where they are of groups
         self._corners: dict[int, dict[str, Corners]] = {}
         self.record: Record | None = None  # of how the files were made, where they were read with one
         self.split: Path | None = None  # its file
@@ -107,13 +113,21 @@ class HomeRanges:
         titles = ["animal", "first", "last", "fixes", "left_out", "level", "kept", "corners", "hectares"]
         summary = pandas.DataFrame(rows, columns=titles)
         times = {title: self._times(summary[title]) for title in ("first", "last")}
-        return summary.assign(**times, left_out=summary["left_out"].astype("Int64"))
+        return self._by_group(summary.assign(**times, left_out=summary["left_out"].astype("Int64")))
+
+    def _by_group(self, table: pandas.DataFrame) -> pandas.DataFrame:
+        """A table with a column of animals, which where ranges are by groups gets one of groups behind it."""
+        if self.groups:
+            known = [self.groups[name] for name in table["animal"]]
+            table["animal"] = [animal for animal, _ in known]
+            table.insert(1, "group", [group for _, group in known])
+        return table
 
     def of_source(self) -> Counter[str]:
         """How many records of the export or the frame each animal has; empty where it is not known."""
         if self.record:
             return self.record.of_source()
-        if self._tracks is None:
+        if self._tracks is None or self.groups:
             return Counter()
         found = Counter({name: len(table.rows) for name, table in self._report.tables.items()})
         for (name, _), count in self._tracks.reasons.items():
@@ -126,7 +140,7 @@ class HomeRanges:
 
     def rows(self) -> list[Row]:
         """The facts of each animal in whole numbers, of which ``overview`` makes a table."""
-        return rows_of(self._report.tables, self.of_source(), self.reasons())
+        return rows_of(self._report.tables, self.of_source(), Counter() if self.groups else self.reasons())
 
     def overview(self) -> pandas.DataFrame:
         """A row for each animal: ``animal``; ``records``, its fixes in the export or the frame (missing where it is not
@@ -147,8 +161,8 @@ class HomeRanges:
         table["longest_hours"] = [math.nan if row.longest is None else row.longest / 3600 for row in rows]
         for level in self.levels:
             table[f"hectares_{level}"] = [self._hectares(row.percents[level].area2) for row in rows]
-        levelling = self.levelling().drop(columns=["animal", "fixes", "hectares"])
-        return pandas.concat([pandas.DataFrame(table), levelling], axis="columns")
+        levelling = self._levelling(rows).drop(columns=["animal", "fixes", "hectares"])
+        return self._by_group(pandas.concat([pandas.DataFrame(table), levelling], axis="columns"))
 
     def levelling(self) -> pandas.DataFrame:
         """Whether the area of all fixes levelled off with their number (incremental area analysis, Harris et al. 1990),
@@ -157,7 +171,9 @@ class HomeRanges:
         that; ``last_tenth`` and ``last_quarter``, the share of it that the last tenth and the last quarter of the fixes
         added (0 to 1), all missing where there is no area; and ``verdict``: 'too few fixes' where there are less than 30,
         or no area, 'levelled off' where the last quarter added less than 5 per cent, else 'still growing'."""
-        rows = self.rows()
+        return self._by_group(self._levelling(self.rows()))
+
+    def _levelling(self, rows: Sequence[Row]) -> pandas.DataFrame:
         found = [row.levelling for row in rows]
         seconds = pandas.Series([row.within_second for row in rows], dtype="Int64")
         return pandas.DataFrame({
@@ -183,7 +199,7 @@ class HomeRanges:
         curve = pandas.DataFrame(rows, columns=["animal", "n", "time", "corners", "area2"])
         curve["time"] = self._times(curve["time"])
         curve["hectares"] = curve.pop("area2") / UNITS[self.unit].hectare
-        return curve
+        return self._by_group(curve)
 
     def overlap(self, share: bool = False) -> pandas.DataFrame:
         """How many of the fixes of the row's animal lie in the polygon of the column's, its edges included; with
@@ -220,7 +236,7 @@ class HomeRanges:
         tables: dict[str, Table] = {}
         for first in range(0, len(kept), MOST_ANIMALS):
             part = dict(itertools.islice(kept.items(), first, first + MOST_ANIMALS))
-            tables.update(Runs(find_program(self.named), part, "100", self.unit).report().tables)
+            tables.update(Runs(find_program(self.named), part, "100", self.unit).report(progress_of(None), self.jobs).tables)
         for name, table in tables.items():
             if Percent(level, len(table.rows), *table.rows[-1][1:]) != self._percent(name, level):
                 raise ReportError(f"the {level} per cent polygon of {name} is not that of the report")
@@ -273,7 +289,8 @@ class HomeRanges:
             shape = shapes.get(len(points), geometry.Polygon)(points)
             rows.append((name, level, len(self._report.tables[name].rows), kept, count, self._hectares(area2), shape))
         titles = ["animal", "level", "fixes", "kept", "corners", "hectares", "geometry"]
-        return geopandas.GeoDataFrame(pandas.DataFrame(rows, columns=titles), geometry="geometry", crs=self.crs)
+        table = self._by_group(pandas.DataFrame(rows, columns=titles))
+        return geopandas.GeoDataFrame(table, geometry="geometry", crs=self.crs)
 
     def evidence(self, folder: str | os.PathLike[str], **page: Any) -> None:
         """Makes all that is handed in, in a new folder, as docs/EVIDENCE.md describes it: the fixes as files, by names as
@@ -360,15 +377,16 @@ def home_range(
     fix_type: Words | None = None, fix: str | None = None, since: Moment | None = None, until: Moment | None = None,
     max_speed: float | None = None, months: int | Iterable[int] | None = None,
     hours: tuple[float, float] | None = None, every: str | float | None = None, tz: str | None = None,
-    program: str | os.PathLike[str] | None = None, progress: Callable[[int, int], None] | None = None,
-    from_: Moment | None = None, to: Moment | None = None, every_hours: float | None = None,
+    by: str | pandas.Series | None = None, program: str | os.PathLike[str] | None = None, jobs: int | None = None,
+    progress: Callable[[int, int], object] | bool | None = None, from_: Moment | None = None, to: Moment | None = None, every_hours: float | None = None,
 ) -> HomeRanges:
     """The home ranges of the animals of a data frame, by the minimum convex polygon (Mohr 1947).
 
     How a frame is read, and what is refused, is said in docs/TABLES.md, once for all front ends: the usual titles of
     columns, times, coordinates, marks of outliers, sensors and filters.
 
-    frame: a pandas DataFrame with a row for each fix, or a GeoDataFrame of points in a plane CRS in metres.
+    frame: a pandas DataFrame with a row for each fix, or a GeoDataFrame of points in a plane CRS in metres; or a trajectory or
+        a collection of movingpandas.
     levels: 1 to 8 whole numbers from 1 to 100. Level p keeps, of n fixes, the (p * n + 99) // 100 nearest to the mean
         of all, of fixes as near the earlier.
     unit: 'm' or 'dm': coordinates are rounded to whole metres or decimetres.
@@ -384,7 +402,12 @@ def home_range(
         column of times, or UTC.
     program: the program; if left out, that in the environment as HOMERANGE, the package's own, that of the clone that the
         package is in, or homerange on PATH (README.md, Which program runs).
-    progress: is called with how many of how many runs are done. More than 64 animals are several runs.
+    by: makes a range of each group of an animal's fixes: of a 'year', a 'month' ('2024-05') or a 'season' of a year, by the
+        clock of tz, or of what a Series says of each row (it goes by its index). Seasons are those of meteorology and are
+        named by their months, '2024 Jun-Aug', and '2023-2024 Dec-Feb' for a December with the months behind it.
+    jobs: how many processors are taken; if left out, all that this process may have.
+    progress: is called with how many of how many runs are done; more than 64 animals are several runs. True shows that in a
+        line on standard error, as is done on a terminal if left out, and False does not.
 
     What is left out or changed is said in warnings (HomeRangeNote), and what was taken (HomeRangeInfo). Raises
     FrameError where the fixes or an argument cannot be right, ProgramError where the program does not run, and the error
@@ -402,12 +425,21 @@ def home_range(
         until=either(until, to, "until", "to"), max_speed=max_speed, tz=tz,
         months=None if months is None else sorted({*whole_numbers(months, 1, 12, "months")}),
         hours=None if hours is None else hours_of(hours), every=either(every, every_hours, "every", "every_hours"))
+    if by is not None:
+        check_by(by)
+        asked.by = by if isinstance(by, str) else None
+    if jobs is not None:
+        jobs, = whole_numbers(jobs, 1, 1024, "jobs")
+    shown = progress_of(progress)
     asked.check()
-    found = program_of(find_program(program))
+    found, frame = program_of(find_program(program)), frame_given(frame)
     tracks = read_frame(frame, asked, lambda line: None, use, crs)
+    tracks, groups = (tracks, {}) if by is None else group_tracks(tracks, by, frame)
     tell(tracks.notes)
-    report = Runs(found.path, tracks.by_name, ",".join(map(str, wanted)), unit).report(progress)
-    return HomeRanges(report, tracks, crs=tracks.crs, tz=tracks.tz, program=found)
+    report = Runs(found.path, tracks.by_name, ",".join(map(str, wanted)), unit).report(shown, jobs)
+    ranges = HomeRanges(report, tracks, crs=tracks.crs, tz=tracks.tz, program=found)
+    ranges.jobs, ranges.groups = jobs, groups
+    return ranges
 
 
 def read_export(path: str | os.PathLike[str], **options: Any) -> pandas.DataFrame:
@@ -507,6 +539,12 @@ def read_report(
     return ranges
 
 
+def check_whole(ranges: HomeRanges, what: str) -> None:
+    """Refuses ranges of groups, of which it is not known what was left out of each."""
+    if ranges.groups:
+        refuse(f"{what} is of whole ranges, and these are by groups: make those of one group alone, as by since, until or use")
+
+
 def boundary_of(ranges: HomeRanges, reserve: Any) -> Any:
     """The shape of a reserve, in the reference system of the ranges."""
     own = getattr(reserve, "crs", None)
@@ -538,6 +576,6 @@ def share_inside(ranges: HomeRanges, reserve: Any, level: int = 100) -> pandas.D
     polygons = ranges.polygons(level)
     inside = [shape.intersection(boundary).area / 10_000 for shape in polygons.geometry]
     whole = [shape.area / 10_000 for shape in polygons.geometry]
-    return pandas.DataFrame({
-        "animal": polygons["animal"], "level": polygons["level"], "hectares": polygons["hectares"], "inside": inside,
-        "share": [part / area if area else math.nan for part, area in zip(inside, whole)]})
+    known = [title for title in ("animal", "group", "level", "hectares") if title in polygons]
+    share = [part / area if area else math.nan for part, area in zip(inside, whole)]
+    return pandas.DataFrame(polygons[known]).assign(inside=inside, share=share)

@@ -53,9 +53,36 @@ def test_an_index_beside_columns_is_not_looked_at():
 def test_frames_of_other_packages():
     frame = frame_of(a=SQUARE, b=SQUARE)
     moving = frame.rename(columns={"animal": "traj_id"}).set_index("timestamp").rename_axis("t")
+    long = moving.rename(columns={"traj_id": "trajectory_id"})
     track = frame.rename(columns={"animal": "user_id", "timestamp": "tracked_at"}).rename_axis("id")
-    for other in (moving, track):
-        assert home_range(other).corners() == {"a": SQUARE, "b": SQUARE}
+    periods = frame.set_index(pandas.PeriodIndex(frame["timestamp"].dt.tz_localize(None), freq="min")).drop(columns="timestamp")
+    for other in (moving, long, track, periods, moving.rename_axis(None), moving.assign(t=1), Collection(moving)):
+        found = home_range(other)
+        assert found.corners() == {"a": SQUARE, "b": SQUARE}
+        assert found.curve()["time"].tolist() == frame["timestamp"].tolist()
+
+
+class Collection:
+    """As movingpandas has trajectories: the points of all of them are a frame with times in its index."""
+
+    def __init__(self, frame):
+        self.frame = frame
+
+    def to_point_gdf(self):
+        return self.frame
+
+
+def test_points_of_movingpandas():
+    geopandas = pytest.importorskip("geopandas")
+    frame = frame_of(a=SQUARE, b=SQUARE)
+    points = geopandas.points_from_xy(frame["easting"], frame["northing"])
+    moving = geopandas.GeoDataFrame({"traj_id": frame["animal"].to_numpy()}, geometry=points, crs=32633,
+                                    index=pandas.DatetimeIndex(frame["timestamp"].dt.tz_localize(None), name="t"))
+    found = home_range(Collection(moving))
+    assert found.corners() == {"a": SQUARE, "b": SQUARE} and found.crs.to_epsg() == 32633
+    assert found.curve()["time"].tolist() == frame["timestamp"].tolist()
+    with pytest.raises(FrameError, match="the CRS WGS 84 is not a plane one in metres: project it first"):
+        home_range(moving.to_crs(4326))
 
 
 def test_neither_animal_nor_time():

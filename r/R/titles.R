@@ -8,8 +8,8 @@ families <- list(
   sp = list(animal = "id", time = "date", grid = c("coords.x1", "coords.x2"))
 )
 titles_of_animals <- c(
-  "individual-local-identifier", "animal", "id", "animal-id", "animals-id", "individual-id", "individual", "traj-id", "track-id",
-  "user-id"
+  "individual-local-identifier", "animal", "id", "animal-id", "animals-id", "individual-id", "individual", "traj-id",
+  "trajectory-id", "track-id", "user-id"
 )
 titles_of_times <- c("timestamp", "second", "t_", "date", "time", "datetime", "date-time", "acquisition-time", "tracked-at")
 location <- c("location-long", "location-lat")

@@ -1,0 +1,37 @@
+"""Says on a terminal how far long work is."""
+
+from __future__ import annotations
+
+import sys
+import time
+from typing import Any, Callable
+
+from .errors import refuse
+
+QUIET = 1.0  # seconds for which nothing is said
+
+
+class Bar:
+    """A line on standard error that says how many of how many runs are done, and is gone at the end."""
+
+    def __init__(self) -> None:
+        self.begin, self.width = time.monotonic(), 0
+
+    def __call__(self, done: int, of: int) -> None:
+        if done < of and time.monotonic() - self.begin > QUIET:
+            self.show(f"homerange: {done} of {of} runs")
+        elif self.width:
+            self.show("")
+
+    def show(self, text: str) -> None:
+        print(f"\r{text.ljust(self.width)}", end="\r" * (not text), file=sys.stderr, flush=True)
+        self.width = len(text)
+
+
+def progress_of(wish: Any) -> Callable[[int, int], object] | None:
+    """What is called as runs are done: what was given, a bar on a terminal, or nothing."""
+    if callable(wish):
+        return wish  # type: ignore[no-any-return]
+    if wish not in (None, True, False):
+        refuse(f"progress={wish!r} is neither True nor False, nor a function of two numbers")
+    return Bar() if wish or wish is None and sys.stderr.isatty() else None

@@ -1,0 +1,195 @@
+"""Ranges by groups of fixes, against hulls of the fixes that pandas puts into these groups; how many processors are taken, and
+what is shown of long work."""
+import io
+import os
+
+import pandas
+import pytest
+from exact import area2, cloud, hull
+from frames import frame_of
+
+from homerange import FrameError, HomeRangeInfo, HomeRangeNote, bar, home_range, plot_curve, share_inside, write_page
+
+
+@pytest.fixture
+def frame():
+    """Two animals with a fix every 20 days from December 2022 on, whose rows take turns."""
+    rows = []
+    for name, seed in (("fox", 1), ("otter", 2)):
+        times = pandas.date_range("2022-12-20", periods=40, freq="20D", tz="UTC")
+        rows += [(name, when, *point) for when, point in zip(times, cloud(seed, 40))]
+    found = pandas.DataFrame(rows, columns=["animal", "timestamp", "easting", "northing"])
+    return found.sort_values("timestamp", kind="stable")
+
+
+def season(when):
+    if when.month in (12, 1, 2):
+        first = when.year - (when.month < 12)
+        return f"{first}-{first + 1} Dec-Feb"
+    return f"{when.year} {('Mar-May', 'Jun-Aug', 'Sep-Nov')[when.month // 3 - 1]}"
+
+
+def hectares_of(frame, labels):
+    """The area of each group, in the order of animals and of times."""
+    rows = frame.assign(group=labels).sort_values(["animal", "timestamp"])
+    found = {}
+    for row in rows.itertuples():
+        found.setdefault((row.animal, row.group), []).append((row.easting, row.northing))
+    return {key: area2(hull(points)) / 20000 for key, points in found.items()}
+
+
+def areas(ranges):
+    table = ranges.summary()
+    return {(row.animal, row.group): row.hectares for row in table[table["level"] == 100].itertuples()}
+
+
+@pytest.mark.parametrize("by, label", [
+    ("season", season), ("year", lambda when: f"{when.year}"), ("month", lambda when: f"{when:%Y-%m}")])
+def test_ranges_by_the_calendar(frame, by, label):
+    first_rows = frame.drop_duplicates("animal")["animal"].tolist()
+    wanted = hectares_of(frame, frame["timestamp"].map(label))
+    with pytest.warns(HomeRangeInfo, match=f"ranges are by group: {len(wanted)} of 2 animals"):
+        found = areas(home_range(frame, 100, by=by))
+    assert found == wanted
+    assert [key for key in found] == [key for name in first_rows for key in wanted if key[0] == name]
+
+
+def test_a_winter_has_the_december_of_the_year_before(frame):
+    ranges = home_range(frame[frame["animal"] == "fox"], 100, by="season")
+    assert ranges.animals[0] == "fox 2022-2023 Dec-Feb"
+    assert ranges.groups["fox 2022-2023 Dec-Feb"] == ("fox", "2022-2023 Dec-Feb")
+    assert "fox 2023 Mar-May" in ranges.animals
+
+
+def test_periods_go_by_the_clock_of_tz():
+    """Half past eleven in the evening of UTC on the last of May is June in Slovenia."""
+    frame = frame_of(a=cloud(1, 2))
+    frame["timestamp"] = pandas.to_datetime(["2024-05-31 12:00", "2024-05-31 23:30"]).tz_localize("UTC")
+    assert home_range(frame, 100, by="month").summary()["group"].tolist() == ["2024-05"]
+    local = home_range(frame, 100, by="month", tz="Europe/Ljubljana")
+    assert local.summary()["group"].tolist() == ["2024-05", "2024-06"]
+
+
+def test_ranges_by_a_series_which_goes_by_its_index(frame):
+    sex = pandas.Series(range(80), index=range(80)).mod(3).map({0: "a", 1: "b", 2: "c"})
+    found = areas(home_range(frame, 100, by=sex))
+    assert found == hectares_of(frame, sex.reindex(frame.index))
+    assert found == areas(home_range(frame, 100, by=sex.reindex(frame.index)))
+
+
+def test_numbers_are_groups_by_their_digits(frame):
+    found = home_range(frame, 100, by=frame["timestamp"].dt.year).summary()
+    assert {*found["group"]} == {"2022", "2023", "2024", "2025"}
+
+
+def test_rows_without_a_group(frame):
+    sex = pandas.Series("a", index=frame.index)
+    sex.iloc[4] = None
+    with pytest.raises(FrameError, match="by: row 4 has no group: use=by.notna") as caught:
+        home_range(frame, by=sex)
+    assert caught.value.record == 5
+    assert home_range(frame, 100, by=sex, use=sex.notna()).summary()["fixes"].sum() == 79
+
+
+@pytest.mark.parametrize("by, said", [
+    ("week", "by='week' is none of 'year', 'season', 'month', and no Series of groups"), (5, "by: int is none of"),
+    (["a"] * 80, "by: list is none of"), (pandas.Series(["a"] * 79), "by is a Series with another index than the frame"),
+    (pandas.Series([1.5] * 80), "by: row .* has a group that is 1.5, a number that is not whole")])
+def test_what_is_refused(frame, by, said):
+    with pytest.raises(FrameError, match=said):
+        home_range(frame, by=by)
+
+
+def test_periods_want_a_calendar():
+    frame = frame_of(a=cloud(1, 3)).drop(columns="timestamp")
+    with pytest.raises(FrameError, match="by: numbers of a column 'second' have no calendar"):
+        home_range(frame.assign(second=[1, 2, 3]), by="year")
+    with pytest.raises(FrameError, match="by"):
+        home_range(frame, by="year")
+
+
+def test_two_groups_of_one_name_are_refused():
+    frame = frame_of(**{"a": cloud(1, 3), "a 1": cloud(2, 3)})
+    with pytest.raises(FrameError, match="both have a range named 'a 1 2': rename one"):
+        home_range(frame, by=pandas.Series(["1 2"] * 3 + ["2"] * 3))
+
+
+def test_tables_have_animal_and_group(frame):
+    ranges = home_range(frame, (50, 100), by="year", zone="33N")
+    boundary = ranges.polygons().geometry.unary_union.envelope
+    for table in (ranges.summary(), ranges.overview(), ranges.levelling(), ranges.curve(), ranges.polygons([50, 100]),
+                  share_inside(ranges, boundary)):
+        assert [*table.columns[:2]] == ["animal", "group"]
+        assert {*table["animal"]} == {"fox", "otter"} and {*table["group"]} >= {"2023", "2024"}
+    assert ranges.overview()["records"].isna().all() and ranges.summary()["left_out"].isna().all()
+    assert ranges.hectares("fox 2023") == areas(ranges)["fox", "2023"]
+    assert share_inside(ranges, boundary)["share"].dropna().tolist() == [pytest.approx(1)] * (ranges.curve(
+        ).groupby(["animal", "group"])["hectares"].last() > 0).sum()
+
+
+def test_curves_of_groups_are_told_apart(frame):
+    pytest.importorskip("matplotlib").use("Agg")
+    ranges = home_range(frame, 100, by="year")
+    lines = plot_curve(ranges).get_lines()
+    assert [line.get_label() for line in lines] == ranges.animals
+    assert [line.get_ydata()[-1] for line in lines] == [ranges.hectares(name) for name in ranges.animals]
+
+
+def test_evidence_and_pages_are_of_whole_ranges(frame, tmp_path):
+    ranges = home_range(frame, by="year")
+    with pytest.raises(FrameError, match="evidence is of whole ranges, and these are by groups"):
+        ranges.evidence(tmp_path / "hand-in")
+    with pytest.raises(FrameError, match="a page is of whole ranges"):
+        write_page(ranges, tmp_path / "page.html")
+    assert [*tmp_path.iterdir()] == []
+
+
+def program_that_logs(tmp_path):
+    from homerange.program import find_program
+
+    path = tmp_path / "program"
+    path.write_text('#!/bin/sh\n[ "$1" = --version ] || nproc >>"%s/processors"\nexec "%s" "$@"\n' % (tmp_path, find_program(None)))
+    path.chmod(0o755)
+    return path
+
+
+@pytest.mark.parametrize("jobs", [1, 2])
+def test_so_many_processors_are_taken(tmp_path, jobs):
+    if len(os.sched_getaffinity(0)) < 2:
+        pytest.skip("this machine has one processor")
+    ranges = home_range(frame_of(a=cloud(1, 20)), jobs=jobs, program=program_that_logs(tmp_path))
+    ranges.corners(50)
+    assert (tmp_path / "processors").read_text() == f"{jobs}\n{jobs}\n"
+    assert len(os.sched_getaffinity(0)) >= 2
+
+
+@pytest.mark.parametrize("jobs", [0, -1, 1.5, "2", True])
+def test_jobs_are_a_whole_number(jobs):
+    with pytest.raises(FrameError, match="jobs=.* are not jobs from 1 to 1024"):
+        home_range(frame_of(a=cloud(1, 20)), jobs=jobs)
+
+
+class Terminal(io.StringIO):
+    def isatty(self):
+        return True
+
+
+def test_long_work_has_a_bar_on_a_terminal(monkeypatch):
+    herd = frame_of(**{f"a{number}": cloud(number, 3) for number in range(70)})
+    monkeypatch.setattr(bar, "QUIET", 0)
+    for stream, progress, is_shown in ((Terminal(), None, True), (io.StringIO(), None, False), (io.StringIO(), True, True),
+                                       (Terminal(), False, False)):
+        monkeypatch.setattr("sys.stderr", stream)
+        home_range(herd, 100, progress=progress)
+        assert ("\rhomerange: 5 of 6 runs" in stream.getvalue()) == is_shown
+        assert not is_shown or stream.getvalue().endswith("\r" + " " * 22 + "\r")
+    with pytest.raises(FrameError, match="progress=3 is neither True nor False, nor a function"):
+        home_range(herd, progress=3)
+
+
+def test_short_work_has_none(monkeypatch):
+    monkeypatch.setattr("sys.stderr", stream := Terminal())
+    home_range(frame_of(a=cloud(1, 20)))
+    assert stream.getvalue() == ""
+    with pytest.warns(HomeRangeNote):
+        home_range(frame_of(a=cloud(1, 20)).iloc[::-1])
