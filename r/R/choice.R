@@ -103,11 +103,13 @@ choose_period <- function(choice) {
   asked <- choice$asked
   if (!is.null(asked$since)) {
     first <- second_of_bound(asked$since, "since", choice$tz)
-    keep_records(choice, choice$records$second >= first, "before", "fixes are before ", text_of_bound(asked$since, "since", choice$tz))
+    keep_records(choice, choice$records$second >= first, "before", "fixes are before ",
+                 text_of_bound(asked$since, "since", choice$tz))
   }
   if (!is.null(asked$until)) {
     last <- second_of_bound(asked$until, "until", choice$tz)
-    keep_records(choice, choice$records$second <= last, "after", "fixes are after ", text_of_bound(asked$until, "until", choice$tz))
+    keep_records(choice, choice$records$second <= last, "after", "fixes are after ",
+                 text_of_bound(asked$until, "until", choice$tz))
   }
 }
 

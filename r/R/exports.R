@@ -298,9 +298,11 @@ read_export <- function(file, ...) {
   table
 }
 
-options_of_text <- c("from", "zone", "sensor", "skip_unnamed", "animal", "name", "time", "time_format", "tz", "lon", "lat", "easting",
-                     "northing", "na", "skip_lines", "encoding", "argos_class", "argos", "max_dop", "dop", "fix_type", "fix", "since",
-                     "until", "max_speed", "every")
+options_of_text <- c(
+  "from", "zone", "sensor", "skip_unnamed", "animal", "name", "time", "time_format", "tz", "lon", "lat", "easting", "northing",
+  "na", "skip_lines", "encoding", "argos_class", "argos", "max_dop", "dop", "fix_type", "fix", "since", "until", "max_speed",
+  "every"
+)
 
 # Refuses options that there are not, or that cannot be right.
 check_options <- function(options) {

@@ -17,8 +17,8 @@ new_form <- function(text) {
   at <- gregexpr("%.", text)[[1]]
   signs <- if (at[1] > 0) substring(text, at + 1, at + 1) else character()
   if (!all(signs %in% names(signs_of_forms)) || anyDuplicated(signs) || !is_whole_form(signs)) {
-    refuse("option", "time-format is '", text, "', which is no form of a day, such as %Y-%m-%d, %d.%m.%y, %d %b %Y or %Y %j, with ",
-           "%H:%M:%S or %I:%M %p")
+    refuse("option", "time-format is '", text, "', which is no form of a day, such as %Y-%m-%d, %d.%m.%y, %d %b %Y or %Y %j, ",
+           "with %H:%M:%S or %I:%M %p")
   }
   between <- substring(text, c(1, at + 2), c(at - 1, nchar(text)))
   groups <- paste0("(", signs_of_forms[signs], ")")

@@ -84,7 +84,8 @@ find_zone_of_time <- function(frame) {
   if (!is.null(named)) {
     is_bare <- !inherits(times, "POSIXt") && !is.numeric(times) && !inherits(times, "integer64")
     if (is_bare && named != "UTC") {
-      frame$zone_said <- paste0("times of ", names(frame$x)[column], " without a zone are those of UTC, and days and hours those of ", named)
+      frame$zone_said <- paste0("times of ", names(frame$x)[column], " without a zone are those of UTC, ",
+                                "and days and hours those of ", named)
     }
   } else if (inherits(times, "POSIXt")) {
     frame$asked$tz <- zone_of_times(times)
@@ -233,8 +234,9 @@ cells_of_names <- function(column, title) {
   }
   if (is.numeric(column)) {
     is_lost <- !is.na(column) & (column != floor(column) | abs(column) > most_exact)
-    why <- ifelse(is_lost, paste0(digits_of(column), ", a number that is not whole or has lost digits: read the column as text"), "")
-    return(structure(ifelse(is.na(column), NA, digits_of(column)), why = why))
+    digits <- digits_of(column)
+    why <- ifelse(is_lost, paste0(digits, ", a number that is not whole or has lost digits: read the column as text"), "")
+    return(structure(ifelse(is.na(column), NA, digits), why = why))
   }
   column <- as.character(column)
   kinds <- unique(column)
@@ -255,7 +257,8 @@ cells_of_points <- function(shapes) {
   if (any(is_point)) at[is_point, ] <- sf::st_coordinates(shapes[is_point])[, 1:2]
   bad <- which(!is_point & !is_empty)[1]
   help <- if (kinds[bad] %in% "MULTIPOINT") ": sf::st_cast(x, \"POINT\")"
-  fault <- if (!is.na(bad)) list(bad = bad, why = paste0("the geometry is a ", kinds[bad], " and no POINT", help), kind = "number")
+  why <- paste0("the geometry is a ", kinds[bad], " and no POINT", help)
+  fault <- if (!is.na(bad)) list(bad = bad, why = why, kind = "number")
   list(structure(at[, 1], fault = fault), structure(at[, 2], fault = fault))
 }
 

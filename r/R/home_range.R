@@ -24,7 +24,8 @@ home_range <- function(x, levels = c(50, 95, 100), unit = "m", animal = NULL, ti
     run_all(program, files, unique(read$fixes$animal), c("--unit", asked$unit, "--percent", levels), isTRUE(progress))
   })
   if (!identical(report$rows$second, read$fixes$moment)) refuse("check", "the report has not the times of the fixes")
-  ranges <- new_home_range(report, read$fixes$time, read$fixes, read$left_out, read$crs, read$shift, read$zone, read$notes, read$tz)
+  ranges <- new_home_range(report, read$fixes$time, read$fixes, read$left_out, read$crs, read$shift, read$zone, read$notes,
+                           read$tz)
   ranges[c("options", "is_projected")] <- read[c("options", "is_projected")]
   ranges$program <- identity_of(program)
   ranges$call <- match.call()
@@ -71,7 +72,8 @@ either <- function(new, old, name, old_name) {
 check_dots <- function(...) {
   if (...length() == 0) return(invisible())
   name <- ...names()[1]
-  refuse("option", if (is.null(name) || is.na(name) || name == "") "there is an argument too many" else paste("there is no argument", name))
+  is_unnamed <- is.null(name) || is.na(name) || name == ""
+  refuse("option", if (is_unnamed) "there is an argument too many" else paste("there is no argument", name))
 }
 
 # An object of a report's tables, the time of each row, and what else is known, such as the UTM zone and what was said.

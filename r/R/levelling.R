@@ -30,6 +30,7 @@ levelling_of <- function(areas) {
   quarter <- last - after[(3 * number) %/% 4 + 1]
   # What is missing is compared, 20 times, with the whole: that is exact for whole numbers up to 2^53, and 19 times it is not.
   within <- if (last > 0) which(20 * (last - areas) <= last)[1] else NA
-  verdict <- if (number < fewest_fixes || last == 0) "too few fixes" else if (20 * quarter < last) "levelled off" else "still growing"
+  verdict <- if (20 * quarter < last) "levelled off" else "still growing"
+  if (number < fewest_fixes || last == 0) verdict <- "too few fixes"
   list(area2 = last, within = as.numeric(within), tenth = tenth, quarter = quarter, verdict = verdict)
 }

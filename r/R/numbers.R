@@ -6,7 +6,9 @@
 powers_of_ten <- 10^(0:22)
 most <- 1e12  # which no number in a table reaches
 
-read_values <- function(values, bad = NA_integer_, why = NULL, kind = NULL) list(values = values, bad = bad, why = why, kind = kind)
+read_values <- function(values, bad = NA_integer_, why = NULL, kind = NULL) {
+  list(values = values, bad = bad, why = why, kind = kind)
+}
 
 is_moments <- function(cells) inherits(cells, "moments")
 cells_length <- function(cells) if (is_moments(cells)) length(cells$second) else length(cells)

@@ -159,7 +159,9 @@ refuse_off_grid <- function(east, north, unit, record) {
 tell_moved <- function(places, whole, shift, unit, said) {
   is_whole <- all(places$east == floor(places$east)) && all(places$north == floor(places$north))
   if (is_whole %in% TRUE) return(invisible())
-  moved <- sqrt((whole$easting / unit$scale - shift[1] - places$east)^2 + (whole$northing / unit$scale - shift[2] - places$north)^2)
+  east <- whole$easting / unit$scale - shift[1] - places$east
+  north <- whole$northing / unit$scale - shift[2] - places$north
+  moved <- sqrt(east^2 + north^2)
   furthest <- max(moved[whole$is_on & moved < 1], 0)
   if (furthest > 1e-6) {
     say(said, NULL, "coordinates are rounded to whole ", unit$name, ", which moves a fix by at most ", sprintf("%.2g", furthest),

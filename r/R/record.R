@@ -18,7 +18,8 @@ lines_of_record <- function(record) {
     if (!is.null(record$crs)) paste0("crs,", record$crs), option_lines(record$options),
     if (length(record$said)) paste0("said,", record$said),
     if (nrow(left)) sprintf("left,%s,%.0f,%s", left$animal, left$fixes, left$reason),
-    sprintf("track,%s,%.0f,%.0f,%s", tracks$animal, tracks$records, tracks$used, tracks$checksum), sprintf("tool,%s", record$tools)
+    sprintf("track,%s,%.0f,%.0f,%s", tracks$animal, tracks$records, tracks$used, tracks$checksum),
+    sprintf("tool,%s", record$tools)
   ))
 }
 
@@ -32,7 +33,8 @@ option_lines <- function(options) {
   if (!length(given)) return(NULL)
   given <- given[order(names(given), method = "radix")]
   values <- vapply(given, function(value) {
-    if (isTRUE(value)) "" else paste0(",", gsub("\\", "\\\\", if (is.numeric(value)) sprintf("%.0f", value) else value, fixed = TRUE))
+    if (isTRUE(value)) return("")
+    paste0(",", gsub("\\", "\\\\", if (is.numeric(value)) sprintf("%.0f", value) else value, fixed = TRUE))
   }, "")
   paste0("option,", names(given), values)
 }
@@ -118,7 +120,8 @@ record_in <- function(folder) {
 # How many fixes were left out, by animal and reason. Records that are written and not used are outliers that are marked.
 left_out_of_record <- function(record) {
   marked <- record$tracks[record$tracks$used < record$tracks$records, ]
-  rbind(record$left, data.frame(animal = marked$animal, reason = rep("outlier", nrow(marked)), fixes = marked$records - marked$used))
+  outliers <- data.frame(animal = marked$animal, reason = rep("outlier", nrow(marked)), fixes = marked$records - marked$used)
+  rbind(record$left, outliers)
 }
 
 # The code of the reference system for sf; NULL where none is known, or where it has no code.

@@ -349,7 +349,8 @@ settled_records <- function(table, records, said) {
   numbers <- records$number[twice]
   shown <- sprintf("%.0f", numbers[seq_len(min(10, length(numbers)))])
   listed <- paste0(paste(shown, collapse = ", "), if (length(numbers) > 10) ", ..")
-  say(said, length(twice), "records lie in the hour that comes twice in ", clock_of(table$asked), ": records ", listed, kind = "guessed")
+  say(said, length(twice), "records lie in the hour that comes twice in ", clock_of(table$asked), ": records ", listed,
+      kind = "guessed")
   records$other <- NULL
   records
 }
@@ -364,7 +365,9 @@ check_animals <- function(table, said) {
     refuse("onefix", "every one of ", animals, " animals has one record: is ", title, " the animal? Name its column, as by ",
            option_word(table$asked, "animal", "COLUMN"))
   }
-  if (2 * single > animals) say(said, single, "of ", animals, " animals have one record: is ", title, " the animal?", kind = "asked")
+  if (2 * single > animals) {
+    say(said, single, "of ", animals, " animals have one record: is ", title, " the animal?", kind = "asked")
+  }
   tell_alike(table$names, said)
 }
 

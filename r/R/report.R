@@ -86,7 +86,8 @@ numbers_at <- function(lines, kind) {
 # The texts in a field of the lines of a kind.
 texts_at <- function(lines, kind, field) {
   at <- fields_at(lines, lines$of[[kind]], field, FALSE)
-  texts <- vapply(seq_along(at$starts), function(place) rawToChar(lines$bytes[at$starts[place] + seq_len(at$widths[place]) - 1L]), "")
+  text_at <- function(start, width) rawToChar(lines$bytes[start + seq_len(width) - 1L])
+  texts <- as.character(unlist(Map(text_at, at$starts, at$widths)))
   Encoding(texts) <- "UTF-8"
   texts
 }
@@ -138,7 +139,9 @@ read_report <- function(file, start = NULL, files = NULL, record = NULL) {
   local_numbers()
   if (!is_text(file)) refuse("option", "file: the name of one file is wanted")
   if (!is.null(start) && !inherits(start, "POSIXct")) refuse("option", "start: a time as POSIXct is wanted")
-  if (!is.null(files) && (!is.character(files) || !length(files) || anyNA(files))) refuse("option", "files: names of files are wanted")
+  if (!is.null(files) && (!is.character(files) || !length(files) || anyNA(files))) {
+    refuse("option", "files: names of files are wanted")
+  }
   if (!is.null(record) && !is_text(record)) refuse("option", "record: the name of one file is wanted")
   if (!file.exists(file) || dir.exists(file)) refuse("file", file, ": there is no such file")
   report <- parse_report(report_text(file), file)
@@ -233,7 +236,8 @@ write_report <- function(x, path) {
   lines <- Map(lines_of_animal, names, x$animals$fixes, tables$rows, tables$corners, tables$percents)
   pairs <- which(row(x$overlaps) != col(x$overlaps), arr.ind = TRUE)
   pairs <- pairs[order(pairs[, 1], pairs[, 2]), , drop = FALSE]
-  overlaps <- sprintf("overlap,%s,%s,%.0f,%.0f", names[pairs[, 1]], names[pairs[, 2]], x$overlaps[pairs], x$animals$fixes[pairs[, 1]])
+  one <- pairs[, 1]
+  overlaps <- sprintf("overlap,%s,%s,%.0f,%.0f", names[one], names[pairs[, 2]], x$overlaps[pairs], x$animals$fixes[one])
   write_lines(path, c(if (x$unit == "dm") "unit,dm", unlist(lines), overlaps, sprintf("end,%d", length(names))))
   invisible(path)
 }

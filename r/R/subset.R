@@ -55,7 +55,9 @@ check_alike <- function(one, first) {
   differs <- !vapply(names(what), function(own) identical(one[[own]], first[[own]]), NA)
   if (any(differs)) refuse("option", "they differ in their ", what[differs][1])
   if (!identical(unique(one$percents$level), unique(first$percents$level))) refuse("option", "they differ in their levels")
-  if (!identical(class(one$rows$time), class(first$rows$time))) refuse("option", "they differ in their times, which are no times in one")
+  if (!identical(class(one$rows$time), class(first$rows$time))) {
+    refuse("option", "they differ in their times: those of one are seconds or days")
+  }
 }
 
 # Tables one below the other; NULL where one is not known.

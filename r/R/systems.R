@@ -23,7 +23,8 @@ crs_of_columns <- function(frame, crs) {
   if (is.null(columns)) columns <- frame$table$columns$degrees
   titles <- title_of(frame$table, columns)
   points <- sprintf("sf::st_as_sf(x, coords = c(\"%s\", \"%s\"), crs = \"%s\", na.fail = FALSE)", titles[1], titles[2], crs$input)
-  check_crs(crs, points, function() vapply(frame$x[columns], function(column) suppressWarnings(as.numeric(column)), numeric(nrow(frame$x))))
+  numbers_of <- function(column) suppressWarnings(as.numeric(column))
+  check_crs(crs, points, function() vapply(frame$x[columns], numbers_of, numeric(nrow(frame$x))))
   crs
 }
 

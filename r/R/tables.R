@@ -2,7 +2,8 @@
 
 # Units of areas: the title of a column of them, how many hectares each has, and its name in the package units.
 areas_known <- list(
-  ha = list(title = "hectares", hectares = 1, name = "hectare"), m2 = list(title = "square_metres", hectares = 1e-4, name = "m^2"),
+  ha = list(title = "hectares", hectares = 1, name = "hectare"),
+  m2 = list(title = "square_metres", hectares = 1e-4, name = "m^2"),
   km2 = list(title = "square_kilometres", hectares = 100, name = "km^2")
 )
 
@@ -28,13 +29,14 @@ summary.home_range <- function(object, area = "ha", units = FALSE, ...) {
   place <- match(object$percents$animal, object$animals$animal)
   last <- last_rows(object)
   first <- last - object$animals$fixes + 1
-  left_out <- vapply(object$animals$animal, function(animal) sum(object$left_out$fixes[object$left_out$animal == animal]), 0)
+  left_of <- function(animal) sum(object$left_out$fixes[object$left_out$animal == animal])
+  left_out <- if (is.null(object$left_out)) rep(NA_real_, length(last)) else
+    vapply(object$animals$animal, left_of, 0, USE.NAMES = FALSE)
   columns <- list(
     animal = object$percents$animal, first = object$rows$time[first[place]], last = object$rows$time[last[place]],
-    fixes = object$animals$fixes[place], left_out = if (is.null(object$left_out)) rep(NA_real_, length(place)) else unname(left_out)[place],
-    level = object$percents$level, kept = object$percents$kept, corners = object$percents$corners
+    fixes = object$animals$fixes[place], left_out = left_out[place]
   )
-  list2DF(c(columns, area_column(object, object$percents$area2, area, units)))
+  list2DF(c(columns, as.list(object$percents[c("level", "kept", "corners")]), area_column(object, object$percents$area2, area, units)))
 }
 
 # A row for each animal and level.
@@ -180,7 +182,8 @@ aligned_lines <- function(table) {
 # A row for each animal as text, with a column for each level.
 area_table <- function(ranges) {
   areas <- lapply(levels_named(ranges), function(level) {
-    format(hectares_of(ranges, percents_of(ranges, level)$area2), digits = 4, big.mark = ",", decimal.mark = ".", scientific = FALSE)
+    hectares <- hectares_of(ranges, percents_of(ranges, level)$area2)
+    format(hectares, digits = 4, big.mark = ",", decimal.mark = ".", scientific = FALSE)
   })
   list2DF(c(list(animal = ranges$animals$animal, fixes = in_digits(ranges$animals$fixes)), areas,
             list(curve = homerange_levelling(ranges)$verdict)))

@@ -145,7 +145,9 @@ stamps_of_numbers <- function(numbers, times) {
 }
 
 # Whether numbers are dates without hyphens.
-are_digits_of_dates <- function(numbers) is.finite(numbers) & numbers == floor(numbers) & has_form(digits_of_date_form, sprintf("%.0f", numbers))
+are_digits_of_dates <- function(numbers) {
+  is.finite(numbers) & numbers == floor(numbers) & has_form(digits_of_date_form, sprintf("%.0f", numbers))
+}
 
 # What a number that is no second may be.
 looks_like <- function(value) {

@@ -21,7 +21,8 @@ why_no_zone <- function(text) {
   text <- trimws(text, whitespace = " ")
   band <- if (grepl(band_form, text, perl = TRUE)) sub(band_form, "\\2", text, perl = TRUE)
   remedy <- if (!is.null(band)) {
-    paste0(": ", band, " is a band, and the zone is ", sub(band_form, "\\1", text, perl = TRUE), if (toupper(band) < "N") "S" else "N")
+    number <- sub(band_form, "\\1", text, perl = TRUE)
+    paste0(": ", band, " is a band, and the zone is ", number, if (toupper(band) < "N") "S" else "N")
   }
   paste0(text, " is no zone as 33N", remedy)
 }

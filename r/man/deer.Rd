@@ -17,7 +17,8 @@ A data frame with 1,080 rows and the columns
 \item{visible}{\code{FALSE} for one fix that is marked as an outlier.}
 }
 }
-\source{The file \code{data/deer.R} of the package's sources makes it.}
+\source{The file \code{data/deer.R} of the package's sources makes it. \file{extdata/deer.csv} is the same table as an export of
+Movebank, with longitude and latitude.}
 \examples{
 head(deer)
 }

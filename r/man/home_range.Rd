@@ -43,7 +43,8 @@ home_range(x, levels = c(50, 95, 100), unit = "m", animal = NULL, time = NULL,
 \item{tz}{the time zone of days, months and hours, and of times that are shown; \code{\link{OlsonNames}} lists them. If left
   out, that of the column of times, which is said; of text and numbers UTC.}
 \item{crs}{the CRS of the columns of coordinates, as \code{sf::st_crs} takes it, such as 32633 for UTM zone 33 north. It
-  changes no number: \code{\link[=st_as_sf.home_range]{polygons}} are given in it. If left out, it is that of an amt track, or of the UTM zone.}
+  changes no number: \code{\link[=st_as_sf.home_range]{polygons}} are given in it. If left out, it is that of an
+  amt track, or of the UTM zone.}
 \item{zone}{the UTM zone of the coordinates, such as \code{"33N"}; longitude and latitude are projected into it, which takes
   the package sf.}
 \item{skip_unnamed}{whether rows without an animal are left out and counted, and not refused.}
@@ -61,8 +62,8 @@ home_range(x, levels = c(50, 95, 100), unit = "m", animal = NULL, time = NULL,
 R, Python and the commands: the usual titles of columns, times and coordinates, marks of outliers, sensors and filters, what
 is left out, sorted, moved or rounded, and what is refused. What is guessed or left out is said in messages, a line for each, of
 classes that \link{homerange-package} lists;
-\code{\link{homerange_left_out}} counts fixes by animal and reason. A \code{move2} table says itself which columns have the animal and
-the time. Times of class \code{POSIXct} that have no zone are by the clock of the session.
+\code{\link{homerange_left_out}} counts fixes by animal and reason. A \code{move2} table says itself which columns have
+the animal and the time. Times of class \code{POSIXct} that have no zone are by the clock of the session.
 
 \strong{The percent rule.} Of n fixes, level p keeps the \code{(p * n + 99) \%/\% 100} that lie nearest to the mean of all
 n fixes, of fixes as near as each other the earlier. The percent polygon is the minimum convex polygon of those. Other

@@ -23,7 +23,8 @@ The program is run again, on the files in the folder, and its report has to have
 \code{tracks} \tab the fixes, a file for each animal, and \code{split.txt}, the record of how they were made: unit, reference
   system, shift, the arguments of \code{home_range}, what was said and left out, checksums, and what made them \cr
 \code{summary.csv} \tab for each animal and level fixes, corners and hectares \cr
-\code{animals.csv} \tab for each animal what was left out and why, times, intervals, hectares, and \code{\link{homerange_levelling}} \cr
+\code{animals.csv} \tab for each animal what was left out and why, times, intervals, hectares, and
+  \code{\link{homerange_levelling}} \cr
 \code{overlaps.csv} \tab which share of the fixes of the row's animal lie in the polygon of the column's \cr
 \code{ranges.gpkg} \tab with the package sf layers for a GIS: the polygons of all levels, the fixes, and how QGIS draws them \cr
 \code{report.html} \tab the page, to read and to print \cr

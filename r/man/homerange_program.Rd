@@ -14,8 +14,8 @@ with the package is held to its checksum before it first runs.
 }
 \value{The path of the program.}
 \section{Errors}{
-Where there is no program, the one that is named is not there, or the package's own has another checksum, the call stops with an error of class
-\code{homerange_program_error}.
+Where there is no program, the one that is named is not there, or the package's own has another checksum, the call
+stops with an error of class \code{homerange_program_error}.
 }
 \examples{
 tryCatch(homerange_program(), homerange_program_error = conditionMessage)

@@ -29,6 +29,9 @@ What cannot be right is refused as \code{homerange_data_error}, with the number 
 }
 \examples{
 file <- tempfile(fileext = ".csv")
-writeLines(c("animal,second,easting,northing", "fox,0,562000,5134000", "fox,60,562010,5134005"), file)
+writeLines(c("animal,second,easting,northing", "fox,0,562000,5134000", "fox,60,562010,5134005"),
+           file)
 read_export(file)
+# An export as Movebank writes it.
+head(read_export(system.file("extdata", "deer.csv", package = "homerange")))
 }

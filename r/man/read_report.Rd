@@ -9,8 +9,8 @@ read_report(file, start = NULL, files = NULL, record = NULL)
 \item{file}{the name of the report's file.}
 \item{start}{the time of second 0 as \code{POSIXct}, such as \code{as.POSIXct("1970-01-01", tz = "UTC")}. If left out, times
   are seconds.}
-\item{files}{the names of the files that the report was made from. With them \code{\link[=st_as_sf.home_range]{polygons}} below level 100, fixes in
-  plots and \code{\link{homerange_evidence}} can be had.}
+\item{files}{the names of the files that the report was made from. With them \code{\link[=st_as_sf.home_range]{polygons}}
+  below level 100, fixes in   plots and \code{\link{homerange_evidence}} can be had.}
 \item{record}{the name of their record, \code{split.txt} of \code{tools/split.py}, \code{tools/split.R} or
   \code{\link{homerange_evidence}}. From it is known what was left out and said, the reference system and the shift.}
 }
@@ -23,8 +23,8 @@ fixes and no coordinate reference system, so its polygons are of level 100 alone
 \seealso{\code{\link{write_report}}}
 \section{Errors}{
 A report that has not the line \code{end} with the right number of animals, or has lines that are missing, twice there, at
-another place or of no known kind, is refused as \code{homerange_report_error}, and so are files with other times of fixes, or another polygon of
-all, than the report; a file that is not there as \code{homerange_file_error}; a record that is none as
+another place or of no known kind, is refused as \code{homerange_report_error}, and so are files with other times of fixes,
+or another polygon of all, than the report; a file that is not there as \code{homerange_file_error}; a record that is none as
 \code{homerange_text_error}.
 }
 \examples{

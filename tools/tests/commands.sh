@@ -32,10 +32,10 @@ for script in "$top"/test "$tools"/*.sh "$tools"/herd/*.sh "$tools"/*.py "$tools
     case $script in
         *.py) [ -n "$python" ] || continue ;;
     esac
-    name=${script#"$top/"}
-    holds "$name --help" helps "$script"
-    holds "$name --version" is_versioned "$script"
-    holds "$name --nonsense" refuses_words "$script"
+    called=${script#"$top/"}
+    holds "$called --help" helps "$script"
+    holds "$called --version" is_versioned "$script"
+    holds "$called --nonsense" refuses_words "$script"
 done
 if is_here Rscript 'what scripts of R answer'; then
     for script in check.R split.R; do

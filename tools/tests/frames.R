@@ -10,7 +10,7 @@ hand_in <- function(case, table, ..., title = NULL) {
   path <- paste0(case, ".csv")
   write.csv(table, path, row.names = FALSE, na = "")
   frame <- read.csv(path, check.names = FALSE)
-  suppressMessages(evidence(home_range(frame, ...), file.path("by_r", case), title = title, made = day))
+  suppressMessages(homerange_evidence(home_range(frame, ...), file.path("by_r", case), title = title, made = day))
 }
 
 # Names that no file has, fixes that failed, an animal of outliers alone, and a dilution of precision.
@@ -39,4 +39,4 @@ hand_in("many", many, 95, skip_unnamed = TRUE)
 tracks <- file.path("by_r", "told", "tracks")
 files <- list.files(tracks, "[.]csv$", full.names = TRUE)
 ranges <- read_report(file.path("by_r", "told", "report.txt"), files = files, record = file.path(tracks, "split.txt"))
-suppressMessages(evidence(ranges, file.path("by_r", "again"), made = day))
+suppressMessages(homerange_evidence(ranges, file.path("by_r", "again"), made = day))

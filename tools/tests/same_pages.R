@@ -9,7 +9,7 @@ make_by_r <- function(own) {
   levels <- as.numeric(strsplit(own$levels, ",")[[1]])
   ranges <- home_range(fixes, levels = levels, unit = own$unit, crs = if (nzchar(own$crs)) own$crs, tz = own$tz)
   wood <- if (nzchar(own$boundary)) sf::st_as_sfc(own$boundary, crs = own$boundary_crs)
-  evidence(ranges, file.path("by_r", own$name), title = own$title, study = own$study, reserve = wood,
+  homerange_evidence(ranges, file.path("by_r", own$name), title = own$title, study = own$study, reserve = wood,
            reserve_name = own$boundary_name, made = day)
 }
 
