@@ -2,13 +2,16 @@
 """pack.py [ZIP]: the plugin for QGIS as the file that 'Install from ZIP' takes, with the package for Python and the released
 program in it. ZIP is homerange-qgis-VERSION.zip in the working folder, if left out. Two calls write the same bytes."""
 
-import argparse
 import re
 import sys
 import zipfile
 from pathlib import Path
 
 TOP = Path(__file__).resolve().parents[1]
+sys.path.insert(0, str(TOP / "python"))
+
+from homerange.commands.options import Options
+
 PLUGIN, PACKAGE, RELEASE = TOP / "qgis/homerange", TOP / "python/homerange", TOP / "release"
 TIME = (2026, 1, 1, 0, 0, 0)  # that of each file in the archive
 KINDS = {".py", ".html", ".svg", ".txt", ".csv", ".typed"}
@@ -45,7 +48,7 @@ def write(path):
 
 
 def main():
-    parser = argparse.ArgumentParser(description=__doc__, allow_abbrev=False)
+    parser = Options("pack.py", __doc__)
     parser.add_argument("zip", nargs="?", type=Path, default=Path(f"homerange-qgis-{version()}.zip"))
     path = parser.parse_args().zip
     try:

@@ -6,6 +6,20 @@ if (!l10n_info()[["UTF-8"]]) invisible(Sys.setlocale("LC_CTYPE", "C.UTF-8"))
 usage <- "Rscript check.R [--percent LIST] [--unit m|dm] REPORT FILE .."
 exact_below <- 2^53
 
+script <- gsub("~+~", " ", sub("^--file=", "", grep("^--file=", commandArgs(), value = TRUE)[1]), fixed = TRUE)
+
+# What this script is for: the comment at its head.
+show_help <- function() {
+  lines <- readLines(script, encoding = "UTF-8")
+  writeLines(sub("^# ?", "", lines[seq_len(which(!startsWith(lines, "#"))[1] - 1)]))
+  quit()
+}
+
+show_version <- function() {
+  cat("check.R", read.dcf(file.path(dirname(dirname(normalizePath(script))), "r", "DESCRIPTION"), "Version"), fill = TRUE)
+  quit()
+}
+
 fail <- function(..., status = 1) {
   message("check.R: ", ...)
   quit(status = status)
@@ -104,8 +118,9 @@ read_arguments <- function(words) {
   found <- list(files = character())
   while (length(words)) {
     if (words[1] %in% c("-h", "--help")) {
-      cat("usage:", usage, "\n")
-      quit()
+      show_help()
+    } else if (words[1] == "--version") {
+      show_version()
     } else if (words[1] %in% c("--percent", "--unit") && length(words) > 1) {
       found[[substring(words[1], 3)]] <- words[2]
       words <- words[-1]

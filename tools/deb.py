@@ -2,7 +2,6 @@
 """deb.py FOLDER: the Debian package homerange_VERSION_amd64.deb in a folder: the released program, its manual page, the
 package for Python with its commands, and the documents. Two calls write the same bytes. Needs dpkg-deb."""
 
-import argparse
 import gzip
 import os
 import shutil
@@ -16,6 +15,7 @@ TOP = Path(__file__).resolve().parents[1]
 sys.path.insert(0, str(TOP / "python"))
 
 from homerange import __version__
+from homerange.commands.options import Options
 
 MODULES = "usr/lib/python3/dist-packages"
 TIME = "1767225600"  # that of each file: the first second of 2026
@@ -111,8 +111,7 @@ def build(folder: Path) -> Path:
 
 
 def main() -> None:
-    parser = argparse.ArgumentParser(description=__doc__, allow_abbrev=False)
-    parser.add_argument("--version", action="version", version=f"deb.py {__version__}")
+    parser = Options("deb.py", __doc__)
     parser.add_argument("folder", metavar="FOLDER", type=Path)
     folder = parser.parse_args().folder
     if not folder.is_dir():

@@ -86,6 +86,9 @@ read_words <- function(words) {
       found$exports <- c(found$exports, word)
     } else if (word %in% c("-h", "--help")) {
       show_help()
+    } else if (word == "--version") {
+      cat("split.R", getOption("homerange.code")[1], fill = TRUE)
+      quit()
     } else if (!startsWith(word, "--") || !name %in% c(names(options_known), names(flags_known))) {
       found$unknown <- c(found$unknown, word)
     } else {

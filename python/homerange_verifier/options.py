@@ -5,6 +5,7 @@ from __future__ import annotations
 import argparse
 from typing import NoReturn
 
+from . import __version__
 from .findings import one_line
 
 
@@ -13,6 +14,7 @@ class Options(argparse.ArgumentParser):
 
     def __init__(self, name: str, about: str | None) -> None:
         super().__init__(prog=name, description=about, formatter_class=argparse.RawDescriptionHelpFormatter, allow_abbrev=False)
+        self.add_argument("--version", action="version", version=f"{name} {__version__}")
 
     def error(self, message: str) -> NoReturn:
         self.exit(2, f"{self.prog}: {one_line(message)}\n")

@@ -15,8 +15,8 @@ else
     }
 fi
 
-# Puts the first two words that are no options into $tracks and $out, and the options, one a line, into $options. Each option
-# of homerange has a value.
+# Puts the first two words that are no options into $tracks and $out, and the words of options, one a line, into $options.
+# Each option of homerange has a value.
 read_words() {
     tracks='' out='' options=''
     while [ $# -gt 0 ]; do
@@ -24,7 +24,8 @@ read_words() {
             --?*=*) add_option "$1" ;;
             --?*)
                 [ $# -ge 2 ] || misuse "$1 wants a value"
-                add_option "$1=$2"
+                add_option "$1"
+                add_option "$2"
                 shift
                 ;;
             -?*) misuse "$1 is no option of homerange" ;;

@@ -4,7 +4,7 @@
 
 # Whether a script says what it does, with status 0.
 helps() {
-    (cd commands && "$@" --help >said 2>errors) && [ "$(wc -l <commands/said)" -gt 2 ] && [ ! -s commands/errors ]
+    (cd commands && "$@" --help >said 2>errors) && [ "$(wc -l <commands/said)" -ge 2 ] && [ ! -s commands/errors ]
 }
 
 # Whether a script says its version.
@@ -46,3 +46,11 @@ if is_here Rscript 'what scripts of R answer'; then
 fi
 holds 'nothing was made' [ "$(LC_ALL=C ls commands)" = "errors
 said" ]
+
+# All that has a version has that of the program.
+version=$("$HOMERANGE" --version | sed 's/^homerange \([0-9.]*\).*/\1/')
+holds 'the program has a version' [ -n "$version" ]
+for has in "python/homerange/__init__.py:__version__ = \"$version\"" "python/homerange_verifier/__init__.py:__version__ = \"$version\"" \
+    "r/DESCRIPTION:Version: $version" "qgis/homerange/metadata.txt:version=$version"; do
+    holds "${has%%:*} has the version of the program" grep -qxF -- "${has#*:}" "$top/${has%%:*}"
+done

@@ -8,6 +8,7 @@ cd gate || exit 1
 cp "$top/test" tried
 echo program >release/homerange
 sha256sum release/homerange >release/SHA256SUMS
+cp "$tools/answers.sh" tools/
 echo 'sum_sources() { sum=1; }; is_of_sum() { [ ! -e anew ]; }; keep_program() { cp "$2" kept; }' >tools/sources.sh
 printf '#!/bin/sh\necho release/homerange\n' >tools/program.sh
 printf '#!/bin/sh\ncat tools/says\n' >tools/test.sh

@@ -218,6 +218,8 @@ def read_options(name: str) -> argparse.Namespace:
     options = parser.parse_args()
     for word in {"-h", "--help", "--version"}.intersection(options.words):
         parser.parse_args([word])
+    if options.what == "merge" and options.words[:1] and options.words[0].startswith("-"):
+        parser.error(f"{options.words[0]} is no option")
     if (len(options.words) != 1) if options.what == "merge" else (len(folders_of(options.words)) != 2):
         parser.error("give the folder OUT alone" if options.what == "merge" else
                      "give the folder of the tracks and the folder to make")
