@@ -14,7 +14,7 @@ from homerange.commands.options import Options
 
 PLUGIN, PACKAGE, RELEASE = TOP / "qgis/homerange", TOP / "python/homerange", TOP / "release"
 TIME = (2026, 1, 1, 0, 0, 0)  # that of each file in the archive
-KINDS = {".py", ".html", ".svg", ".txt", ".csv", ".typed"}
+KINDS = {".py", ".html", ".svg", ".txt", ".csv", ".qml", ".typed"}
 
 
 def files_in(folder):

@@ -4,7 +4,8 @@ import warnings
 from pathlib import Path
 
 from qgis.core import (
-    QgsFeatureSink, QgsProcessing, QgsProcessingAlgorithm, QgsProcessingException, QgsProcessingParameterBoolean,
+    QgsFeatureSink, QgsProcessing, QgsProcessingAlgorithm, QgsProcessingException,
+    QgsProcessingLayerPostProcessorInterface, QgsProcessingParameterBoolean,
     QgsProcessingParameterDefinition, QgsProcessingParameterEnum, QgsProcessingParameterFeatureSink,
     QgsProcessingParameterFeatureSource, QgsProcessingParameterField, QgsProcessingParameterFileDestination,
     QgsProcessingParameterNumber, QgsProcessingParameterString,
@@ -59,6 +60,18 @@ class Watch:
         for row in ranges.summary().itertuples():
             if row.corners < 3:
                 self.feedback.pushInfo(f"{row.animal} has no area at {row.level} %, and so no polygon")
+
+
+class Styler(QgsProcessingLayerPostProcessorInterface):
+    """Draws ranges in QGIS as the package's GeoPackage has them drawn."""
+
+    def postProcessLayer(self, layer, context, feedback):
+        layer.loadNamedStyle(str(HERE / "package" / "ranges.qml"))
+        layer.triggerRepaint()
+
+
+# QGIS keeps no hold of it.
+STYLER = Styler()
 
 
 class RangesAlgorithm(QgsProcessingAlgorithm):
@@ -178,6 +191,8 @@ class RangesAlgorithm(QgsProcessingAlgorithm):
             for feature in features:
                 sink.addFeature(feature, QgsFeatureSink.FastInsert)
             made[name] = place
+            if name == "RANGES" and context.willLoadLayerOnCompletion(place):
+                context.layerToLoadOnCompletionDetails(place).setPostProcessor(STYLER)
         return made
 
 

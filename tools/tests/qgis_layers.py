@@ -9,7 +9,7 @@ sys.path[:0] = ["/usr/share/qgis/python", "/usr/share/qgis/python/plugins", sys.
 
 from qgis.core import (
     QgsApplication, QgsFeature, QgsGeometry, QgsProcessingContext, QgsProcessingException, QgsProcessingFeedback,
-    QgsProcessingFeatureSourceDefinition, QgsProject, QgsVectorLayer,
+    QgsProcessingFeatureSourceDefinition, QgsProcessingOutputLayerDefinition, QgsProject, QgsSymbolLayer, QgsVectorLayer,
 )
 from qgis.PyQt.QtCore import QDateTime, Qt
 
@@ -186,6 +186,19 @@ def test_two_fixes_have_no_polygon_and_it_is_said():
     rows, said = run(layer_of([*square("fox"), *square("hare")[:2]]))
     assert rows["hare", 100]["shape"].isNull() and rows["hare", 100]["hectares"] == 0.0, rows
     assert any("hare has no area at 100 %" in line for line in said), said
+
+
+def test_ranges_that_are_shown_are_drawn_as_those_of_the_package():
+    algorithm = QgsApplication.processingRegistry().algorithmById("homerange:ranges").create()
+    context, project = QgsProcessingContext(), QgsProject.instance()
+    context.setProject(project)
+    wished = {"INPUT": layer_of(square("fox")), "RANGES": QgsProcessingOutputLayerDefinition("memory:", project)}
+    made = algorithm.run(wished, context, Feedback(), {}, False)[0]
+    layer = context.getMapLayer(made["RANGES"])
+    context.layerToLoadOnCompletionDetails(made["RANGES"]).postProcessor().postProcessLayer(layer, context, Feedback())
+    symbol = layer.renderer().symbol().symbolLayer(0)
+    assert symbol.dataDefinedProperties().property(QgsSymbolLayer.PropertyStrokeStyle).isActive(), "no style by level"
+    assert layer.labelsEnabled()
 
 
 def test_a_boundary_gives_shares():
