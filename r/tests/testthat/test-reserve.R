@@ -52,6 +52,6 @@ test_that("there are no arguments that are swallowed", {
   refused(as.data.frame(ranges, level = 95))
   refused(format(ranges, digits = 2))
   refused(print(ranges, digits = 2))
-  refused(plot(ranges, col = 2))
+  refused(plot(ranges, pch = 2))
   expect_error(homerange_overlap(ranges, "share"), "share: TRUE or FALSE", class = "homerange_option_error")
 })
