@@ -12,7 +12,7 @@ from qgis.core import (
 )
 from qgis.PyQt.QtGui import QIcon
 
-from .layers import LayerFault, boundary_of, check_crs, frame_of
+from .layers import PLACES, LayerFault, boundary_of, check_crs, crs_of, frame_of
 from .program import ProgramFault, load, program
 from .sinks import (
     BOUNDED, CORNERS, CURVE, OVERLAPS, RANGES, SHAPES, corner_features, curve_features, fields_of, overlap_features,
@@ -161,12 +161,14 @@ class RangesAlgorithm(QgsProcessingAlgorithm):
             raise QgsProcessingException(self.invalidSourceError(parameters, "INPUT"))
         check_crs(source, context.project())
         wishes = self.wishes(parameters, context)
-        frame = frame_of(source, watch, pandas, geopandas)
+        frame = frame_of(source, watch, pandas)
         # They go to the log.
         warnings.filterwarnings("ignore", category=package.HomeRangeNote)
         warnings.filterwarnings("ignore", category=package.HomeRangeInfo)
+        easting, northing = PLACES
         ranges = package.home_range(
-            frame, program=program(), progress=lambda done, of: watch.at(done / of, READ, MADE), **wishes)
+            frame, easting=easting, northing=northing, crs=crs_of(source), program=program(),
+            progress=lambda done, of: watch.at(done / of, READ, MADE), **wishes)
         watch.say(ranges)
         bounds = self.parameterAsSource(parameters, "BOUNDARY", context)
         boundary = None if bounds is None else boundary_of(bounds, geopandas)

@@ -9,6 +9,8 @@ WHOLE = (QVariant.Int, QVariant.UInt, QVariant.LongLong, QVariant.ULongLong)
 # The types of fields that a column may have. A list, a map or bytes are no cell of a table of fixes.
 TAKEN = (*WHOLE, QVariant.Double, QVariant.Bool, QVariant.String, QVariant.Date, QVariant.DateTime)
 
+PLACES = ("easting of the point", "northing of the point")
+
 
 class LayerFault(Exception):
     """A layer that cannot be taken as it is."""
@@ -69,8 +71,9 @@ def column_of(values, kind, pandas):
     return pandas.Series(values, dtype="object" if kind in (QVariant.String, QVariant.Bool, QVariant.Date) else None)
 
 
-def frame_of(source, watch, pandas, geopandas):
-    """The features of a layer as a frame of points, with those of its fields that a table of fixes may have."""
+def frame_of(source, watch, pandas):
+    """The features of a layer as a frame, with those of its fields that a table of fixes may have, and behind them two
+    columns of the places of its points."""
     fields = [field for field in source.fields() if field.type() in TAKEN]
     places = [source.fields().lookupField(field.name()) for field in fields]
     cells, east, north = [[] for _ in fields], [], []
@@ -89,9 +92,9 @@ def frame_of(source, watch, pandas, geopandas):
     if not east:
         raise LayerFault("The layer has no features")
     columns = {field.name(): column_of(own, field.type(), pandas) for field, own in zip(fields, cells)}
-    points = geopandas.points_from_xy(
-        pandas.Series(east, dtype="float64"), pandas.Series(north, dtype="float64"), crs=crs_of(source))
-    return geopandas.GeoDataFrame(pandas.DataFrame(columns), geometry=points)
+    for title, own in zip(PLACES, (east, north)):
+        columns[title] = pandas.Series(own, dtype="float64")
+    return pandas.DataFrame(columns)
 
 
 def crs_of(source):

@@ -8,7 +8,7 @@ class ProgramFault(Exception):
 
 
 def load():
-    """The packages that the plugin calls: homerange, pandas and geopandas."""
+    """The packages that the plugin calls: homerange, pandas and, for boundaries, geopandas."""
     try:
         import geopandas
         import pandas

@@ -39,7 +39,7 @@ else
     "$HOMERANGE" "$top/examples/fox.csv" "$top/examples/badger.csv" "$top/examples/otter.csv" >report.txt
     holds 'ranges of the examples' process run homerange:ranges INPUT=fixes.gpkg RANGES=ranges.gpkg CORNERS=corners.gpkg \
         CURVE=curve.csv OVERLAPS=overlaps.csv PAGE=page.html
-    holds 'it says what it took' grep -q 'columns: animal, second, point; 3 animals' said
+    holds 'it says what it took' grep -q 'columns: animal, second, easting of the point, northing of the point; 3 animals' said
     holds 'the page is of the three' grep -q 'fox, badger and otter' page.html
     process run qgis:minimumboundinggeometry INPUT=fixes.gpkg FIELD=animal TYPE=3 OUTPUT=hulls.gpkg
     holds "they are those of the report, and QGIS's own hulls" python3 "$tools/tests/qgis_ranges.py"
