@@ -19,15 +19,15 @@ FAILED = re.compile("NOT PROVED|BAD EDIT|FAILED|[0-9]+ passed, [0-9]+ failed")
 class Progress:
     """What is done, of how much."""
 
-    def __init__(self, crates, with_edits, minutes):
+    def __init__(self, crates: int, with_edits: int, minutes: int) -> None:
         self.all, self.minutes, self.begin = {"proved": crates, "begun": with_edits}, minutes, time.monotonic()
         self.done = {"proved": 0, "begun": 0}
 
-    def count(self, what):
+    def count(self, what: str) -> str:
         self.done[what] += 1
         return f"{self.done[what]} of {self.all[what]}"
 
-    def said_of(self, line):
+    def said_of(self, line: str) -> str | None:
         """What to say of a line; None where that is nothing."""
         found = DONE.match(line)
         if FAILED.search(line):
@@ -44,7 +44,7 @@ class Progress:
         return f"gate: {text}; {(time.monotonic() - self.begin) / 60:.0f} of some {self.minutes} minutes"
 
 
-def main():
+def main() -> None:
     folders = [path for path in CRATES.iterdir() if (path / "src").is_dir()]
     minutes = -(-GATE_SECONDS // 60 // len(os.sched_getaffinity(0)))
     progress = Progress(len(folders), sum((path / "must-fail").is_dir() for path in folders), minutes)

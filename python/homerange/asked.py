@@ -85,7 +85,7 @@ class Asked:
     @property
     def clock(self) -> str:
         """The zone by whose clock days and hours are counted."""
-        return self.tz or "UTC"
+        return "UTC" if self.tz is None else self.tz
 
     @property
     def needs_time(self) -> str | None:
@@ -96,16 +96,18 @@ class Asked:
 
     def check(self) -> None:
         """Refuses options that cannot be right, before a table is looked at."""
-        if self.unit not in UNITS:
+        if not isinstance(self.unit, str) or self.unit not in UNITS:
             refuse(f"unit={self.unit!r} is neither 'm' nor 'dm'")
-        texts = ("zone", "easting", "northing", "lon", "lat", "dop", "fix", "argos", "name", "encoding", "time_format",
+        if not isinstance(self.name, str):
+            refuse(f"{self.title('name')}={self.name!r} is no text")
+        texts = ("zone", "easting", "northing", "lon", "lat", "dop", "fix", "argos", "encoding", "time_format",
                  "header")
         for option in texts:
             if not isinstance(value := getattr(self, option), (str, type(None))):
                 refuse(f"{option}={value!r} is no text")
         if self.name == "" or (self.is_frame and any(letter < " " or letter == "\x7f" for letter in self.name)):
             refuse(f"{self.title('name')}: a name without control characters is wanted")
-        if not isinstance(self.skip_lines, int) or self.skip_lines < 0:
+        if not isinstance(self.skip_lines, int) or isinstance(self.skip_lines, bool) or not 0 <= self.skip_lines < 2 ** 40:
             refuse(f"skip-lines is {self.skip_lines!r} and not a number from 0")
         zone_of_time(self.clock)
         self.max_dop = positive(self.max_dop, "max-dop")

@@ -32,6 +32,6 @@ def progress_of(wish: Any) -> Callable[[int, int], object] | None:
     """What is called as runs are done: what was given, a bar on a terminal, or nothing."""
     if callable(wish):
         return wish  # type: ignore[no-any-return]
-    if wish not in (None, True, False):
+    if wish is not None and not isinstance(wish, bool):
         refuse(f"progress={wish!r} is neither True nor False, nor a function of two numbers")
     return Bar() if wish or wish is None and sys.stderr.isatty() else None

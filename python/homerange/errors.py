@@ -2,9 +2,12 @@
 
 from __future__ import annotations
 
+import os
 import re
+from pathlib import Path
 from typing import NoReturn
 
+LONGEST = 500  # signs of what is said of an argument
 UNPRINTABLE = re.compile("[\x00-\x1f\x7f-\x9f\u2028\u2029]")
 
 
@@ -83,5 +86,14 @@ def one_line(text: str) -> str:
 
 
 def refuse(text: str, kind: str = "option", record: int | None = None) -> NoReturn:
-    """Refuses a table or an option. The text says neither the record nor which front end it is."""
-    raise FrameError(one_line(text), kind, record)
+    """Refuses a table or an option. The text says neither the record nor which front end it is. Of one that quotes much the
+    middle is left out."""
+    line = one_line(text)
+    raise FrameError(line if len(line) <= LONGEST else f"{line[:LONGEST // 2]} .. {line[-LONGEST // 2:]}", kind, record)
+
+
+def path_of(value: object, what: str) -> Path:
+    """A path that was given; what is none is refused."""
+    if not isinstance(value, (str, os.PathLike)) or not isinstance(text := os.fspath(value), str) or "\0" in text:
+        refuse(f"{what}={value!r} is no path")
+    return Path(text)

@@ -58,7 +58,7 @@ def with_preset(options: dict[str, Any]) -> dict[str, Any]:
     maker = options.pop("from", None)
     if maker is None:
         return options
-    if maker not in presets():
+    if not isinstance(maker, str) or maker not in presets():
         refuse(f"from: {maker} is none of {', '.join(presets())}")
     preset: dict[str, Any] = {**presets()[maker]}
     named = {name for name, value in options.items() if value is not None}
@@ -111,7 +111,7 @@ def codec_of(encoding: str) -> str:
     try:
         codec = codecs.lookup(encoding).name
         io.TextIOWrapper(io.BytesIO(), encoding=codec)  # refuses what is no coding of text
-    except LookupError:
+    except (LookupError, ValueError):
         refuse(f"encoding: there is no coding {encoding}")
     return codec
 

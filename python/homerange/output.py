@@ -9,7 +9,7 @@ from importlib.util import find_spec
 from pathlib import Path
 from typing import TYPE_CHECKING, Any, Mapping
 
-from .errors import ReportError, refuse
+from .errors import ReportError, path_of, refuse
 from .evidence import REPORT, TRACKS, Wish, copy_tracks, make_report, new_folder, used_tracks
 from .exports import clean, clean_names, write_track
 from .frames import Tracks
@@ -103,7 +103,8 @@ def ranges_in(folder: Path, ranges: HomeRanges, tracks: Tracks, names: Mapping[s
         return read_report(
             folder / REPORT, files=[folder / name for name in used_tracks(folder)], crs=ranges.crs, tz=ranges.tz,
             shift=ranges.shift, program=ranges.named, record=split if split.is_file() else None)
-    found = HomeRanges(report, tracks_in_order(tracks, names, report), crs=ranges.crs, tz=ranges.tz, program=ranges.program, named=ranges.named)
+    own = tracks_in_order(tracks, names, report)
+    found = HomeRanges(report, own, crs=ranges.crs, tz=ranges.tz, program=ranges.program, named=ranges.named)
     found.record, found.checksum = read_record(split), checksum_of(folder / REPORT)
     return found
 
@@ -111,7 +112,7 @@ def ranges_in(folder: Path, ranges: HomeRanges, tracks: Tracks, names: Mapping[s
 def write_folder(ranges: HomeRanges, into: str | os.PathLike[str], page: Mapping[str, Any]) -> list[str]:
     """Makes the folder of evidence of some ranges, whose page is written with these arguments; answers what there is to
     say of it."""
-    tracks = tracks_of(ranges)
+    path, tracks = path_of(into, "folder"), tracks_of(ranges)
     check_whole(ranges, "evidence")
     names = {name: name for name in ranges.animals} if ranges.files else clean_names(ranges.animals)
     said = renames(names)
@@ -128,5 +129,5 @@ def write_folder(ranges: HomeRanges, into: str | os.PathLike[str], page: Mapping
             said.extend(write_layers(found, folder / "ranges.gpkg"))
         write_page(found, folder / "report.html", **page)
 
-    new_folder(Path(into), fill)
+    new_folder(path, fill)
     return said

@@ -11,7 +11,7 @@ from typing import Any, Mapping, Sequence
 
 from .asked import zone_of_time
 from .drawing import colour
-from .errors import ProgramError
+from .errors import ProgramError, path_of, refuse
 from .formats import Clock, day_text, escaped, listed, named
 from .overview import Row
 from .page_curves import Curve, curves
@@ -180,7 +180,13 @@ def write_page(
     made: the day of making; if left out, today.
     """
     check_whole(ranges, "a page")
-    zone = tz or ranges.tz
+    for name, text in (("title", title), ("study", study), ("species", species), ("by", by), ("reserve_name", reserve_name)):
+        if text is not None and not isinstance(text, str):
+            refuse(f"{name}={text!r} is no text")
+    if made is not None and (not isinstance(made, date) or made != made):
+        refuse(f"made={made!r} is no date")
+    file = path_of(path, "path")
+    zone = ranges.tz if tz is None else tz
     day = made or datetime.now(zone_of_time(zone)).date()
     rows = ranges.rows()
     clock = Clock(zone, (second for row in rows for second in (row.first, row.last)))
@@ -196,4 +202,4 @@ def write_page(
         made=f"Made on {day_text(day)} with {escaped(version)}.",
         verify=verify(ranges.record, ranges.checksum), checksums=checksums(ranges.record, ranges.checksum, version, program))
     page = fill(TEMPLATE.read_text("utf-8"), places)
-    Path(path).write_bytes(page.encode("utf-8", errors="replace"))
+    file.write_bytes(page.encode("utf-8", errors="replace"))

@@ -14,7 +14,7 @@ from functools import cache
 from pathlib import Path
 from typing import Any, Callable, Mapping, NamedTuple, Sequence
 
-from .errors import FAULTS, UNPRINTABLE, ProgramError, ReportError, one_line
+from .errors import FAULTS, UNPRINTABLE, ProgramError, ReportError, one_line, path_of
 from .report import Report, lines_of, overlaps_of, parse
 
 MOST_ANIMALS = 64  # of one run
@@ -49,7 +49,7 @@ def checksum_of(path: str | os.PathLike[str]) -> str:
 
 def find_program(program: str | os.PathLike[str] | None = None) -> str:
     """The path of the program, by the rule of README.md, Which program runs."""
-    named = program or os.environ.get("HOMERANGE")
+    named = os.environ.get("HOMERANGE") if program is None else path_of(program, "program")
     released = CLONE and CLONE / "release" / "homerange"
     if not named and OWN.is_file():
         check_own(OWN)
@@ -58,7 +58,8 @@ def find_program(program: str | os.PathLike[str] | None = None) -> str:
         return str(released)
     found = shutil.which(named or "homerange")
     if found is None:
-        raise ProgramError(f"there is no program {named or 'homerange'}: name it by program=.. or in the environment as HOMERANGE")
+        raise ProgramError(one_line(
+            f"there is no program {named or 'homerange'}: name it by program=.. or in the environment as HOMERANGE"))
     return os.path.abspath(found)
 
 

@@ -16,11 +16,11 @@ from typing import TYPE_CHECKING, Any, Callable, Iterable, Sequence, Union
 import numpy
 import pandas
 
-from .asked import UNITS, Asked, seconds_of
+from .asked import UNITS, Asked, seconds_of, zone_of_time
 from .bar import progress_of
-from .errors import FrameError, HomeRangeInfo, HomeRangeNote, ReportError, one_line, refuse
+from .errors import FrameError, HomeRangeInfo, HomeRangeNote, ReportError, one_line, path_of, refuse
 from .exports import LISTS, read_text
-from .frames import Tracks, frame_given, read_frame
+from .frames import Tracks, crs_named, frame_given, read_frame
 from .groups import Group, check_by, group_tracks
 from .levelling import share
 from .overview import Row, reasons_of, rows_of
@@ -54,10 +54,10 @@ class HomeRanges:
     """The home ranges of some animals: what the program reported, in hectares and metres.
 
     ``animals`` has their names, ``levels`` the levels of the percent polygons, ``unit`` is 'm' or 'dm', that of the
-    program's coordinates, ``crs`` the reference system of the coordinates (None where it is not known), ``notes`` are the
-    texts of the warnings, ``groups`` has by name of which animal and of which group a range is, where they are by groups (then
-    ``animals`` has the names of ranges, such as 'fox 2024', and tables have a column ``group``), and ``program`` has the ``path``, the ``version`` and the ``checksum`` (SHA-256) of the program that
-    made the ranges, None where a report was read.
+    program's coordinates, ``crs`` the reference system of the coordinates (None where it is not known), and ``notes`` are
+    the texts of the warnings. ``program`` has the ``path``, the ``version`` and the ``checksum`` (SHA-256) of the program
+    that made the ranges; it is None where a report was read. Where ranges are by groups, ``animals`` has the names of
+    ranges, such as 'fox 2024', ``groups`` has by these names the animal and the group, and tables have a column ``group``.
     """
 
     def __init__(
@@ -65,7 +65,8 @@ class HomeRanges:
         named: str | os.PathLike[str] | None = None,
     ) -> None:
         self._report, self._tracks, self.program = report, tracks, program
-        self.named = named or program and program.path  # the program of later runs; None finds one
+        # The program of later runs; None finds one.
+        self.named = program and program.path if named is None else path_of(named, "program")
         self.jobs: int | None = None  # of later runs
         self.groups: dict[str, Group] = {}  # what ranges are of, where they are of groups
         self._corners: dict[int, dict[str, Corners]] = {}
@@ -204,6 +205,8 @@ class HomeRanges:
     def overlap(self, share: bool = False) -> pandas.DataFrame:
         """How many of the fixes of the row's animal lie in the polygon of the column's, its edges included; with
         ``share`` which share of its fixes, 0 to 1. All fixes of an animal lie in its own polygon."""
+        if not isinstance(share, bool):
+            refuse(f"share={share!r} is neither True nor False")
         fixes = {name: len(table.rows) for name, table in self._report.tables.items()}
         counts = {**self._report.overlaps, **{(name, name): count for name, count in fixes.items()}}
         matrix = pandas.DataFrame(
@@ -244,11 +247,15 @@ class HomeRanges:
 
     def _percent(self, animal: str, level: int) -> Percent:
         """What the report says of an animal's polygon at a level."""
-        table = self._report.tables.get(animal)
-        if table is None:
-            refuse(f"there is no animal {animal!r}")
+        table = self._table(animal)
         whole = Percent(100, len(table.rows), *table.rows[-1][1:])
         return {100: whole, **{percent.level: percent for percent in table.percents}}[level]
+
+    def _table(self, animal: str) -> Table:
+        """What the report has of an animal."""
+        if not isinstance(animal, str) or animal not in self._report.tables:
+            refuse(f"there is no animal {animal!r}")
+        return self._report.tables[animal]
 
     def hectares(self, animal: str, level: int = 100) -> float:
         """The area of an animal's polygon at a level."""
@@ -267,6 +274,7 @@ class HomeRanges:
     def fixes(self, animal: str) -> NDArray[numpy.float64] | None:
         """The fixes of an animal in the order of time, an array of eastings and northings in metres; None where they
         are not known."""
+        self._table(animal)
         if self._tracks is None:
             return None
         places = self._tracks.by_name[animal][["easting", "northing"]].to_numpy(dtype="float64")
@@ -378,7 +386,8 @@ def home_range(
     max_speed: float | None = None, months: int | Iterable[int] | None = None,
     hours: tuple[float, float] | None = None, every: str | float | None = None, tz: str | None = None,
     by: str | pandas.Series | None = None, program: str | os.PathLike[str] | None = None, jobs: int | None = None,
-    progress: Callable[[int, int], object] | bool | None = None, from_: Moment | None = None, to: Moment | None = None, every_hours: float | None = None,
+    progress: Callable[[int, int], object] | bool | None = None, from_: Moment | None = None, to: Moment | None = None,
+    every_hours: float | None = None,
 ) -> HomeRanges:
     """The home ranges of the animals of a data frame, by the minimum convex polygon (Mohr 1947).
 
@@ -429,7 +438,7 @@ def home_range(
         check_by(by)
         asked.by = by if isinstance(by, str) else None
     if jobs is not None:
-        jobs, = whole_numbers(jobs, 1, 1024, "jobs")
+        jobs = whole_numbers([jobs], 1, 1024, "jobs")[0]
     shown = progress_of(progress)
     asked.check()
     found, frame = program_of(find_program(program)), frame_given(frame)
@@ -458,9 +467,14 @@ def read_export(path: str | os.PathLike[str], **options: Any) -> pandas.DataFram
     for option in LISTS:
         if option in words and option not in ("animal", "time"):
             words[option] = words_of(words[option], option)
+    for option in ("animal", "time"):
+        given = words.get(option)
+        several = [] if given is None else [given] if isinstance(given, str) else given
+        if not isinstance(several, (list, tuple)) or not all(isinstance(word, str) for word in several):
+            refuse(f"{option}={given!r} is no name of a column: a text, or several, is wanted")
     said = Said(lambda line: None)
     try:
-        split = read_text(str(path), {**words, "mark": True}, said)
+        split = read_text(str(path_of(path, "path")), {**words, "mark": True}, said)
     except FrameError as fault:
         raise FrameError(f"{one_line(str(path))}: {fault}", fault.kind, fault.record) from None
     # What the frame has is neither rounded nor shifted.
@@ -529,8 +543,15 @@ def read_report(
     program: as in home_range.
     record: split.txt of the files, from which it is known what was left out, the reference system and the shift.
     """
-    report, paths = read_lines(path), [Path(file) for file in files]
-    split = read_record(record) if record is not None else None
+    if isinstance(files, (str, os.PathLike)) or not isinstance(files, Iterable):
+        refuse(f"files={files!r} are not several paths, such as [{files!r}]")
+    zone_of_time(tz)
+    if crs is not None:
+        crs_named(crs)
+    if not isinstance(shift, tuple) or len(shift) != 2 or None in map(whole_number, shift):
+        refuse(f"shift={shift!r} are not two whole numbers, such as (1000000, 0)")
+    report, paths = read_lines(path_of(path, "path")), [path_of(file, "files") for file in files]
+    split = read_record(path_of(record, "record")) if record is not None else None
     if split is not None:
         shift, crs = split.shift, split.system if crs is None else crs
     ranges = HomeRanges(report, _tracks_of(report, paths), crs=crs, tz=tz, named=program)

@@ -1,30 +1,34 @@
 """What a verifier finds: sentences that held, that did not hold, and that were not looked at."""
 
+from __future__ import annotations
+
+from typing import Callable
+
 
 class Findings:
     """Sentences, printed as they are found."""
 
-    def __init__(self, write=print):
+    def __init__(self, write: Callable[[str], object] = print) -> None:
         self.write, self.counts = write, {"held": 0, "did not hold": 0, "not looked at": 0}
 
-    def say(self, how, text):
+    def say(self, how: str, text: str) -> None:
         self.counts[how] += 1
         self.write(f"{how}: {one_line(text)}")
 
-    def held(self, text):
+    def held(self, text: str) -> None:
         self.say("held", text)
 
-    def failed(self, text):
+    def failed(self, text: str) -> None:
         self.say("did not hold", text)
 
-    def unseen(self, text):
+    def unseen(self, text: str) -> None:
         self.say("not looked at", text)
 
-    def note(self, text):
+    def note(self, text: str) -> None:
         """Says what nobody can know from what was handed in."""
         self.write(f"not known: {one_line(text)}")
 
-    def hold(self, fault, text):
+    def hold(self, fault: str | None, text: str) -> bool:
         """Says the sentence where there is no fault, and else the fault."""
         if fault:
             self.failed(fault)
@@ -32,11 +36,11 @@ class Findings:
             self.held(text)
         return not fault
 
-    def status(self):
+    def status(self) -> int:
         """0 where all held, 1 where something did not, 3 where something was not looked at."""
         return 1 if self.counts["did not hold"] else 3 if self.counts["not looked at"] else 0
 
 
-def one_line(text):
+def one_line(text: object) -> str:
     """A text with what could change how it is shown written out."""
     return "".join(sign if sign.isprintable() else ascii(sign)[1:-1] for sign in str(text))

@@ -1,8 +1,12 @@
 """The folder that was handed in: its checksums, its record of the run, and the record of the tracks."""
+
+from __future__ import annotations
+
 import hashlib
 import re
 import shlex
-from pathlib import PurePosixPath
+from pathlib import Path, PurePosixPath
+from typing import Mapping
 
 from .lines import Fault
 
@@ -17,16 +21,16 @@ SHIFT = re.compile("(-?[0-9]+),(-?[0-9]+)")
 LEVELS = re.compile("[0-9]+(,[0-9]+)*")
 
 
-def checksum_of(path):
+def checksum_of(path: Path) -> str:
     with open(path, "rb") as file:
         return hashlib.file_digest(file, "sha256").hexdigest()
 
 
-def text_of(path):
+def text_of(path: Path) -> str:
     return path.read_bytes().decode("utf-8", "surrogateescape")
 
 
-def lines_of(path):
+def lines_of(path: Path) -> list[str]:
     """The lines of a text, each of which ends in a line feed."""
     lines = text_of(path).split("\n")
     if lines.pop():
@@ -36,14 +40,14 @@ def lines_of(path):
     return lines
 
 
-def is_within(name):
+def is_within(name: str) -> bool:
     """Whether a name is a plain one of a file in the folder: relative, and without a way out of it."""
     path = PurePosixPath(name)
     parts = name.split("/")
     return not (path.is_absolute() or "\\" in name or ":" in parts[0] or {"", ".", ".."} & {*parts})
 
 
-def sums_of(path):
+def sums_of(path: Path) -> dict[str, str]:
     """The checksums of a list, by name."""
     sums = {}
     for number, line in enumerate(lines_of(path), 1):
@@ -58,7 +62,7 @@ def sums_of(path):
     return sums
 
 
-def check_sums(folder, sums, list_name):
+def check_sums(folder: Path, sums: Mapping[str, str], list_name: str) -> str | None:
     """What is wrong with the files of a folder, which has to have those of the list and no other."""
     there = {path.relative_to(folder).as_posix(): path for path in folder.rglob("*") if not path.is_dir() or path.is_symlink()}
     for name in (list_name, *(list_name + ending for ending in SIGNATURES)):
@@ -75,7 +79,7 @@ def check_sums(folder, sums, list_name):
     return None
 
 
-def about_of(path):
+def about_of(path: Path) -> dict[str, str]:
     """The record of a run: fields by name."""
     about = {}
     for number, line in enumerate(lines_of(path), 1):
@@ -92,7 +96,7 @@ def about_of(path):
     return about
 
 
-def words_of(about):
+def words_of(about: Mapping[str, str]) -> tuple[str, str, list[str]]:
     """What the arguments of a run come to: levels, unit and files."""
     try:
         words = shlex.split(about["arguments"])
@@ -110,7 +114,7 @@ def words_of(about):
     return found["--percent"], found["--unit"], files
 
 
-def check_kinds(kinds):
+def check_kinds(kinds: list[str]) -> None:
     """Refuses lines of a record that are of no known kind, not in their order, twice or missing."""
     is_known = all(kind in KINDS for kind in kinds) and kinds == sorted(kinds, key=KINDS.index)
     is_single = all(kinds.count(kind) <= 1 for kind in SINGLE)
@@ -122,7 +126,7 @@ def check_kinds(kinds):
 class Split:
     """The record of tracks, by the lines of docs/TABLES.md, The record."""
 
-    def __init__(self, path):
+    def __init__(self, path: Path) -> None:
         self.lines = lines_of(path)
         fields = [line.partition(",") for line in self.lines]
         check_kinds([kind for kind, _, _ in fields])
@@ -141,44 +145,44 @@ class Split:
             raise Fault("split.txt has a zone and another reference system")
 
     @property
-    def has_export(self):
+    def has_export(self) -> bool:
         """Whether the tracks were made of an export, and not of a data frame."""
         return "export" in self.single
 
-    def words(self):
+    def words(self) -> list[str]:
         """The options as words of a command."""
         words = [f"--unit={self.single['unit']}"]
         for name, has_value, value in self.options:
             words.append(f"--{name}={unescaped(value)}" if has_value else f"--{name}")
         return words
 
-    def left_of(self, name):
+    def left_of(self, name: str) -> dict[str, int]:
         """How many fixes of an animal were left out, by reason."""
         return {reason: int(count) for animal, count, reason in self.left if animal == name and int(count)}
 
     @property
-    def zone(self):
+    def zone(self) -> str | None:
         """The UTM zone; None where it is not known."""
         return None if self.single["zone"] == "none" else self.single["zone"]
 
     @property
-    def crs(self):
+    def crs(self) -> str | None:
         """The reference system that is known and is that of no zone; None where there is none."""
         return self.single.get("crs")
 
     @property
-    def shift(self):
+    def shift(self) -> tuple[int, int]:
         """By how many metres coordinates were shifted."""
         found = SHIFT.fullmatch(self.single.get("shift", "0,0"))
         if not found:
             raise Fault("split.txt has a line 'shift' that is not two whole numbers")
         return int(found[1]), int(found[2])
 
-    def shared(self):
+    def shared(self) -> list[str]:
         """The lines that are the same whoever splits."""
         return [line for line in self.lines if not line.startswith("tool,")]
 
 
-def unescaped(text):
+def unescaped(text: str) -> str:
     return re.sub(r"\\(\\|x[0-9a-f]{2}|u[0-9a-f]{4})",
                   lambda found: "\\" if found[1] == "\\" else chr(int(found[1][1:], 16)), text)

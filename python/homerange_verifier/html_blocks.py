@@ -1,8 +1,11 @@
 """What a page of HTML shows, as a list of pieces of text; and refuses what could show more, or other things: scripts, what
 is fetched, comments, and tags or attributes that no page of homerange has."""
+
+from __future__ import annotations
+
 import re
 from html.parser import HTMLParser
-from typing import NamedTuple
+from typing import NamedTuple, NoReturn
 
 from .lines import Fault
 
@@ -15,6 +18,7 @@ CLOSED = {"path", "circle"}  # those that close themselves
 ATTRIBUTES = set(
     "lang charset http-equiv content name class id rowspan colspan data-zone data-animal data-field data-other viewbox "
     "role aria-label d x y cx cy r width height font-size text-anchor transform".split())
+Attributes = list[tuple[str, str | None]]
 BLANKS = re.compile("[ \t\n\r\f]+")
 
 
@@ -29,32 +33,36 @@ class Block(NamedTuple):
 class Blocks(HTMLParser):
     """The pieces of a page in their order; text of drawings is none."""
 
-    def __init__(self, text, name):
+    def __init__(self, text: str, name: str) -> None:
         super().__init__(convert_charrefs=True)
-        self.name, self.found, self.open, self.zone = name, [], [], None
-        self.animal = self.block = None
+        self.name = name
+        self.found: list[Block] = []
+        self.open: list[str] = []
+        self.zone: str | None = None
+        self.animal: str | None = None
+        self.block: list[str] | None = None
         self.feed(text)
         self.close()
         if self.open:
             self.refuse(f"its {self.open[-1]} is not closed")
 
-    def refuse(self, what):
+    def refuse(self, what: str) -> NoReturn:
         raise Fault(f"{self.name} is no page of homerange: {what}")
 
-    def handle_decl(self, decl):
+    def handle_decl(self, decl: str) -> None:
         if decl != "DOCTYPE html" or self.open or self.found:
             self.refuse("it has another declaration than that of HTML")
 
-    def handle_comment(self, data):
+    def handle_comment(self, data: str) -> None:
         self.refuse("it has a comment")
 
-    def handle_pi(self, data):
+    def handle_pi(self, data: str) -> None:
         self.refuse("it has an instruction")
 
-    def unknown_decl(self, data):
+    def unknown_decl(self, data: str) -> None:
         self.refuse("it has an unknown declaration")
 
-    def check(self, tag, attributes):
+    def check(self, tag: str, attributes: Attributes) -> None:
         """Refuses what a page does not have."""
         if tag not in BLOCKS | WITHIN | AROUND | DRAWN | VOID:
             self.refuse(f"it has a {tag}")
@@ -66,7 +74,7 @@ class Blocks(HTMLParser):
         if odd:
             self.refuse(f"its {tag} has {odd[0]}")
 
-    def handle_starttag(self, tag, attributes):
+    def handle_starttag(self, tag: str, attributes: Attributes) -> None:
         self.check(tag, attributes)
         known = dict(attributes)
         if tag == "meta":
@@ -84,19 +92,19 @@ class Blocks(HTMLParser):
         if tag not in VOID:
             self.open.append(tag)
 
-    def place(self, tag, known):
+    def place(self, tag: str, known: dict[str, str | None]) -> str:
         """What a piece is of."""
         if "data-other" in known:
             return f"the fixes of {known.get('data-animal')} in the range of {known['data-other']}"
         field = known.get("data-field", "name" if tag == "th" and self.animal is not None else "")
-        return f"{field} of {self.animal}" if self.animal is not None else field
+        return f"{field} of {self.animal}" if self.animal is not None else field or ""
 
-    def handle_startendtag(self, tag, attributes):
+    def handle_startendtag(self, tag: str, attributes: Attributes) -> None:
         self.check(tag, attributes)
         if tag not in CLOSED:
             self.refuse(f"its {tag} closes itself")
 
-    def handle_endtag(self, tag):
+    def handle_endtag(self, tag: str) -> None:
         if not self.open or self.open.pop() != tag:
             self.refuse(f"its {tag} closes what is not open")
         if tag == "tr":
@@ -105,7 +113,7 @@ class Blocks(HTMLParser):
             self.found.append(Block(tag, self.block[1], blanked(self.block[2])))
             self.block = None
 
-    def handle_data(self, text):
+    def handle_data(self, text: str) -> None:
         if "svg" in self.open:
             return
         if self.block:
@@ -114,6 +122,6 @@ class Blocks(HTMLParser):
             self.found.append(Block("", "", blanked(text)))
 
 
-def blanked(text):
+def blanked(text: str) -> str:
     """The text with one blank for several."""
     return BLANKS.sub(" ", text).strip(" ")

@@ -1,16 +1,25 @@
 """The layers of ranges.gpkg, read by sqlite3 and struct, and what is wrong with them. The layer `ranges` has a polygon for each
 animal and level with an area, and `fixes` each used fix, in metres and where the tracks were before they were shifted. How
 they are drawn is as in all such files, so that a style can neither hide nor add anything."""
+
+from __future__ import annotations
+
 import re
 import sqlite3
 import struct
 from contextlib import closing
+from pathlib import Path
+from sqlite3 import Connection
+from typing import Any, Sequence
 
 from . import beside
-from .facts import HECTARE, PER_METRE
-from .lines import Fault
+from .facts import HECTARE, PER_METRE, Animal
+from .folder import Split
+from .hull import Point
+from .lines import Fault, Percent
 from .tables import moment
 
+Place = tuple[float, float]
 COLUMNS = {"ranges": ["fid", "geom", "animal", "level", "fixes", "kept", "corners", "hectares", "first", "last", "unit"],
            "fixes": ["fid", "geom", "animal", "n", "time"]}
 NUMBERS = COLUMNS["ranges"][4:]
@@ -19,52 +28,50 @@ OWN = re.compile("gpkg_.*|rtree_.*|sqlite_.*")  # tables of the format
 ENVELOPES = {0: 0, 1: 4, 2: 6, 3: 6, 4: 8}  # how many numbers the box of a shape has, by its kind
 PARAMETER = re.compile(r'PARAMETER\["([a-z_]+)",([-0-9.]+)\]')
 METRES = ('DATUM["WGS_1984"', 'PROJECTION["Transverse_Mercator"]', 'UNIT["metre",1')
-NAMED = re.compile(r"(?:([A-Za-z]+:[A-Za-z0-9]+) \((.*)\)|(.*))", re.DOTALL)  # a reference system with its code, or without
+CODED = re.compile(r"([A-Za-z]+:[A-Za-z0-9]+) \((.*)\)", re.DOTALL)  # a reference system with its code
 UNDEFINED = -1  # the number of an undefined plane one
 POINT, POLYGON = 1, 3
 NEAR = 1e-6  # of a unit: what is lost where a number of decimetres is written in metres
 
 
-def number_of(zone):
+def number_of(zone: str) -> int:
     """The number of a UTM zone in EPSG."""
     return (32600 if zone.endswith("N") else 32700) + int(zone[:-1])
 
 
-def parameters_of(zone):
+def parameters_of(zone: str) -> dict[str, float]:
     """What the definition of a UTM zone has to say."""
     return {"latitude_of_origin": 0, "central_meridian": 6 * int(zone[:-1]) - 183, "scale_factor": 0.9996,
             "false_easting": 500_000, "false_northing": 0 if zone.endswith("N") else 10_000_000}
 
 
-def is_named(crs, organization, number, definition):
+def is_named(crs: str, organization: str, number: int | None, definition: str) -> bool:
     """Whether a reference system has this code and name. A code that is no number, or none, is not looked at; one that is
     given by its definition in PROJ has no name."""
-    code, name, alone = NAMED.fullmatch(crs).groups()
-    if code is None:
-        name = "unknown" if alone.startswith("+proj=") else alone
-    is_number = code is not None and code.split(":")[1].isdecimal()
+    found = CODED.fullmatch(crs)
+    code, name = found.groups() if found else (None, "unknown" if crs.startswith("+proj=") else crs)
     own = re.match(r'[A-Z]+\["([^"]*)"', definition)
-    is_code = not is_number or f"{organization}:{number}".upper() == code.upper()
-    return is_code and own is not None and own[1] == name
+    is_other = code is not None and code.split(":")[1].isdecimal() and f"{organization}:{number}".upper() != code.upper()
+    return not is_other and own is not None and own[1] == name
 
 
 class Reader:
     """The bytes of a shape, from the first on."""
 
-    def __init__(self, content):
+    def __init__(self, content: bytes) -> None:
         self.content, self.at, self.order = content, 0, "<"
 
-    def take(self, form):
+    def take(self, form: str) -> tuple[Any, ...]:
         form = self.order + form
         found = struct.unpack_from(form, self.content, self.at)
         self.at += struct.calcsize(form)
         return found
 
-    def order_of(self, is_little):
+    def order_of(self, is_little: int) -> None:
         self.order = "<" if is_little else ">"
 
 
-def shape_of(content):
+def shape_of(content: bytes) -> tuple[int, int, list[Place]]:
     """The reference system, the kind and the places of a shape: a point, or a polygon without holes, whose last corner is the
     first again and is left out. Its box, where it has one, has to be its own."""
     reader = Reader(content)
@@ -84,7 +91,7 @@ def shape_of(content):
     return system, kind, places[:-1] if kind == POLYGON else places
 
 
-def round_from_first(corners):
+def round_from_first(corners: list[Point]) -> list[Point]:
     """The corners counterclockwise from the westernmost, of two such the southern."""
     if not corners:
         return corners
@@ -98,11 +105,11 @@ def round_from_first(corners):
 class Layers:
     """The layers of a file, and those that are wanted. Without a record of the tracks no reference system is known."""
 
-    def __init__(self, path, animals, levels, unit, split):
+    def __init__(self, path: Path, animals: Sequence[Animal], levels: Sequence[int], unit: str, split: Split | None) -> None:
         self.path, self.animals, self.levels, self.unit, self.split = path, animals, levels, unit, split
         self.zone, self.crs, self.shift = (split.zone, split.crs, split.shift) if split else (None, None, (0, 0))
 
-    def fault(self):
+    def fault(self) -> str | None:
         """What is wrong; None where nothing is."""
         beside = sorted(path.name for path in self.path.parent.glob(f"{self.path.name}-*"))
         if beside:
@@ -113,12 +120,12 @@ class Layers:
         except sqlite3.Error as fault:
             raise Fault(f"{self.path.name} cannot be read: {fault}") from None
 
-    def with_area(self):
+    def with_area(self) -> dict[tuple[str, int], Percent]:
         """The kept fixes and the polygons that have an area, by animal and level."""
         return {(animal.name, level): animal.percents[level] for animal in self.animals for level in self.levels
                 if animal.percents[level].hull.area2}
 
-    def fault_of(self, base):
+    def fault_of(self, base: Connection) -> str | None:
         wanted = ["fixes", "ranges"] if self.with_area() else ["fixes"]
         kinds = base.execute("SELECT name, type FROM sqlite_master WHERE type IN ('table', 'view')")
         there = {name: kind for name, kind in kinds if not OWN.fullmatch(name)}
@@ -130,14 +137,14 @@ class Layers:
         return next(filter(None, faults), None) or self.style_fault(base, wanted) or (
             self.ranges_fault(base) if "ranges" in wanted else None) or self.fixes_fault(base)
 
-    def style_fault(self, base, wanted):
+    def style_fault(self, base: Connection, wanted: Sequence[str]) -> str | None:
         """How the layers are drawn in another way than in all such files."""
         rows = base.execute(f"SELECT f_table_name, styleQML, styleSLD FROM {STYLES}").fetchall()
         own = [(name, (beside.PACKAGE / f"{name}.qml").read_text("utf-8"), "") for name in wanted]
         return None if sorted(map(str, rows)) == sorted(map(str, own)) else (
             f"{self.path.name} has another style than such files have: it could show other things than it has")
 
-    def system_fault(self, base, name):
+    def system_fault(self, base: Connection, name: str) -> str | None:
         """How the reference system of a layer is not the one that is known."""
         systems = base.execute(
             "SELECT contents.srs_id, columns.srs_id, organization, organization_coordsys_id, definition FROM gpkg_contents AS "
@@ -160,18 +167,18 @@ class Layers:
             return f"the layer {name} of {self.path.name} has another reference system than that of zone {self.zone}"
         return None
 
-    def columns_fault(self, base, name):
+    def columns_fault(self, base: Connection, name: str) -> str | None:
         """How the columns of a layer are not those that it has in all such files."""
         found = [row[1] for row in base.execute(f"PRAGMA table_info({name})")]
         return None if found == COLUMNS[name] else (
             f"the layer {name} of {self.path.name} has other columns than {', '.join(COLUMNS[name])}")
 
-    def rows_of(self, base, name):
+    def rows_of(self, base: Connection, name: str) -> tuple[int, list[tuple[Any, ...]]]:
         """The reference system of a layer, and its rows."""
         system = base.execute("SELECT srs_id FROM gpkg_contents WHERE table_name = ?", (name,)).fetchone()[0]
         return system, base.execute(f"SELECT {', '.join(COLUMNS[name][1:])} FROM {name} ORDER BY fid").fetchall()
 
-    def ranges_fault(self, base):
+    def ranges_fault(self, base: Connection) -> str | None:
         """How the polygons are not those of the animals and levels."""
         (system, rows), wanted = self.rows_of(base, "ranges"), self.with_area()
         if sorted(map(str, (row[1:3] for row in rows))) != sorted(map(str, wanted)):
@@ -189,7 +196,7 @@ class Layers:
                 return f"{own} has other corners"
         return None
 
-    def fixes_fault(self, base):
+    def fixes_fault(self, base: Connection) -> str | None:
         """How the fixes are not the used ones of the tracks, in their order."""
         (system, rows), wanted = self.rows_of(base, "fixes"), [
             (animal.name, n, time_of(second), place) for animal in self.animals
@@ -204,7 +211,7 @@ class Layers:
                 return f"fix {n} of {name} in {self.path.name} lies elsewhere"
         return None
 
-    def places(self, geometry, system, kind):
+    def places(self, geometry: bytes, system: int, kind: int) -> list[Point]:
         """The places of a shape in whole units of the tracks; none where it is another shape."""
         try:
             own, own_kind, found = shape_of(geometry)
@@ -217,7 +224,7 @@ class Layers:
         return places if near and (own, own_kind) == (system, kind) else []
 
 
-def time_of(second):
+def time_of(second: int | None) -> str | None:
     """A time as a GeoPackage has it; None where there is none."""
     text = moment(second)
     return f"{text[:-1]}.000Z" if text else None

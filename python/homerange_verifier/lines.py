@@ -1,12 +1,18 @@
 """The lines of a report, each computed anew from the files of fixes, by other methods than the program's: polygons by
 `hull.py`, distances as whole multiples, and overlaps by the edge that a fix's direction falls on. Names are bytes, which
 stand as letters of Latin-1."""
+
+from __future__ import annotations
+
 import csv
 import io
 import itertools
-from typing import NamedTuple
+from pathlib import Path
+from typing import Iterable, Iterator, NamedTuple, Sequence
 
-from .hull import Hull
+from .hull import Hull, Point
+
+Counts = dict[tuple[int, int], int]  # of fixes, by the places of two ranges
 
 TITLES = ["animal", "second", "easting", "northing"]
 MARKS = ("\xef\xbb\xbf", "\xef\xbb\xbf")  # a byte order mark, of which a file may have two
@@ -20,12 +26,12 @@ class Track(NamedTuple):
     """The used fixes of a file, and how many it has that are not used."""
 
     name: str
-    seconds: list
-    points: list
+    seconds: list[int]
+    points: list[Point]
     unused: int
 
 
-def read_track(path):
+def read_track(path: Path) -> Track:
     text = path.read_bytes().decode("latin-1")
     for mark in MARKS:
         text = text.removeprefix(mark)
@@ -43,20 +49,20 @@ def read_track(path):
     return Track(rows[1][0], [second for second, _ in fixes], [point for _, point in fixes], len(rows) - 1 - len(used))
 
 
-def box_of(points):
+def box_of(points: Sequence[Point]) -> tuple[int, int, int, int]:
     """The least easting and northing, and the greatest."""
     eastings, northings = zip(*points)
     return min(eastings), min(northings), max(eastings), max(northings)
 
 
-def hull_of(points):
+def hull_of(points: Iterable[Point]) -> Hull:
     hull = Hull()
     for point in points:
         hull.add(point)
     return hull
 
 
-def kept(points, level):
+def kept(points: Sequence[Point], level: int) -> list[Point]:
     """The points that a level keeps: its share of them, rounded up, nearest to the mean; of those as near the earlier."""
     count = len(points)
     east, north = (sum(point[axis] for point in points) for axis in (0, 1))
@@ -76,7 +82,7 @@ class Range:
     """What is computed of a track: the polygon of all fixes, its corners and doubled area after each of them, and the
     polygons of the levels."""
 
-    def __init__(self, track, levels):
+    def __init__(self, track: Track, levels: Sequence[int]) -> None:
         self.track, self.box, self.hull, self.curve = track, box_of(track.points), Hull(), []
         for point in track.points:
             self.hull.add(point)
@@ -85,7 +91,7 @@ class Range:
         self.percents = {level: Percent(len(points), hull_of(points)) for level, points in near.items()}
 
 
-def table_lines(own):
+def table_lines(own: Range) -> Iterator[str]:
     """The lines of one animal, without their ends."""
     name = own.track.name
     yield f"animal,{name},fixes,{len(own.curve)}"
@@ -98,7 +104,7 @@ def table_lines(own):
         yield f"percent,{name},{level},{percent.kept},{len(percent.hull)},{percent.hull.area2}"
 
 
-def overlaps_of(ranges):
+def overlaps_of(ranges: Sequence[Range]) -> Counts:
     """Of each two ranges how many fixes of the one lie in the polygon of the other, edges included, by their places."""
     counts = {}
     for one, other in itertools.permutations(range(len(ranges)), 2):
@@ -108,7 +114,7 @@ def overlaps_of(ranges):
     return counts
 
 
-def report_lines(ranges, overlaps, unit):
+def report_lines(ranges: Sequence[Range], overlaps: Counts, unit: str) -> Iterator[str]:
     """All lines of the report of some ranges."""
     if unit == "dm":
         yield "unit,dm"
@@ -119,7 +125,7 @@ def report_lines(ranges, overlaps, unit):
     yield f"end,{len(ranges)}"
 
 
-def first_difference(content, wanted):
+def first_difference(content: bytes, wanted: Iterable[str]) -> tuple[str | None, int]:
     """Where a report is not the lines that are wanted, and how many lines were compared."""
     found = content.decode("latin-1").split("\n")
     if found.pop():
@@ -132,6 +138,6 @@ def first_difference(content, wanted):
     return None, count
 
 
-def shown(line):
+def shown(line: str) -> str:
     """A line as what is said has it."""
     return repr(line.encode("latin-1").decode("utf-8", "replace"))

@@ -1,11 +1,18 @@
 """The sentences of the page on how ranges were made: its method, what was left out, and how areas on the grid differ from
 those on the ground."""
+
+from __future__ import annotations
+
 from collections import Counter
 from math import cosh
+from typing import TYPE_CHECKING, Sequence
 
-from .facts import PER_METRE, REASONS
-from .folder import unescaped
+from .facts import PER_METRE, REASONS, Animal
+from .folder import Split, unescaped
 from .shown import fixes, listed, number, text_of
+
+if TYPE_CHECKING:
+    from .steps import Run
 
 UNITS = {"m": "metres", "dm": "decimetres"}
 PHRASES = {
@@ -29,7 +36,7 @@ RULE = (
     "\u201895 % since\u2019 is the first fix from which on the area stayed within 95 % of the final one.")
 
 
-def records_of(split):
+def records_of(split: Split | None) -> Counter[str]:
     """How many records of the export or the frame each animal has."""
     found = Counter({name: int(numbers[0]) for name, numbers in split.tracks.items()} if split else {})
     for name, count, _ in split.left if split else ():
@@ -37,18 +44,18 @@ def records_of(split):
     return found
 
 
-def source_of(split):
+def source_of(split: Split | None) -> str:
     """What the fixes were in."""
     return "export" if split and split.has_export else "data"
 
 
-def left_out(animals, split):
+def left_out(animals: Sequence[Animal], split: Split | None) -> str:
     """What was left out of all fixes; without a record of the tracks, of those in them."""
-    totals = Counter()
-    for name, count, reason in split.left if split else ():
+    totals = Counter[str]()
+    for _, count, reason in split.left if split else ():
         totals[reason] += int(count)
-    for records, used, *_ in split.tracks.values() if split else ():
-        totals["outlier"] += int(records) - int(used)
+    for made, used, *_ in split.tracks.values() if split else ():
+        totals["outlier"] += int(made) - int(used)
     if not split:
         for animal in animals:
             totals.update(animal.left)
@@ -60,7 +67,7 @@ def left_out(animals, split):
     return f"Of {number(records)} fixes of the {source} {number(gone)} were left out: {reasons}."
 
 
-def options_of(split):
+def options_of(split: Split | None) -> str:
     """The options of the split, or of the call that read a frame."""
     if not split or not split.options:
         return ""
@@ -69,7 +76,7 @@ def options_of(split):
     return f" Options of {what}: {text_of(', '.join(words))}."
 
 
-def said_of(split):
+def said_of(split: Split | None) -> str:
     """What was said when the fixes were read, but for lines on one animal and on files."""
     own = [line for line in (split.said if split else ()) if not any(part in line for part in NOT_SAID)]
     if not own:
@@ -80,7 +87,7 @@ def said_of(split):
     return f" When the fixes were read this was said: {texts}{more}."
 
 
-def method(animals, run, system):
+def method(animals: Sequence[Animal], run: Run, system: str) -> str:
     """How ranges were made, and what was left out."""
     percents = listed([f"{level} %" for level in sorted(run.levels, reverse=True)])
     return (f"Home ranges are minimum convex polygons (MCP; Mohr 1947) of {percents} of the fixes, computed by {run.program} "
@@ -88,7 +95,7 @@ def method(animals, run, system):
             f"{said_of(run.split)}")
 
 
-def ground(animals, run):
+def ground(animals: Sequence[Animal], run: Run) -> str:
     """By how much areas on the grid of a zone differ from those on the ground, on the sphere, in the middle of the highest
     polygons."""
     if run.split and run.split.crs:

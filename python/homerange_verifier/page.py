@@ -1,15 +1,24 @@
 """The page report.html, held to what is computed: each piece of its text has to be the one that is wanted, where the template
 python/homerange/page.html has those that all pages share. What was typed in, the day, the map and the curves cannot be
 computed, and stand for anything."""
+
+from __future__ import annotations
+
 import re
+from fractions import Fraction
 from itertools import combinations, zip_longest
 from os.path import commonprefix
+from pathlib import Path
+from typing import TYPE_CHECKING, Iterable, Iterator, Mapping, Sequence
 
 from . import shown
-from .facts import reasons_of
+from .facts import Animal, reasons_of
 from .html_blocks import Block, Blocks, blanked
-from .lines import Fault
+from .lines import Counts, Fault
 from .method import SCALED, ground, method, records_of, source_of
+
+if TYPE_CHECKING:
+    from .steps import Run
 
 FREE, DAY, DRAWN = "\0", "\1", "\2"  # any text, a date, and what is said of the map's drawing
 FORMS = {
@@ -32,7 +41,7 @@ HEADINGS = {
     "speed": "too fast", "months": "other months", "hours": "other hours", "every": "interval", "use": "not in use"}
 
 
-def th(*texts):
+def th(*texts: str) -> list[Block]:
     return [Block("th", "", text) for text in texts]
 
 
@@ -40,13 +49,13 @@ class Wanted:
     """The pieces of the page of some animals. The run has unit, levels, program with its checksum, that of the report,
     and the record of the tracks (None where there is none)."""
 
-    def __init__(self, animals, counts, run, zone):
+    def __init__(self, animals: Sequence[Animal], counts: Counts, run: Run, zone: str) -> None:
         self.animals, self.counts, self.run, self.source = animals, counts, run, source_of(run.split)
         self.names = [shown.text_of(animal.name) for animal in animals]
         self.clock = shown.Clock(zone, [second for animal in animals for second in (animal.first, animal.last)])
         self.meeting = [pair for pair in combinations(range(len(animals)), 2) if counts[pair] or counts[pair[::-1]]]
 
-    def texts(self):
+    def texts(self) -> dict[str, str]:
         """What stands in the text of pieces."""
         first, last = min(animal.first for animal in self.animals), max(animal.last for animal in self.animals)
         by = f"dates of {self.clock.zone}" if self.clock.is_calendar else "counted from the start that the files have"
@@ -59,7 +68,7 @@ class Wanted:
             "method": method(self.animals, self.run, self.system()),
             "ground": f"The grid is in metres. {ground(self.animals, self.run) if self.run.split else FREE} {DRAWN}"}
 
-    def system(self):
+    def system(self) -> str:
         """The reference system; that of tracks without a record is not known."""
         split = self.run.split
         if split is None:
@@ -69,7 +78,7 @@ class Wanted:
         code = f"{326 if split.zone.endswith('N') else 327}{split.zone[:-1]:0>2}" if split.zone else ""
         return f"EPSG:{code} (WGS 84 / UTM zone {split.zone})" if code else "reference system not known"
 
-    def notes(self):
+    def notes(self) -> str:
         """Which animals of the export or the frame have no range."""
         known, records = {animal.name for animal in self.animals}, records_of(self.run.split)
         names = sorted(name for name in records if name and name not in known)
@@ -79,7 +88,7 @@ class Wanted:
         more = f", and {len(names) - 20} more" if len(names) > 20 else ""
         return f"Without a range, since none of their fixes is used (fixes of the {self.source}): {texts}{more}."
 
-    def key(self):
+    def key(self) -> str:
         """What lines and numbers of the map are; a boundary's name may stand between both."""
         lines = " ".join(f"{level} % MCP" for level in sorted(self.run.levels, reverse=True))
         if len(self.animals) > MOST_IN_KEY:
@@ -87,12 +96,12 @@ class Wanted:
         names = " ".join(f"{number}\u00a0{name}" for number, name in enumerate(self.names, 1))
         return f"{lines}{FREE} {names}"
 
-    def pieces(self):
+    def pieces(self) -> dict[str, list[Block]]:
         """What stands for several pieces, or for none."""
         return {"sentences": self.sentences(), "animals": self.table(), "maps": [], "curves": self.captions(),
                 "overlaps": self.overlaps(), "checksums": self.checksums()}
 
-    def sentences(self):
+    def sentences(self) -> list[Block]:
         """What is said of each animal, of many in one sentence."""
         level = 95 if 95 in self.run.levels else max(self.run.levels)
         areas = [animal.percents[level].hull.area2 for animal in self.animals]
@@ -111,10 +120,10 @@ class Wanted:
                 f"{self.clock.period(animal.first, animal.last)}")))
         return found
 
-    def area(self, area2):
+    def area(self, area2: int) -> str:
         return shown.area(area2, self.run.unit)
 
-    def table(self):
+    def table(self) -> list[Block]:
         """The table of the animals; many levels have one of their own."""
         levels, reasons = self.run.levels, reasons_of(self.animals)
         is_one = 2 * len(levels) + len(reasons) <= WIDEST
@@ -133,27 +142,27 @@ class Wanted:
                 found += self.row(animal, name, self.areas(animal))
         return found
 
-    def row(self, animal, name, fields):
+    def row(self, animal: Animal, name: str, fields: Mapping[str, str]) -> list[Block]:
         cells = [Block("td", f"{field} of {animal.name}", text) for field, text in fields.items()]
         number = Block("td", f"number of {animal.name}", str(animal.number))
         return [number, Block("th", f"name of {animal.name}", blanked(name)), *cells]
 
-    def facts(self, animal, reasons):
+    def facts(self, animal: Animal, reasons: Sequence[str]) -> dict[str, str]:
         """What became of the fixes of an animal, and when they were."""
-        lengths = animal.intervals
+        lengths, median2 = animal.intervals, animal.median2
         return {
             "records": shown.number(animal.records),
             **{f"left_{reason.replace(' ', '_')}": shown.number(animal.left.get(reason, 0)) for reason in reasons},
             "used": shown.number(animal.used), "first": self.clock.date(animal.first), "last": self.clock.date(animal.last),
             "days": shown.days(animal.last - animal.first),
-            "median_interval": shown.interval(shown.Fraction(animal.median2, 2) if lengths else None),
+            "median_interval": shown.interval(None if median2 is None else Fraction(median2, 2)),
             "longest_interval": shown.interval(lengths[-1] if lengths else None)}
 
-    def areas(self, animal):
+    def areas(self, animal: Animal) -> dict[str, str]:
         return {f"hectares_{level}": shown.hectares(animal.percents[level].hull.area2, self.run.unit)
                 for level in self.run.levels}
 
-    def curve(self, animal):
+    def curve(self, animal: Animal) -> dict[str, str]:
         """What the curve of an animal says."""
         within = animal.within
         return {
@@ -161,7 +170,7 @@ class Wanted:
             "within_95_fix": shown.number(within) if within else shown.NOTHING,
             "within_95_date": self.clock.date(animal.seconds[within - 1]) if within else shown.NOTHING}
 
-    def captions(self):
+    def captions(self) -> list[Block]:
         """What stands above each curve: of many animals less."""
         found = []
         for animal, name in zip(self.animals, self.names):
@@ -171,15 +180,15 @@ class Wanted:
                 f"{animal.number} {name}: {text}" if len(self.animals) <= 12 else f"{animal.number} {text}")))
         return found
 
-    def count(self, one, other):
+    def count(self, one: int, other: int) -> str:
         return shown.count_in_range(self.counts[one, other], self.animals[one].used)
 
-    def rank(self, pair):
+    def rank(self, pair: tuple[int, int]) -> tuple[int, tuple[int, int]]:
         """Pairs of whom one has the greater share of its fixes with the other come first, compared in millionths."""
         shares = [10 ** 6 * self.counts[one, other] // self.animals[one].used for one, other in (pair, pair[::-1])]
         return -max(shares), pair
 
-    def overlap_sentence(self):
+    def overlap_sentence(self) -> str:
         """What all pairs come to, and which meet most."""
         pairs = len(self.animals) * (len(self.animals) - 1) // 2
         if not pairs:
@@ -194,13 +203,13 @@ class Wanted:
             f"100 % polygon of the other, its edges included). Most of all {self.names[one]}: "
             f"{self.count(one, other)} of its {shown.fixes(self.animals[one].used)} in the range of {self.names[other]}.")
 
-    def overlaps(self):
+    def overlaps(self) -> list[Block]:
         """All pairs of few animals, those that meet of many."""
         if not self.meeting:
             return []
         return self.square() if len(self.animals) <= MOST_IN_SQUARE else self.pairs()
 
-    def square(self):
+    def square(self) -> list[Block]:
         everyone = range(len(self.animals))
         found = [Block("p", "", "Rows: whose fixes. Columns: in the range of the animal with this number.")]
         found += th("", "Fixes of", *(str(animal.number) for animal in self.animals))
@@ -209,7 +218,7 @@ class Wanted:
             found += [Block("td", "", shown.NOTHING) if one == other else self.overlap(one, other) for other in everyone]
         return found
 
-    def pairs(self):
+    def pairs(self) -> list[Block]:
         chosen = sorted(self.meeting, key=self.rank)[:MOST_PAIRS]
         more = "" if len(chosen) == len(self.meeting) else f" The {MOST_PAIRS} pairs with the greatest shares are here."
         found = [Block("p", "", f"Pairs are sorted by the greater of both shares.{more}")]
@@ -218,14 +227,14 @@ class Wanted:
             found += [*self.title(one), *self.title(other), self.overlap(one, other), self.overlap(other, one)]
         return found
 
-    def title(self, one):
+    def title(self, one: int) -> list[Block]:
         return [Block("td", "", str(self.animals[one].number)), *th(blanked(self.names[one]))]
 
-    def overlap(self, one, other):
+    def overlap(self, one: int, other: int) -> Block:
         of = f"the fixes of {self.animals[one].name} in the range of {self.animals[other].name}"
         return Block("td", of, self.count(one, other))
 
-    def export(self):
+    def export(self) -> tuple[str, str]:
         """What the page says of the export: its name, and its checksum."""
         split = self.run.split
         if split is None:
@@ -234,7 +243,7 @@ class Wanted:
             return "", "none: the tracks were made of a data frame"
         return shown.text_of(split.single["export"]), split.single["sha256"]
 
-    def checksums(self):
+    def checksums(self) -> list[Block]:
         """The checksums of what the page stands on."""
         export = self.export()
         rows = [("Export", *export, "export_sha256"), ("Report", "report.txt", self.run.report_sum, "report_sha256"),
@@ -242,19 +251,19 @@ class Wanted:
         return [block for title, name, checksum, field in rows
                 for block in (*th(title), Block("td", "", blanked(name)), Block("td", field, checksum))]
 
-    def blocks(self, template):
+    def blocks(self, template: Iterable[Block]) -> Iterator[Block]:
         """All pieces of the page, in the order of the template."""
         texts, pieces = self.texts(), self.pieces()
         for block in template:
             if not block.tag:
-                yield from pieces[PLACE.fullmatch(block.text)[1]]
+                yield from pieces[block.text.removeprefix("{{").removesuffix("}}")]
             elif block.tag == "style":
                 yield block
             else:
                 yield block._replace(text=blanked(PLACE.sub(lambda found: texts[found[1]], block.text)))
 
 
-def is_wanted(block, wish):
+def is_wanted(block: Block | None, wish: Block | None) -> bool:
     """Whether a piece is the one that is wanted."""
     if block is None or wish is None or block[:2] != wish[:2]:
         return False
@@ -262,19 +271,19 @@ def is_wanted(block, wish):
     return block.text == wish.text or re.fullmatch("".join(parts), block.text, re.DOTALL) is not None
 
 
-def place_of(block):
+def place_of(block: Block) -> str:
     """Where a piece stands, in words."""
     return block.of or KINDS.get(block.tag, "text")
 
 
-def said(block, first=0):
+def said(block: Block, first: int = 0) -> str:
     """The text of a piece as what is said has it, from where it is not as it was wanted."""
     text = FORM.sub("..", block.text)
     before, after = ".. " if first else "", " .." if len(text) > first + MOST_SAID else ""
     return repr(before + text[first:first + MOST_SAID] + after)
 
 
-def difference(page, template, animals, counts, run):
+def difference(page: Blocks, template: Blocks, animals: Sequence[Animal], counts: Counts, run: Run) -> str | None:
     """How the pieces of a page are not those that are wanted; None where they are."""
     if page.zone is None:
         raise Fault(f"{page.name} has no table of animals with the zone of its dates")
@@ -292,7 +301,7 @@ def difference(page, template, animals, counts, run):
     return None
 
 
-def page_of(path):
+def page_of(path: Path) -> Blocks:
     """The pieces of a page, or of the template."""
     try:
         return Blocks(path.read_bytes().decode("utf-8"), path.name)

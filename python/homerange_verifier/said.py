@@ -1,7 +1,13 @@
 """Whether the record of tracks says one thing: what was said when fixes were read has the numbers, the zone and the shift of its
 other lines. docs/TABLES.md, What is said, has the lines."""
+
+from __future__ import annotations
+
 import re
 from collections import Counter
+from typing import Iterable
+
+from .folder import Split
 
 LEFT = {
     "records have no animal": "animal", "records have no coordinates": "coordinates",
@@ -16,20 +22,20 @@ ZONE = re.compile("(?:coordinates are those of the table; zone:|UTM coordinates 
 SHIFT = re.compile("coordinates are shifted by (-?[0-9]+) m east and (-?[0-9]+) m north")
 
 
-def reason_of(text):
+def reason_of(text: str) -> str | None:
     """The reason for which fixes were left out, by what was said of them; None where it is none."""
     return next((reason for form, reason in LEFT.items() if re.fullmatch(form, text)), None)
 
 
-def counts_said(lines):
+def counts_said(lines: Iterable[str]) -> Counter[str]:
     """How many fixes were left out for each reason, as it was said."""
     found = [COUNT.fullmatch(line) for line in lines]
-    return Counter({reason_of(each[2]): int(each[1]) for each in found if each and reason_of(each[2])})
+    return Counter({reason: int(each[1]) for each in found if each and (reason := reason_of(each[2]))})
 
 
-def fault_of(split):
+def fault_of(split: Split) -> str | None:
     """How the record contradicts itself; None where it does not. Rows that an argument left out are not said."""
-    totals = Counter()
+    totals = Counter[str]()
     for _, count, reason in split.left:
         totals[reason] += int(count)
     del totals["use"]

@@ -1,4 +1,7 @@
 """The steps of a verification, from the checksums to the page."""
+
+from __future__ import annotations
+
 import os
 import subprocess
 import tempfile
@@ -6,13 +9,14 @@ from functools import cache, cached_property
 from itertools import combinations_with_replacement
 from pathlib import Path
 from shutil import copyfile
-from typing import NamedTuple
+from typing import Callable, NamedTuple, Sequence
 
 from . import beside
 from .facts import Animal
 from .folder import SIGNATURES, SUMS, Split, about_of, check_sums, checksum_of, sums_of, words_of
+from .findings import Findings
 from .layers import Layers
-from .lines import Fault, Range, first_difference, overlaps_of, read_track, report_lines
+from .lines import Counts, Fault, Range, Track, first_difference, overlaps_of, read_track, report_lines
 from .page import difference as page_difference
 from .page import page_of
 from .said import fault_of as contradiction
@@ -30,11 +34,16 @@ class Run(NamedTuple):
     """What the page says of the run."""
 
     unit: str
-    levels: list
+    levels: list[int]
     program: str
     program_sum: str
     report_sum: str
-    split: object
+    split: Split | None
+
+
+def export_of(split: Split) -> tuple[str, str | None]:
+    """The export that the record of the tracks names, and its checksum."""
+    return split.single.get("export", "none"), split.single.get("sha256")
 
 
 class Verification:
@@ -42,17 +51,17 @@ class Verification:
 
     report_name = "report.txt"
 
-    def __init__(self, findings, folder, export, program):
+    def __init__(self, findings: Findings, folder: Path, export: Path | None, program: Path | None) -> None:
         self.findings, self.folder, self.export = findings, folder, export
         released, owner = beside.program()
         self.program, self.is_named = program or released, program is not None
         self.whose = "the program that was named" if self.is_named else f"the release of this {owner}"
 
-    def steps(self):
+    def steps(self) -> Sequence[Callable[[], None]]:
         return (self.sums, self.record, self.tracks, self.split_again, self.run_again, self.recompute, self.tables,
                 self.layers, self.page, self.everywhere, self.others)
 
-    def run(self):
+    def run(self) -> None:
         """Takes all steps. What hinders several of them is said once."""
         said = set()
         for step in self.steps():
@@ -65,17 +74,17 @@ class Verification:
                 said.add(text)
 
     @cached_property
-    def about(self):
+    def about(self) -> dict[str, str]:
         return about_of(self.folder / "evidence.txt")
 
     @cached_property
-    def split(self):
+    def split(self) -> Split | None:
         """The record of the tracks; None where there is none."""
         path = self.folder / "tracks" / "split.txt"
         return Split(path) if path.is_file() else None
 
     @cached_property
-    def files(self):
+    def files(self) -> list[str]:
         """The tracks of the run, in its order."""
         names = words_of(self.about)[2]
         if not names or any(not name.startswith("tracks/") for name in names) or len({*names}) < len(names):
@@ -83,49 +92,49 @@ class Verification:
         return names
 
     @cached_property
-    def levels(self):
+    def levels(self) -> list[int]:
         return [int(level) for level in self.about["levels"].split(",")]
 
     @cached_property
-    def ranges(self):
+    def ranges(self) -> list[Range]:
         """What another method computes of the tracks."""
         return [Range(self.track(name), self.levels) for name in self.files]
 
     @cache
-    def track(self, name):
+    def track(self, name: str) -> Track:
         """A file of fixes, by its name in the folder."""
         return read_track(self.folder / name)
 
     @cached_property
-    def overlaps(self):
+    def overlaps(self) -> Counts:
         return overlaps_of(self.ranges)
 
     @cached_property
-    def facts(self):
+    def facts(self) -> list[Animal]:
         return [Animal(number, own, self.split) for number, own in enumerate(self.ranges, 1)]
 
     @cached_property
-    def listed(self):
+    def listed(self) -> set[str]:
         """The names of the files that were handed in."""
         return {*sums_of(self.folder / SUMS)}
 
     @cached_property
-    def alike(self):
+    def alike(self) -> list[str]:
         """The files that have the unit and the levels of the run, as they are found."""
         return []
 
     @cached_property
-    def report(self):
+    def report(self) -> bytes:
         return (self.folder / self.report_name).read_bytes()
 
-    def sums(self):
+    def sums(self) -> None:
         sums = sums_of(self.folder / SUMS)
         self.findings.hold(check_sums(self.folder, sums, SUMS),
                            f"{SUMS} has the checksum of each of the {len(sums)} files of the folder, and no other")
         for path in sorted(path for path in self.folder.glob(f"{SUMS}.*") if path.suffix in SIGNATURES):
             self.findings.note(f"whose {path.name} is: docs/EVIDENCE.md says how to look")
 
-    def record(self):
+    def record(self) -> None:
         """Unit and levels, wherever they stand."""
         about, (levels, unit, _) = self.about, words_of(self.about)
         fault = None
@@ -135,18 +144,14 @@ class Verification:
             fault = f"the tracks are in {self.split.single['unit']}, by split.txt, and the run was made in {unit}"
         elif (self.report.startswith(b"unit,dm\n")) != (unit == "dm"):
             fault = f"the report is in another unit than {unit}, that of evidence.txt"
-        elif self.split and (about.get("export"), about.get("export sha256")) != self.export_of_split():
+        elif self.split and (about.get("export"), about.get("export sha256")) != export_of(self.split):
             fault = "evidence.txt names another export than split.txt"
-        fault = fault or self.split and contradiction(self.split)
+        if self.split and not fault:
+            fault = contradiction(self.split)
         places = listed(["the record of the run", "the report", *["the record of the tracks"] * bool(self.split)])
         self.findings.hold(fault, f"unit ({unit}) and levels ({levels}) are the same in {places}")
 
-    def export_of_split(self):
-        """The export that the record of the tracks names, and its checksum."""
-        single = self.split.single
-        return single.get("export", "none"), single.get("sha256")
-
-    def tracks(self):
+    def tracks(self) -> None:
         """The files of the folder, those of the run, and those of the record."""
         there = {f"tracks/{path.name}" for path in (self.folder / "tracks").iterdir() if path.name != "split.txt"}
         if not self.split:
@@ -165,7 +170,7 @@ class Verification:
         are = "track is that" if len(made) == 1 else f"{len(made)} tracks are those"
         self.findings.hold(fault, f"the {are} of their record, and the run was one of them")
 
-    def track_fault(self, name, numbers):
+    def track_fault(self, name: str, numbers: Sequence[str]) -> str | None:
         """How a file of tracks is not the one of the record; None where it is."""
         path = f"tracks/{name}.csv"
         if numbers[2:] != [checksum_of(self.folder / path)]:
@@ -177,7 +182,7 @@ class Verification:
         own = track.name.encode("latin-1").decode("utf-8", "surrogateescape")
         return None if own == name else f"{path} has the animal {own}"
 
-    def split_again(self):
+    def split_again(self) -> None:
         if self.split is not None and not self.split.has_export:
             if self.export is not None:
                 raise Fault(f"the tracks were made of a data frame, by split.txt, and not of {self.export.name}")
@@ -201,19 +206,20 @@ class Verification:
                     self.findings.unseen(f"whether the tracks are those of the export: {said}")
                     return
                 raise Fault(f"the export cannot be split as split.txt says: {said}")
-            self.findings.hold(self.difference(Path(room, "tracks")), "split again with the options of the record the export "
-                               "comes to the same tracks and the same record, byte for byte")
+            fault = self.difference(self.split, Path(room, "tracks"))
+            self.findings.hold(fault, "split again with the options of the record the export comes to the same tracks and the "
+                               "same record, byte for byte")
 
-    def difference(self, made):
+    def difference(self, split: Split, made: Path) -> str | None:
         """How the tracks and the record are not those that were made again."""
-        if Split(made / "split.txt").shared() != self.split.shared():
+        if Split(made / "split.txt").shared() != split.shared():
             return "split again the export comes to another record than split.txt"
-        for name in self.split.tracks:
+        for name in split.tracks:
             if (made / f"{name}.csv").read_bytes() != (self.folder / "tracks" / f"{name}.csv").read_bytes():
                 return f"split again the export comes to another track of {name}"
         return None
 
-    def run_again(self):
+    def run_again(self) -> None:
         if os.name == "nt" and not self.is_named:
             self.findings.unseen("whether the program makes the same report: it runs on Linux")
             return
@@ -223,7 +229,7 @@ class Verification:
         self.findings.hold(None if self.made_again() == self.report else "run again the program makes another report",
                            "run again the program makes the same report, byte for byte")
 
-    def call(self, files):
+    def call(self, files: Sequence[str]) -> bytes:
         """What the program reports of these files."""
         levels, unit, _ = words_of(self.about)
         run = subprocess.run([str(self.program.resolve()), "--percent", levels, "--unit", unit, "--", *files], cwd=self.folder,
@@ -232,13 +238,14 @@ class Verification:
             raise Fault("the program refuses the tracks: " + run.stderr.decode("utf-8", "replace").strip())
         return run.stdout
 
-    def made_again(self):
+    def made_again(self) -> bytes:
         """The report of all files. Of more than a run takes each group has its own run, and each two groups one more, of
         which the overlaps are taken."""
         if len(self.files) <= MOST_ANIMALS:
             return self.call(self.files)
         groups = [self.files[first:first + GROUP] for first in range(0, len(self.files), GROUP)]
-        tables, overlaps = [], {}
+        tables: list[bytes] = []
+        overlaps: dict[tuple[bytes, ...], bytes] = {}
         for one, other in combinations_with_replacement(range(len(groups)), 2):
             files = groups[one] if one == other else groups[one] + groups[other]
             lines = self.call(files).split(b"\n")
@@ -250,12 +257,12 @@ class Verification:
         pairs = [overlaps[one, other] for one in names for other in names if one != other]
         return b"\n".join([*tables, *pairs, b"end,%d" % len(names), b""])
 
-    def recompute(self):
+    def recompute(self) -> None:
         fault, count = first_difference(self.report, report_lines(self.ranges, self.overlaps, self.about["unit"]))
         self.findings.hold(fault and f"the report is not what another method computes: {fault}",
                            f"each of the {count} lines of the report is what another method computes of the tracks")
 
-    def tables(self):
+    def tables(self) -> None:
         names = [name for name in TABLES if name in self.listed]
         if not names:
             return
@@ -270,7 +277,7 @@ class Verification:
             source = "the tracks and their record" if self.split else "the tracks"
             self.findings.held(f"{listed(names)} {are} what another method computes of {source}, byte for byte")
 
-    def layers(self):
+    def layers(self) -> None:
         if LAYERS not in self.listed:
             return
         layers = Layers(self.folder / LAYERS, self.facts, self.levels, self.about["unit"], self.split)
@@ -281,7 +288,7 @@ class Verification:
                               f"method computes, with their corners, numbers and hectares{where}"):
             self.alike.append(LAYERS)
 
-    def page(self):
+    def page(self) -> None:
         """The page, by the template that all pages share."""
         if PAGE not in self.listed:
             return
@@ -296,14 +303,14 @@ class Verification:
                               "another method computes, and it has no script and nothing from elsewhere"):
             self.alike.append(PAGE)
 
-    def everywhere(self):
+    def everywhere(self) -> None:
         """The unit and the levels of what was made of the report: where one has others, that was said."""
         made = [name for name in (*TABLES, LAYERS, PAGE) if name in self.listed]
         if made and made == self.alike:
             unit, levels = self.about["unit"], self.about["levels"]
             self.findings.held(f"unit ({unit}) and levels ({levels}) are the same in {listed(made)}")
 
-    def others(self):
+    def others(self) -> None:
         """What nobody computes again, and what no step knows."""
         drawn = sorted({PAGE, *PICTURES} & self.listed)
         if PAGE in drawn:

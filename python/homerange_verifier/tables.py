@@ -1,27 +1,33 @@
 """The tables that ranges.py writes, each computed anew, as bytes: numbers are as Python writes them, halves are rounded to
 even digits, times are those of UTC and nothing is written where there is none."""
+
+from __future__ import annotations
+
 import csv
 import io
 from datetime import datetime, timedelta
+from typing import Iterable, Sequence
 
-from .facts import HECTARE, reasons_of
+from .facts import HECTARE, Animal, reasons_of
+from .lines import Counts
 
+Rows = Iterable[Sequence[object]]
 LAST_SECOND = (2 ** 63 - 1) // 10 ** 9  # pandas writes no time behind it, which is in 2262
 
 
-def moment(second):
+def moment(second: int | None) -> str:
     """A time of UTC."""
     if second is None or second > LAST_SECOND:
         return ""
     return (datetime(1970, 1, 1) + timedelta(seconds=second)).strftime("%Y-%m-%dT%H:%M:%SZ")
 
 
-def rounded(part, whole):
+def rounded(part: int | None, whole: int) -> float | str:
     """A quotient with at most four decimals, as numpy rounds it; nothing where there is none."""
     return "" if part is None or not whole else round(part / whole * 10_000) / 10_000
 
 
-def summary(animals, levels, unit):
+def summary(animals: Sequence[Animal], levels: Sequence[int], unit: str) -> Rows:
     """What each level of each animal comes to."""
     yield "animal", "first", "last", "fixes", "level", "kept", "corners", "hectares"
     for animal in animals:
@@ -31,7 +37,7 @@ def summary(animals, levels, unit):
                    hull.area2 / HECTARE[unit])
 
 
-def overview(animals, levels, unit):
+def overview(animals: Sequence[Animal], levels: Sequence[int], unit: str) -> Rows:
     """A row for each animal."""
     reasons = reasons_of(animals)
     yield ("animal", "records", *(f"left_{reason.replace(' ', '_')}" for reason in reasons), "used", "first", "last", "days",
@@ -47,7 +53,7 @@ def overview(animals, levels, unit):
                rounded(animal.tenth, animal.area2), rounded(animal.quarter, animal.area2), animal.verdict)
 
 
-def overlaps(animals, counts):
+def overlaps(animals: Sequence[Animal], counts: Counts) -> Rows:
     """Which share of the fixes of the row's animal lie in the polygon of the column's."""
     yield "fixes_of", *(animal.name for animal in animals)
     for one, animal in enumerate(animals):
@@ -55,19 +61,19 @@ def overlaps(animals, counts):
         yield animal.name, *shares
 
 
-def tables(animals, counts, levels, unit):
+def tables(animals: Sequence[Animal], counts: Counts, levels: Sequence[int], unit: str) -> dict[str, Rows]:
     """The tables by the names of their files."""
     return {"summary.csv": summary(animals, levels, unit), "animals.csv": overview(animals, levels, unit),
             "overlaps.csv": overlaps(animals, counts)}
 
 
-def bytes_of(rows):
+def bytes_of(rows: Rows) -> bytes:
     text = io.StringIO(newline="")
     csv.writer(text, lineterminator="\n").writerows(rows)
     return text.getvalue().encode("utf-8")
 
 
-def difference(content, rows):
+def difference(content: bytes, rows: Rows) -> str | None:
     """How a table is not these rows; None where it is."""
     wanted = bytes_of(rows)
     if content == wanted:

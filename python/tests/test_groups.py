@@ -148,7 +148,8 @@ def program_that_logs(tmp_path):
     from homerange.program import find_program
 
     path = tmp_path / "program"
-    path.write_text('#!/bin/sh\n[ "$1" = --version ] || nproc >>"%s/processors"\nexec "%s" "$@"\n' % (tmp_path, find_program(None)))
+    log = f'[ "$1" = --version ] || nproc >>"{tmp_path}/processors"'
+    path.write_text(f'#!/bin/sh\n{log}\nexec "{find_program()}" "$@"\n')
     path.chmod(0o755)
     return path
 

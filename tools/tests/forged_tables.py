@@ -97,8 +97,8 @@ def _(hand):
     hand.sealed_sql((f"UPDATE ranges SET geom = (SELECT geom FROM fixes LIMIT 1) WHERE {BOR} AND level = 95",))
 
 
-for column, value in (("hectares", "12.5"), ("fixes", "9"), ("kept", "9"), ("corners", "3"), ("first", "'2020-01-01T00:00:00.000Z'"),
-                      ("last", "NULL"), ("unit", "'dm'")):
+for column, value in (("hectares", "12.5"), ("fixes", "9"), ("kept", "9"), ("corners", "3"), ("last", "NULL"), ("unit", "'dm'"),
+                      ("first", "'2020-01-01T00:00:00.000Z'")):
     @forgery(f"{column} in ranges.gpkg", f"the polygon of Bor at 95 % in ranges.gpkg has {NUMBERS} .*; .* are wanted")
     def _(hand, column=column, value=value):
         hand.sealed_sql((f"UPDATE ranges SET {column} = {value} WHERE {BOR} AND level = 95",))

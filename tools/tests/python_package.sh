@@ -19,8 +19,13 @@ else
     done
     holds 'the tests of the Python package' [ "$status" -eq 0 ]
     if python3 -c 'import mypy' 2>errors; then
-        holds 'types of the Python package' \
-            python3 -m mypy --config-file "$top/python/pyproject.toml" --cache-dir "$work/mypy" "$top/python/homerange"
+        typed() {
+            MYPYPATH="$top/python" python3 -m mypy --config-file "$top/python/pyproject.toml" --cache-dir "$work/mypy" "$@"
+        }
+        holds 'types of the Python package' typed "$top/python/homerange" "$top/python/homerange_verifier" "$top/python/backend"
+        for script in "$tools"/*.py "$tools"/herd/*.py; do
+            holds "types of ${script#"$top/"}" typed "$script"
+        done
         # What a user's script is told of results, with names of classes in place of the stubs that Debian has not.
         MYPYPATH="$top/python/tests/types/stubs:$top/python" python3 -m mypy --strict --follow-imports=silent \
             --cache-dir "$work/user" "$top/python/tests/types/user.py" >types 2>&1

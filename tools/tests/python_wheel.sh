@@ -22,7 +22,8 @@ else
     holds 'nothing is left beside the package' is_clean
     if is_here objdump 'the C library that the release needs'; then
         needed=$(objdump -T "$top/release/homerange" | grep -o 'GLIBC_[0-9.]*' | sort -V | tail -n 1)
-        holds 'the release needs no later C library' [ "$(printf '%s\n' GLIBC_2.34 "$needed" | sort -V | tail -n 1)" = GLIBC_2.34 ]
+        later=$(printf '%s\n' GLIBC_2.34 "$needed" | sort -V | tail -n 1)
+        holds 'the release needs no later C library' [ "$later" = GLIBC_2.34 ]
     fi
     cp -r "$top/python" wheel/bare/
     python3 -m build --no-isolation --wheel --outdir wheel/dist wheel/bare/python >wheel/said 2>&1

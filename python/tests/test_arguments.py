@@ -1,0 +1,112 @@
+"""Arguments that cannot be right: each is refused by an error of the package, in one line, whatever its type is."""
+import datetime
+import decimal
+import pathlib
+
+import numpy
+import pandas
+import pytest
+from exact import cloud
+from frames import frame_of
+
+from homerange import HomeRangeError, HomeRangeNote, home_range, plot_curve, plot_ranges, read_export, read_report, share_inside
+from homerange import write_page
+
+EXAMPLES = pathlib.Path(__file__).parents[2] / "examples"
+FRAME = frame_of(a=cloud(1, 12), b=cloud(2, 12))
+ODD = [
+    95.0, numpy.int64(5), numpy.float64("nan"), float("inf"), True, False, "x", "", "2h", b"x", 0, -1, 10 ** 30, [], [None], (),
+    {}, {"a": 1}, None, pandas.NaT, pandas.NA, numpy.datetime64("2024-03-01"), datetime.date(2024, 3, 1),
+    datetime.datetime(2024, 3, 1, 12), pandas.Timestamp("2024-03-01"), pandas.Period("2024-03"), FRAME["animal"], FRAME,
+    FRAME.index, object(), iter([1]), numpy.array([1, 2]), numpy.array([[1]]), decimal.Decimal(5), 1j, "a" * 200, "9" * 5000,
+    "a\nb", ["animal"], {50, 95}, range(3)]
+OF_RANGES = """
+    levels unit animal time easting northing lon lat name zone crs use skip_unnamed sensor argos_class argos max_dop dop fix_type
+    fix since until max_speed months hours every tz program jobs progress from_ to every_hours by""".split()
+OF_EXPORTS = """
+    zone sensor skip_unnamed animal time time_format tz lon lat easting northing na skip_lines encoding argos_class max_dop
+    fix_type since until max_speed every from_ nonsense""".split()
+
+
+@pytest.fixture(scope="module")
+def ranges():
+    return home_range(FRAME, (50, 95, 100), zone="33N")
+
+
+@pytest.fixture(scope="module")
+def report(tmp_path_factory):
+    from homerange.program import find_program
+    import subprocess
+
+    path = tmp_path_factory.mktemp("report") / "report.txt"
+    path.write_bytes(subprocess.run([find_program(), EXAMPLES / "fox.csv"], capture_output=True, check=True).stdout)
+    return path
+
+
+def is_taken_or_refused(call):
+    """Whether a call holds, or is refused as it should be. A path may be one of no file."""
+    for value in ODD:
+        try:
+            call(value)
+        except (HomeRangeError, HomeRangeNote) as fault:
+            assert "\n" not in str(fault) and len(str(fault)) < 6000, value
+        except OSError:
+            assert isinstance(value, (str, list, dict, pandas.Series, pandas.DataFrame)), value
+
+
+@pytest.mark.parametrize("name", OF_RANGES)
+def test_arguments_of_home_range(name):
+    is_taken_or_refused(lambda value: home_range(FRAME, **{name: value}))
+
+
+def test_what_is_no_frame():
+    is_taken_or_refused(home_range)
+
+
+@pytest.mark.parametrize("name", ["corners", "polygons", "hectares", "fixes", "overlap"])
+def test_arguments_of_answers(ranges, name):
+    is_taken_or_refused(getattr(ranges, name))
+
+
+def test_levels_of_answers(ranges):
+    is_taken_or_refused(lambda value: ranges.hectares("a", value))
+    boundary = ranges.polygons().geometry.unary_union
+    is_taken_or_refused(lambda value: share_inside(ranges, boundary, value))
+    is_taken_or_refused(lambda value: share_inside(ranges, value))
+
+
+@pytest.mark.filterwarnings("ignore:More than 20 figures")
+def test_arguments_of_pictures(ranges):
+    pyplot = pytest.importorskip("matplotlib.pyplot")
+    is_taken_or_refused(lambda value: plot_ranges(ranges, level=value))
+    is_taken_or_refused(lambda value: plot_curve(ranges, ax=value))
+    pyplot.close("all")
+
+
+@pytest.mark.parametrize("name", OF_EXPORTS)
+def test_arguments_of_read_export(name):
+    is_taken_or_refused(lambda value: read_export(EXAMPLES / "export.csv", **{name: value}))
+
+
+@pytest.mark.parametrize("name", ["files", "crs", "tz", "shift", "program", "record"])
+def test_arguments_of_read_report(report, name):
+    is_taken_or_refused(lambda value: read_report(report, **{name: value}))
+
+
+@pytest.mark.parametrize("name", ["title", "study", "species", "by", "reserve", "reserve_name", "tz", "made"])
+def test_arguments_of_write_page(ranges, tmp_path, name):
+    is_taken_or_refused(lambda value: write_page(ranges, tmp_path / "page.html", **{name: value}))
+
+
+def test_paths(ranges, tmp_path, monkeypatch):
+    monkeypatch.chdir(tmp_path)
+    is_taken_or_refused(read_export)
+    is_taken_or_refused(read_report)
+    is_taken_or_refused(lambda value: write_page(ranges, value))
+
+
+def test_long_values_are_shown_in_part():
+    with pytest.raises(HomeRangeError) as caught:
+        home_range(FRAME, unit="x" * 5000)
+    assert str(caught.value).startswith("unit='xxx") and str(caught.value).endswith("xx' is neither 'm' nor 'dm'")
+    assert len(str(caught.value)) == 504
