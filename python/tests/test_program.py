@@ -1,4 +1,5 @@
 """How the program is found, and which errors come of what it says."""
+import hashlib
 import os
 import stat
 from pathlib import Path
@@ -95,6 +96,51 @@ def test_where_the_program_is_looked_for(tmp_path, monkeypatch, stand_in):
     monkeypatch.setattr(runs, "CLONE", None)
     monkeypatch.setenv("PATH", str(tmp_path), prepend=os.pathsep)
     assert calls()
+
+
+def test_folders_of_data_are_not_looked_into(tmp_path, monkeypatch, stand_in):
+    """A folder in which one works, and one above it, may have a program of anybody's."""
+    (tmp_path / "release").mkdir()
+    stand_in("exit 1").rename(tmp_path / "release" / "homerange")
+    (tmp_path / "release" / "SOURCES").write_text("sources 0\nlogic 0\n")
+    (tmp_path / "data").mkdir()
+    monkeypatch.delenv("HOMERANGE", raising=False)
+    monkeypatch.setattr(runs, "CLONE", None)
+    monkeypatch.setenv("PATH", str(tmp_path / "none"))
+    for folder in (tmp_path, tmp_path / "data"):
+        monkeypatch.chdir(folder)
+        with pytest.raises(homerange.ProgramError, match="there is no program homerange: name it"):
+            find_program()
+
+
+def test_a_clone_is_known_by_its_own_files(tmp_path):
+    assert runs.clone_of(CLONE / "python" / "homerange") == CLONE
+    (tmp_path / "python" / "homerange").mkdir(parents=True)
+    (tmp_path / "release").mkdir()
+    assert runs.clone_of(tmp_path / "python" / "homerange") is None
+    assert runs.clone_of(Path("/homerange")) is None
+
+
+def test_the_program_of_a_wheel_is_held_to_its_checksum(tmp_path, monkeypatch):
+    own, real = tmp_path / "release" / "homerange", real_program()
+    own.parent.mkdir()
+    own.write_bytes(Path(real).read_bytes())
+    own.chmod(0o755)
+    monkeypatch.delenv("HOMERANGE", raising=False)
+    (tmp_path / "release" / "SHA256SUMS").write_text(f"{hashlib.sha256(own.read_bytes()).hexdigest()}  release/homerange\n")
+    monkeypatch.setattr(runs, "OWN", own)
+    assert find_program() == str(own)
+    runs.check_own.cache_clear()
+    own.write_bytes(own.read_bytes() + b"x")
+    with pytest.raises(homerange.ProgramError, match="is not the program that this package was built with"):
+        find_program()
+    assert find_program(real) == real
+
+
+def test_ranges_know_their_program():
+    found = home_range(frame_of(a=POINTS)).program
+    assert found.path == real_program() and found.checksum == hashlib.sha256(Path(found.path).read_bytes()).hexdigest()
+    assert found.version.startswith("homerange 1.")
 
 
 @pytest.mark.parametrize("change, said", [

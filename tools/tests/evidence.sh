@@ -55,6 +55,14 @@ holds 'an export of other columns has the same tracks, and a record of its own' 
 < sha256' ]
 holds 'it is verified' verify first "$top/examples/export.csv" --program "$HOMERANGE"
 holds 'all of it was looked at' grep -qx 'verify.py: 7 held, 0 did not, 0 not looked at' said
+# It shares no code with the package, and needs the standard library alone.
+cp said looked
+python3 -S -c 'import sys
+sys.modules["homerange"] = None
+sys.path.insert(0, sys.argv.pop(1))
+from homerange_verifier.verify import main
+main("verify.py")' "$top/python" first "$top/examples/export.csv" --program "$HOMERANGE" >said
+holds 'it is verified without the package' cmp looked said
 for unknown in 'who made the run, and when' 'whether the export is what'; do
     holds "what nobody can know is said: $unknown" grep -q "^not known: $unknown" said
 done

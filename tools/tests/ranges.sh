@@ -230,6 +230,21 @@ assert {*corners} == {(-300, -400), (-200, -400), (-200, -300)}, [*corners]'
     refuses_ranges 1 'the 50 per cent polygon of vixen is not that of the report' \
         env HOMERANGE=plan/changing "$make" "$export" plan/none
     holds 'what was there is left' sh -c 'cd plan/first && sha256sum -c --strict SHA256SUMS'
+    # One that is ended leaves nothing.
+    printf '#!/bin/sh\n[ "$1" = --version ] || { : >plan/waits; sleep 5; }\nexec "%s" "$@"\n' "$HOMERANGE" | sed "s,plan/,$PWD/plan/," \
+        >plan/slow
+    chmod +x plan/slow
+    HOMERANGE=plan/slow "$make" "$export" plan/none >out 2>errors &
+    call=$!
+    for _ in $(seq 100); do
+        [ ! -e plan/waits ] || break
+        sleep 0.1
+    done
+    kill -TERM "$call"
+    wait "$call"
+    holds 'a call that is ended says so by its status' [ $? -eq 143 ]
+    holds 'it leaves nothing' [ ! -e plan/none ]
+    holds 'and nothing half' [ ! -e plan/none.part ]
 else
     skip "ranges of an export: $(tail -n 1 errors)"
 fi
