@@ -4,4 +4,4 @@
 PATH=/usr/bin:$PATH exec python3 -P -c 'import sys
 sys.path.insert(0, sys.argv.pop(1))
 from homerange.commands.ranges import main
-main("ranges.sh")' "$(dirname "$0")/../python" "$@"
+main("ranges.sh")' "$(cd "$(dirname "$0")/../python" && pwd)" "$@"

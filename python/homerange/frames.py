@@ -313,6 +313,13 @@ def is_known_zone(name: str) -> bool:
     return True
 
 
+def row_named(labels: pandas.Index, at: int) -> str:
+    """A row by its label, and where that is not its place by that too."""
+    label = labels[at]
+    is_place = isinstance(label, (int, numpy.integer)) and label == at
+    return f"row {at}" if is_place else f"row {label} (frame.iloc[{at}])"
+
+
 class Frame:
     """A data frame that is read."""
 
@@ -378,10 +385,7 @@ class Frame:
         if fault.record is None:
             return fault
         at = self.positions[fault.record - 1]
-        label = self.labels[at]
-        is_place = isinstance(label, (int, numpy.integer)) and label == at
-        where = f"row {at}" if is_place else f"row {label} (frame.iloc[{at}])"
-        return FrameError(f"{where}: {fault}", fault.kind, at + 1)
+        return FrameError(f"{row_named(self.labels, at)}: {fault}", fault.kind, at + 1)
 
     def scale(self) -> Scale | None:
         """What tells how much greater areas are in the reference system that is known; None where a zone is."""

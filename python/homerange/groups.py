@@ -11,7 +11,7 @@ import pandas
 
 from .asked import zone_of_time
 from .errors import refuse
-from .frames import Tracks, aligned, cells_of, names_of
+from .frames import Tracks, aligned, cells_of, names_of, row_named
 
 # Seasons are named by their months, since those of north and south have other names.
 SEASONS = ("Dec-Feb", "Mar-May", "Jun-Aug", "Sep-Nov")
@@ -58,7 +58,7 @@ def group_tracks(tracks: Tracks, by: str | pandas.Series, frame: pandas.DataFram
     parts: dict[str, pandas.DataFrame] = {}
     known: dict[str, Group] = {}
     for animal, track in tracks.by_name.items():
-        labels = periods(track, str(by), zone) if groups is None else given(groups, tracks.places[animal])
+        labels = periods(track, str(by), zone) if groups is None else given(groups, tracks.places[animal], frame.index)
         for group, own in track.groupby(labels, sort=False):
             name = f"{animal} {group}"
             if name in known:
@@ -68,12 +68,13 @@ def group_tracks(tracks: Tracks, by: str | pandas.Series, frame: pandas.DataFram
     return replace(tracks, by_name=parts, left_out={}, notes=[*tracks.notes, said]), known
 
 
-def given(groups: Sequence[Any], rows: Sequence[int]) -> list[str]:
+def given(groups: Sequence[Any], rows: Sequence[int], labels: pandas.Index) -> list[str]:
     """The groups of some rows of a frame, each of which has to have one."""
     for at in rows:
         if not isinstance(groups[at], str):
             what = "no group" if groups[at] is None else f"a group that is {groups[at].text}"
-            refuse(f"by: row {at} has {what}: use=by.notna() leaves rows without a group out", "option", at + 1)
+            where = row_named(labels, at)
+            refuse(f"{where}: by has {what}; use=by.notna() leaves rows without a group out", "option", int(at) + 1)
     return [groups[at] for at in rows]
 
 

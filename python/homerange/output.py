@@ -14,7 +14,7 @@ from .evidence import REPORT, TRACKS, Wish, copy_tracks, make_report, new_folder
 from .exports import clean, clean_names, write_track
 from .frames import Tracks
 from .page import write_page
-from .program import checksum_of, find_program, program_of
+from .program import Program, checksum_of, find_program, program_of
 from .ranges import HomeRanges, check_whole, read_report
 from .record import Made, Record, given, in_order, read_record, tools_of, write_record
 from .report import Report, read
@@ -94,17 +94,17 @@ def tracks_in_order(tracks: Tracks, names: Mapping[str, str], report: Report) ->
     return replace(tracks, by_name=by_name, left_out=left_out)
 
 
-def ranges_in(folder: Path, ranges: HomeRanges, tracks: Tracks, names: Mapping[str, str]) -> HomeRanges:
-    """The ranges of the report that was made in a folder, which has to have the numbers of these."""
+def ranges_in(folder: Path, ranges: HomeRanges, tracks: Tracks, names: Mapping[str, str], program: Program) -> HomeRanges:
+    """The ranges of the report that a program made in a folder, which has to have the numbers of these."""
     report, split = read(folder / REPORT), folder / TRACKS / "split.txt"
     if report != renamed(ranges.report, names):
         raise ReportError("the program reports other numbers of these tracks than the ranges have: make them again")
     if ranges.files:
         return read_report(
             folder / REPORT, files=[folder / name for name in used_tracks(folder)], crs=ranges.crs, tz=ranges.tz,
-            shift=ranges.shift, program=ranges.named, record=split if split.is_file() else None)
+            shift=ranges.shift, program=program.path, record=split if split.is_file() else None)
     own = tracks_in_order(tracks, names, report)
-    found = HomeRanges(report, own, crs=ranges.crs, tz=ranges.tz, program=ranges.program, named=ranges.named)
+    found = HomeRanges(report, own, crs=ranges.crs, tz=ranges.tz, program=program)
     found.record, found.checksum = read_record(split), checksum_of(folder / REPORT)
     return found
 
@@ -121,7 +121,7 @@ def write_folder(ranges: HomeRanges, into: str | os.PathLike[str], page: Mapping
     def fill(folder: Path) -> None:
         put_tracks(ranges, tracks, names, folder)
         make_report(folder, wish)
-        found = ranges_in(folder, ranges, tracks, names)
+        found = ranges_in(folder, ranges, tracks, names, wish.program)
         write_tables(found, folder)
         if find_spec("geopandas"):
             from .layers import write_layers

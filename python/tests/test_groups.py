@@ -85,7 +85,7 @@ def test_numbers_are_groups_by_their_digits(frame):
 def test_rows_without_a_group(frame):
     sex = pandas.Series("a", index=frame.index)
     sex.iloc[4] = None
-    with pytest.raises(FrameError, match="by: row 4 has no group: use=by.notna") as caught:
+    with pytest.raises(FrameError, match=r"row [0-9]+ .frame.iloc\[4\].: by has no group; use=by.notna") as caught:
         home_range(frame, by=sex)
     assert caught.value.record == 5
     assert home_range(frame, 100, by=sex, use=sex.notna()).summary()["fixes"].sum() == 79
@@ -94,7 +94,7 @@ def test_rows_without_a_group(frame):
 @pytest.mark.parametrize("by, said", [
     ("week", "by='week' is none of 'year', 'season', 'month', and no Series of groups"), (5, "by: int is none of"),
     (["a"] * 80, "by: list is none of"), (pandas.Series(["a"] * 79), "by is a Series with another index than the frame"),
-    (pandas.Series([1.5] * 80), "by: row .* has a group that is 1.5, a number that is not whole")])
+    (pandas.Series([1.5] * 80), "row .*: by has a group that is 1.5, a number that is not whole")])
 def test_what_is_refused(frame, by, said):
     with pytest.raises(FrameError, match=said):
         home_range(frame, by=by)

@@ -231,8 +231,11 @@ assert {*corners} == {(-300, -400), (-200, -400), (-200, -300)}, [*corners]'
         env HOMERANGE=plan/changing "$make" "$export" plan/none
     holds 'what was there is left' sh -c 'cd plan/first && sha256sum -c --strict SHA256SUMS'
     # One that is ended leaves nothing.
-    printf '#!/bin/sh\n[ "$1" = --version ] || { : >plan/waits; sleep 5; }\nexec "%s" "$@"\n' "$HOMERANGE" | sed "s,plan/,$PWD/plan/," \
-        >plan/slow
+    cat >plan/slow <<END
+#!/bin/sh
+[ "\$1" = --version ] || { : >'$PWD/plan/waits'; sleep 5; }
+exec '$HOMERANGE' "\$@"
+END
     chmod +x plan/slow
     HOMERANGE=plan/slow "$make" "$export" plan/none >out 2>errors &
     call=$!
