@@ -4,20 +4,26 @@
 
 low_part <- 2^14
 
-# The product of two ways, positive where the other turns left, as high * low_part + low with low from 0: exact for whole
-# numbers below 2^33, whose parts stay below 2^53.
+# The product of two ways, as high * low_part + low with low from 0: exact for whole numbers below 2^33, whose parts stay below
+# 2^53.
 turn_of <- function(east, north, other_east, other_north) {
   high <- (east %/% low_part) * other_north - (north %/% low_part) * other_east
   low <- (east %% low_part) * other_north - (north %% low_part) * other_east
   list(high = high + low %/% low_part, low = low %% low_part)
 }
 
-is_right_turn <- function(east, north, other_east, other_north) turn_of(east, north, other_east, other_north)$high < 0
-
-is_left_turn <- function(east, north, other_east, other_north) {
+# Above 0 where the other way turns left, below 0 where it turns right. Of short ways doubles hold the products.
+side_of <- function(east, north, other_east, other_north) {
+  is_short <- function(sides) all(abs(sides) < 2^26)
+  if (is_short(east) && is_short(north) && is_short(other_east) && is_short(other_north)) {
+    return(east * other_north - north * other_east)
+  }
   turn <- turn_of(east, north, other_east, other_north)
-  turn$high > 0 | turn$high == 0 & turn$low > 0
+  turn$high + (turn$low > 0) / 2
 }
+
+is_right_turn <- function(...) side_of(...) < 0
+is_left_turn <- function(...) side_of(...) > 0
 
 # The rows of a matrix each one further, the first behind the last.
 next_rows <- function(ring) ring[c(seq_len(nrow(ring))[-1], 1), , drop = FALSE]
@@ -54,7 +60,7 @@ is_within <- function(easting, northing, ring) {
   south <- ring[seq_len(east[1]), , drop = FALSE]
   north <- ring[number:east[2], , drop = FALSE]
   if (north[1, 1] > ring[1, 1]) north <- rbind(ring[1, ], north)
-  within <- easting >= ring[1, 1] & easting <= ring[east[1], 1]
+  within <- easting >= ring[1, 1] & easting <= ring[east[1], 1] & northing >= min(ring[, 2]) & northing <= max(ring[, 2])
   own <- which(within)
   is_below <- lies_beside(south, easting[own], northing[own], is_right_turn)
   is_above <- lies_beside(north, easting[own], northing[own], is_left_turn)

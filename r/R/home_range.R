@@ -28,8 +28,14 @@ home_range <- function(x, levels = c(50, 95, 100), unit = "m", animal = NULL, ti
                            read$tz)
   ranges[c("options", "is_projected")] <- read[c("options", "is_projected")]
   ranges$program <- identity_of(program)
-  ranges$call <- match.call()
+  ranges$call <- own_call(match.call())
   ranges
+}
+
+# A call in which a table that was put there itself, as do.call puts it, is its argument's name.
+own_call <- function(call) {
+  if (!is.language(call$x)) call$x <- quote(x)
+  call
 }
 
 # Levels as the program takes them.

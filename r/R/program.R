@@ -26,7 +26,8 @@ packed_program <- function(folder) {
   path <- file.path(folder, "bin", "homerange")
   if (!file.exists(path)) return(character())
   if (is.null(held_programs[[path]])) {
-    lines <- readLines(file.path(folder, "bin", "SHA256SUMS"), warn = FALSE)
+    sums <- file.path(folder, "bin", "SHA256SUMS")
+    lines <- if (file.exists(sums)) readLines(sums, warn = FALSE)
     if (!paste0(checksum_of(path), "  release/homerange") %in% lines) {
       refuse("program", path, " is not the program that was installed with the package: install the package again")
     }

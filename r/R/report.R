@@ -20,7 +20,7 @@ report_text <- function(path) text_of_bytes(readBin(path, "raw", file.size(path)
 # The tables of a report's text, which is refused where it is not a whole report.
 parse_report <- function(text, name = "the report") {
   end <- check_form(text, name)
-  lines <- lines_of_report(charToRaw(text))
+  lines <- lines_of_report(text)
   animals <- texts_at(lines, "animal", 1)
   report <- list(
     unit = if (startsWith(text, "unit,dm\n")) "dm" else "m", animals = cbind(animal = animals, numbers_at(lines, "animal")),
@@ -35,7 +35,7 @@ parse_report <- function(text, name = "the report") {
 parse_overlaps <- function(text, name = "the report") {
   check_form(text, name)
   first <- regexpr("\noverlap,", text, fixed = TRUE, useBytes = TRUE)
-  list(overlaps = overlaps_at(lines_of_report(charToRaw(text)[-seq_len(max(first, 0))])))
+  list(overlaps = overlaps_at(lines_of_report(rawToChar(charToRaw(text)[-seq_len(max(first, 0))]))))
 }
 
 # Refuses a text that has not the form of a report; the number of animals that its last line says.
@@ -54,13 +54,15 @@ refuse_line <- function(text, bytes, name) {
   refuse("report", name, ": line ", number, " is none of a report there: ", substr(line, 1, 60))
 }
 
-# The lines of the bytes of a report that has its form: where each ends, the places of those of each kind, where commas are, and
-# how many of them are before each line.
-lines_of_report <- function(bytes) {
+# The lines of a text that has a report's form, by its bytes: where each ends, the places of those of each kind, where commas are,
+# and how many of them are before each line.
+lines_of_report <- function(text) {
+  bytes <- charToRaw(text)
+  if (Encoding(text) != "unknown") Encoding(text) <- "bytes"
   ends <- grepRaw(line_ends[1], bytes, fixed = TRUE, all = TRUE)
   kinds <- match(bytes[c(1L, ends + 1L)[seq_along(ends)]], charToRaw("abrcpo"), nomatch = 0L)  # as in fields_of_kinds
   commas <- c(1L, lengths(fields_of_kinds))[kinds + 1L]
-  list(bytes = bytes, ends = ends, commas = grepRaw(as.raw(44), bytes, fixed = TRUE, all = TRUE),
+  list(text = text, bytes = bytes, ends = ends, commas = grepRaw(as.raw(44), bytes, fixed = TRUE, all = TRUE),
        before = cumsum(c(0L, commas))[seq_along(ends)],
        of = lapply(`names<-`(seq_along(fields_of_kinds), names(fields_of_kinds)), function(kind) which(kinds == kind)))
 }
@@ -86,8 +88,8 @@ numbers_at <- function(lines, kind) {
 # The texts in a field of the lines of a kind.
 texts_at <- function(lines, kind, field) {
   at <- fields_at(lines, lines$of[[kind]], field, FALSE)
-  text_at <- function(start, width) rawToChar(lines$bytes[start + seq_len(width) - 1L])
-  texts <- as.character(unlist(Map(text_at, at$starts, at$widths)))
+  if (!length(at$starts)) return(character())
+  texts <- substring(lines$text, at$starts, at$starts + at$widths - 1L)
   Encoding(texts) <- "UTF-8"
   texts
 }

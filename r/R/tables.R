@@ -40,9 +40,11 @@ summary.home_range <- function(object, area = "ha", units = FALSE, ...) {
 }
 
 # A row for each animal and level.
-as.data.frame.home_range <- function(x, row.names = NULL, optional = FALSE, ..., area = "ha", units = FALSE) {
+as.data.frame.home_range <- function(x, row.names = NULL, optional = FALSE, ..., stringsAsFactors = FALSE, area = "ha",
+                                     units = FALSE) {
   table <- summary(x, area = area, units = units, ...)
   table <- table[c("animal", "level", setdiff(names(table), c("animal", "level", "first", "last", "left_out")))]
+  if (isTRUE(stringsAsFactors)) table$animal <- factor(table$animal, x$animals$animal)
   if (!is.null(row.names)) row.names(table) <- row.names
   table
 }

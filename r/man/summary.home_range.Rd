@@ -6,12 +6,14 @@
 \usage{
 \method{summary}{home_range}(object, area = "ha", units = FALSE, ...)
 
-\method{as.data.frame}{home_range}(x, row.names = NULL, optional = FALSE, ..., area = "ha", units = FALSE)
+\method{as.data.frame}{home_range}(x, row.names = NULL, optional = FALSE, ...,
+              stringsAsFactors = FALSE, area = "ha", units = FALSE)
 }
 \arguments{
 \item{object, x}{a home range, from \code{\link{home_range}} or \code{\link{read_report}}.}
 \item{row.names}{names for the rows.}
 \item{optional}{not used.}
+\item{stringsAsFactors}{whether animals are a factor, in the order in which they stand in \code{x}.}
 \item{area}{the unit of areas: \code{"ha"} for a column \code{hectares}, \code{"m2"} for \code{square_metres},
   \code{"km2"} for \code{square_kilometres}.}
 \item{units}{whether areas are of the package units, in a column \code{area}.}

@@ -4,7 +4,7 @@
 # Whether what the check wants is there; where it is not, says what is skipped.
 is_r_ready() {
     is_here R 'the package for R' && is_here pandoc 'the package for R' || return 1
-    for package in sf testthat knitr rmarkdown; do
+    for package in sf sp testthat knitr rmarkdown; do
         Rscript -e "library($package)" >/dev/null 2>&1 || {
             skip "the package for R: no $package"
             return 1
@@ -33,6 +33,15 @@ if is_r_ready; then
         R CMD check --no-manual homerange_*.tar.gz
     holds 'the check of the package has nothing to say' grep -qx 'Status: OK' homerange.Rcheck/00check.log
     holds 'its tests found the program' grep -q 'FAIL 0 | WARN 0 | SKIP 0 ' homerange.Rcheck/tests/testthat.Rout
+    mkdir installed
+    holds 'the package for R is installed from the clone' R CMD INSTALL --library=installed "$top/r"
+    holds 'it has the released program in it' cmp "$top/release/homerange" installed/homerange/bin/homerange
+    holds 'which it runs' env -u HOMERANGE R_LIBS="$PWD/installed" Rscript -e 'library(homerange)
+        ranges <- home_range(deer, quiet = TRUE)
+        stopifnot(ranges$program$path == system.file("bin", "homerange", package = "homerange"))'
+    echo >>installed/homerange/bin/homerange
+    holds 'and not another that was put there' is_refused env -u HOMERANGE R_LIBS="$PWD/installed" \
+        Rscript -e 'homerange::homerange_program()'
     page=homerange.Rcheck/homerange/doc/homerange.html
     holds 'its vignette has two pictures' [ "$(grep -c 'src="data:image/png' $page)" -eq 2 ]
     if python3 -c 'import geopandas, pandas' 2>errors; then

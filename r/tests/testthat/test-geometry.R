@@ -70,6 +70,16 @@ test_that("places within are those by all edges", {
   expect_gt(found, 1000)
 })
 
+test_that("polygons of 256 times the size are as those, by products that no double has", {
+  for (seed in 1:200) {
+    ring <- ring_directly(strewn(seed)[, 1], strewn(seed)[, 2])
+    places <- rbind(strewn(seed), strewn(seed + 6), ring + 1)
+    expect_identical(unname(convex_ring(256 * strewn(seed)[, 1], 256 * strewn(seed)[, 2])), 256 * unname(ring))
+    expect_identical(is_within(256 * places[, 1], 256 * places[, 2], 256 * ring), within_directly(places, ring))
+    expect_identical(doubled_area(256 * ring), 65536 * doubled_area(ring))
+  }
+})
+
 test_that("a place beside a long edge is told from one on it", {
   # From (0, 0) to (2^27, 2^27 - 1): (2^26, 2^26 - 1) lies half a unit below the edge, one north of it above.
   ring <- rbind(c(0, 0), c(2^27, 2^27 - 1), c(0, 2^27))

@@ -15,6 +15,8 @@ test_that("as.data.frame has a row for each animal and level", {
   ))
   expect_identical(as.data.frame(ranges)$hectares, summary(ranges)$hectares)
   expect_identical(row.names(as.data.frame(ranges, row.names = letters[1:4])), letters[1:4])
+  expect_identical(data.frame(ranges), as.data.frame(ranges))
+  expect_identical(as.data.frame(ranges["b"], stringsAsFactors = TRUE)$animal, factor(c("b", "b")))
 })
 
 test_that("areas are in the unit that is asked", {

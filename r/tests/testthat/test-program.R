@@ -113,7 +113,10 @@ test_that("a program that came with the package is held to its checksum", {
   other <- local_folder()
   file.copy(file.path(folder, "bin"), other, recursive = TRUE)
   cat("# changed\n", file = file.path(other, "bin", "homerange"), append = TRUE)
-  expect_error(packed_program(other), "not the program that was installed with the package", class = "homerange_program_error")
+  changed <- function() packed_program(other)
+  expect_error(changed(), "not the program that was installed with the package", class = "homerange_program_error")
+  unlink(file.path(other, "bin", "SHA256SUMS"))
+  expect_error(changed(), "not the program that was installed with the package", class = "homerange_program_error")
 })
 
 test_that("ranges know which program made them, and by which call", {
@@ -124,6 +127,7 @@ test_that("ranges know which program made them, and by which call", {
   sum <- system2("sha256sum", shQuote(homerange_program()), stdout = TRUE)
   expect_identical(ranges$program$checksum, sub(" .*", "", sum))
   expect_identical(ranges$call, quote(home_range(x = fixes(), levels = 95)))
+  expect_identical(quietly(do.call(home_range, list(fixes(), 95)))$call[-1], quote(home_range(x = x, levels = 95))[-1])
 })
 
 test_that("a file that the program refuses is told by its animal", {
