@@ -37,16 +37,16 @@ field_wholes <- function(bytes, starts, widths) {
   wholes
 }
 
-# The numbers of which the digits, from the last on, stand before these places.
+# The numbers of which the digits, from the last on, stand before these places. As in sure_wholes, codes are added up.
 digits_before <- function(bytes, ends, widths) {
   wholes <- numeric(length(ends))
-  least <- min(widths)
-  for (place in seq_len(min(max(widths), most_exact_digits))) {
-    digits <- as.integer(bytes[ends - place]) - 48L
-    if (place > least) digits <- digits * (widths >= place)
-    wholes <- wholes + powers_of_ten[place] * digits
+  widths <- pmin(widths, most_exact_digits)
+  for (place in seq_len(max(widths))) {
+    codes <- as.integer(bytes[ends - place])
+    if (place > min(widths)) codes <- codes * (widths >= place)
+    wholes <- wholes + powers_of_ten[place] * codes
   }
-  wholes
+  wholes - 48 * cumsum(powers_of_ten)[widths]
 }
 
 # The numbers of plain fields, NA where a field is empty. Tails are the widths of the decimals with their point. R reads those

@@ -18,8 +18,8 @@ words_in <- function(records, column) {
 
 # Leaves out the records whose place in the mask is not true, counts and says them.
 keep_records <- function(choice, mask, reason, ...) {
+  if (isTRUE(all(mask))) return(invisible())
   mask <- mask %in% TRUE
-  if (all(mask)) return(invisible())
   leave_out(choice$said, choice$table$names[choice$records$animal[!mask]], reason)
   say(choice$said, sum(!mask), ..., ": left out")
   choice$records <- lapply(choice$records, `[`, mask)
@@ -74,7 +74,7 @@ choose_classes <- function(choice) {
   records <- choice$records
   classes <- words_in(records, "argos")
   if (is.null(wanted)) {
-    is_argos <- classes %in% classes_of_argos | words_in(records, "sensor") == argos_sensor
+    is_argos <- by_distinct(classes, function(kinds) kinds %in% classes_of_argos) | words_in(records, "sensor") == argos_sensor
     if (any(is_argos & records$used)) {
       refuse("argos", "fixes are of Argos, most of whose classes are off by kilometres: name the classes to take, such as ",
              option_word(choice$asked, "argos_class", "3,2,1"), " (none is a fix without a class)")

@@ -6,6 +6,8 @@ report_form <- paste0(
   "(?:corner,\\1(?:,[0-9]++){3}\n)*+(?:percent,\\1(?:,[0-9]++){4}\n)*+)*+(?:overlap(?:,[^,\n]++){2}(?:,[0-9]++){2}\n)*+"
 )
 end_form <- "(?<![^\n])end,([0-9]++)\n?\\z"
+most_bytes <- 2^31 - 1  # that R has as one text
+
 # The fields of each kind of line, and how many of them are texts, which stand before the numbers.
 fields_of_kinds <- list(
   animal = c("animal", "word", "fixes"), box = c("animal", "west", "south", "east", "north"),
@@ -13,9 +15,14 @@ fields_of_kinds <- list(
   percent = c("animal", "level", "kept", "corners", "area2"), overlap = c("animal", "other", "count", "fixes")
 )
 texts_of_kinds <- c(animal = 2, box = 1, row = 1, corner = 1, percent = 1, overlap = 2)
+kinds_of_codes <- replace(integer(256), utf8ToInt("abrcpo") + 1, seq_along(fields_of_kinds))  # by a line's first byte
 
 # The text of a report's file.
-report_text <- function(path) text_of_bytes(readBin(path, "raw", file.size(path)), path, "UTF-8")
+report_text <- function(path) {
+  size <- file.size(path)
+  if (size > most_bytes) refuse("report", path, ": it is longer than R can read: take fewer animals at once")
+  text_of_bytes(readBin(path, "raw", size), path, "UTF-8")
+}
 
 # The tables of a report's text, which is refused where it is not a whole report.
 parse_report <- function(text, name = "the report") {
@@ -54,42 +61,40 @@ refuse_line <- function(text, bytes, name) {
   refuse("report", name, ": line ", number, " is none of a report there: ", substr(line, 1, 60))
 }
 
-# The lines of a text that has a report's form, by its bytes: where each ends, the places of those of each kind, where commas are,
-# and how many of them are before each line.
+# The lines of a text that has a report's form, by its bytes: where each ends, the places of those of each kind, where commas
+# are, and how many of them are before each line.
 lines_of_report <- function(text) {
   bytes <- charToRaw(text)
   if (Encoding(text) != "unknown") Encoding(text) <- "bytes"
   ends <- grepRaw(line_ends[1], bytes, fixed = TRUE, all = TRUE)
-  kinds <- match(bytes[c(1L, ends + 1L)[seq_along(ends)]], charToRaw("abrcpo"), nomatch = 0L)  # as in fields_of_kinds
+  kinds <- kinds_of_codes[as.integer(bytes[c(1L, ends + 1L)[seq_along(ends)]]) + 1L]
   commas <- c(1L, lengths(fields_of_kinds))[kinds + 1L]
   list(text = text, bytes = bytes, ends = ends, commas = grepRaw(as.raw(44), bytes, fixed = TRUE, all = TRUE),
        before = cumsum(c(0L, commas))[seq_along(ends)],
        of = lapply(`names<-`(seq_along(fields_of_kinds), names(fields_of_kinds)), function(kind) which(kinds == kind)))
 }
 
-# Where a field of these lines, counted behind the word for their kind, begins and how wide it is.
-fields_at <- function(lines, own, field, is_last) {
-  starts <- lines$commas[lines$before[own] + field] + 1L
-  list(starts = starts, widths = (if (is_last) lines$ends[own] else lines$commas[lines$before[own] + field + 1L]) - starts)
+# Where the fields of the lines of a kind begin, from the first behind the word for it on, and at last where the lines end.
+fields_at <- function(lines, kind) {
+  own <- lines$of[[kind]]
+  before <- lines$before[own]
+  c(lapply(seq_along(fields_of_kinds[[kind]]), function(field) lines$commas[before + field] + 1L), list(lines$ends[own] + 1L))
 }
 
 # The numbers of the lines of a kind, by their names.
 numbers_at <- function(lines, kind) {
   fields <- fields_of_kinds[[kind]]
-  own <- lines$of[[kind]]
+  starts <- fields_at(lines, kind)
   wanted <- setdiff(seq_along(fields), seq_len(texts_of_kinds[[kind]]))
-  columns <- lapply(wanted, function(field) {
-    at <- fields_at(lines, own, field, field == length(fields))
-    field_wholes(lines$bytes, at$starts, at$widths)
-  })
+  columns <- lapply(wanted, function(field) field_wholes(lines$bytes, starts[[field]], starts[[field + 1]] - starts[[field]] - 1L))
   list2DF(`names<-`(columns, fields[wanted]))
 }
 
 # The texts in a field of the lines of a kind.
 texts_at <- function(lines, kind, field) {
-  at <- fields_at(lines, lines$of[[kind]], field, FALSE)
-  if (!length(at$starts)) return(character())
-  texts <- substring(lines$text, at$starts, at$starts + at$widths - 1L)
+  starts <- fields_at(lines, kind)[field + 0:1]
+  if (!length(starts[[1]])) return(character())
+  texts <- substring(lines$text, starts[[1]], starts[[2]] - 2L)
   Encoding(texts) <- "UTF-8"
   texts
 }

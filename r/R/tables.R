@@ -36,7 +36,8 @@ summary.home_range <- function(object, area = "ha", units = FALSE, ...) {
     animal = object$percents$animal, first = object$rows$time[first[place]], last = object$rows$time[last[place]],
     fixes = object$animals$fixes[place], left_out = left_out[place]
   )
-  list2DF(c(columns, as.list(object$percents[c("level", "kept", "corners")]), area_column(object, object$percents$area2, area, units)))
+  areas <- area_column(object, object$percents$area2, area, units)
+  list2DF(c(columns, as.list(object$percents[c("level", "kept", "corners")]), areas))
 }
 
 # A row for each animal and level.

@@ -77,14 +77,19 @@ sort_herd <- function(herd) {
   place <- match(animal, animals)
   is_next <- diff(place) == 0
   later <- diff(records$second[herd$rows])
-  falls <- is_next & (later < 0 | later == 0 & diff(records$part[herd$rows]) < 0)
-  fallen <- tabulate(place[-1][falls], length(animals))
-  if (any(falls)) herd$rows <- herd$rows[order(place, records$second[herd$rows], records$part[herd$rows], method = "radix")]
-  rows <- herd$rows
-  same <- is_next & diff(records$second[rows]) == 0
-  same_place <- same & diff(records$easting[rows]) == 0 & diff(records$northing[rows]) == 0
-  sames <- tabulate(place[-1][same], length(animals))
-  places <- tabulate(place[-1][same_place], length(animals))
+  part <- records$part[herd$rows]
+  same <- which(is_next & later == 0)
+  falls <- c(which(is_next & later < 0), same[part[same + 1] < part[same]])
+  if (length(falls)) {
+    herd$rows <- herd$rows[order(place, records$second[herd$rows], part, method = "radix")]
+    same <- which(is_next & diff(records$second[herd$rows]) == 0)
+  }
+  own <- herd$rows[same]
+  after <- herd$rows[same + 1]
+  is_place <- records$easting[after] == records$easting[own] & records$northing[after] == records$northing[own]
+  fallen <- tabulate(place[falls + 1], length(animals))
+  sames <- tabulate(place[same + 1], length(animals))
+  places <- tabulate(place[same[is_place] + 1], length(animals))
   for (at in seq_along(animals)) tell_order(herd, said_name(herd, animals[at]), fallen[at], sames[at], places[at])
 }
 

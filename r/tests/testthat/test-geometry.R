@@ -46,7 +46,10 @@ test_that("areas are exact", {
   # A thin triangle whose products no double has: 2^27 * (2^27 - 1) - (2^27 - 2) * (2^27 + 1) is 2.
   thin <- rbind(c(0, 0), c(2^27, 2^27 + 1), c(2^27 - 2, 2^27 - 1))
   expect_identical(doubled_area(thin), 2)
-  expect_identical(is_left_turn(2^27, 2^27 + 1, 2^27 - 2, 2^27 - 1), TRUE)
+  # 2^54 - (2^27 - 1) * (2^27 + 1) is 1, and of doubles 0.
+  expect_identical(2^54 - (2^27 - 1) * (2^27 + 1), 0)
+  expect_identical(is_left_turn(2^27, 2^27 - 1, 2^27 + 1, 2^27), TRUE)
+  expect_identical(is_right_turn(2^27 + 1, 2^27, 2^27, 2^27 - 1), TRUE)
 })
 
 # Which places lie in a ring, by the signs of the triangles with its edges.

@@ -1,0 +1,33 @@
+# package.R: what home_range() of the installed package for R takes for tables of walks: seconds of processors, of R and of the
+# program, and the greatest memory that R had for its objects.
+#
+#     Rscript bench/package.R
+suppressMessages(library(homerange))
+
+# A table of walks of so many animals.
+walks <- function(animals, fixes) {
+  set.seed(1)
+  sides <- replicate(2, unlist(lapply(seq_len(animals), function(animal) round(cumsum(rnorm(fixes, 0, 5)), 1))))
+  data.frame(
+    animal = rep(sprintf("animal %d", seq_len(animals)), each = fixes),
+    timestamp = as.POSIXct("2020-01-01", tz = "UTC") + 60 * seq_len(fixes), easting = 562000 + sides[, 1],
+    northing = 5134000 + sides[, 2]
+  )
+}
+
+# The seconds of processors that a call takes, of R and of what it runs.
+seconds_of <- function(call) {
+  time <- system.time(call)
+  c(R = sum(time[c("user.self", "sys.self")]), program = sum(time[c("user.child", "sys.child")]))
+}
+
+for (size in list(c(1, 1e6), c(64, 1e4), c(130, 1e3))) {
+  table <- walks(size[1], size[2])
+  invisible(gc(reset = TRUE))
+  time <- seconds_of(ranges <- home_range(table, quiet = TRUE, progress = FALSE))
+  peak <- sum(gc()[, 6])
+  polygons <- seconds_of(homerange_corners(ranges, 95))
+  overlaps <- seconds_of(homerange_overlap(ranges, level = 95))
+  cat(sprintf("%d animals of %.0f fixes: R %.1f s, program %.1f s, %.0f MB; polygons %.1f s, overlaps at 95 %% %.1f s\n",
+              size[1], size[2], time[["R"]], time[["program"]], peak, polygons[["R"]], overlaps[["R"]]))
+}
