@@ -41,9 +41,10 @@ field_wholes <- function(bytes, starts, widths) {
 digits_before <- function(bytes, ends, widths) {
   wholes <- numeric(length(ends))
   widths <- pmin(widths, most_exact_digits)
+  least <- min(widths)
   for (place in seq_len(max(widths))) {
     codes <- as.integer(bytes[ends - place])
-    if (place > min(widths)) codes <- codes * (widths >= place)
+    if (place > least) codes <- codes * (widths >= place)
     wholes <- wholes + powers_of_ten[place] * codes
   }
   wholes - 48 * cumsum(powers_of_ten)[widths]

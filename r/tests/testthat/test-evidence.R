@@ -266,7 +266,8 @@ test_that("files that are not those of their report or record are refused", {
   }
   expect_error(homerange_evidence(read_report(own$report), into), "evidence needs the fixes", class = "homerange_option_error")
   ranges <- read_report(own$report, files = own$files)
-  refused(homerange_evidence(read_report(own$report, files = own$files[1]), into), "no file has the animal", "homerange_report_error")
+  refused(homerange_evidence(read_report(own$report, files = own$files[1]), into), "no file has the animal",
+          "homerange_report_error")
   lines <- readLines(own$files[2])
   writeLines(sub(",562", ",563", lines), own$files[2])
   refused(read_report(own$report, files = own$files), "the polygon of the file of vixen is not that", "homerange_report_error")
@@ -329,7 +330,8 @@ test_that("what cannot be right is refused, and leaves nothing", {
   expect_error(homerange_evidence(ranges, folder), "is there already", class = "homerange_text_error")
   same <- fixes_by_hand()
   same$animal[6:7] <- "old\\boar"
-  expect_error(homerange_evidence(quietly(home_range(same)), into), "would both be named old_boar", class = "homerange_name_error")
+  expect_error(homerange_evidence(quietly(home_range(same)), into), "would both be named old_boar",
+               class = "homerange_name_error")
   expect_length(list.files(folder), 0)
 })
 

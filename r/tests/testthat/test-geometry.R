@@ -57,8 +57,8 @@ within_directly <- function(places, ring) {
   after <- ring[c(seq_len(nrow(ring))[-1], 1), , drop = FALSE]
   sides <- outer(places[, 2], ring[, 2], "-") * rep(after[, 1] - ring[, 1], each = nrow(places)) -
     outer(places[, 1], ring[, 1], "-") * rep(after[, 2] - ring[, 2], each = nrow(places))
-  in_box <- places[, 1] >= min(ring[, 1]) & places[, 1] <= max(ring[, 1]) & places[, 2] >= min(ring[, 2]) & places[, 2] <= max(ring[, 2])
-  rowSums(sides < 0) == 0 & in_box
+  in_range <- function(side) places[, side] >= min(ring[, side]) & places[, side] <= max(ring[, side])
+  rowSums(sides < 0) == 0 & in_range(1) & in_range(2)
 }
 
 test_that("places within are those by all edges", {

@@ -4,7 +4,9 @@ square <- function(name, side, east = 562000) {
   data.frame(animal = name, second = 0:3, easting = east + c(0, side, side, 0), northing = 5134000 + c(0, 0, side, side))
 }
 
-flat <- function() data.frame(animal = c("one", "two", "two"), second = c(0, 0, 1), easting = c(5, 1, 4) + 562000, northing = 5134000 + c(6, 1, 5))
+flat <- function() {
+  data.frame(animal = c("one", "two", "two"), second = c(0, 0, 1), easting = c(5, 1, 4) + 562000, northing = 5134000 + c(6, 1, 5))
+}
 
 test_that("as.data.frame has a row for each animal and level", {
   skip_without_program()
@@ -94,7 +96,8 @@ test_that("overlaps at a level are those of sf", {
       kept <- kept_directly(own$easting, own$northing, level)
       hull_of(own$easting[kept], own$northing[kept])
     })
-    wanted <- t(vapply(points, function(own) colSums(sf::st_intersects(own, sf::st_sfc(unname(hulls)), sparse = FALSE)), numeric(4)))
+    hulls <- sf::st_sfc(unname(hulls))
+    wanted <- t(vapply(points, function(own) colSums(sf::st_intersects(own, hulls, sparse = FALSE)), numeric(4)))
     colnames(wanted) <- names(points)
     expect_identical(homerange_overlap(ranges, level = level), wanted)
     expect_equal(homerange_overlap(ranges, share = TRUE, level = level), wanted / c(120, 90, 61, 100))
@@ -163,6 +166,7 @@ test_that("a report is written as the program writes it", {
   expect_identical(write_report(ranges, file.path(folder, "written.txt")), file.path(folder, "written.txt"))
   expect_identical(readBin(file.path(folder, "written.txt"), "raw", 1e6), readBin(path, "raw", 1e6))
   odd <- transform(fixes, animal = sub("fox", "fox, red", animal, fixed = TRUE))
-  expect_message(write_report(quietly(home_range(odd)), path), "animal 'fox, red' is named fox_ red", class = "homerange_renamed_note")
+  ranges <- quietly(home_range(odd))
+  expect_message(write_report(ranges, path), "animal 'fox, red' is named fox_ red", class = "homerange_renamed_note")
   expect_identical(read_report(path)$animals$animal[1], "fox_ red")
 })

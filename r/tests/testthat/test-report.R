@@ -32,7 +32,8 @@ test_that("a report is read", {
 
 test_that("lines may end as those of other systems do, and numbers have any digits", {
   path <- written(character())
-  writeLines(enc2utf8(sub("row,NA,2,20,2,0", "row,NA,2,0000000000000000000000020,2,0", square)), path, sep = "\r\n", useBytes = TRUE)
+  lines <- sub("row,NA,2,20,2,0", "row,NA,2,0000000000000000000000020,2,0", square)
+  writeLines(enc2utf8(lines), path, sep = "\r\n", useBytes = TRUE)
   expect_identical(read_report(path)$rows$second, c(10, 20, 30, 40, 5))
   great <- replace(square, 4, "row,NA,2,9007199254740993,2,0")
   expect_identical(read_report(written(great))$rows$second[2], 2^53)
@@ -88,7 +89,8 @@ test_that("a report of the program reads as its run", {
       write_lines(files[at], c("animal,second,easting,northing", lines))
     }
     path <- file.path(folder, "report.txt")
-    writeLines(run_program(homerange_program(), files, ranges$animals$animal, c("--percent", "95,50")), path, sep = "", useBytes = TRUE)
+    text <- run_program(homerange_program(), files, ranges$animals$animal, c("--percent", "95,50"))
+    writeLines(text, path, sep = "", useBytes = TRUE)
     read_report(path)
   })
   expect_equal(summary(report)[-5], summary(ranges)[-5])

@@ -69,6 +69,7 @@ test_that("of reports the overlaps between them are not known", {
 test_that("no evidence is made of parts", {
   skip_without_program()
   ranges <- quietly(home_range(herd_of_three()))
-  expect_error(homerange_evidence(ranges[1], tempfile()), "with all their animals", class = "homerange_option_error")
-  expect_error(homerange_evidence(c(ranges[1], ranges[2]), tempfile()), "with all their animals", class = "homerange_option_error")
+  for (part in list(ranges[1], c(ranges[1], ranges[2]))) {
+    expect_error(homerange_evidence(part, tempfile()), "with all their animals", class = "homerange_option_error")
+  }
 })

@@ -100,7 +100,8 @@ test_that("columns that are joined have to be text", {
   table <- data.frame(id = "a", day = as.Date("2024-05-01"), clock = c("01:00", "02:00"), x = c(1000, 1100), y = 1000)
   refused(table, "row 1: day clock is not text in all columns: make text of them", "time", time = c("day", "clock"))
   table$day <- format(table$day)
-  expect_equal(as.numeric(diff(homerange_curve(suppressMessages(home_range(table, time = c("day", "clock"))))$time), units = "secs"), 3600)
+  times <- homerange_curve(suppressMessages(home_range(table, time = c("day", "clock"))))$time
+  expect_equal(as.numeric(diff(times), units = "secs"), 3600)
 })
 
 test_that("units are turned into metres, and other classes are refused by name", {
