@@ -186,6 +186,13 @@ copy_gpx <- function(path, copy, asked) {
   checksum
 }
 
+# Refuses what cannot be the name of a file that is to be written.
+check_path <- function(path) {
+  if (!is_text(path) || !nzchar(path)) refuse("option", "path: the name of one file is wanted")
+  if (dir.exists(path)) refuse("file", path, " is a folder")
+  if (!dir.exists(dirname(path))) refuse("file", path, ": there is no such folder")
+}
+
 write_lines <- function(path, lines) {
   output <- file(path, "wb")
   on.exit(close(output))

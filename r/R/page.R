@@ -9,7 +9,7 @@ write_page <- function(x, path, title = NULL, study = NULL, species = NULL, by =
                        tz = NULL, made = NULL) {
   local_numbers()
   check_ranges(x)
-  if (!is_text(path) || !nzchar(path)) refuse("option", "path: the name of one file is wanted")
+  check_path(path)
   zone <- if (!is.null(tz)) tz else if (is.null(x$tz)) "UTC" else x$tz
   check_zone_of_time(zone)
   rows <- rows_of_page(x)

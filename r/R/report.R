@@ -234,7 +234,7 @@ with_record <- function(ranges, record) {
 write_report <- function(x, path) {
   local_numbers()
   check_ranges(x)
-  if (!is_text(path) || !nzchar(path)) refuse("option", "path: the name of one file is wanted")
+  check_path(path)
   if (anyNA(x$overlaps)) refuse("option", "x: these are ranges of several reports, whose overlaps are not known")
   animals <- x$animals$animal
   names <- names_of_files(animals)

@@ -6,6 +6,9 @@ tables_of_animals <- c("animals", "rows", "corners", "percents", "fixes", "left_
 `[.home_range` <- function(x, i) {
   if (missing(i)) return(x)
   known <- x$animals$animal
+  if (is.factor(i)) i <- as.character(i)
+  is_place <- !is.numeric(i) || all(i %% 1 == 0)
+  if (!is_place %in% TRUE) refuse("option", "there is no animal at this place")
   names <- if (is.character(i)) i else known[i]
   odd <- setdiff(names, known)
   if (length(odd)) refuse("option", "there is no animal ", if (is.na(odd[1])) "at this place" else odd[1])

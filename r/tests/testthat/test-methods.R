@@ -165,6 +165,11 @@ test_that("a report is written as the program writes it", {
   expect_equal(status, 0)
   expect_identical(write_report(ranges, file.path(folder, "written.txt")), file.path(folder, "written.txt"))
   expect_identical(readBin(file.path(folder, "written.txt"), "raw", 1e6), readBin(path, "raw", 1e6))
+  for (write in list(write_report, write_page)) {
+    expect_error(write(ranges, file.path(folder, "none", "x")), "none/x: there is no such folder$", class = "homerange_file_error")
+    expect_error(write(ranges, folder), " is a folder$", class = "homerange_file_error")
+    expect_error(write(ranges, NA), "path: the name of one file", class = "homerange_option_error")
+  }
   odd <- transform(fixes, animal = sub("fox", "fox, red", animal, fixed = TRUE))
   ranges <- quietly(home_range(odd))
   expect_message(write_report(ranges, path), "animal 'fox, red' is named fox_ red", class = "homerange_renamed_note")

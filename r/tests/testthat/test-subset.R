@@ -25,6 +25,9 @@ test_that("what is no animal is refused", {
   refused(report[4], "there is no animal at this place")
   refused(report[c("fox", "fox")], "fox is named twice")
   refused(report[character()], "no animal is named")
+  refused(report[1.5], "there is no animal at this place")
+  expect_identical(report[factor("otter")]$animals$animal, "otter")
+  expect_identical(report[-1]$animals$animal, c("badger", "otter"))
 })
 
 test_that("several home ranges together are those of one table, with their overlaps", {
