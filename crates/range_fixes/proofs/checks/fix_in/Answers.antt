@@ -12,3 +12,6 @@ returns-then-falls c = search rules
 
 pub returns : goal.returns
 returns c = search rules
+
+pub returns-in_err-second : goal.returns-in_err-second
+returns-in_err-second c = search rules

@@ -57,3 +57,6 @@ returns-clause-within g c =
 
 pub returns-clause-named : goal.returns-clause-named
 returns-clause-named g c = search rules
+
+pub returns-then-read-gt-FIX_LIMIT-clause-taken : goal.returns-then-read-gt-FIX_LIMIT-clause-taken
+returns-then-read-gt-FIX_LIMIT-clause-taken g c = search rules
