@@ -1,6 +1,11 @@
+use Rattle.std.proofs.Common.{rules, sym, ◌∙◌}
 use Rattle.range_collect.proofs.pairing.followed.Goals as goal
 
 pub invariant_of-result : goal.invariant_of-result
 invariant_of-result g c =
     let known = c.requires.result in
-    record { result = record { marked = λ is. cc; gone = known.gone; some = λ read is running. known.some read (cc) running } }
+    let closed = sym c.closed-marked.ensures in
+    record { result = record { marked = λ is. closed ∙ is; gone = known.gone; some = λ read is running. known.some read (closed ∙ is) running } }
+
+pub returns-clause-seen : goal.returns-clause-seen
+returns-clause-seen g c = record { marked = c.closed-marked.ensures; own = search rules; lawful = search rules; estimate = search rules }

@@ -1,4 +1,4 @@
-use Rattle.std.proofs.Common.{◌≡◌, ℕ, List, map, Contains, length, sym, subst, ap, ◌∙◌, refl, vec_len, ◌+◌, ◌*◌}
+use Rattle.std.proofs.Common.{◌≡◌, ℕ, List, map, Contains, length, sym, subst, ap, ◌∙◌, refl, vec_len, ◌+◌, ◌*◌, rules}
 use Rattle.std.proofs.lemmas.List.FromFn.{length-map-range_with_len}
 use Rattle.std.proofs.lemmas.List.Sorted.{IsPermutation-refl}
 use Rattle.std.specs.List.Sorted.{IsPermutation}
@@ -87,3 +87,6 @@ returns-in_default-clause-count g c =
     let count : length (map (λ (f : FeederView). f.file) c.settle-later.result.feeders.items) ≡ vec_len c.loop.estimators =
     ap length order ∙ length-map-range_with_len (λ (j : ℕ). n.first + j * n.step) 0 (vec_len c.loop.estimators) in
     sym count ∙ (map_length (λ (f : FeederView). f.file) c.settle-later.result.feeders.items ∙ sym c.settle-later.result.feeders.ok.0)
+
+pub returns-in_default-clause-feeders : goal.returns-in_default-clause-feeders
+returns-in_default-clause-feeders g c = search rules
