@@ -1,4 +1,4 @@
-use Rattle.std.proofs.Common.{◌≡◌, ap, subst, List}
+use Rattle.std.proofs.Common.{◌≡◌, ap, subst, List, rules}
 use Rattle.range_plane.specs.Plane.{Position}
 use Rattle.range_pieces.specs.Pieces.{IsCut}
 use Rattle.range_pieces.specs.PointList.{Content}
@@ -15,3 +15,6 @@ returns-else-c-eq0 g c =
       (λ t. absurd (away (eqb-true c.args.c.piece 0 t))),
       (λ e. absurd (away (is_first c.args.self.now.pieces c.args.c cut c.requires e))),
     )
+
+pub returns-then-c-eq0 : goal.returns-then-c-eq0
+returns-then-c-eq0 g c = search rules

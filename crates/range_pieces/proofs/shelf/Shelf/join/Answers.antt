@@ -1,4 +1,4 @@
-use Rattle.std.proofs.Common.{◌≡◌, ◌∙◌, ap, ◌+◌, ◌∷◌, ◌++◌, ◌<◌, [], length, take, drop, set, get_or, List, arith}
+use Rattle.std.proofs.Common.{◌≡◌, ◌∙◌, ap, ◌+◌, ◌∷◌, ◌++◌, ◌<◌, [], length, take, drop, set, get_or, List, arith, rules}
 use Rattle.std.proofs.lemmas.List.{get_or_read}
 use Rattle.std.proofs.lemmas.List.Edits.{get_or-remove_below, length-remove}
 use Rattle.range_plane.specs.Plane.{Position}
@@ -26,3 +26,6 @@ returns-clause-pieces g c =
     ∙ set_remove xs i c.append.new.self within
     ∙ ap (λ (b : List Position). take i xs ++ b ∷ drop (i + 2) xs) both
     ∙ ap (λ (zs : List (List Position)). take i zs ++ (piece zs i ++ piece zs (i + 1)) ∷ drop (i + 2) zs) same
+
+pub returns-clause-free : goal.returns-clause-free
+returns-clause-free g c = search rules
