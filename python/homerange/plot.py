@@ -24,6 +24,16 @@ if TYPE_CHECKING:
 AROUND = (1.25, 0.9)  # inches of a new figure around its axes, across and up
 
 
+def check_axes(axes: Any, facets: bool) -> None:
+    """Refuses what are no axes, and axes beside panels."""
+    if axes is None:
+        return
+    if facets:
+        refuse("facets make a figure of their own: leave ax out")
+    if not hasattr(axes, "get_xlim"):
+        refuse(f"ax={axes!r} are no axes of matplotlib")
+
+
 def new_axes(width: float, height: float, texts: Sequence[str], animals: int) -> Any:
     """Axes of so many points in a new figure, with room for the key."""
     from matplotlib import pyplot
@@ -145,8 +155,7 @@ def plot_curve(
     """
     if by not in ("fix", "date"):
         refuse(f"by={by!r} is neither 'fix' nor 'date'")
-    if facets and ax is not None:
-        refuse("facets make a figure of their own: leave ax out")
+    check_axes(ax, facets)
     drawn = drawn_animals(ranges, animals, colours)
     lines = [Line(ranges, animal, by, share) for animal in drawn]
     clock = Clock(ranges.tz, (second for line in lines for second in (line.seconds[0], line.seconds[-1])))
@@ -252,8 +261,7 @@ def plot_ranges(
 
     Answers as plot_curve does. The numbers at polygons are those of the key, which has the area of the highest level.
     """
-    if facets and ax is not None:
-        refuse("facets make a figure of their own: leave ax out")
+    check_axes(ax, facets)
     levels, drawn = levels_of_map(level), drawn_animals(ranges, animals, colours)
     shapes, rings = shapes_of(ranges, drawn, levels, fixes), rings_over(ranges, over)
     if facets:
