@@ -50,6 +50,17 @@ def _kept(track: pandas.DataFrame, level: int) -> pandas.DataFrame:
     return track.iloc[kept_places(track["easting"].tolist(), track["northing"].tolist(), level)]
 
 
+def count_inside(track: Any, polygon: Corners) -> int:
+    """How many fixes of a track a polygon covers, its edges included. Coordinates are below 2 ** 28, so that all products are
+    whole numbers of 64 bits."""
+    east, north = track["easting"].to_numpy("int64"), track["northing"].to_numpy("int64")
+    eastings, northings = zip(*polygon)
+    is_in = (min(eastings) <= east) & (east <= max(eastings)) & (min(northings) <= north) & (north <= max(northings))
+    for (e, n), (next_e, next_n) in zip(polygon, [*polygon[1:], polygon[0]]):
+        is_in &= (next_e - e) * (north - n) >= (next_n - n) * (east - e)
+    return int(is_in.sum())
+
+
 class HomeRanges:
     """The home ranges of some animals: what the program reported, in hectares and metres.
 
@@ -202,13 +213,18 @@ class HomeRanges:
         curve["hectares"] = curve.pop("area2") / UNITS[self.unit].hectare
         return self._by_group(curve)
 
-    def overlap(self, share: bool = False) -> pandas.DataFrame:
+    def overlap(self, share: bool = False, level: int = 100) -> pandas.DataFrame:
         """How many of the fixes of the row's animal lie in the polygon of the column's, its edges included; with
-        ``share`` which share of its fixes, 0 to 1. All fixes of an animal lie in its own polygon."""
+        ``share`` which share of its fixes, 0 to 1. At 100 per cent these are the program's counts, and all fixes of an
+        animal lie in its own polygon. For a lower level the package counts all fixes of the row's animal in the polygon of
+        that level of the column's, by whole numbers; that needs the fixes."""
         if not isinstance(share, bool):
             refuse(f"share={share!r} is neither True nor False")
         fixes = {name: len(table.rows) for name, table in self._report.tables.items()}
-        counts = {**self._report.overlaps, **{(name, name): count for name, count in fixes.items()}}
+        if self._level(level) == 100:
+            counts = {**self._report.overlaps, **{(name, name): count for name, count in fixes.items()}}
+        else:
+            counts = self._overlaps_at(level)
         matrix = pandas.DataFrame(
             [[counts[name, other] for other in fixes] for name in fixes],
             index=pandas.Index(fixes, name="fixes_of"), columns=pandas.Index(fixes, name="in_range_of"))
@@ -223,6 +239,14 @@ class HomeRanges:
             tables = self._report.tables if level == 100 else self._kept_tables(level)
             self._corners[level] = {name: table.corners for name, table in tables.items()}
         return {name: self._in_metres(points) for name, points in self._corners[level].items()}
+
+    def _overlaps_at(self, level: int) -> dict[tuple[str, str], int]:
+        """The counts of the fixes of each animal in the polygon of each."""
+        self.corners(level)
+        polygons = self._corners[level]
+        tracks = {} if self._tracks is None else self._tracks.by_name
+        return {(name, other): count_inside(track, polygon)
+                for name, track in tracks.items() for other, polygon in polygons.items()}
 
     def _level(self, level: Any) -> int:
         """A level of these ranges."""

@@ -82,6 +82,26 @@ def test_overlaps_are_those_of_shapely(herd):
             assert shares.loc[name, other] == inside / len(points)
 
 
+def test_overlaps_of_a_level_are_those_of_the_fixes_that_it_keeps(herd):
+    for level in (50, 95):
+        counts, shares = herd.overlap(level=level), herd.overlap(share=True, level=level)
+        for other, others in HERD.items():
+            polygon = hull(nearest(others, level))
+            for name, points in HERD.items():
+                inside = sum(covers(polygon, point) if len(polygon) > 2 else point in polygon for point in points)
+                assert counts.loc[name, other] == inside
+                assert shares.loc[name, other] == inside / len(points)
+    with pytest.raises(FrameError, match="level 60 is none"):
+        herd.overlap(level=60)
+
+
+def test_a_line_covers_what_lies_on_it():
+    line = [(0, 0), (100, 50), (40, 20)]
+    # 67 per cent of three fixes are 2.01, so all three are kept; they lie in one line.
+    found = home_range(frame_of(a=line, b=[(20, 10), (20, 11), (0, 0), (60, 30)]), levels=67).overlap(level=67)
+    assert found.loc["b", "a"] == 3
+
+
 def test_edges_belong_to_a_polygon():
     found = home_range(frame_of(a=SQUARE, b=[(100, 0), (200, 200), (100, 100), (201, 100)])).overlap()
     assert found.loc["b", "a"] == 3
