@@ -133,14 +133,20 @@ class Layers:
         if {*there} != {*wanted, STYLES} or listed != {*wanted, STYLES} or {*there.values()} != {"table"}:
             names = ", ".join(sorted(({*there} | listed) - {STYLES})) or "none"
             return f"{self.path.name} has other layers ({names}) than {', '.join(wanted)}"
+        told = "SELECT table_name FROM gpkg_contents WHERE identifier <> table_name OR description <> ''"
+        described = base.execute(told).fetchone()
+        if described:
+            return f"the layer {described[0]} of {self.path.name} has a description, and such files have none"
         faults = (self.system_fault(base, name) or self.columns_fault(base, name) for name in wanted)
         return next(filter(None, faults), None) or self.style_fault(base, wanted) or (
             self.ranges_fault(base) if "ranges" in wanted else None) or self.fixes_fault(base)
 
     def style_fault(self, base: Connection, wanted: Sequence[str]) -> str | None:
         """How the layers are drawn in another way than in all such files."""
-        rows = base.execute(f"SELECT f_table_name, styleQML, styleSLD FROM {STYLES}").fetchall()
-        own = [(name, (beside.PACKAGE / f"{name}.qml").read_text("utf-8"), "") for name in wanted]
+        columns = "f_table_name, f_geometry_column, styleName, styleQML, styleSLD, useAsDefault, description, ui"
+        rows = base.execute(f"SELECT {columns} FROM {STYLES}").fetchall()
+        own = [(name, "geom", "homerange", (beside.PACKAGE / f"{name}.qml").read_text("utf-8"), "", 1, "homerange", None)
+               for name in wanted]
         return None if sorted(map(str, rows)) == sorted(map(str, own)) else (
             f"{self.path.name} has another style than such files have: it could show other things than it has")
 

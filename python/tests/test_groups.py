@@ -77,6 +77,15 @@ def test_ranges_by_a_series_which_goes_by_its_index(frame):
     assert found == areas(home_range(frame, 100, by=sex.reindex(frame.index)))
 
 
+def test_groups_are_of_the_fixes_that_filters_leave(frame):
+    marked = frame.assign(visible=[at % 5 != 0 for at in range(80)])
+    sex = pandas.Series(["a", "b"] * 40, index=frame.index)
+    with pytest.warns(HomeRangeNote, match="16 outliers: left out"):
+        found = areas(home_range(marked, 100, by=sex, months=(3, 4, 5, 6)))
+    rest = frame[marked["visible"] & frame["timestamp"].dt.month.isin((3, 4, 5, 6))]
+    assert found == hectares_of(rest, sex[rest.index])
+
+
 def test_numbers_are_groups_by_their_digits(frame):
     found = home_range(frame, 100, by=frame["timestamp"].dt.year).summary()
     assert {*found["group"]} == {"2022", "2023", "2024", "2025"}

@@ -156,6 +156,16 @@ def _(hand):
     hand.sealed_sql(("UPDATE layer_styles SET styleQML = replace(styleQML, 'alpha=\"1\"', 'alpha=\"0\"')",))
 
 
+@forgery("a description in ranges.gpkg", "the layer ranges of ranges.gpkg has a description, and such files have none")
+def _(hand):
+    hand.sealed_sql(("UPDATE gpkg_contents SET description = 'Bor: 900 ha' WHERE table_name = 'ranges'",))
+
+
+@forgery("another form of a layer in ranges.gpkg", "ranges.gpkg has another style than such files have")
+def _(hand):
+    hand.sealed_sql(("UPDATE layer_styles SET ui = '<ui/>'",))
+
+
 @forgery("a second style in ranges.gpkg", "ranges.gpkg has another style than such files have")
 def _(hand):
     hand.sealed_sql(("INSERT INTO layer_styles (f_table_name, styleQML, styleSLD) VALUES ('ranges', '', '')",))

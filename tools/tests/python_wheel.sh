@@ -56,6 +56,9 @@ assert len(homerange.read_export("export.csv")) == 8' "$top/python/tests"
     "$HOMERANGE" wheel/tracks/*.csv >wheel/direct
     holds 'homerange-herd' installed homerange-herd run tracks herd
     holds 'its report is that of one run' cmp wheel/direct wheel/away/herd/report.txt
+    holds 'a number of jobs that is none is refused' [ "$(installed env JOBS=x homerange-herd run tracks herd 2>&1)" = \
+        'homerange-herd: JOBS=x is not a number from 1' ]
+    holds 'homerange-herd goes on' installed homerange-herd run tracks herd
     holds 'homerange-check' installed sh -c 'homerange-check herd/report.txt tracks/*.csv'
     holds 'homerange-evidence' installed homerange-evidence hand-in tracks
     holds 'homerange-verify' installed homerange-verify hand-in "$top/examples/export.csv"

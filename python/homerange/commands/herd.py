@@ -194,8 +194,9 @@ def call(script: str, words: Sequence[str], program: str) -> int:
 def run(out: str, program: str) -> bool:
     """Makes the runs of a plan, several at once; answers whether all are there."""
     steps = [line.split(" ") for line in lines_of(Path(out, "steps"))]
-    jobs = int(os.environ.get("JOBS") or os.cpu_count() or 1)
-    with ThreadPoolExecutor(jobs) as pool:
+    jobs = os.environ.get("JOBS") or str(len(os.sched_getaffinity(0)))
+    need(jobs.isdecimal() and int(jobs), f"JOBS={jobs} is not a number from 1")
+    with ThreadPoolExecutor(int(jobs)) as pool:
         return not any(pool.map(lambda groups: call("step.sh", [out, *groups], program), steps))
 
 
