@@ -5,7 +5,7 @@ from __future__ import annotations
 import argparse
 from typing import NoReturn
 
-from . import __version__
+from . import beside
 from .findings import one_line
 
 
@@ -14,7 +14,7 @@ class Options(argparse.ArgumentParser):
 
     def __init__(self, name: str, about: str | None) -> None:
         super().__init__(prog=name, description=about, formatter_class=argparse.RawDescriptionHelpFormatter, allow_abbrev=False)
-        self.add_argument("--version", action="version", version=f"{name} {__version__}")
+        self.add_argument("--version", action="version", version=f"homerange for Python {beside.version()}")
 
     def error(self, message: str) -> NoReturn:
         self.exit(2, f"{self.prog}: {one_line(message)}\n")

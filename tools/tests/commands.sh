@@ -50,7 +50,7 @@ said" ]
 # All that has a version has that of the program.
 version=$("$HOMERANGE" --version | sed 's/^homerange \([0-9.]*\).*/\1/')
 holds 'the program has a version' [ -n "$version" ]
-for has in "python/homerange/__init__.py:__version__ = \"$version\"" "python/homerange_verifier/__init__.py:__version__ = \"$version\"" \
+for has in "python/homerange/__init__.py:__version__ = \"$version\"" \
     "r/DESCRIPTION:Version: $version" "qgis/homerange/metadata.txt:version=$version"; do
     holds "${has%%:*} has the version of the program" grep -qxF -- "${has#*:}" "$top/${has%%:*}"
 done

@@ -69,6 +69,10 @@ assert len(homerange.read_export("export.csv")) == 8' "$top/python/tests"
         skip "homerange-ranges: $(tail -n 1 errors)"
     fi
 
+    for command in split ranges corners herd evidence verify check; do
+        holds "version of homerange-$command" [ "$(installed homerange-$command --version)" = 'homerange for Python 1.0.0' ]
+    done
+
     printf x >>"$package/release/homerange"
     installed homerange-corners 95 fox.csv >wheel/own 2>wheel/said
     holds 'a program that was changed does not run' [ $? -eq 1 ]

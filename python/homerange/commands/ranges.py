@@ -16,7 +16,6 @@ import argparse
 import os
 import signal
 import sys
-from importlib.util import find_spec
 from pathlib import Path
 from typing import Any
 
@@ -27,9 +26,8 @@ from ..exports import split_text
 from ..program import program_of
 from .options import Options, program_of_command, show_all
 from .split import add_options
-from .tables import TYPED, add_page_options, write_results
+from .tables import TYPED, add_page_options, check_libraries, write_results
 
-NEEDED = ("geopandas", "matplotlib")
 OWN = {"export", "into", "percent", "over", "clock", *TYPED}  # options that are not those of the split
 
 
@@ -51,9 +49,7 @@ def read_options(name: str) -> argparse.Namespace:
 
 def check_call(options: argparse.Namespace) -> None:
     """Refuses files that cannot be read, and a machine without what is needed."""
-    missing = [module for module in NEEDED if find_spec(module) is None]
-    if missing:
-        raise HomeRangeError(f"it needs {' and '.join(NEEDED)}: apt-get install python3-geopandas python3-matplotlib")
+    check_libraries()
     zone_of_time(options.clock or "UTC")
     for path in (options.export, options.over):
         if path is not None and not os.access(path, os.R_OK):

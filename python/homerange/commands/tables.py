@@ -19,6 +19,7 @@ from __future__ import annotations
 
 import argparse
 import sys
+from importlib.util import find_spec
 from pathlib import Path
 from typing import TYPE_CHECKING, Callable
 
@@ -32,9 +33,16 @@ if TYPE_CHECKING:
     from ..ranges import HomeRanges
 
 MANY = 12  # animals whose curves are drawn into one picture at most
+NEEDED = ("geopandas", "matplotlib")
 TYPED = {
     "title": "the title of the page", "study": "the study that the page names",
     "species": "the species that the page names", "by": "who made the page"}
+
+
+def check_libraries() -> None:
+    """Refuses a machine without what tables, layers and pictures need."""
+    if any(find_spec(module) is None for module in NEEDED):
+        raise HomeRangeError(f"it needs {' and '.join(NEEDED)}: apt-get install python3-geopandas python3-matplotlib")
 
 
 def add_page_options(parser: argparse.ArgumentParser) -> None:
@@ -112,6 +120,7 @@ def main(name: str = "homerange-tables") -> None:
     parser.add_argument("--tz", default="UTC", metavar="ZONE", help="the zone of dates on the page [default: UTC]")
     options = parser.parse_args()
     try:
+        check_libraries()
         write_results(options.folder, options, options.tz, lambda line: print(f"{name}: {line}", file=sys.stderr), options.zone)
     except (HomeRangeError, OSError, ValueError) as fault:
         sys.exit(f"{name}: {fault}")
