@@ -36,9 +36,12 @@ if is_r_ready; then
     mkdir installed
     holds 'the package for R is installed from the clone' R CMD INSTALL --library=installed "$top/r"
     holds 'it has the released program in it' cmp "$top/release/homerange" installed/homerange/bin/homerange
-    holds 'which it runs' env -u HOMERANGE R_LIBS="$PWD/installed" Rscript -e 'library(homerange)
-        ranges <- home_range(deer, quiet = TRUE)
-        stopifnot(ranges$program$path == system.file("bin", "homerange", package = "homerange"))'
+    cat >own.R <<'END'
+library(homerange)
+ranges <- home_range(deer, quiet = TRUE)
+stopifnot(ranges$program$path == system.file("bin", "homerange", package = "homerange"))
+END
+    holds 'which it runs' env -u HOMERANGE R_LIBS="$PWD/installed" Rscript own.R
     echo >>installed/homerange/bin/homerange
     holds 'and not another that was put there' is_refused env -u HOMERANGE R_LIBS="$PWD/installed" \
         Rscript -e 'homerange::homerange_program()'
