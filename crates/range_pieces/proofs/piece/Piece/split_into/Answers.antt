@@ -1,5 +1,5 @@
-use Rattle.std.proofs.lemmas.Grind.{common_steps}
 use Rattle.std.proofs.Common.{arith}
+use Rattle.std.proofs.lemmas.Grind.{common_steps}
 use Rattle.range_pieces.proofs.piece.Piece.split_into.Goals as goal
 
 pub invariant_of-other : goal.invariant_of-other

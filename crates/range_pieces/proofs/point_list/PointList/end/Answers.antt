@@ -1,5 +1,5 @@
-use Rattle.std.proofs.lemmas.Grind.{common_steps}
 use Rattle.std.proofs.Common.{arith}
+use Rattle.std.proofs.lemmas.Grind.{common_steps}
 use Rattle.range_pieces.proofs.point_list.PointList.end.Goals as goal
 
 pub returns-clause-place : goal.returns-clause-place

@@ -1,5 +1,5 @@
-use Rattle.std.proofs.lemmas.Grind.{common_steps}
 use Rattle.std.proofs.Common.{arith}
+use Rattle.std.proofs.lemmas.Grind.{common_steps}
 use Rattle.range_pieces.proofs.point_list.PointList.to_vec.Goals as goal
 
 pub loop-i-preserved : goal.loop-i-preserved
