@@ -6,7 +6,7 @@
 ``home_range`` takes a data frame of fixes (a location with its time) and has the program make the minimum convex polygon
 of each animal, its percent polygons, its table of incremental area analysis, and the overlaps. ``read_report`` reads a
 report that the program made elsewhere. Both answer with ``HomeRanges``; ``plot_curve`` and ``plot_ranges`` draw it,
-``write_page`` writes a page to hand in, and ``share_inside`` says how much of each range lies in a reserve.
+``write_layers`` writes a GeoPackage, ``write_page`` a page to hand in, and ``share_inside`` says how much of each range lies in a reserve.
 ``read_export`` makes a data frame of an export of Movebank or of a collar. docs/TABLES.md says how frames and exports are
 read.
 
@@ -28,6 +28,7 @@ from .errors import (
 )
 
 if TYPE_CHECKING:
+    from .layers import write_layers
     from .page import write_page
     from .plot import plot_curve, plot_ranges
     from .ranges import HomeRanges, home_range, read_export, read_report, share_inside
@@ -36,7 +37,7 @@ __version__ = "1.0.0"
 __all__ = [
     "CutError", "FileError", "FrameError", "HomeRangeError", "HomeRangeInfo", "HomeRangeNote", "HomeRanges", "OptionError",
     "OutOfMemoryError", "OutputError", "ProgramError", "ReportError", "home_range", "plot_curve", "plot_ranges",
-    "read_export", "read_report", "share_inside", "write_page",
+    "read_export", "read_report", "share_inside", "write_layers", "write_page",
 ]
 DRAWN = ("plot_curve", "plot_ranges")
 
@@ -45,9 +46,10 @@ def __getattr__(name: str) -> Any:
     """What needs pandas is loaded when it is first asked for: tables of text are read without it."""
     if name not in __all__:
         raise AttributeError(f"module 'homerange' has no attribute {name!r}")
-    from . import page, plot, ranges
+    from . import layers, page, plot, ranges
 
-    return getattr(page if name == "write_page" else plot if name in DRAWN else ranges, name)
+    places = {"write_layers": layers, "write_page": page, **dict.fromkeys(DRAWN, plot)}
+    return getattr(places.get(name, ranges), name)
 
 
 def __dir__() -> list[str]:

@@ -13,7 +13,8 @@ import numpy
 import pandas
 
 from .asked import UNITS
-from .ranges import HomeRanges, times_of
+from .errors import path_of
+from .ranges import HomeRanges, tell, times_of
 
 if TYPE_CHECKING:
     import geopandas
@@ -59,41 +60,41 @@ def placed(layer: geopandas.GeoDataFrame) -> geopandas.GeoDataFrame:
 def polygons_of(ranges: HomeRanges) -> geopandas.GeoDataFrame:
     """The polygons of all levels, those of an animal together, with its times and the unit."""
     polygons, summary = ranges.polygons(ranges.levels), ranges.summary()
-    polygons = polygons.sort_values("animal", key=lambda names: names.map(ranges.animals.index), kind="stable")
-    times = summary.drop_duplicates("animal").set_index("animal")
-    ends = {title: polygons["animal"].map(times[title].dt.tz_convert("UTC")) for title in ("first", "last")}
-    found = polygons.assign(**ends, unit=ranges.unit)
-    return found[["animal", "level", "fixes", "kept", "corners", "hectares", "first", "last", "unit", "geometry"]]
+    levels, animals = len(ranges.levels), len(ranges.animals)
+    ends = {title: summary[title].dt.tz_convert("UTC").iloc[::levels].tolist() * levels for title in ("first", "last")}
+    order = numpy.arange(levels * animals).reshape(levels, animals).T.ravel()
+    shapes = polygons.pop("geometry")
+    return polygons.assign(**ends, unit=ranges.unit).set_geometry(shapes).iloc[order]
 
 
-def fixes_of(ranges: HomeRanges) -> pandas.DataFrame:
+def fixes_of(ranges: HomeRanges, tracks: dict[str, pandas.DataFrame]) -> pandas.DataFrame:
     """The fixes, numbered by the order of time, with their places in metres."""
-    assert ranges.tracks is not None
-    tracks = ranges.tracks.by_name
     own = pandas.concat(tracks.values(), keys=tracks.keys(), names=["animal", None]).reset_index("animal")
     scale, (east, north) = UNITS[ranges.unit].per_metre, ranges.shift
-    return own.reset_index(drop=True).assign(
+    found = own.reset_index(drop=True).assign(
         n=numpy.concatenate([numpy.arange(1, len(track) + 1) for track in tracks.values()]),
         time=lambda table: times_of(table["second"], "UTC"),
         easting=own["easting"].to_numpy() / scale - east, northing=own["northing"].to_numpy() / scale - north)
+    return ranges.by_group(found.drop(columns="second"))
 
 
-def write_fixes(ranges: HomeRanges, path: Path) -> None:
+def write_fixes(fixes: pandas.DataFrame, crs: object, path: Path) -> None:
     """Writes the layer of fixes: GDAL makes it of the first, and the others are put behind it, since one by one they take
     150 microseconds each."""
     import geopandas
 
-    own = fixes_of(ranges)
-    first = own.iloc[:1]
+    titles = [title for title in fixes if title not in ("easting", "northing")]
+    first, rest = fixes.iloc[:1], fixes.iloc[1:]
     points = geopandas.points_from_xy(first["easting"], first["northing"])
-    layer = geopandas.GeoDataFrame(first[["animal", "n", "time"]], geometry=points, crs=ranges.crs)
-    placed(layer).to_file(path, driver="GPKG", layer="fixes", SPATIAL_INDEX="NO")
+    placed(geopandas.GeoDataFrame(first[titles], geometry=points, crs=crs)).to_file(
+        path, driver="GPKG", layer="fixes", SPATIAL_INDEX="NO")
+    columns = ", ".join(f'"{title}"' for title in titles)
     with closing(sqlite3.connect(path)) as base:
         system, = base.execute("SELECT srs_id FROM gpkg_geometry_columns WHERE table_name = 'fixes'").fetchone()
-        rest = own.iloc[1:]
-        rows = zip(shapes_of(rest, system), rest["animal"], rest["n"].tolist(), times_text(rest["time"]))
-        base.executemany("INSERT INTO fixes (geom, animal, n, time) VALUES (?, ?, ?, ?)", rows)
-        box = [float(end(own[title])) for end in (min, max) for title in ("easting", "northing")]
+        cells = [times_text(rest[title]) if title == "time" else rest[title].tolist() for title in titles]
+        row = f"INSERT INTO fixes (geom, {columns}) VALUES (?{', ?' * len(titles)})"
+        base.executemany(row, zip(shapes_of(rest, system), *cells))
+        box = [float(end(fixes[title])) for end in (min, max) for title in ("easting", "northing")]
         base.execute("UPDATE gpkg_contents SET min_x = ?, min_y = ?, max_x = ?, max_y = ? WHERE table_name = 'fixes'", box)
         base.commit()
 
@@ -123,7 +124,7 @@ def write_styles(path: Path, layers: list[str]) -> None:
         base.commit()
 
 
-def write_layers(ranges: HomeRanges, path: Path) -> list[str]:
+def put_layers(ranges: HomeRanges, path: Path) -> list[str]:
     """Writes the layer of polygons that have an area, and that of fixes where these are known; answers which polygons have
     none."""
     polygons = polygons_of(ranges)
@@ -134,9 +135,18 @@ def write_layers(ranges: HomeRanges, path: Path) -> list[str]:
     with without_date():
         if "ranges" in written:
             placed(polygons[has_area]).to_file(path, driver="GPKG", layer="ranges")
-        if "fixes" in written:
-            write_fixes(ranges, path)
+        if ranges.tracks is not None:
+            write_fixes(fixes_of(ranges, ranges.tracks.by_name), ranges.crs, path)
     if written:
         write_styles(path, written)
-    return [f"not in {path.name}, since they have no area at {level} %: {', '.join(names)}"
+    return [f"not in {path.name}, since they have no area at {level} %: {', '.join(dict.fromkeys(names))}"
             for level, names in flat.items() if len(names)]
+
+
+def write_layers(ranges: HomeRanges, path: str | os.PathLike[str]) -> None:
+    """Writes a GeoPackage for a GIS, in place of what is there: the layer ``ranges``, with a polygon for each animal and level
+    that has an area (``animal``, ``level``, ``fixes``, ``kept``, ``corners``, ``hectares``, ``first`` and ``last`` in UTC, and
+    ``unit``); the layer ``fixes`` (``animal``, ``n``, ``time``), where they are known; and how QGIS draws both. Ranges by
+    groups have a column ``group`` in both. Without a reference system it is an undefined one of metres. Two runs write the
+    same bytes. Which polygons have no area is said in warnings. Wants geopandas."""
+    tell(put_layers(ranges, path_of(path, "path")))

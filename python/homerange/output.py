@@ -124,9 +124,9 @@ def write_folder(ranges: HomeRanges, into: str | os.PathLike[str], page: Mapping
         found = ranges_in(folder, ranges, tracks, names, wish.program)
         write_tables(found, folder)
         if find_spec("geopandas"):
-            from .layers import write_layers
+            from .layers import put_layers
 
-            said.extend(write_layers(found, folder / "ranges.gpkg"))
+            said.extend(put_layers(found, folder / "ranges.gpkg"))
         write_page(found, folder / "report.html", **page)
 
     new_folder(path, fill)

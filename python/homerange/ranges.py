@@ -125,9 +125,9 @@ class HomeRanges:
         titles = ["animal", "first", "last", "fixes", "left_out", "level", "kept", "corners", "hectares"]
         summary = pandas.DataFrame(rows, columns=titles)
         times = {title: self._times(summary[title]) for title in ("first", "last")}
-        return self._by_group(summary.assign(**times, left_out=summary["left_out"].astype("Int64")))
+        return self.by_group(summary.assign(**times, left_out=summary["left_out"].astype("Int64")))
 
-    def _by_group(self, table: pandas.DataFrame) -> pandas.DataFrame:
+    def by_group(self, table: pandas.DataFrame) -> pandas.DataFrame:
         """A table with a column of animals, which where ranges are by groups gets one of groups behind it."""
         if self.groups:
             known = [self.groups[name] for name in table["animal"]]
@@ -174,7 +174,7 @@ class HomeRanges:
         for level in self.levels:
             table[f"hectares_{level}"] = [self._hectares(row.percents[level].area2) for row in rows]
         levelling = self._levelling(rows).drop(columns=["animal", "fixes", "hectares"])
-        return self._by_group(pandas.concat([pandas.DataFrame(table), levelling], axis="columns"))
+        return self.by_group(pandas.concat([pandas.DataFrame(table), levelling], axis="columns"))
 
     def levelling(self) -> pandas.DataFrame:
         """Whether the area of all fixes levelled off with their number (incremental area analysis, Harris et al. 1990),
@@ -183,7 +183,7 @@ class HomeRanges:
         that; ``last_tenth`` and ``last_quarter``, the share of it that the last tenth and the last quarter of the fixes
         added (0 to 1), all missing where there is no area; and ``verdict``: 'too few fixes' where there are less than 30,
         or no area, 'levelled off' where the last quarter added less than 5 per cent, else 'still growing'."""
-        return self._by_group(self._levelling(self.rows()))
+        return self.by_group(self._levelling(self.rows()))
 
     def _levelling(self, rows: Sequence[Row]) -> pandas.DataFrame:
         found = [row.levelling for row in rows]
@@ -211,7 +211,7 @@ class HomeRanges:
         curve = pandas.DataFrame(rows, columns=["animal", "n", "time", "corners", "area2"])
         curve["time"] = self._times(curve["time"])
         curve["hectares"] = curve.pop("area2") / UNITS[self.unit].hectare
-        return self._by_group(curve)
+        return self.by_group(curve)
 
     def overlap(self, share: bool = False, level: int = 100) -> pandas.DataFrame:
         """How many of the fixes of the row's animal lie in the polygon of the column's, its edges included; with
@@ -321,7 +321,7 @@ class HomeRanges:
             shape = shapes.get(len(points), geometry.Polygon)(points)
             rows.append((name, level, len(self._report.tables[name].rows), kept, count, self._hectares(area2), shape))
         titles = ["animal", "level", "fixes", "kept", "corners", "hectares", "geometry"]
-        table = self._by_group(pandas.DataFrame(rows, columns=titles))
+        table = self.by_group(pandas.DataFrame(rows, columns=titles))
         return geopandas.GeoDataFrame(table, geometry="geometry", crs=self.crs)
 
     def evidence(self, folder: str | os.PathLike[str], **page: Any) -> None:

@@ -4,13 +4,14 @@ import time
 from contextlib import closing
 from pathlib import Path
 
+import pandas
 import pytest
 from exact import area2, cloud, hull, nearest
-from frames import frame_of
+from frames import frame_of, noted
 
 import homerange
-from homerange import home_range
-from homerange.layers import write_layers
+from homerange import home_range, write_layers
+from homerange.layers import put_layers
 
 geopandas = pytest.importorskip("geopandas")
 SQUARE = [(500000, 5000000), (500100, 5000000), (500100, 5000100), (500000, 5000100)]
@@ -27,7 +28,7 @@ def herd():
 
 
 def test_polygons_of_all_levels_stand_in_one_layer(herd, tmp_path):
-    said = write_layers(home_range(frame_of(**herd), (50, 95), zone="33N"), tmp_path / "ranges.gpkg")
+    said = put_layers(home_range(frame_of(**herd), (50, 95), zone="33N"), tmp_path / "ranges.gpkg")
     assert said == ["not in ranges.gpkg, since they have no area at 50 %: one",
                     "not in ranges.gpkg, since they have no area at 95 %: one"]
     layer = geopandas.read_file(tmp_path / "ranges.gpkg", layer="ranges")
@@ -42,7 +43,7 @@ def test_polygons_of_all_levels_stand_in_one_layer(herd, tmp_path):
 
 
 def test_fixes_are_numbered_with_their_times(herd, tmp_path):
-    write_layers(home_range(frame_of(**herd), 100), tmp_path / "ranges.gpkg")
+    put_layers(home_range(frame_of(**herd), 100), tmp_path / "ranges.gpkg")
     layer = geopandas.read_file(tmp_path / "ranges.gpkg", layer="fixes")
     assert [*layer.columns] == ["animal", "n", "time", "geometry"]
     for name, points in herd.items():
@@ -60,7 +61,7 @@ def test_times_are_those_of_utc(tmp_path):
     frame["timestamp"] = ["2024-05-01 00:00:02", "2024-05-01 01:00", "2024-05-01 02:00", "2024-05-01 03:00"]
     with pytest.warns(homerange.HomeRangeNote, match="without a zone are those of UTC"):
         ranges = home_range(frame, 100, tz="Europe/Ljubljana")
-    write_layers(ranges, tmp_path / "ranges.gpkg")
+    put_layers(ranges, tmp_path / "ranges.gpkg")
     assert query(tmp_path / "ranges.gpkg", "SELECT first, last FROM ranges") == [
         ("2024-05-01T00:00:02.000Z", "2024-05-01T03:00:00.000Z")]
     assert query(tmp_path / "ranges.gpkg", "SELECT time FROM fixes WHERE n < 3") == [
@@ -69,13 +70,13 @@ def test_times_are_those_of_utc(tmp_path):
 
 def test_times_after_2262_are_missing(tmp_path):
     frame = frame_of(a=SQUARE).drop(columns="timestamp").assign(second=[0, 1, 2, 2 ** 40])
-    write_layers(home_range(frame, 100), tmp_path / "ranges.gpkg")
+    put_layers(home_range(frame, 100), tmp_path / "ranges.gpkg")
     assert query(tmp_path / "ranges.gpkg", "SELECT first, last FROM ranges") == [("1970-01-01T00:00:00.000Z", None)]
     assert query(tmp_path / "ranges.gpkg", "SELECT time FROM fixes WHERE n = 4") == [(None,)]
 
 
 def test_without_a_reference_system_it_is_an_undefined_one_of_metres(tmp_path):
-    write_layers(home_range(frame_of(a=SQUARE), 100), tmp_path / "ranges.gpkg")
+    put_layers(home_range(frame_of(a=SQUARE), 100), tmp_path / "ranges.gpkg")
     assert query(tmp_path / "ranges.gpkg", "SELECT table_name, srs_id FROM gpkg_contents WHERE data_type = 'features'") == [
         ("ranges", -1), ("fixes", -1)]
     assert geopandas.read_file(tmp_path / "ranges.gpkg", layer="fixes").crs.axis_info[0].unit_name.lower() in ("meter", "metre")
@@ -83,24 +84,54 @@ def test_without_a_reference_system_it_is_an_undefined_one_of_metres(tmp_path):
 
 def test_two_runs_write_the_same_bytes(herd, tmp_path):
     for name in ("one.gpkg", "two.gpkg"):
-        write_layers(home_range(frame_of(**herd), 100, zone="33N"), tmp_path / name)
+        put_layers(home_range(frame_of(**herd), 100, zone="33N"), tmp_path / name)
         time.sleep(1.1)
     assert (tmp_path / "one.gpkg").read_bytes() == (tmp_path / "two.gpkg").read_bytes()
 
 
 def test_each_layer_has_its_style(tmp_path):
-    write_layers(home_range(frame_of(a=SQUARE), 100), tmp_path / "ranges.gpkg")
+    put_layers(home_range(frame_of(a=SQUARE), 100), tmp_path / "ranges.gpkg")
     styles = query(tmp_path / "ranges.gpkg", "SELECT f_table_name, f_geometry_column, styleQML, useAsDefault FROM layer_styles")
     folder = Path(homerange.__file__).parent
     assert styles == [(name, "geom", (folder / f"{name}.qml").read_text("utf-8"), 1) for name in ("ranges", "fixes")]
 
 
 def test_ranges_without_an_area_have_their_fixes_alone(tmp_path):
-    write_layers(home_range(frame_of(a=[(1, 2), (3, 4)]), 100), tmp_path / "ranges.gpkg")
+    put_layers(home_range(frame_of(a=[(1, 2), (3, 4)]), 100), tmp_path / "ranges.gpkg")
     assert query(tmp_path / "ranges.gpkg", "SELECT table_name FROM gpkg_contents") == [("fixes",), ("layer_styles",)]
 
 
 def test_what_was_there_is_gone(tmp_path):
     (tmp_path / "ranges.gpkg").write_bytes(b"x")
-    write_layers(home_range(frame_of(a=SQUARE), 100), tmp_path / "ranges.gpkg")
+    put_layers(home_range(frame_of(a=SQUARE), 100), tmp_path / "ranges.gpkg")
     assert query(tmp_path / "ranges.gpkg", "SELECT count(*) FROM fixes") == [(4,)]
+
+
+def test_ranges_by_groups_have_a_column_of_groups(tmp_path):
+    frame = frame_of(fox=cloud(4, 40), otter=cloud(5, 40))
+    groups = pandas.Series(["b", "a"] * 40)
+    ranges = home_range(frame, (50, 100), by=groups)
+    write_layers(ranges, tmp_path / "ranges.gpkg")
+    layer = geopandas.read_file(tmp_path / "ranges.gpkg", layer="ranges")
+    assert [*layer.columns[:3]] == ["animal", "group", "level"]
+    assert [*zip(layer["animal"], layer["group"], layer["level"])] == [
+        (animal, group, level) for animal in ("fox", "otter") for group in "ba" for level in (50, 100)]
+    for row in layer[layer["level"] == 100].itertuples():
+        own = frame[(frame["animal"] == row.animal) & (groups == row.group)]
+        assert row.hectares == area2(hull([*zip(own["easting"], own["northing"])])) / 20000
+        assert (row.first, row.last) == (own["timestamp"].iloc[0], own["timestamp"].iloc[-1])
+    fixes = geopandas.read_file(tmp_path / "ranges.gpkg", layer="fixes")
+    assert [*fixes.columns[:3]] == ["animal", "group", "n"] and fixes["n"].tolist() == [*range(1, 21)] * 4
+    own = frame[(frame["animal"] == "otter") & (groups == "a")]
+    found = fixes[(fixes["animal"] == "otter") & (fixes["group"] == "a")]
+    assert [(point.x, point.y) for point in found.geometry] == [*zip(own["easting"], own["northing"])]
+
+
+def test_write_layers_says_what_has_no_area(tmp_path):
+    ranges = home_range(frame_of(a=SQUARE, b=[(500000, 5000000)]), (50, 100))
+    with pytest.warns(homerange.HomeRangeNote) as notes:
+        write_layers(ranges, tmp_path / "ranges.gpkg")
+    assert noted(notes) == ["not in ranges.gpkg, since they have no area at 50 %: a, b",
+                            "not in ranges.gpkg, since they have no area at 100 %: b"]
+    with pytest.raises(homerange.FrameError, match="path=5 is no path"):
+        write_layers(ranges, 5)

@@ -86,7 +86,7 @@ def write_results(
     program: str | None = None,
 ) -> None:
     """Writes all that is made of a report into its folder; the page has what its options say."""
-    from ..layers import write_layers
+    from ..layers import put_layers
     from ..output import write_tables
     from ..page import write_page
 
@@ -95,7 +95,7 @@ def write_results(
     if ranges.crs is None:
         say("no reference system is known: that of ranges.gpkg is an undefined one of metres")
     write_tables(ranges, folder)
-    for line in write_layers(ranges, folder / "ranges.gpkg"):
+    for line in put_layers(ranges, folder / "ranges.gpkg"):
         say(line)
     write_pictures(ranges, folder)
     write_page(
