@@ -16,4 +16,4 @@ def test_the_example_runs(tmp_path, monkeypatch, capsys):
     exec(example, {})
     assert "hectares" in capsys.readouterr().out
     assert {path.name for path in tmp_path.iterdir()} == {"examples", "curve.png", "ranges.png", "ranges.gpkg"}
-    assert geopandas.read_file("ranges.gpkg")["kept"].tolist() == [600, 1140]  # of 1200 fixes
+    assert geopandas.read_file("ranges.gpkg", layer="ranges")["kept"].tolist() == [600, 1140, 1200]  # of 1200 fixes
