@@ -76,11 +76,13 @@ homerange_overlap <- function(x, share = FALSE, level = 100) {
 
 # The same counts of the polygons of a lower level, by the exact place of each fix.
 overlaps_at_level <- function(ranges, level) {
-  rings <- whole_rings(ranges, level)
-  tracks <- split(ranges$fixes, factor(ranges$fixes$animal, ranges$animals$animal))
-  counts_in <- function(ring) vapply(tracks, function(own) sum(is_within(own$easting, own$northing, ring)), 0)
-  counts <- vapply(rings, counts_in, numeric(length(tracks)))
-  matrix(counts, length(tracks), dimnames = list(names(tracks), names(tracks)))
+  names <- ranges$animals$animal
+  number <- length(names)
+  fixes <- ranges$fixes
+  animal <- match(fixes$animal, names)
+  counts_in <- function(ring) tabulate(animal[is_within(fixes$easting, fixes$northing, ring)], number)
+  counts <- vapply(whole_rings(ranges, level), counts_in, numeric(number))
+  matrix(counts, number, dimnames = list(names, names))
 }
 
 # The corners of each animal's polygon in metres.
