@@ -1,5 +1,5 @@
-# Names of version 1.0.0 that stay for one version. What is no home range goes to the function that the session has without this
-# package, such as that of sp or ctmm.
+# Old names, which version 1.0.0 has for the last time. What is no home range goes to the function that the session has without
+# this package, such as that of sp or ctmm.
 
 old_name <- function(new, old) .Deprecated(new, "homerange", old = old)
 
