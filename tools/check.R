@@ -98,13 +98,38 @@ overlap_lines <- function(tracks) {
   })))
 }
 
+titles_known <- c("animal", "second", "easting", "northing")
+
+# The used fixes of a file, which has to be one of the fixes of one animal.
 read_fixes <- function(path) {
+  check_file(path)
+  table <- tryCatch(
+    suppressWarnings(utils::read.csv(path, na.strings = character(), colClasses = "character", fileEncoding = "UTF-8-BOM",
+                                     check.names = FALSE)),
+    error = function(fault) NULL
+  )
+  titles <- if (is.null(table$use)) titles_known else c(titles_known, "use")
+  if (!identical(names(table), titles)) fail(path, " does not begin with the titles of a file of fixes")
+  numbers <- unlist(table[-1])
+  is_right <- all(validUTF8(table$animal)) && all(grepl("^[0-9]+$", numbers)) && all(table$use %in% c("0", "1"))
+  if (!nrow(table) || length(unique(table$animal)) > 1 || !is_right) fail(path, " is no file of the fixes of one animal")
+  if (!is.null(table$use)) table <- table[table$use == "1", ]
+  for (column in titles_known[-1]) table[[column]] <- as.numeric(table[[column]])
+  table
+}
+
+check_file <- function(path) {
   if (!file.exists(path)) fail("there is no file ", path)
-  fixes <- read.csv(path, na.strings = "", colClasses = c(animal = "character"), fileEncoding = "UTF-8-BOM")
-  if (!all(c("animal", "second", "easting", "northing") %in% names(fixes))) fail(path, " is no file of fixes")
-  if (!is.null(fixes$use)) fixes <- fixes[fixes$use == 1, ]
-  for (column in c("second", "easting", "northing")) fixes[[column]] <- as.numeric(fixes[[column]])
-  fixes
+  if (dir.exists(path)) fail(path, " is a folder")
+}
+
+# Refuses levels and units that there are not.
+check_words <- function(arguments) {
+  levels <- strsplit(paste0(arguments$percent, ","), ",", fixed = TRUE)[[1]]
+  if (!is.null(arguments$percent) && (length(levels) > 8 || !all(grepl("^(100|[1-9][0-9]?)$", levels)))) {
+    fail("--percent ", arguments$percent, ": up to eight levels from 1 to 100 are wanted, such as 50,95,100", status = 2)
+  }
+  if (!is.null(arguments$unit) && !arguments$unit %in% c("m", "dm")) fail("--unit ", arguments$unit, ": m or dm is wanted", status = 2)
 }
 
 # Whether all products of these fixes are exact: areas and distances are sums of such.
@@ -136,11 +161,14 @@ read_arguments <- function(words) {
 }
 
 arguments <- read_arguments(commandArgs(trailingOnly = TRUE))
+check_words(arguments)
 report <- arguments$files[1]
-if (!file.exists(report)) fail("there is no file ", report)
+check_file(report)
 found <- strsplit(gsub("\r", "<CR>", readChar(report, file.size(report), useBytes = TRUE), fixed = TRUE, useBytes = TRUE), "\n", fixed = TRUE, useBytes = TRUE)[[1]]
 Encoding(found) <- "UTF-8"
 tracks <- lapply(arguments$files[-1], read_fixes)
+animals <- vapply(tracks, function(track) track$animal[1], "")
+if (anyDuplicated(animals)) fail("two files have the animal ", animals[duplicated(animals)][1])
 if (!all(vapply(tracks, is_exact, NA))) fail("numbers of these files are not exact in R: take check.py", status = 3)
 unit <- if (is.null(arguments$unit)) if (identical(found[1], "unit,dm")) "dm" else "m" else arguments$unit
 first <- paste0("percent,", tracks[[1]]$animal[1], ",")

@@ -8,6 +8,7 @@ import argparse
 import itertools
 import re
 import sys
+from collections import Counter
 from pathlib import Path
 
 from .findings import one_line
@@ -41,6 +42,9 @@ def levels_of(lines: list[str], name: str) -> str:
 def check(options: argparse.Namespace) -> bool:
     """Whether a report is what the files come to."""
     tracks = list(map(read_track, options.files))
+    twice = [name for name, count in Counter(track.name for track in tracks).items() if count > 1]
+    if twice:
+        raise Fault(f"two files have the animal {shown(twice[0])}")
     found = options.report.read_bytes().decode("latin-1").split("\n")
     if found.pop():
         raise Fault("the last line of the report has no end")

@@ -54,6 +54,36 @@ holds 'levels are said' grep -qx 'in metres, at the levels 1,50,99,100' said
 holds 'a level that is missing' \
     is_refused "$tools/check.py" --percent 1,50,95,99,100 fewer fox.csv badger.csv otter.csv
 
+# What cannot be checked is refused in one line, by both.
+: >nothing
+printf 'a,b\n1,2\n' >titles.csv
+printf 'animal,second,easting,northing\nfox,1,2,x\n' >number.csv
+printf 'animal,second,easting,northing\nfox,1,2,3\nhare,1,2,3\n' >two.csv
+refuses_check() {
+    wanted=$1
+    shift
+    "$@" >said 2>errors
+    ended=$?
+    holds "refused: $*" [ "$ended" -eq "$wanted" ]
+    holds "refused in one line: $*" [ "$(wc -l <errors)" -eq 1 ]
+    holds "nothing is said of lines: $*" [ ! -s said ]
+}
+refuses_all() {
+    refuses_check 1 "$@" nothing fox.csv
+    for file in nothing titles.csv number.csv two.csv none.csv .; do
+        refuses_check 1 "$@" direct "$file"
+    done
+    refuses_check 1 "$@" . fox.csv
+    refuses_check 1 "$@" direct fox.csv fox.csv
+    refuses_check 2 "$@" --percent 0 direct fox.csv
+    refuses_check 2 "$@" --percent 95,abc direct fox.csv
+    refuses_check 2 "$@" --unit ft direct fox.csv
+}
+refuses_all python3 "$tools/check.py"
+if is_here Rscript 'refusals of check.R'; then
+    refuses_all Rscript "$tools/check.R"
+fi
+
 if is_here Rscript 'check.R'; then
     Rscript "$tools/check.R" direct fox.csv badger.csv otter.csv >said
     count=$(wc -l <direct)

@@ -41,13 +41,13 @@ def refuse(text: str) -> NoReturn:
 
 def read(path: str) -> list[Fix]:
     """The records of a file that are used."""
-    with open(path, encoding="utf-8-sig", newline="") as file:
+    with open(path, encoding="utf-8-sig", errors="surrogateescape", newline="") as file:
         rows = [row for row in csv.DictReader(file) if row.get("use", "1") == "1"]
     return [(row["animal"], int(row["second"]), int(row["easting"]), int(row["northing"])) for row in rows]
 
 
 def write_marked(path: Path, fixes: list[Fix], used: set[int]) -> None:
-    with open(path, "w", encoding="utf-8", newline="\n") as file:
+    with open(path, "w", encoding="utf-8", errors="surrogateescape", newline="\n") as file:
         print(*COLUMNS, "use", sep=",", file=file)
         for at, fix in enumerate(fixes):
             print(*fix, int(at in used), sep=",", file=file)
