@@ -28,6 +28,27 @@ class Bar:
         self.width = len(text)
 
 
+class Log:
+    """What a command of this name says on standard error: lines, and on a terminal what it is at."""
+
+    def __init__(self, name: str) -> None:
+        self.name, self.bar = name, Bar() if sys.stderr.isatty() else None
+
+    def say(self, line: str, by: str | None = None) -> None:
+        """Says a line, which is by another command where that is named."""
+        self.clear()
+        print(f"{by or self.name}: {line}", file=sys.stderr)
+
+    def at(self, text: str) -> None:
+        self.clear()
+        if self.bar:
+            self.bar.show(f"{self.name}: {text} ..")
+
+    def clear(self) -> None:
+        if self.bar and self.bar.width:
+            self.bar.show("")
+
+
 def progress_of(wish: Any) -> Callable[[int, int], object] | None:
     """What is called as runs are done: what was given, a bar on a terminal, or nothing."""
     if callable(wish):

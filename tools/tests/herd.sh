@@ -28,6 +28,10 @@ holds 'what it is not in is not made again' [ "$(stat -c %y herd/reports/0000.tx
 "$HOMERANGE" --unit dm --percent 95 tracks/*.csv >direct
 holds 'a herd runs with options' $herd --unit dm --percent 95
 holds 'other options are run anew' cmp direct herd/report.txt
+script -qec "$herd --unit dm --percent 95" /dev/null >shown 2>&1
+holds 'on a terminal it says how many runs are made' grep -q 'run.sh: 3 of 3 runs' shown
+holds 'elsewhere it does not' is_refused sh -c "$herd 2>&1 | grep -q 'of 3 runs'"
+$herd --unit dm --percent 95 2>errors
 holds 'options may stand before the folders' "$tools/herd/run.sh" --unit dm --percent=95 tracks herd
 holds 'the report is the same' cmp direct herd/report.txt
 rm tracks/deer0006?.csv tracks/deer0004?.csv

@@ -43,6 +43,11 @@ report.html
 report.txt
 summary.csv
 tracks" ]
+    script -qec "'$make' '$top/examples/export.csv' plan/shown" /dev/null >shown 2>&1
+    holds 'on a terminal it says what it is at' grep -q 'drawing pictures' shown
+    "$make" "$top/examples/export.csv" plan/silent 2>silent
+    holds 'elsewhere it does not' is_refused grep -q 'drawing pictures' silent
+    rm -r plan/shown plan/silent
     holds 'its checksums hold in the folder' sh -c 'cd plan/first && sha256sum -c --strict SHA256SUMS'
     holds 'no file names the half folder' is_refused grep -rF first.part plan/first
     holds 'it is verified' verify_ranges plan/first "$top/examples/export.csv"

@@ -27,6 +27,7 @@ from itertools import chain, combinations_with_replacement
 from pathlib import Path
 from typing import Callable, Iterator, Sequence
 
+from ..bar import progress_of
 from ..errors import HomeRangeError, ReportError, one_line
 from ..program import CLONE, PACKAGE
 from ..record import difference_from_record, record_in
@@ -196,8 +197,14 @@ def run(out: str, program: str) -> bool:
     steps = [line.split(" ") for line in lines_of(Path(out, "steps"))]
     jobs = os.environ.get("JOBS") or str(len(os.sched_getaffinity(0)))
     need(jobs.isdecimal() and int(jobs), f"JOBS={jobs} is not a number from 1")
+    shown = progress_of(None)
+    faults = 0
     with ThreadPoolExecutor(int(jobs)) as pool:
-        return not any(pool.map(lambda groups: call("step.sh", [out, *groups], program), steps))
+        for done, status in enumerate(pool.map(lambda groups: call("step.sh", [out, *groups], program), steps), 1):
+            faults += status != 0
+            if shown:
+                shown(done, len(steps))
+    return not faults
 
 
 def folders_of(words: Sequence[str]) -> list[str]:

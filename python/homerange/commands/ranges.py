@@ -20,6 +20,7 @@ from pathlib import Path
 from typing import Any
 
 from ..asked import zone_of_time
+from ..bar import Log
 from ..errors import FrameError, HomeRangeError, OptionError, one_line
 from ..evidence import Wish, make_report, new_folder
 from ..exports import split_text
@@ -56,16 +57,15 @@ def check_call(options: argparse.Namespace) -> None:
             raise HomeRangeError(f"{one_line(str(path))} cannot be read")
 
 
-def fill(folder: Path, options: argparse.Namespace, name: str, program: str) -> None:
+def fill(folder: Path, options: argparse.Namespace, log: Log, program: str) -> None:
     """Makes all in a folder, in which it works, so that nothing has the folder's name."""
-    def say(line: str) -> None:
-        print(f"{name}: {line}", file=sys.stderr)
-
     os.chdir(folder)
+    log.at("reading the export")
     wishes: dict[str, Any] = {own.replace("_", "-"): value for own, value in vars(options).items() if own not in OWN}
-    split_text(str(options.export), "tracks", wishes, lambda line: print(f"split: {line}", file=sys.stderr))
+    split_text(str(options.export), "tracks", wishes, lambda line: log.say(line, by="split"))
+    log.at("running the program")
     make_report(Path(), Wish(options.percent, None, program_of(program)))
-    write_results(Path(), options, options.clock or options.tz or "UTC", say, program=program)
+    write_results(Path(), options, options.clock or options.tz or "UTC", log, program=program)
 
 
 def make(options: argparse.Namespace, name: str) -> None:
@@ -73,7 +73,11 @@ def make(options: argparse.Namespace, name: str) -> None:
     check_call(options)
     program, into = program_of_command(), options.into.absolute()
     options.export, options.over = options.export.resolve(), options.over and options.over.resolve()
-    new_folder(into, lambda folder: fill(folder, options, name, program))
+    log = Log(name)
+    try:
+        new_folder(into, lambda folder: fill(folder, options, log, program))
+    finally:
+        log.clear()
 
 
 def status_of(fault: HomeRangeError) -> int:

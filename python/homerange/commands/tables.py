@@ -21,9 +21,10 @@ import argparse
 import sys
 from importlib.util import find_spec
 from pathlib import Path
-from typing import TYPE_CHECKING, Callable
+from typing import TYPE_CHECKING
 
 from ..asked import zone_of_time
+from ..bar import Log
 from ..errors import HomeRangeError, refuse
 from ..record import difference_from_record, record_in
 from ..zones import crs_of, zone_of
@@ -82,8 +83,7 @@ def write_pictures(ranges: HomeRanges, folder: Path) -> None:
 
 
 def write_results(
-    folder: Path, page: argparse.Namespace, tz: str, say: Callable[[str], None], zone: str | None = None,
-    program: str | None = None,
+    folder: Path, page: argparse.Namespace, tz: str, log: Log, zone: str | None = None, program: str | None = None,
 ) -> None:
     """Writes all that is made of a report into its folder; the page has what its options say."""
     from ..layers import put_layers
@@ -91,13 +91,17 @@ def write_results(
     from ..page import write_page
 
     zone_of_time(tz)
+    log.at("reading the report")
     ranges = read_ranges(folder, zone and crs_of(zone_of(zone)), program)
     if ranges.crs is None:
-        say("no reference system is known: that of ranges.gpkg is an undefined one of metres")
+        log.say("no reference system is known: that of ranges.gpkg is an undefined one of metres")
+    log.at("writing tables and layers")
     write_tables(ranges, folder)
     for line in put_layers(ranges, folder / "ranges.gpkg"):
-        say(line)
+        log.say(line)
+    log.at("drawing pictures")
     write_pictures(ranges, folder)
+    log.at("writing the page")
     write_page(
         ranges, folder / "report.html", **{name: getattr(page, name) for name in TYPED}, tz=tz,
         reserve=boundary_in(page.over), reserve_name=page.over and page.over.stem)
@@ -118,9 +122,12 @@ def main(name: str = "homerange-tables") -> None:
     parser.add_argument("--zone", metavar="33N", help="the UTM zone; without it that of the record of the tracks")
     add_page_options(parser)
     parser.add_argument("--tz", default="UTC", metavar="ZONE", help="the zone of dates on the page [default: UTC]")
-    options = parser.parse_args()
+    options, log = parser.parse_args(), Log(name)
     try:
         check_libraries()
-        write_results(options.folder, options, options.tz, lambda line: print(f"{name}: {line}", file=sys.stderr), options.zone)
+        write_results(options.folder, options, options.tz, log, options.zone)
     except (HomeRangeError, OSError, ValueError) as fault:
-        sys.exit(f"{name}: {fault}")
+        log.say(str(fault))
+        sys.exit(1)
+    finally:
+        log.clear()
