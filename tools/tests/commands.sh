@@ -47,6 +47,37 @@ fi
 holds 'nothing was made' [ "$(LC_ALL=C ls commands)" = "errors
 said" ]
 
+# A command that is ended by a signal says so by its status, and leaves nothing, neither where it makes something nor in
+# the folder for what is temporary.
+if [ -n "$python" ]; then
+    mkdir -p commands/temporary
+    cat >commands/slow <<END
+#!/bin/sh
+[ "\$1" = --version ] || { : >'$PWD/commands/waits'; sleep 5; }
+exec '$HOMERANGE' "\$@"
+END
+    chmod +x commands/slow
+    for call in "evidence.py commands/made $top/examples/fox.csv" "corners.py 95 $top/examples/fox.csv"; do
+        for signal in INT:130 TERM:143 HUP:129; do
+            rm -f commands/waits
+            # A shell has its calls behind it not hear INT.
+            # shellcheck disable=SC2086
+            TMPDIR=$PWD/commands/temporary HOMERANGE=$PWD/commands/slow env --default-signal=INT \
+                python3 "$tools"/$call >commands/said 2>commands/errors &
+            waiting=$!
+            for _ in $(seq 100); do
+                [ ! -e commands/waits ] || break
+                sleep 0.1
+            done
+            kill -"${signal%:*}" "$waiting"
+            wait "$waiting"
+            holds "${call%% *} ended by ${signal%:*} says so" [ $? -eq "${signal#*:}" ]
+            holds "it leaves nothing: ${call%% *}, ${signal%:*}" [ -z "$(ls commands/temporary)$(ls -d commands/made* 2>errors)" ]
+            holds "it says nothing: ${call%% *}, ${signal%:*}" [ ! -s commands/errors ]
+        done
+    done
+fi
+
 # All that has a version has that of the program.
 version=$("$HOMERANGE" --version | sed 's/^homerange \([0-9.]*\).*/\1/')
 holds 'the program has a version' [ -n "$version" ]

@@ -5,6 +5,7 @@ from __future__ import annotations
 import argparse
 import io
 import os
+import signal
 import subprocess
 import sys
 from typing import NoReturn, TextIO
@@ -14,10 +15,17 @@ from ..errors import one_line
 from ..program import CLONE, find_program
 
 
+def end_by_signals() -> None:
+    """Has INT, TERM and HUP end a command by a status, and not at once, so that nothing temporary is left."""
+    for number in (signal.SIGINT, signal.SIGTERM, signal.SIGHUP):
+        signal.signal(number, lambda number, _: sys.exit(128 + number))
+
+
 class Options(argparse.ArgumentParser):
     """Options of a command of this name; what is wrong with them is said in one line, and with status 2."""
 
     def __init__(self, name: str, about: str | None, said_by: str | None = None) -> None:
+        end_by_signals()
         super().__init__(prog=name, description=about, formatter_class=argparse.RawDescriptionHelpFormatter, allow_abbrev=False)
         self.said_by = said_by or name
         self.add_argument("--version", action="version", version=f"homerange for Python {__version__}")

@@ -14,7 +14,6 @@ from __future__ import annotations
 
 import argparse
 import os
-import signal
 import sys
 from pathlib import Path
 from typing import Any
@@ -89,8 +88,6 @@ def status_of(fault: HomeRangeError) -> int:
 def main(name: str = "homerange-ranges") -> None:
     options = read_options(name)
     show_all(sys.stderr)
-    for number in (signal.SIGTERM, signal.SIGHUP):
-        signal.signal(number, lambda *_: sys.exit(143))
     try:
         make(options, name)
     except HomeRangeError as fault:
@@ -98,5 +95,3 @@ def main(name: str = "homerange-ranges") -> None:
         sys.exit(status_of(fault))
     except (OSError, ValueError) as fault:
         sys.exit(f"{name}: {one_line(str(fault))}")
-    except KeyboardInterrupt:
-        sys.exit(130)
