@@ -346,6 +346,8 @@ class Frame:
         if wished is None or len(self.table.columns.time) != 1:
             return
         title, series = (own[self.table.columns.time[0]] for own in self.columns)
+        if pandas.api.types.is_datetime64_any_dtype(series.dtype):
+            return
         texts = series.dropna().astype(str)
         if self.table.times.is_second and texts.str.fullmatch("[0-9.]*").all():
             refuse(f"{wished}: numbers of a column 'second' have no calendar: make times of them, as by "

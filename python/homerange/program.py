@@ -115,11 +115,12 @@ def steps_of(names: Sequence[str]) -> list[tuple[Sequence[str], ...]]:
 
 
 def workers(jobs: int | None) -> ThreadPoolExecutor:
-    """Threads that call programs, as many as there are processors for this process, or as were wished. What they call is
-    kept to so many processors."""
+    """Threads that call programs, as many as there are processors for this process, or as were wished: then what they call
+    is kept to so many processors."""
     own = sorted(os.sched_getaffinity(0))
-    wished = len(own) if jobs is None else jobs
-    return ThreadPoolExecutor(wished, initializer=os.sched_setaffinity, initargs=(0, own[:wished]))
+    if jobs is None:
+        return ThreadPoolExecutor(len(own))
+    return ThreadPoolExecutor(jobs, initializer=os.sched_setaffinity, initargs=(0, own[:jobs]))
 
 
 class Runs:
