@@ -22,9 +22,11 @@ is_down() {
     [ "$(sinfo --noheader --Node --format=%t | grep -c down)" -eq 1 ]
 }
 
-# A program that waits for the file `go` in the herd's folder before it runs. Its file there has its number.
+# A program that waits for the file `go` in the herd's folder before it runs, but where a plan asks it for its options. Its
+# file there has its number.
 write_patient() {
-    printf '#!/bin/sh\nmine=waiting.${SLURM_ARRAY_TASK_ID:-0}\n' >patient
+    printf '#!/bin/sh\ncase $* in *"-- /dev/null") exec "%s" "$@" ;; esac\n' "$HOMERANGE" >patient
+    printf 'mine=waiting.${SLURM_ARRAY_TASK_ID:-0}\n' >>patient
     printf 'echo $$ >$mine\nuntil [ -e go ]; do sleep 0.1; done\nexec "%s" "$@"\n' "$HOMERANGE" >>patient
     chmod +x patient
 }
