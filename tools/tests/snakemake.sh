@@ -51,7 +51,8 @@ if is_here snakemake 'herds by Snakemake'; then
     holds 'Snakemake runs with a new track, other options and a new program' engine --cores 2
     "$HOMERANGE" --percent 90 'my tracks'/*.csv >direct
     holds 'the new herd by Snakemake is one direct run' cmp direct 'my herd/report.txt'
-    holds 'the new program made each run' [ "$(wc -l <called)" -eq 3 ]
+    # The plan asks it once for its options.
+    holds 'the new program made each run' [ "$(wc -l <called)" -eq 4 ]
 
     # A track that changed and was not planned, and one that is planned and cannot be right.
     sed -i 's/deer00040/deer00000/' 'my tracks/deer00040.csv'
