@@ -70,7 +70,7 @@ done
 : >told
 for call in first second third; do
     JOBS=4 "$tools/herd/run.sh" tracks herd >written 2>>told
-    holds "a herd with bad tracks: the status of the $call call" [ $? -eq 123 ]
+    holds "a herd with bad tracks: the status of the $call call" [ $? -eq 1 ]
     wanted_lines >>unsorted
 done
 holds 'a herd with bad tracks has no report' [ ! -e herd/report.txt ]
