@@ -67,7 +67,7 @@ trap 'exit 130' INT
 trap 'exit 143' TERM
 copy || fail 'its sources cannot be copied'
 sum=$(top=$room/copy && sum_sources && echo "$sum")
-say 'building the proved program; the first time takes half an hour'
+say 'building the proved program; docs/GATE.md has how long it takes'
 begin=$(date +%s)
 : >"$room/log"
 (cd "$room/copy" && exec rt ci "$@") </dev/null >>"$room/log" 2>&1 9<&- &

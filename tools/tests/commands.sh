@@ -82,6 +82,7 @@ fi
 version=$("$HOMERANGE" --version | sed 's/^homerange \([0-9.]*\).*/\1/')
 holds 'the program has a version' [ -n "$version" ]
 for has in "python/homerange/__init__.py:__version__ = \"$version\"" \
-    "r/DESCRIPTION:Version: $version" "qgis/homerange/metadata.txt:version=$version"; do
+    "r/DESCRIPTION:Version: $version" "qgis/homerange/metadata.txt:version=$version" \
+    "CITATION.cff:version: $version" "CHANGELOG.md:## $version"; do
     holds "${has%%:*} has the version of the program" grep -qxF -- "${has#*:}" "$top/${has%%:*}"
 done
