@@ -2,9 +2,10 @@
 # slurm.sh OUT JOBS [OPTION ..]: hands the runs of a herd that plan.sh planned to Slurm: as an array of so many jobs,
 # each of which makes its share of the runs one after the other, and a job behind them that merges, if all went well.
 #
-# OPTION .. are those of sbatch, for both, such as --partition=short. A run gets a minute and 500 MB, the merge an hour
-# and 4 GB, unless --time and --mem say otherwise. What jobs say is in OUT/logs. The last line is the number of the merge's
-# job. Where a job failed or was killed, this is called again, and goes on where it was: runs that stand are not made again.
+# OPTION .. are those of sbatch, for both, such as --partition=short. A run gets a minute and 500 MB, which serve the 64
+# files of a pair of groups, the merge an hour and 4 GB, unless --time and --mem say otherwise. What jobs say is in
+# OUT/logs. The last line is the number of the merge's job. Where a job failed or was killed, this is called again, and
+# goes on where it was: runs that stand are not made again.
 set -eu
 here=$(cd "$(dirname "$0")" && pwd)
 # shellcheck source=tools/herd/words.sh
