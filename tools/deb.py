@@ -84,7 +84,8 @@ def put_modules(root: Path) -> None:
 def put_documents(root: Path) -> None:
     """The documents, by the names by which they link each other."""
     into = root / "usr/share/doc/homerange"
-    for path in (TOP / "README.md", *sorted((TOP / "docs").glob("*.md")), TOP / "python/README.md"):
+    top = [TOP / name for name in ("README.md", "CHANGELOG.md", "CITATION.cff", "SECURITY.md")]
+    for path in (*top, *sorted((TOP / "docs").glob("*.md")), TOP / "python/README.md"):
         write(into / path.relative_to(TOP), path.read_bytes())
 
 

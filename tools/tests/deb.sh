@@ -30,6 +30,9 @@ if is_here dpkg-deb 'the Debian package'; then
     holds 'its program is the released one' cmp deb/root/usr/bin/homerange "$top/release/homerange"
     zcat deb/root/usr/share/man/man1/homerange.1.gz >deb/page
     holds 'its page of the manual is there' cmp deb/page "$top/docs/homerange.1"
+    for page in README.md CHANGELOG.md CITATION.cff SECURITY.md docs/GUIDE.md; do
+        holds "its $page is there" cmp "deb/root/usr/share/doc/homerange/$page" "$top/$page"
+    done
     cp "$top"/examples/*.csv deb/away
     "$HOMERANGE" "$top/examples/fox.csv" >deb/direct
     unpacked homerange fox.csv >deb/report
