@@ -4,8 +4,8 @@
 
 TOP is the folder of the repository. On each page (`*.md`) a link within the repository has to lead to a file that is there,
 and to a heading of it where it names one. Each file that CONTRIBUTING.md names has to be there: a span such as
-`src/lines.rt` is the end of a path, and may have a `*`. A number that has to stand in several places is the same in all:
-they stand below in NUMBERS, or in the file NUMBERS, with a tab between what it is, a file and an expression for the number.
+`src/lines.rt` is the end of a path, and may have a `*`. A number that several files have, or a phrase, has to be the same in
+all: they stand below in NUMBERS, or in the file NUMBERS, with a tab between what it is, a file and an expression for it.
 
 Prints each fault with its page. The last line says how many links, files and numbers were held; the status is 0 where
 all held, and 1 where one did not, or where there is no link.
@@ -43,6 +43,14 @@ bytes of a fix of eight walks	docs/PERFORMANCE.md	of eight walks to ([0-9]+)
 bytes of a fix of eight walks	tools/tests/program_memory.sh	grows 'eight walks' [0-9]+ ([0-9]+)
 bytes of a fix of a curve	docs/PERFORMANCE.md	of a curve of corners alone to ([0-9]+)
 bytes of a fix of a curve	tools/tests/program_memory.sh	grows 'one curve' [0-9]+ ([0-9]+)
+what status 5 means	README.md	fixes of a file were not all handed on (.*) \\|
+what status 5 means	docs/homerange.1	fixes of a file were not all handed on (.*)\\.
+what status 5 means	crates/range_words/src/help.rt	fixes of a file were not all handed on (.*)
+the version	python/homerange/__init__.py	__version__ = "([0-9.]+)"
+the version	README.md	homerange_([0-9.]+)_amd64[.]deb
+the version	qgis/README.md	homerange-qgis-([0-9.]+)[.]zip
+the version	docs/TABLES.md	split[.]py ([0-9.]+),SUM
+the version	CITATION.cff	^version: (.*)$
 the logic	release/SOURCES	logic ([0-9a-f]+)
 the logic	docs/PROOF.md	its logic, `([0-9a-f]+)`
 the logic	docs/PROOF.md	sum=([0-9a-f]+)
@@ -95,11 +103,11 @@ def files_on(top, files):
 
 
 def numbers_of(top, table):
-    """Each number that stands in several places, where they are, and what is wrong with it."""
+    """Each number that several files have, and what is wrong with it."""
     found = {}
     for line in table.splitlines():
         what, file, expression = line.split("\t")
-        said = re.findall(expression, (top / file).read_text()) or ["none"]
+        said = re.findall(expression, (top / file).read_text(), re.MULTILINE) or ["none"]
         found.setdefault(what, []).extend((number.replace(",", "").replace("_", ""), file) for number in said)
     for what, places in found.items():
         same = len({number for number, _ in places}) == 1 and places[0][0] != "none"
