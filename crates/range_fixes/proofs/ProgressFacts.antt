@@ -1,26 +1,58 @@
 -- A reader's progress through a reading.
-use Rattle.std.proofs.Common.{◌≡◌, ◌+◌, ◌≤◌, ℕ, zero, suc, Bool, true, false, eqb, List, [], ◌∷◌, length, drop, Option, Some, None, refl, sym, ◌∙◌, ap, arith}
-use Rattle.std.proofs.Common.{rules, tests, length-drop, slice_get, add-one, IsSome}
+use Rattle.std.proofs.Common.{◌≡◌, ◌+◌, ◌≤◌, ℕ, zero, suc, true, false, eqb, List, [], ◌∷◌, length, drop, map, Option, Some, None, refl, sym, ◌∙◌, ap}
+use Rattle.std.proofs.Common.{arith, rules, tests, length-drop, slice_get, add-one, IfSome, Ok}
 use Rattle.std.specs.Option.{option_map}
 use Rattle.range_plane.specs.declared.fix.Fix.{Fix}
 use Rattle.range_plane.specs.declared.scale.Scale.{Scale}
+use Rattle.range_fixes.specs.declared.checks.CheckedRecord.{CheckedRecord}
+use Rattle.range_fixes.specs.declared.fault.ReadFault.{ReadFault}
 use Rattle.range_fixes.specs.declared.reader.Stage.TheVariants.{Going}
-use Rattle.range_fixes.specs.Field.{Record}
-use Rattle.range_fixes.specs.Previous.{Previous}
-use Rattle.range_fixes.specs.Progress.{Progress, Reads, is_unhurt}
+use Rattle.range_fixes.specs.CheckedList.{CheckedList}
+use Rattle.range_fixes.specs.CheckedRecords.{GivesRecord, used_ahead, used_of}
+use Rattle.range_fixes.specs.Progress.{Progress, Reads, is_stage_of_text}
 use Rattle.range_fixes.specs.Reader.{progress_by}
-use Rattle.range_fixes.specs.Reading.{Reading, then_fixes}
-use Rattle.range_fixes.specs.Steps.{Leads, rest_of}
-use Rattle.range_fixes.proofs.ReadingFacts.{animal_after}
+use Rattle.range_fixes.specs.Reading.{PassedRecords, Reading, fault_after, none_passed, passed_of, reading, reading_by, then_fixes, then_passed}
+use Rattle.csv.specs.Reading.{default_config, records, strip_bom}
 
 some_same : {A : Type 0} (x y : A) → Some x ≡ Some y → x ≡ y
 some_same x y e = cc e
 
+-- a reader of which nothing is read yet goes through all that its source says
+pub begins : (unit : Scale) (known : Option (List ℕ)) (p : Progress) → p.count ≡ 0 → p.animal ≡ None
+    → p.ahead ≡ option_map (λ passed. reading_by 0 passed) (option_map (λ all. passed_of unit all) (option_map (λ bytes. records default_config (strip_bom bytes)) known))
+    → IfSome (option_map (reading unit) known) (Reads p)
+unfolding reading
+begins unit None p started none ahead = tt
+begins unit (Some bytes) p started none ahead = record { count = omega (arith, started); animal = rw started none; ahead = λ _. rw started ahead }
+
+-- the reading that these used records make, which so many fixes come before
+abbrev reading_of_used : ℕ → PassedRecords → Reading
+reading_of_used given p = record {
+  animal = p.animal;
+  fixes = map (λ one. one.fix) p.checked;
+  fault = fault_after (given + length (map (λ one. one.fix) p.checked)) p.fault;
+}
+
+-- a used record is the first fix of the reading
+reading_more : (all more : PassedRecords) (one : CheckedRecord) (given : ℕ) → used_of all ≡ then_passed one (used_of more)
+    → reading_by given all ≡ then_fixes one.fix (reading_by (given + 1) more)
+reading_more all more one given e =
+    let fixes : List Fix = map (λ one. one.fix) (used_of more).checked in
+    let sum : given + length (one.fix ∷ fixes) ≡ given + 1 + length fixes = omega arith in
+    ap (λ p. reading_of_used given p) e ∙ ap (λ n. record { animal = more.animal; fixes = one.fix ∷ fixes; fault = fault_after n more.fault }) sum
+
+-- where none is used the reading has no fix
+pub reading_none : (ahead : Option PassedRecords) (animal : Option (List ℕ)) (fault : Option ReadFault) (given : ℕ)
+    → IfSome (used_ahead ahead) (λ all. all ≡ none_passed animal fault)
+    → IfSome (option_map (λ passed. reading_by given passed) ahead) (λ s. s ≡ reading_of_used given (none_passed animal fault))
+reading_none None animal fault given e = tt
+reading_none (Some all) animal fault given e = ap (λ p. reading_of_used given p) e
+
 -- no fix is ahead: all were given
-pub at_stop : (p : Progress) (r s : Reading) → Reads p r → is_unhurt p.fault ≡ true → p.ahead ≡ Some s → s.fixes ≡ []
+pub at_stop : (p : Progress) (r s : Reading) → Reads p r → is_stage_of_text p.stage ≡ true → IfSome p.ahead (λ all. all ≡ s) → s.fixes ≡ []
     → (length r.fixes ≡ p.count) × (r.fault ≡ s.fault)
-at_stop p r s h unhurt e none =
-    let same = some_same _ _ (sym (h.ahead unhurt) ∙ e) in
+at_stop p r s h text ahead none =
+    let same : record r { fixes = drop p.count r.fixes } ≡ s = rw (h.ahead text) at ahead in
     let rest : drop p.count r.fixes ≡ [] = ap (λ (x : Reading). x.fixes) same ∙ none in
     let short = length-drop p.count r.fixes in
     let gone : length (drop p.count r.fixes) ≡ 0 = rw rest refl in
@@ -38,29 +70,30 @@ drop_head (f ∷ fixes) more fix (suc count) e =
     (rest.0, rest.1, omega arith)
 
 -- a fix was taken off those ahead
-one_more : (p q : Progress) (r m : Reading) (fix : Fix) → Reads p r → is_unhurt p.fault ≡ true → p.ahead ≡ Some (then_fixes fix m)
+one_more : (p q : Progress) (r m : Reading) (fix : Fix) → Reads p r → is_stage_of_text p.stage ≡ true → p.ahead ≡ Some (then_fixes fix m)
     → q.ahead ≡ Some m → q.count ≡ p.count + 1 → q.animal ≡ m.animal → Reads q r × (slice_get r.fixes p.count ≡ Some fix)
-one_more p q r m fix h unhurt e f count animal =
-    let same = some_same _ _ (sym (h.ahead unhurt) ∙ e) in
+one_more p q r m fix h text e f count animal =
+    let same = some_same _ _ (sym (h.ahead text) ∙ e) in
     let d = drop_head r.fixes m.fixes fix p.count (ap (λ (x : Reading). x.fixes) same) in
     let named : r.animal ≡ m.animal = ap (λ (x : Reading). x.animal) same in
     let fault : r.fault ≡ m.fault = ap (λ (x : Reading). x.fault) same in
     let some : eqb q.count 0 ≡ false = search (rules, tests) in
     (record { count = rw (count, add-one) d.2; animal = rw some (animal ∙ sym named); ahead = λ _. rw (count, add-one, d.1, named, fault) f }, d.0)
 
+given_by : (before after : Option PassedRecords) (p q : Progress) (r : Reading) (one : CheckedRecord) (animal : Option (List ℕ))
+    → GivesRecord (used_ahead before) (Ok (Some one)) animal (used_ahead after)
+    → Reads p r → is_stage_of_text p.stage ≡ true → p.ahead ≡ option_map (λ passed. reading_by p.count passed) before
+    → q.ahead ≡ option_map (λ passed. reading_by (p.count + 1) passed) after → q.count ≡ p.count + 1 → q.animal ≡ animal
+    → Reads q r × (slice_get r.fixes p.count ≡ Some one.fix)
+given_by None after p q r one animal gives h text ahead behind count named = cc (h.ahead text, ahead)
+given_by (Some all) None p q r one animal gives h text ahead behind count named = absurd gives
+given_by (Some all) (Some more) p q r one animal gives h text ahead behind count named =
+    one_more p q r (reading_by (p.count + 1) more) one.fix h text (ahead ∙ ap (λ x. Some x) (reading_more all more one p.count gives.0)) behind count (named ∙ sym gives.1)
+
 -- a fix that was given is the next of the reading
-pub fix_given : (unit : Scale) (header had : Option Bool) (read before count : ℕ) (old new : Option Previous) (left after : Option (List Record)) (s t : Bool)
-    (fix : Fix) (r : Reading)
-    → Leads (option_map (rest_of unit had before count old) left)
-    (option_map (λ records. then_fixes fix (rest_of unit header read (count + 1) new records)) after) → IsSome header → IsSome new
-    → Reads (progress_by unit Going had before count old left s) r
-    → Reads (progress_by unit Going header read (count + 1) new after t) r × (slice_get r.fixes count ≡ Some fix)
-fix_given unit None had read before count old new left after s t fix r leads headed named h = cc headed
-fix_given unit (Some has_use) had read before count old None left after s t fix r leads headed named h = cc named
-fix_given unit (Some has_use) had read before count old (Some q) None after s t fix r leads headed named h = cc (h.ahead refl)
-fix_given unit (Some has_use) had read before count old (Some q) (Some records) None s t fix r leads headed named h = cc leads
-fix_given unit (Some has_use) had read before count old (Some q) (Some records) (Some below) s t fix r leads headed named h =
+pub fix_given : (old new : CheckedList) (count : ℕ) (one : CheckedRecord) (r : Reading)
+    → GivesRecord (used_ahead old.ahead) (Ok (Some one)) new.animal (used_ahead new.ahead) → Reads (progress_by Going count old) r
+    → Reads (progress_by Going (count + 1) new) r × (slice_get r.fixes count ≡ Some one.fix)
+fix_given old new count one r gives h =
     let some : eqb (count + 1) 0 ≡ false = search (rules, tests) in
-    one_more (progress_by unit Going had before count old (Some records) s) (progress_by unit Going (Some has_use) read (count + 1) (Some q) (Some below) t) r
-    (rest_of unit (Some has_use) read (count + 1) (Some q) below) fix
-    h refl (sym leads) refl refl (rw some (sym (animal_after unit has_use read q below)))
+    given_by old.ahead new.ahead (progress_by Going count old) (progress_by Going (count + 1) new) r one new.animal gives h refl refl refl refl (rw some refl)

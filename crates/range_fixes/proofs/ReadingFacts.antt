@@ -1,7 +1,6 @@
 -- What one record adds to a reading.
-use Rattle.std.proofs.Common.{◌≡◌, ◌≢◌, ◌+◌, ◌<◌, ◌≤◌, ℕ, Bool, true, false, cond, eqb, List, [], ◌∷◌, Option, Some, None, Result, Ok, Err, refl, ◌∙◌, IfErr}
+use Rattle.std.proofs.Common.{◌≡◌, ◌≢◌, ◌+◌, ◌<◌, ◌≤◌, ℕ, Bool, true, false, cond, eqb, List, [], ◌∷◌, Option, Some, None, Result, Ok, Err, refl, IfErr}
 use Rattle.std.proofs.Common.{IfOk, IfSome, IsTrue, rules, tests, not, nat_lt}
-use Rattle.std.specs.Option.{option_map}
 use Rattle.std.proofs.lemmas.Bool.{false≢true}
 use Rattle.std.specs.Str.{bytes_eq}
 use Rattle.std.specs.Str.Parse.{digits_value}
@@ -10,98 +9,64 @@ use Rattle.range_plane.specs.Fix.{fix_limit, second_limit}
 use Rattle.range_plane.specs.Scale.{limit}
 use Rattle.range_plane.specs.declared.scale.Scale.{Scale}
 use Rattle.range_plane.specs.declared.fix.Fix.{Fix}
-use Rattle.range_fixes.specs.declared.checks.Checked.{Checked}
+use Rattle.range_fixes.specs.declared.checks.CheckedRecord.{CheckedRecord}
 use Rattle.range_fixes.specs.declared.fault.ReadFault.{ReadFault}
 use Rattle.range_fixes.specs.declared.fault.ReadFault.TheVariants.{BadName, OtherAnimal, NotNumber, TooLarge, SecondFalls, BadUse, TooManyFixes, Gone}
-use Rattle.range_fixes.specs.Check.{animal_in, checked_in, checks_of, falls, fix_in, is_other, number_in, used_in, ◌>>=◌}
+use Rattle.range_fixes.specs.Check.{animal_in, checked_in, checks_of, is_earlier, fix_in, is_other, number_in, used_in, ◌>>=◌}
 use Rattle.range_numbers.specs.Number.{is_number}
 use Rattle.range_fixes.specs.Field.{Record, first_field, is_name}
-use Rattle.range_fixes.specs.Previous.{Previous, then_previous}
+use Rattle.range_fixes.specs.Previous.{IsWithin, Previous, animal_so_far, then_previous}
 use Rattle.range_fixes.specs.Progress.{is_of_text}
-use Rattle.range_fixes.specs.Reading.{Passed, if_passes, no_more, none_passed, passed_after, reading_by, then_passed}
-use Rattle.range_fixes.specs.Records.{TakesRecord}
-use Rattle.range_fixes.specs.Reader.{IsWithin}
-use Rattle.range_fixes.specs.Steps.{Leads}
+use Rattle.range_fixes.specs.Reading.{if_passes, none_passed, passed_after, then_passed}
 use Rattle.range_fixes.proofs.CheckFacts.{checked_cases}
 
--- what is left where there is no record
-pub takes_none : {X : Type 0} (read : List Record → X) (left : Option (List Record)) (fields : Record) (after : Option (List Record)) (r : X)
-    → TakesRecord left false fields after → read [] ≡ r → Leads (option_map read left) (Some r)
-takes_none read None fields after r t e = tt
-takes_none read (Some records) fields after r t e = rw (t, e) refl
-
--- where there is one that ends the reading
-pub takes_last : {X : Type 0} (read : List Record → X) (left : Option (List Record)) (fields : Record) (after : Option (List Record)) (r : X)
-    → TakesRecord left true fields after → ((records : List Record) → read (fields ∷ records) ≡ r) → Leads (option_map read left) (Some r)
-takes_last read None fields after r t e = tt
-takes_last read (Some records) fields after r t e = rw (t.1, e t.0) refl
-
--- and where the reading goes on behind it
-pub takes_more : {X : Type 0} (read more : List Record → X) (left : Option (List Record)) (fields : Record) (after : Option (List Record))
-    → TakesRecord left true fields after → ((records : List Record) → read (fields ∷ records) ≡ more records)
-    → Leads (option_map read left) (option_map more after)
-takes_more read more None fields after t e = tt
-takes_more read more (Some records) fields after t e = rw (t.1, t.2, e t.0) refl
-
-pub leads_far : {X : Type 0} (a b c : Option X) → Leads a b → Leads b c → Leads a c
-leads_far None b c l m = tt
-leads_far (Some x) None c l m = cc l
-leads_far (Some x) (Some y) c l m = m ∙ l
-
--- what is known of records is known of the reading that they make
-pub leads_end : (given : ℕ) (read : List Record → Passed) (left : Option (List Record)) (p : Passed)
-    → Leads (option_map read left) (Some p) → Leads (option_map (λ records. reading_by given (read records)) left) (Some (reading_by given p))
-leads_end given read None p l = tt
-leads_end given read (Some records) p l = let same : p ≡ read records = cc in rw same refl
-
-pub at_end : (unit : Scale) (has_use : Bool) (read : ℕ) (previous : Option Previous) → passed_after unit has_use read previous [] ≡ none_passed previous None
+-- no record passes where none is left
+pub at_end : (unit : Scale) (has_use : Bool) (count : ℕ) (previous : Option Previous) → passed_after unit has_use count previous [] ≡ none_passed (animal_so_far previous) None
 unfolding passed_after
-at_end unit has_use read previous = refl
+at_end unit has_use count previous = refl
 
-pub too_many : (unit : Scale) (has_use : Bool) (previous : Option Previous) (fields : Record) (records : List Record)
-    → passed_after unit has_use fix_limit previous (fields ∷ records) ≡ none_passed previous (Some TooManyFixes)
+-- nor at the limit
+pub too_many : (unit : Scale) (has_use : Bool) (count : ℕ) (previous : Option Previous) (fields : Record) (records : List Record) → count ≡ fix_limit
+    → passed_after unit has_use count previous (fields ∷ records) ≡ none_passed (animal_so_far previous) (Some TooManyFixes)
 unfolding passed_after
-too_many unit has_use previous fields records = refl
+too_many unit has_use count previous fields records at_limit = rw at_limit refl
 
-pub one_passes : (unit : Scale) (has_use : Bool) (read : ℕ) (previous : Option Previous) (fields : Record) (one : Checked) (records : List Record)
-    → read < fix_limit → checked_in unit has_use (read + 1) previous fields ≡ Ok one
-    → passed_after unit has_use read previous (fields ∷ records) ≡ then_passed one
-    (passed_after unit has_use (read + 1) (Some (then_previous previous (first_field fields) one.fix.second)) records)
+-- a record that passes comes before the others
+pub one_passes : (unit : Scale) (has_use : Bool) (count : ℕ) (previous : Option Previous) (fields : Record) (one : CheckedRecord) (records : List Record)
+    → count < fix_limit → checked_in unit has_use (count + 1) previous fields ≡ Ok one
+    → passed_after unit has_use count previous (fields ∷ records) ≡ then_passed one
+    (passed_after unit has_use (count + 1) (Some (then_previous previous (first_field fields) one.fix.second)) records)
 unfolding passed_after
-one_passes unit has_use read previous fields one records h e =
-    let below : eqb read fix_limit ≡ false = search (rules, tests) in
+one_passes unit has_use count previous fields one records h e =
+    let below : eqb count fix_limit ≡ false = search (rules, tests) in
     rw (below, e) refl
 
-pub one_fails : (unit : Scale) (has_use : Bool) (read : ℕ) (previous : Option Previous) (fields : Record) (fault : ReadFault) (records : List Record)
-    → read < fix_limit → checked_in unit has_use (read + 1) previous fields ≡ Err fault
-    → passed_after unit has_use read previous (fields ∷ records) ≡ none_passed previous (Some fault)
+-- and one that does not ends them
+pub one_fails : (unit : Scale) (has_use : Bool) (count : ℕ) (previous : Option Previous) (fields : Record) (fault : ReadFault) (records : List Record)
+    → count < fix_limit → checked_in unit has_use (count + 1) previous fields ≡ Err fault
+    → passed_after unit has_use count previous (fields ∷ records) ≡ none_passed (animal_so_far previous) (Some fault)
 unfolding passed_after
-one_fails unit has_use read previous fields fault records h e =
-    let below : eqb read fix_limit ≡ false = search (rules, tests) in
+one_fails unit has_use count previous fields fault records h e =
+    let below : eqb count fix_limit ≡ false = search (rules, tests) in
     rw (below, e) refl
 
 -- the animal of records is that of the record before
-pub animal_after : (unit : Scale) (has_use : Bool) (read : ℕ) (previous : Previous) (records : List Record)
-    → (passed_after unit has_use read (Some previous) records).animal ≡ Some previous.animal
+pub animal_after : (unit : Scale) (has_use : Bool) (count : ℕ) (previous : Previous) (records : List Record)
+    → (passed_after unit has_use count (Some previous) records).animal ≡ Some previous.animal
 unfolding passed_after
-animal_after unit has_use read previous [] = refl
-animal_after unit has_use read previous (fields ∷ records) =
-    by (eqb read fix_limit) (checked_in unit has_use (read + 1) (Some previous) fields)
-    (λ second. animal_after unit has_use (read + 1) (record previous { second = second }) records)
+animal_after unit has_use count previous [] = refl
+animal_after unit has_use count previous (fields ∷ records) =
+    by (eqb count fix_limit) (checked_in unit has_use (count + 1) (Some previous) fields)
+    (λ second. animal_after unit has_use (count + 1) (record previous { second = second }) records)
   where
-    by : (b : Bool) (checked : Result Checked ReadFault)
-        → ((second : ℕ) → (passed_after unit has_use (read + 1) (Some (record previous { second = second })) records).animal ≡ Some previous.animal)
-        → (cond b (none_passed (Some previous) (Some TooManyFixes))
-        (if_passes (Some previous) checked (λ one. passed_after unit has_use (read + 1)
+    by : (b : Bool) (checked : Result CheckedRecord ReadFault)
+        → ((second : ℕ) → (passed_after unit has_use (count + 1) (Some (record previous { second = second })) records).animal ≡ Some previous.animal)
+        → (cond b (none_passed (Some previous.animal) (Some TooManyFixes))
+        (if_passes (Some previous) checked (λ one. passed_after unit has_use (count + 1)
         (Some (record previous { second = one.fix.second })) records))).animal ≡ Some previous.animal
     by true checked more = refl
     by false (Err fault) more = refl
     by false (Ok one) more = more one.fix.second
-
-pub later_end : (given : ℕ) (previous : Option Previous) → 0 < given → reading_by given (none_passed previous None) ≡ no_more previous None
-later_end given previous h =
-    let some : eqb (given + 0) 0 ≡ false = search (rules, tests) in
-    rw some refl
 
 -- a fault of a record's checks
 abbrev IsOwn : {A : Type 0} → Result A ReadFault → Type 0
@@ -128,7 +93,7 @@ own_fix : (unit : Scale) (rec : ℕ) (previous : Option Previous) (a b c d : Lis
 own_fix unit rec previous a b c d =
     own_bind _ _ (own_animal rec previous a) (λ _. own_bind _ _ (own_number unit rec 1 _ b)
     (λ s. own_bind _ _ (own_number unit rec 2 _ c) (λ e. own_bind _ _ (own_number unit rec 3 _ d)
-    (λ n. own_cond (falls previous s) (Err (SecondFalls rec)) _ refl tt))))
+    (λ n. own_cond (is_earlier previous s) (Err (SecondFalls rec)) _ refl tt))))
 
 own_used : (rec : ℕ) (field : Option (List ℕ)) → IsOwn (used_in rec field)
 own_used rec None = tt
@@ -146,6 +111,7 @@ pub text_fault : (unit : Scale) (has_use : Bool) (rec : ℕ) (previous : Option 
     → checked_in unit has_use rec previous fields ≡ Err fault → is_of_text fault ≡ true
 text_fault unit has_use rec previous fields fault e = let own = own_checked unit has_use rec previous fields in rw e at own
 
+-- and none of the line
 pub not_gone : (fault : ReadFault) → is_of_text fault ≡ true → fault ≢ Gone
 not_gone fault own = λ gone. false≢true (rw gone at own)
 
@@ -176,7 +142,7 @@ fix_within : (unit : Scale) (rec : ℕ) (previous : Option Previous) (a b c d : 
 fix_within unit rec previous a b c d =
     ok_bind _ (animal_in rec previous a) _ (λ u named. ok_bind _ (number_in unit rec 1 second_limit b) _
     (λ s counted. ok_bind _ (number_in unit rec 2 (limit unit) c) _ (λ e _. ok_bind _ (number_in unit rec 3 (limit unit) d) _ (λ n _.
-    ok_cond _ (falls previous s) (Err (SecondFalls rec)) _ (λ _. tt) (λ _.
+    ok_cond _ (is_earlier previous s) (Err (SecondFalls rec)) _ (λ _. tt) (λ _.
     let name = name_within rec previous a in
     let second = number_within unit rec 1 second_limit b in
     (rw counted at second, rw named at name))))))
@@ -188,7 +154,7 @@ checks_within unit rec previous a b c d e =
     (λ used _. let within = fix_within unit rec previous a b c d in rw passed at within))
 
 -- a record that passes is within the limits of names and seconds
-pub passed_within : (unit : Scale) (has_use : Bool) (rec : ℕ) (previous : Option Previous) (fields : Record) (one : Checked)
+pub passed_within : (unit : Scale) (has_use : Bool) (rec : ℕ) (previous : Option Previous) (fields : Record) (one : CheckedRecord)
     → checked_in unit has_use rec previous fields ≡ Ok one
     → (one.fix.second ≤ second_limit) × IsTrue (is_name (first_field fields))
 passed_within unit has_use rec previous fields one e =

@@ -94,6 +94,7 @@ takes_known s s2 None after found f r = tt
 takes_known s s2 (Some xs) None found f r = absurd r
 takes_known s s2 (Some xs) (Some ys) found f r = takes_next s s2 xs ys found f _ (records_step s xs) r
 
+-- a read of the crate `csv` takes the first of the records that are left, or finds that there is none
 pub takes_record : {R : Type 0} (remaining : R → Option (List ℕ)) (a b : Reader R) (found : Bool) (f : List (List ℕ)) → reader_config a ≡ default_config
     → ReadRecord remaining a b found f → TakesRecord (records_left remaining a) found f (records_left remaining b)
 takes_record remaining a b found f config r =

@@ -7,7 +7,7 @@ use Rattle.range_plane.specs.Plane.{position}
 use Rattle.range_plane.specs.Scale.{limit}
 use Rattle.range_plane.specs.declared.fix.Fix.{Fix}
 use Rattle.range_plane.specs.declared.scale.Scale.{Scale}
-use Rattle.range_fixes.specs.declared.checks.Checked.{Checked}
+use Rattle.range_fixes.specs.declared.checks.CheckedRecord.{CheckedRecord}
 use Rattle.range_fixes.specs.declared.fault.ReadFault.{ReadFault}
 use Rattle.range_fixes.specs.declared.fault.ReadFault.TheVariants.{WrongFieldCount, BadName, OtherAnimal, NotNumber, TooLarge, SecondFalls, BadUse}
 use Rattle.range_numbers.specs.Number.{is_number}
@@ -20,9 +20,9 @@ is_other None name = false
 is_other (Some previous) name = not (bytes_eq previous.animal name)
 
 -- a second less than that of the record before
-abbrev pub falls : Option Previous → ℕ → Bool
-falls None second = false
-falls (Some previous) second = nat_lt second previous.second
+abbrev pub is_earlier : Option Previous → ℕ → Bool
+is_earlier None second = false
+is_earlier (Some previous) second = nat_lt second previous.second
 
 infixl 10 ◌>>=◌
 abbrev pub ◌>>=◌ : {A B : Type 0} → Result A ReadFault → (A → Result B ReadFault) → Result B ReadFault
@@ -55,17 +55,17 @@ fix_in unit rec previous name second easting northing = do
   s ← number_in unit rec 1 second_limit second
   e ← number_in unit rec 2 (limit unit) easting
   n ← number_in unit rec 3 (limit unit) northing
-  if falls previous s then Err (SecondFalls rec) else Ok (record { second = s; at = position (pos e) (pos n) })
+  if is_earlier previous s then Err (SecondFalls rec) else Ok (record { second = s; at = position (pos e) (pos n) })
 
 -- the checks of record number rec, in their order
-abbrev pub checks_of : Scale → ℕ → Option Previous → List ℕ → List ℕ → List ℕ → List ℕ → Option (List ℕ) → Result Checked ReadFault
+abbrev pub checks_of : Scale → ℕ → Option Previous → List ℕ → List ℕ → List ℕ → List ℕ → Option (List ℕ) → Result CheckedRecord ReadFault
 checks_of unit rec previous name second easting northing used = do
   fix ← fix_in unit rec previous name second easting northing
   is_used ← used_in rec used
   Ok (record { fix = fix; used = is_used })
 
 -- what record number rec comes to below a header that has the column `use` or not, or the first fault of the record
-unfoldable pub checked_in : Scale → Bool → ℕ → Option Previous → Record → Result Checked ReadFault
+unfoldable pub checked_in : Scale → Bool → ℕ → Option Previous → Record → Result CheckedRecord ReadFault
 checked_in unit false rec previous (name ∷ second ∷ easting ∷ northing ∷ []) = checks_of unit rec previous name second easting northing None
 checked_in unit true rec previous (name ∷ second ∷ easting ∷ northing ∷ used ∷ []) = checks_of unit rec previous name second easting northing (Some used)
 checked_in unit has_use rec previous fields = Err (WrongFieldCount rec (length fields) (width has_use))

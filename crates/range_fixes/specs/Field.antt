@@ -3,7 +3,7 @@ use Rattle.std.specs.Prelude.{ℕ, Bool, true, false, List, [], ◌∷◌, ◌++
 use Rattle.std.specs.Prelude.{if◌then◌else◌}
 use Rattle.std.specs.List.{list_all}
 use Rattle.std.specs.Str.{bytes_eq}
-use Rattle.range_fixes.specs.declared.checks.TheConstants.{NAME_LIMIT}
+use Rattle.range_fixes.specs.declared.checks.TheConstants.{FIELD_COUNT, FIELD_COUNT_WITH_USE, NAME_LIMIT}
 
 -- a record, by the bytes of its fields
 abbrev pub Record : Type 0
@@ -40,8 +40,8 @@ header_of _ = None
 
 -- how many fields each record has below such a header
 abbrev pub width : Bool → ℕ
-width false = 4
-width true = 5
+width false = FIELD_COUNT
+width true = FIELD_COUNT_WITH_USE
 
 -- the first field of a record
 abbrev pub first_field : Record → List ℕ

@@ -1,4 +1,6 @@
 pub mod Check
+pub mod CheckedList
+pub mod CheckedRecords
 pub mod FaultText
 pub mod Field
 pub mod Law
@@ -8,4 +10,3 @@ pub mod Reader
 pub mod Reading
 pub mod RecordList
 pub mod Records
-pub mod Steps

@@ -6,42 +6,52 @@ use Rattle.range_plane.specs.declared.fix.Fix.{Fix}
 use Rattle.range_plane.specs.declared.scale.Scale.{Scale}
 use Rattle.range_fixes.specs.declared.fault.ReadFault.{ReadFault}
 use Rattle.range_fixes.specs.declared.fault.ReadFault.TheVariants.{NoHeader, BadHeader, NoFixes, TooManyFixes}
-use Rattle.range_fixes.specs.declared.checks.Checked.{Checked}
+use Rattle.range_fixes.specs.declared.checks.CheckedRecord.{CheckedRecord}
 use Rattle.range_fixes.specs.Check.{checked_in}
 use Rattle.range_fixes.specs.Field.{Record, first_field, header_of}
-use Rattle.range_fixes.specs.Previous.{Previous, then_previous}
+use Rattle.range_fixes.specs.Previous.{Previous, animal_so_far, then_previous}
 
 -- the records below a header that pass all checks, up to the first that does not
-pub record Passed : Type 0 where
+pub record PassedRecords : Type 0 where
   -- the name of the first record
   pub animal : Option (List ℕ)
-  pub checked : List Checked
+  pub checked : List CheckedRecord
   -- what is wrong after these records, or nothing where the file ends
   pub fault : Option ReadFault
 
--- no record, after the one before
-abbrev pub none_passed : Option Previous → Option ReadFault → Passed
-none_passed previous fault = record { animal = option_map (λ p. p.animal) previous; checked = []; fault = fault }
+-- no record more of this animal
+abbrev pub none_passed : Option (List ℕ) → Option ReadFault → PassedRecords
+none_passed animal fault = record { animal = animal; checked = []; fault = fault }
 
 -- a record, and then the others
-abbrev pub then_passed : Checked → Passed → Passed
+abbrev pub then_passed : CheckedRecord → PassedRecords → PassedRecords
 then_passed one more = record more { checked = one ∷ more.checked }
 
 -- a record that passes comes before the others, and the first that does not ends them
-abbrev pub if_passes : Option Previous → Result Checked ReadFault → (Checked → Passed) → Passed
-if_passes previous (Err fault) more = none_passed previous (Some fault)
+abbrev pub if_passes : Option Previous → Result CheckedRecord ReadFault → (CheckedRecord → PassedRecords) → PassedRecords
+if_passes previous (Err fault) more = none_passed (animal_so_far previous) (Some fault)
 if_passes previous (Ok one) more = then_passed one (more one)
 
 -- what these records come to in this unit, which so many records come before
-unfoldable pub passed_after : Scale → Bool → ℕ → Option Previous → List Record → Passed
-passed_after unit has_use read previous [] = none_passed previous None
-passed_after unit has_use read previous (fields ∷ records) =
-    if read == fix_limit then none_passed previous (Some TooManyFixes)
-    else if_passes previous (checked_in unit has_use (read + 1) previous fields)
-    (λ one. passed_after unit has_use (read + 1) (Some (then_previous previous (first_field fields) one.fix.second)) records)
+unfoldable pub passed_after : Scale → Bool → ℕ → Option Previous → List Record → PassedRecords
+passed_after unit has_use count previous [] = none_passed (animal_so_far previous) None
+passed_after unit has_use count previous (fields ∷ records) =
+    if count == fix_limit then none_passed (animal_so_far previous) (Some TooManyFixes)
+    else if_passes previous (checked_in unit has_use (count + 1) previous fields)
+    (λ one. passed_after unit has_use (count + 1) (Some (then_previous previous (first_field fields) one.fix.second)) records)
+
+-- what the records below a header come to
+abbrev pub passed_below : Scale → Option Bool → List Record → PassedRecords
+passed_below unit None records = none_passed None (Some BadHeader)
+passed_below unit (Some has_use) records = passed_after unit has_use 0 None records
+
+-- a header, and the records below it
+abbrev pub passed_of : Scale → List Record → PassedRecords
+passed_of unit [] = none_passed None (Some NoHeader)
+passed_of unit (header ∷ records) = passed_below unit (header_of header) records
 
 -- the fixes of the records that are used
-abbrev pub used_fixes : List Checked → List Fix
+abbrev pub used_fixes : List CheckedRecord → List Fix
 used_fixes checked = map (λ one. one.fix) (filter (λ one. one.used) checked)
 
 -- what is wrong with a file of so many fixes, whose records end in this way: it has to have a fix
@@ -56,31 +66,25 @@ pub record Reading : Type 0 where
   -- what is wrong after these fixes, or nothing where the file ends
   pub fault : Option ReadFault
 
--- no fix, after the record before
-abbrev pub no_more : Option Previous → Option ReadFault → Reading
-no_more previous fault = record { animal = option_map (λ p. p.animal) previous; fixes = []; fault = fault }
+-- no fix more of this animal
+abbrev pub no_more : Option (List ℕ) → Option ReadFault → Reading
+no_more animal fault = record { animal = animal; fixes = []; fault = fault }
 
 -- a fix, and then the others
 abbrev pub then_fixes : Fix → Reading → Reading
 then_fixes fix more = record more { fixes = fix ∷ more.fixes }
 
 -- the fixes of records that passed, which so many fixes come before
-abbrev pub reading_by : ℕ → Passed → Reading
+abbrev pub reading_by : ℕ → PassedRecords → Reading
 reading_by given p = record {
   animal = p.animal;
   fixes = used_fixes p.checked;
   fault = fault_after (given + length (used_fixes p.checked)) p.fault;
 }
 
--- what the records below a header say
-abbrev pub reading_below : Scale → Option Bool → List Record → Reading
-reading_below unit None records = no_more None (Some BadHeader)
-reading_below unit (Some has_use) records = reading_by 0 (passed_after unit has_use 0 None records)
-
--- a header, and the records below it
+-- what the records of a file say, of which the header is the first
 abbrev pub reading_of : Scale → List Record → Reading
-reading_of unit [] = no_more None (Some NoHeader)
-reading_of unit (header ∷ records) = reading_below unit (header_of header) records
+reading_of unit records = reading_by 0 (passed_of unit records)
 
 -- the bytes of a file whose coordinates are in this unit
 unfoldable pub reading : Scale → List ℕ → Reading

@@ -1,6 +1,6 @@
 -- Reading the records of a source in turn.
 use Rattle.std.specs.Prelude.{◌≡◌, ◌⊎◌, ◌+◌, ⊤, ℕ, Bool, true, false, List, ◌∷◌, [], length, Option, Some, None, option_map}
-use Rattle.csv.specs.Reading.{Ready, default_config, has_failed, is_flexible, reader_config, reader_state, reader_trim, records_from, source_of}
+use Rattle.csv.specs.Reading.{Ready, default_config, has_failed, is_flexible, reader_config, reader_state, reader_trim, records, records_from, source_of, strip_bom}
 use Rattle.csv.specs.Records.{fields_of}
 use Rattle.csv.specs.declared.parser.State.{State}
 use Rattle.csv.specs.declared.reader.Reader.{Reader}
@@ -13,11 +13,15 @@ use Rattle.range_fixes.specs.RecordList.{RecordList}
 abbrev pub records_of : State → List ℕ → List Record
 records_of state text = records_from default_config (length text + 1) state text
 
+-- the records of a source, where it tells its bytes
+abbrev pub records_in : {S : Type 0} → (S → Option (List ℕ)) → S → Option (List Record)
+records_in remaining source = option_map (λ bytes. records default_config (strip_bom bytes)) (remaining source)
+
 abbrev pub records_left : {R : Type 0} → (R → Option (List ℕ)) → Reader R → Option (List Record)
 records_left remaining reader = option_map (records_of (reader_state reader)) (source_of remaining reader)
 
 abbrev pub record_list : {R : Type 0} → (R → Option (List ℕ)) → Inside R → RecordList
-record_list remaining a = record { left = records_left remaining a.reader; current = fields_of a.current; stopped = has_failed a.reader }
+record_list remaining a = record { left = records_left remaining a.reader; current = fields_of a.current; read_failed = has_failed a.reader }
 
 -- the reader reads every record in the same way, as the settings say, and the first no other way
 abbrev pub IsPlain : {R : Type 0} → Reader R → Type 0

@@ -2,8 +2,8 @@
 
 ghost use Rattle.std.specs.Prelude.{◌≡◌, ◌≢◌, ◌∷◌, ◌<◌, [], length, IfSome, MatchOption, option_map};
 ghost use Rattle.csv.specs.Records.{fields_of};
-ghost use Rattle.range_fixes.specs.Check.{IsSplit, animal_in, checked_in, falls, fix_in, number_in, used_in};
-ghost use Rattle.range_fixes.specs.Reader.{IsWithin};
+ghost use Rattle.range_fixes.specs.Check.{IsSplit, animal_in, checked_in, is_earlier, fix_in, number_in, used_in};
+ghost use Rattle.range_fixes.specs.Previous.{IsWithin};
 ghost use Rattle.range_fixes.specs.Field.{first_field, header_of, is_name, is_name_byte, names_animal, width};
 
 use crate::fault::ReadFault;
@@ -22,7 +22,7 @@ pub(crate) const NAME_LIMIT: usize = 32;
 
 // A record that passed all checks: its fix, and whether that is used.
 #[derive(Clone, Copy)]
-pub(crate) struct Checked {
+pub(crate) struct CheckedRecord {
     pub fix: Fix,
     pub used: bool,
 }
@@ -49,28 +49,28 @@ struct Fields<'a> {
 }
 
 // The fields of a record, if it has as many as the header asks.
-fn fields_in(row: &ByteRecord, has_use: bool) -> Option<Fields<'_>>
-    ensures { MatchOption result (length (fields_of row.now) ≢ width has_use)
-        (λ f. IsSplit has_use (fields_of row.now) f.name.now f.second.now f.easting.now
+fn fields_in(record: &ByteRecord, has_use: bool) -> Option<Fields<'_>>
+    ensures { MatchOption result (length (fields_of «record».now) ≢ width has_use)
+        (λ f. IsSplit has_use (fields_of «record».now) f.name.now f.second.now f.easting.now
         f.northing.now (option_map (λ u. u.now) f.used)) }
 {
-    if row.len() != width(has_use) {
+    if record.len() != width(has_use) {
         return None;
     }
     Some(Fields {
-        name: row.get(0)?,
-        second: row.get(1)?,
-        easting: row.get(2)?,
-        northing: row.get(3)?,
-        used: row.get(4),
+        name: record.get(0)?,
+        second: record.get(1)?,
+        easting: record.get(2)?,
+        northing: record.get(3)?,
+        used: record.get(4),
     })
 }
 
 // The first field of a record.
-pub(crate) fn name_of(row: &ByteRecord) -> &[u8]
-    ensures { result.now ≡ first_field (fields_of row.now) }
+pub(crate) fn name_of(record: &ByteRecord) -> &[u8]
+    ensures { result.now ≡ first_field (fields_of «record».now) }
 {
-    match row.get(0) {
+    match record.get(0) {
         Some(name) => name,
         None => &[],
     }
@@ -86,11 +86,11 @@ fn names_animal(field: &[u8]) -> bool
 }
 
 // Whether a header has the column `use`; `None` where the record is no header.
-pub(crate) fn header_of(row: &ByteRecord) -> Option<bool>
-    ensures { result ≡ header_of (fields_of row.now) }
+pub(crate) fn header_of(record: &ByteRecord) -> Option<bool>
+    ensures { result ≡ header_of (fields_of «record».now) }
 {
-    let has_use = row.len() == FIELD_COUNT_WITH_USE;
-    let fields = fields_in(row, has_use)?;
+    let has_use = record.len() == FIELD_COUNT_WITH_USE;
+    let fields = fields_in(record, has_use)?;
     let is_header = names_animal(fields.name)
         && fields.second == b"second".as_slice()
         && fields.easting == b"easting".as_slice()
@@ -148,8 +148,8 @@ fn number_in(bytes: &[u8], unit: Scale, rec: u32, field: u32, limit: u64) -> Res
 }
 
 // Whether a second is less than that of the record before.
-fn falls(second: u64, previous: Option<&Previous>) -> bool
-    ensures { result ≡ falls (option_map (λ p. p.now) previous.entry) second }
+fn is_earlier(second: u64, previous: Option<&Previous>) -> bool
+    ensures { result ≡ is_earlier (option_map (λ p. p.now) previous.entry) second }
 {
     match previous {
         Some(previous) => second < previous.second(),
@@ -174,7 +174,7 @@ fn fix_in(
     let second = number_in(fields.second, unit, rec, 1, SECOND_LIMIT)?;
     let easting = number_in(fields.easting, unit, rec, 2, limit)?;
     let northing = number_in(fields.northing, unit, rec, 3, limit)?;
-    if falls(second, previous) {
+    if is_earlier(second, previous) {
         return Err(ReadFault::SecondFalls { rec });
     }
     let at = Point::new(easting as i64, northing as i64).unwrap();
@@ -199,22 +199,22 @@ fn used_in(field: Option<&[u8]>, rec: u32) -> Result<bool, ReadFault>
 
 // What a record comes to, which is held against the one before it.
 pub(crate) fn checked_in(
-    row: &ByteRecord,
+    record: &ByteRecord,
     unit: Scale,
     has_use: bool,
     rec: u32,
     previous: Option<&Previous>,
-) -> Result<Checked, ReadFault>
+) -> Result<CheckedRecord, ReadFault>
     requires within { IfSome previous (λ p. IsWithin p.now) }
     ensures { result ≡ checked_in unit has_use rec (option_map (λ p. p.now) previous.entry)
-        (fields_of row.now) }
+        (fields_of «record».now) }
 {
-    let Some(fields) = fields_in(row, has_use) else {
-        let found = row.len() as u64;
+    let Some(fields) = fields_in(record, has_use) else {
+        let found = record.len() as u64;
         let wanted = width(has_use) as u32;
         return Err(ReadFault::WrongFieldCount { rec, found, wanted });
     };
     let fix = fix_in(fields, unit, rec, previous)?;
     let used = used_in(fields.used, rec)?;
-    Ok(Checked { fix, used })
+    Ok(CheckedRecord { fix, used })
 }

@@ -6,6 +6,7 @@
 //! repeat and must not fall. The first record that is otherwise ends the reading with a [`ReadFault`].
 #![tactic(auto)]
 
+mod checked_records;
 mod checks;
 mod fault;
 mod law;

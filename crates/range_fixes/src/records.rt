@@ -1,9 +1,9 @@
 // The records of a source, one at a time. No other file reads by the crate that splits them.
 
-ghost use Rattle.std.specs.Prelude.{◌≡◌, ◌⊎◌, false, true, IfOk, OnErr, OnOk, IfErr, option_map, if◌then◌else◌};
-ghost use Rattle.csv.specs.Reading.{default_config, error_kind, is_io, records, strip_bom};
+ghost use Rattle.std.specs.Prelude.{◌≡◌, ◌⊎◌, false, true, IfOk, OnErr, OnOk, IfErr, if◌then◌else◌};
+ghost use Rattle.csv.specs.Reading.{error_kind, is_io};
 ghost use Rattle.csv.specs.Records.{fields_of};
-ghost use Rattle.range_fixes.specs.Records.{TakesRecord};
+ghost use Rattle.range_fixes.specs.Records.{TakesRecord, records_in};
 
 use crate::fault::ReadFault;
 use csv::{ByteRecord, Error, Reader, ReaderBuilder};
@@ -46,9 +46,8 @@ fn fault_of(error: Error) -> ReadFault
 impl<R: Read + Drop> Records<R> {
     // All records of a source, which is not read yet.
     pub(crate) fn new(alloc: Global, source: R) -> Records<R>
-        ensures left { result.left
-            ≡ option_map (λ x. records default_config (strip_bom x)) (R.remaining source) }
-        ensures going { result.stopped ≡ false }
+        ensures left { result.left ≡ records_in R.remaining source }
+        ensures going { result.read_failed ≡ false }
     {
         let reader = ReaderBuilder::new()
             .has_headers(false)
@@ -62,11 +61,11 @@ impl<R: Read + Drop> Records<R> {
 
     // Reads the next record, and says whether there was one. After an error there is none.
     pub(crate) fn advance(&mut self) -> Result<bool, ReadFault>
-        requires { self.old.stopped ≡ false }
+        requires { self.old.read_failed ≡ false }
         ensures takes { IfOk result
             (λ found. TakesRecord self.old.left found self.new.current self.new.left) }
-        ensures going { OnOk result (self.new.stopped ≡ false) }
-        ensures stopped { OnErr result (self.new.stopped ≡ true) }
+        ensures going { OnOk result (self.new.read_failed ≡ false) }
+        ensures failed { OnErr result (self.new.read_failed ≡ true) }
         ensures fault { IfErr result (λ fault. (fault ≡ ReadFault.Read)
             ⊎ (fault ≡ ReadFault.OutOfMemory)) }
     {

@@ -34,11 +34,13 @@ last_block file fixes more size k whole small =
     blocks_more file (fixes ++ more) size k
     ∙ (λ i. blocks_of_longer file fixes more size k (omega arith) i ++ message file (sym whole i) (block_of (cut i)) ∷ [])
 
+-- fixes that fill their blocks have as many blocks as they fill
 pub count_of_full : (fixes : List Fix) (size k : ℕ) → 1 ≤ size → length fixes ≡ k * size → block_count fixes size ≡ k
 count_of_full fixes size k some whole =
     let parts : length fixes + size - 1 ≡ k * size + (size - 1) = omega arith in
     ap (λ n. n / size) parts ∙ div-mul-add k size (size - 1) (omega arith)
 
+-- and with fixes for a part of a block, one block more
 pub count_of_more : (fixes more : List Fix) (size k : ℕ) → length fixes ≡ k * size → 1 ≤ length more → length more ≤ size
     → block_count (fixes ++ more) size ≡ k + 1
 count_of_more fixes more size k whole some small =

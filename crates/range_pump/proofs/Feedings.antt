@@ -259,6 +259,7 @@ closed source size before f read fed own =
       };
     }
 
+-- a file is pumped once the mark was offered, whether it was sent or not
 pub pumped : (source : Option Reading) (size : ℕ) (before f g : FeederView) (read : Read) (sent : Bool) → IsFed source size before f read → read ≢ Err Gone
     → MatchBool sent (g ≡ after_send f the_mark) (g ≡ f) → IsPumped source size before g read
 pumped source size before f g read true fed own is = subst (λ (v : FeederView). IsPumped source size before v read) (sym is)

@@ -7,6 +7,7 @@ use Rattle.range_fixes.specs.Progress.{Answers, Progress, Reads}
 use Rattle.range_fixes.specs.Reading.{Reading}
 use Rattle.range_pump.specs.Feeding.{GivesNext}
 
+-- the reader gave one fix more of each reading that it goes through
 pub gives_more : (p q s : Progress) (fixes : List Fix) (fix : Fix) → GivesNext p fixes q → ((r : Reading) → Reads q r → Reads s r)
     → ((r : Reading) → Reads q r → Answers r q.count (Ok (Some fix))) → s.count ≡ q.count + 1 → GivesNext p (fixes ++ fix ∷ []) s
 gives_more p q s fixes fix before keeps gives count = record {

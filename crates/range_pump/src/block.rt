@@ -2,6 +2,7 @@
 
 ghost use Rattle.std.specs.Prelude.{◌≡◌, ◌≢◌, ◌⊎◌, ◌<◌, ◌≤◌, Ok, None, Some, true, false, length, IfErr};
 ghost use Rattle.range_plane.specs.Fix.{fix_limit};
+ghost use Rattle.range_fixes.specs.declared.reader.Stage.TheVariants.{Failed};
 ghost use Rattle.range_fixes.specs.Progress.{is_of_text};
 ghost use Rattle.range_pump.specs.Feeding.{EndsAfter, GivesNext};
 
@@ -26,7 +27,7 @@ pub(crate) fn read_block<S: Read + Drop>(
         × EndsAfter reader.old reader.new.count None }
     ensures fault { IfErr result.1 (λ fault. is_of_text fault ≡ true
         → EndsAfter reader.old reader.new.count (Some fault)) }
-    ensures told { IfErr result.1 (λ fault. (reader.new.fault ≡ Some fault)
+    ensures told { IfErr result.1 (λ fault. (reader.new.stage ≡ Failed fault)
         ⊎ ((fault ≡ ReadFault.OutOfMemory) × (reader.new ≡ reader.old))) }
     ensures own { IfErr result.1 (λ fault. fault ≢ ReadFault.Gone) }
 {

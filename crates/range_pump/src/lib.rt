@@ -2,8 +2,8 @@
 #![tactic(auto)]
 
 mod block;
+mod file_pump;
 mod gate;
-mod pumping;
 
+pub use file_pump::{Pumped, pump};
 pub use gate::{FreeGate, Gate};
-pub use pumping::{Pumped, pump};

@@ -1,5 +1,5 @@
 use Rattle.std.proofs.Common.{arith}
-use Rattle.range_fixes.proofs.CheckFacts.{past_last, split_by_places, wide}
+use Rattle.range_fixes.proofs.CheckFacts.{past_last, split_by_index, wide}
 use Rattle.range_fixes.proofs.checks.fields_in.Goals as goal
 
 pub returns-in_err-get : goal.returns-in_err-get
@@ -18,5 +18,5 @@ returns-in_err-get-4 c = rw c.from_residual-in_err-get-4.ensures (λ e. let past
     wide c.args.has_use in omega arith)
 
 pub returns : goal.returns
-returns c = split_by_places _ _ _ _ _ _ _ (omega arith) c.in_ok-get.ensures.value c.in_ok-get-2.ensures.value c.in_ok-get-3.ensures.value
+returns c = split_by_index _ _ _ _ _ _ _ (omega arith) c.in_ok-get.ensures.value c.in_ok-get-2.ensures.value c.in_ok-get-3.ensures.value
     c.in_ok-get-4.ensures.value c.get-5.ensures.value

@@ -7,8 +7,8 @@ returns-in_err-easting c = search rules
 pub returns-in_err-northing : goal.returns-in_err-northing
 returns-in_err-northing c = search rules
 
-pub returns-then-falls : goal.returns-then-falls
-returns-then-falls c = search rules
+pub returns-then-is_earlier : goal.returns-then-is_earlier
+returns-then-is_earlier c = search rules
 
 pub returns : goal.returns
 returns c = search rules
