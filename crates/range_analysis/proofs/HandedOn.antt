@@ -9,7 +9,7 @@ use Rattle.range_fixes.specs.declared.fault.ReadFault.{ReadFault}
 use Rattle.range_fixes.specs.declared.fault.ReadFault.TheVariants as reads
 use Rattle.range_fixes.specs.Progress.{is_of_text}
 use Rattle.range_fixes.specs.Reading.{Reading}
-use Rattle.range_line.specs.Laws.{LastMessagesComeNext, StreamsAreLawful}
+use Rattle.range_line.proofs.ForCallers.{last_messages_come_next, streams_are_lawful}
 use Rattle.range_options.specs.Limits.{block_limit}
 use Rattle.range_line.specs.Lines.{FeederView}
 use Rattle.range_line.specs.Messages.{IsLawful, block_count, blocks, fixes, message, stream, the_mark}
@@ -19,19 +19,19 @@ use Rattle.range_collect.specs.Results.{IsFollowed}
 use Rattle.range_lemmas.specs.Pairs.{PairedFrom}
 use Rattle.range_pump.specs.Pump.{IsReadAs, IsSent, Read}
 use Rattle.range_collect.specs.declared.followed.Followed.{Followed}
-use Rattle.range_analysis.specs.Entries.{entries_of, entry_of, lost, wants_memory}
+use Rattle.range_analysis.specs.Entries.{entries_of, entry_of, loss_of, wants_memory}
 use Rattle.range_analysis.specs.Sources.{Gives, IsWhole}
 use Rattle.range_analysis.proofs.Kept.{first_kept}
 
 -- what was sent with its mark joins to the fixes that were read
-sent_whole : StreamsAreLawful → LastMessagesComeNext → (feeder : FeederView) (all : List Fix) (size : ℕ) (read : Read) → 1 ≤ size → size ≤ block_limit
+sent_whole : (feeder : FeederView) (all : List Fix) (size : ℕ) (read : Read) → 1 ≤ size → size ≤ block_limit
     → IsSent feeder all size read → feeder.closed ≡ true → IsLawful feeder.sent feeder.file → fixes feeder.sent feeder.file ≡ all
-sent_whole streams next feeder all size read some small sent closed lawful =
+sent_whole feeder all size read some small sent closed lawful =
     let whole : feeder.sent ≡ stream feeder.file all size = (sent.closed closed).0 in
-    let mark = next (blocks feeder.file all size (block_count all size)) (message feeder.file (length all) the_mark)
+    let mark = last_messages_come_next (blocks feeder.file all size (block_count all size)) (message feeder.file (length all) the_mark)
     (subst (λ l. IsLawful l feeder.file) whole lawful) in
     let few : length all ≤ fix_limit = omega (arith, mark.place, mark.room) in
-    ap (λ l. fixes l feeder.file) whole ∙ (streams feeder.file all size some small few).1
+    ap (λ l. fixes l feeder.file) whole ∙ (streams_are_lawful feeder.file all size some small few).1
 
 told_whole : (source : Option Reading) (all taken : List Fix) (name : List ℕ) → IfSome source (λ r. IsReadAs r all (Ok name)) → taken ≡ all
     → IfSome source (λ r. IsWhole r name taken)
@@ -49,14 +49,14 @@ told_fault (Some r) all fault told = λ text. (told.fault fault refl text).1
 other_fault : (fault : ReadFault) → wants_memory (Err fault) ≡ false → fault ≢ reads.OutOfMemory
 other_fault fault none = λ e. cc (none, e)
 
-module _ (streams : StreamsAreLawful) (next : LastMessagesComeNext) (size : ℕ) (some : 1 ≤ size) (small : size ≤ block_limit) where
+module _ (size : ℕ) (some : 1 ≤ size) (small : size ≤ block_limit) where
   -- one file
   file_given : (source : Option Reading) (number : ℕ) (feeder : FeederView) (read : Read) (e : Estimation) (mark : Bool)
       → IsFollowedAs source number size feeder read e mark
       → IsResult feeder read e mark → mark ≡ true → e.stopped ≡ false → wants_memory read ≡ false → Gives source (entry_of read e.fixes)
   file_given source number feeder (Ok name) e mark f result marked running fed =
       let lawful = subst (λ n. IsLawful feeder.sent n) (sym f.file) f.lawful in
-      let sent = sent_whole streams next feeder f.pumped.fixes size (Ok name) some small f.pumped.sent (result.marked marked) lawful in
+      let sent = sent_whole feeder f.pumped.fixes size (Ok name) some small f.pumped.sent (result.marked marked) lawful in
       let all : e.fixes ≡ f.pumped.fixes = f.holds.whole running ∙ ap (λ n. fixes feeder.sent n) (sym f.file) ∙ sent in
       (result.some refl marked running, told_whole source f.pumped.fixes e.fixes name f.pumped.told all)
   file_given source number feeder (Err fault) e mark f result marked running fed =
@@ -65,7 +65,7 @@ module _ (streams : StreamsAreLawful) (next : LastMessagesComeNext) (size : ℕ)
 
   -- all files, the first of them having this number
   pub files_given : {A : Type 0} {clone : Ghosts A} (number : ℕ) (sources : List (Option Reading)) (followed : List (Followed A clone))
-      → PairedFrom (λ file source f. IsFollowed source file size f) number sources followed → lost followed ≡ None
+      → PairedFrom (λ file source f. IsFollowed source file size f) number sources followed → loss_of followed ≡ None
       → AllZip Gives sources (entries_of followed)
   files_given number [] [] paired none = tt
   files_given number [] (f ∷ followed) paired none = absurd paired

@@ -5,7 +5,7 @@ use Rattle.std.specs.List.{list_any}
 use Rattle.std.specs.declared.clone.Clone.{Ghosts}
 use Rattle.std.proofs.lemmas.Bool.{not-false, or_parts}
 use Rattle.range_collect.specs.declared.followed.Followed.{Followed}
-use Rattle.range_analysis.specs.Entries.{is_cut, lacks_memory, lost, wants_memory}
+use Rattle.range_analysis.specs.Entries.{is_cut, lacks_memory, loss_of, wants_memory}
 use Rattle.range_analysis.proofs.Positions.{passes_nowhere}
 use Rattle.range_analysis.specs.declared.fault.AnalyseFault.TheVariants.{OutOfMemory, LineCut}
 
@@ -22,10 +22,10 @@ pub record IsKept {A : Type 0} {clone : Ghosts A} (f : Followed A clone) : Type 
 
 -- nothing was lost of the first file, nor of the others
 pub first_kept : {A : Type 0} {clone : Ghosts A} (all : List (Followed A clone)) (f : Followed A clone) (rest : List (Followed A clone)) → all ≡ f ∷ rest
-    → lost all ≡ None
-    → IsKept f × (lost rest ≡ None)
+    → loss_of all ≡ None
+    → IsKept f × (loss_of rest ≡ None)
 first_kept all f rest step none =
-    let parts = none_lost _ _ (subst (λ l. lost l ≡ None) step none) in
+    let parts = none_lost _ _ (subst (λ l. loss_of l ≡ None) step none) in
     let memory = or_parts (lacks_memory f) (list_any lacks_memory rest) parts.0 in
     let lacks = or_parts f.estimator.stopped (wants_memory f.read) memory.0 in
     let cut = passes_nowhere is_cut f rest parts.1 in

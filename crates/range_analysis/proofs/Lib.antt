@@ -1,7 +1,11 @@
+pub mod Analyses
+pub mod AnimalPairs
+pub mod Boxes
 pub mod HandedOn
 pub mod Kept
 pub mod Outcomes
 pub mod Positions
 pub mod Repeats
+pub mod Rows
 pub mod Tabled
 pub mod Tracking

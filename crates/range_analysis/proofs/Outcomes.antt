@@ -9,10 +9,10 @@ use Rattle.range_lemmas.specs.Pairs.{PairedFrom}
 use Rattle.range_collect.specs.declared.followed.Followed.{Followed}
 use Rattle.range_plane.specs.declared.scale.Scale.{Scale}
 use Rattle.range_fixes.specs.Reading.{Reading}
-use Rattle.range_tables.specs.declared.analysis.Analysis.{Analysis}
+use Rattle.range_analysis.specs.declared.analysis.Analysis.{Analysis}
 use Rattle.range_analysis.proofs.Positions.{place_within}
 use Rattle.range_analysis.specs.Analysis.{HasNoAnalysis, IsAnalysis}
-use Rattle.range_analysis.specs.Entries.{entries_of, is_cut, lacks_memory, lost}
+use Rattle.range_analysis.specs.Entries.{entries_of, is_cut, lacks_memory, loss_of}
 use Rattle.range_analysis.specs.Sources.{Gives, HasNoAnalysisOf, IsAnalysisOf}
 use Rattle.range_analysis.specs.declared.fault.AnalyseFault.{AnalyseFault}
 use Rattle.range_analysis.specs.declared.fault.AnalyseFault.TheVariants.{OutOfMemory, LineCut, File, SameAnimal}
@@ -31,7 +31,7 @@ lost_by sources false (Some file) fault within is = subst (HasNoAnalysisOf sourc
 lost_by sources false None fault within is = absurd (none-some fault is)
 
 module _ {A : Type 0} {clone : Ghosts A} (sources : List (Option Reading)) (followed : List (Followed A clone)) (count : length followed ≡ length sources) where
-  lost_is_none : (fault : AnalyseFault) → lost followed ≡ Some fault → HasNoAnalysisOf sources fault
+  lost_is_none : (fault : AnalyseFault) → loss_of followed ≡ Some fault → HasNoAnalysisOf sources fault
   lost_is_none fault is =
       lost_by sources (list_any lacks_memory followed) (position is_cut followed) fault
       (λ file at. let within = place_within is_cut followed file at in omega (arith, count, within)) is
@@ -44,10 +44,10 @@ module _ {A : Type 0} {clone : Ghosts A} (sources : List (Option Reading)) (foll
   none_of_entries (SameAnimal first second animal) given none = (entries_of followed, given, none)
 
   -- what judging the files says of the sources
-  pub outcome : (levels : List ℕ) (unit : Scale) (why : Option AnalyseFault) (result : Result Analysis AnalyseFault) → lost followed ≡ why
-      → ((fault : AnalyseFault) → lost followed ≡ Some fault → result ≡ Err fault)
-      → (lost followed ≡ None → MatchResult result (IsAnalysis (entries_of followed) levels unit) (HasNoAnalysis (entries_of followed)))
-      → (lost followed ≡ None → AllZip Gives sources (entries_of followed))
+  pub outcome : (levels : List ℕ) (unit : Scale) (why : Option AnalyseFault) (result : Result Analysis AnalyseFault) → loss_of followed ≡ why
+      → ((fault : AnalyseFault) → loss_of followed ≡ Some fault → result ≡ Err fault)
+      → (loss_of followed ≡ None → MatchResult result (IsAnalysis (entries_of followed) levels unit) (HasNoAnalysis (entries_of followed)))
+      → (loss_of followed ≡ None → AllZip Gives sources (entries_of followed))
       → IfOk result (IsAnalysisOf sources levels unit) × IfErr result (HasNoAnalysisOf sources)
   outcome levels unit None (Ok analysis) is refused judged given = ((entries_of followed, given is, judged is), tt)
   outcome levels unit None (Err fault) is refused judged given = (tt, none_of_entries fault (given is) (judged is))

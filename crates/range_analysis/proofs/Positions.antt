@@ -22,11 +22,11 @@ passes_nowhere test x xs none =
     let over = step_over (test x) (position_or_len test xs) (length xs) none in
     (over.0, ap (λ b. cond b (Some (position_or_len test xs)) None) over.1)
 
-there_at : (b : Bool) (k place : ℕ) → cond b (Some k) None ≡ Some place → (b ≡ true) × (k ≡ place)
-there_at true k place is = (refl, cc)
-there_at false k place is = cc
+there_at : (b : Bool) (k index : ℕ) → cond b (Some k) None ≡ Some index → (b ≡ true) × (k ≡ index)
+there_at true k index is = (refl, cc)
+there_at false k index is = cc
 
-pub place_within : {X : Type 0} (test : X → Bool) (xs : List X) (place : ℕ) → position test xs ≡ Some place → place < length xs
-place_within test xs place is =
-    let there = there_at (nat_lt (position_or_len test xs) (length xs)) (position_or_len test xs) place is in
+pub place_within : {X : Type 0} (test : X → Bool) (xs : List X) (index : ℕ) → position test xs ≡ Some index → index < length xs
+place_within test xs index is =
+    let there = there_at (nat_lt (position_or_len test xs) (length xs)) (position_or_len test xs) index is in
     grind (arith, nat_tests, there.0, there.1)

@@ -4,13 +4,13 @@ use Rattle.std.specs.List.{AllZip}
 use Rattle.range_plane.specs.Plane.{Position}
 use Rattle.range_plane.specs.Row.{points_of}
 use Rattle.range_plane.specs.declared.scale.Scale.{Scale}
-use Rattle.range_tables.specs.Tables.{IsOverlap, pairs}
-use Rattle.range_tables.specs.Tracks.{IsAnimalOn, points_on}
-use Rattle.range_tables.specs.declared.analysis.Analysis.{Analysis}
-use Rattle.range_tables.specs.declared.animal.Animal.{Animal}
-use Rattle.range_tables.specs.declared.track.Track.{Track}
+use Rattle.range_analysis.specs.Animals.{IsOverlap, pairs}
+use Rattle.range_analysis.specs.Tracks.{IsAnimalOn, points_on}
+use Rattle.range_analysis.specs.declared.analysis.Analysis.{Analysis}
+use Rattle.range_analysis.specs.declared.animal.Animal.{Animal}
+use Rattle.range_analysis.specs.declared.track.Track.{Track}
 use Rattle.range_analysis.specs.Analysis.{IsAnalysis, IsAnimalOf}
-use Rattle.range_analysis.specs.Entries.{Entry, first_bad, names_of, points_in}
+use Rattle.range_analysis.specs.Entries.{Entry, first_fault, names_of, points_in}
 use Rattle.range_analysis.specs.Names.{IsFirstRepeat}
 use Rattle.range_analysis.specs.Tracks.{entries_in}
 use Rattle.range_analysis.proofs.Tracking.{entries_count}
@@ -27,11 +27,11 @@ points_are [] = refl
 points_are (t ∷ tracks) = ap (λ (l : List (List Position)). points_of t.estimator.fixes ∷ l) (points_are tracks)
 
 pub tabled : (levels : List ℕ) (unit : Scale) (tracks : List Track) (entries : List Entry) (analysis : Analysis) → entries_in tracks ≡ entries
-    → first_bad entries ≡ None → IsFirstRepeat (names_of (entries_in tracks)) None
+    → first_fault entries ≡ None → IsFirstRepeat (names_of (entries_in tracks)) None
     → AllZip (IsAnimalOn levels) tracks analysis.animals → AllZip (IsOverlap (points_on tracks)) (pairs (length tracks)) analysis.overlaps
     → analysis.unit ≡ unit → IsAnalysis entries levels unit analysis
-tabled levels unit tracks entries analysis same good differ animals overlaps in_unit = record {
-  whole = good;
+tabled levels unit tracks entries analysis same faultless differ animals overlaps in_unit = record {
+  whole = faultless;
   differ = rw same at differ;
   animals = rw same at (animals_of levels tracks analysis.animals animals);
   overlaps = rw (sym same, points_are tracks, entries_count tracks) overlaps;

@@ -13,36 +13,36 @@ use Rattle.range_analysis.specs.declared.fault.AnalyseFault.{AnalyseFault}
 use Rattle.range_analysis.specs.declared.fault.AnalyseFault.TheVariants.{OutOfMemory, LineCut, File}
 
 pub data Entry : Type 0 where
-  good : List ℕ → List Fix → Entry
-  bad : ReadFault → Entry
+  of_animal : List ℕ → List Fix → Entry
+  of_fault : ReadFault → Entry
 
 -- the entry of a file of which the reader says this, and whose estimator took these fixes
 abbrev pub entry_of : Read → List Fix → Entry
-entry_of (Ok name) fixes = good name fixes
-entry_of (Err fault) fixes = bad fault
+entry_of (Ok name) fixes = of_animal name fixes
+entry_of (Err fault) fixes = of_fault fault
 
 abbrev pub entries_of : {A : Type 0} {clone : Ghosts A} → List (Followed A clone) → List Entry
 entries_of followed = map (λ f. entry_of f.read f.estimator.fixes) followed
 
 -- the fault of the first file that has one, the first of them having this number
-abbrev pub first_bad_from : ℕ → List Entry → Option AnalyseFault
-first_bad_from number [] = None
-first_bad_from number (good name fixes ∷ entries) = first_bad_from (number + 1) entries
-first_bad_from number (bad fault ∷ entries) = Some (File number fault)
+abbrev pub first_fault_from : ℕ → List Entry → Option AnalyseFault
+first_fault_from number [] = None
+first_fault_from number (of_animal name fixes ∷ entries) = first_fault_from (number + 1) entries
+first_fault_from number (of_fault fault ∷ entries) = Some (File number fault)
 
-abbrev pub first_bad : List Entry → Option AnalyseFault
-first_bad entries = first_bad_from 0 entries
+abbrev pub first_fault : List Entry → Option AnalyseFault
+first_fault entries = first_fault_from 0 entries
 
 -- the animals' names
 abbrev pub names_of : List Entry → List (List ℕ)
 names_of [] = []
-names_of (good name fixes ∷ entries) = name ∷ names_of entries
-names_of (bad fault ∷ entries) = names_of entries
+names_of (of_animal name fixes ∷ entries) = name ∷ names_of entries
+names_of (of_fault fault ∷ entries) = names_of entries
 
 -- the points of the file
 abbrev pub points_in : Entry → List Position
-points_in (good name fixes) = points_of fixes
-points_in (bad fault) = []
+points_in (of_animal name fixes) = points_of fixes
+points_in (of_fault fault) = []
 
 -- the reader ran out of memory
 abbrev pub wants_memory : Read → Bool
@@ -58,7 +58,7 @@ abbrev pub is_cut : {A : Type 0} {clone : Ghosts A} → Followed A clone → Boo
 is_cut f = not f.marked
 
 -- why files that were followed cannot be judged by what their readers say: out of memory, else the first file whose mark was not taken
-abbrev pub lost : {A : Type 0} {clone : Ghosts A} → List (Followed A clone) → Option AnalyseFault
-lost followed =
+abbrev pub loss_of : {A : Type 0} {clone : Ghosts A} → List (Followed A clone) → Option AnalyseFault
+loss_of followed =
     if list_any lacks_memory followed then Some OutOfMemory
     else option_map LineCut (position is_cut followed)

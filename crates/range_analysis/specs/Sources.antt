@@ -6,9 +6,9 @@ use Rattle.range_plane.specs.declared.scale.Scale.{Scale}
 use Rattle.range_fixes.specs.declared.fault.ReadFault.TheVariants as reads
 use Rattle.range_fixes.specs.Progress.{is_of_text}
 use Rattle.range_fixes.specs.Reading.{Reading}
-use Rattle.range_tables.specs.declared.analysis.Analysis.{Analysis}
+use Rattle.range_analysis.specs.declared.analysis.Analysis.{Analysis}
 use Rattle.range_analysis.specs.Analysis.{HasNoAnalysis, IsAnalysis}
-use Rattle.range_analysis.specs.Entries.{Entry, good, bad}
+use Rattle.range_analysis.specs.Entries.{Entry, of_animal, of_fault}
 use Rattle.range_analysis.specs.declared.fault.AnalyseFault.{AnalyseFault}
 use Rattle.range_analysis.specs.declared.fault.AnalyseFault.TheVariants.{OutOfMemory, LineCut}
 
@@ -20,8 +20,8 @@ pub record IsWhole (r : Reading) (name : List ℕ) (fixes : List Fix) : Type 0 w
 
 -- the source gives this: an animal and at least one fix, or a fault; where it tells its bytes, its reading says the same, but for a read that failed
 abbrev pub Gives : Option Reading → Entry → Type 0
-Gives source (good name fixes) = (0 < length fixes) × IfSome source (λ r. IsWhole r name fixes)
-Gives source (bad fault) =
+Gives source (of_animal name fixes) = (0 < length fixes) × IfSome source (λ r. IsWhole r name fixes)
+Gives source (of_fault fault) =
     (fault ≢ reads.OutOfMemory) × (fault ≢ reads.Gone) × IfSome source (λ r. is_of_text fault ≡ true → r.fault ≡ Some fault)
 
 -- the analysis of what the sources give in this unit

@@ -1,12 +1,22 @@
-//! The analysis of files that were followed: the tables of their animals, or why there are none.
+//! The analysis of files that were followed, or why there is none: of each animal its box, its rows and its polygons,
+//! and how the animals' ranges overlap.
 #![tactic(auto)]
 
-mod analysing;
+mod analysis;
+mod animal;
 mod fault;
-mod judging;
+mod judgement;
 mod losses;
+mod measured;
+mod measurement;
 mod names;
+mod overlaps;
+mod sources;
+mod track;
 
-pub use analysing::analyse;
+pub use analysis::{Analysis, analysis_of};
+pub use animal::{Animal, Animals, OverlapRow, Overlaps, Percents};
 pub use fault::AnalyseFault;
-pub use judging::judge;
+pub use judgement::judge;
+pub use sources::analyse;
+pub use track::Track;

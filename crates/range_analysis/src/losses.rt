@@ -3,7 +3,7 @@
 ghost use Rattle.std.specs.Prelude.{◌≡◌, ◌<◌, ◌≤◌, IfSome, length};
 ghost use Rattle.std.specs.List.{list_any, position};
 ghost use Rattle.range_options.specs.Limits.{file_limit};
-ghost use Rattle.range_analysis.specs.Entries.{is_cut, lacks_memory, lost};
+ghost use Rattle.range_analysis.specs.Entries.{is_cut, lacks_memory, loss_of};
 
 use crate::fault::AnalyseFault;
 use range_collect::Followed;
@@ -25,7 +25,7 @@ fn any_lacks_memory(followed: &[Followed]) -> bool
 
 // The first file whose mark was not taken.
 fn first_cut(followed: &[Followed]) -> Option<usize>
-    ensures place { result ≡ position is_cut followed.now }
+    ensures index { result ≡ position is_cut followed.now }
     ensures within { IfSome result (λ file. file < length followed.now) }
 {
     followed.iter().position(|file| !file.marked)
@@ -33,9 +33,9 @@ fn first_cut(followed: &[Followed]) -> Option<usize>
 
 // Why these files cannot be judged by what their readers say: out of memory, else the first line that
 // was cut.
-pub(crate) fn lost(followed: &[Followed]) -> Option<AnalyseFault>
+pub(crate) fn loss_of(followed: &[Followed]) -> Option<AnalyseFault>
     requires files { length followed.now ≤ file_limit }
-    ensures { result ≡ lost followed.now }
+    ensures { result ≡ loss_of followed.now }
 {
     if any_lacks_memory(followed) {
         return Some(AnalyseFault::OutOfMemory);

@@ -5,12 +5,12 @@ ghost use Rattle.range_analysis.specs.Entries.{names_of};
 ghost use Rattle.range_analysis.specs.Names.{IsFirstRepeat};
 ghost use Rattle.range_analysis.specs.Tracks.{entries_in};
 
+use crate::track::Track;
 use indexmap::IndexSet;
 use range_plane::OutOfMemory;
-use range_tables::Track;
 use std::alloc::Global;
 
-// The first animal whose name stands earlier too: the place where it stands first, and its own.
+// The first animal whose name stands earlier too: the index where it stands first, and its own.
 pub(crate) fn first_repeat(
     alloc: Global,
     tracks: &[Track],

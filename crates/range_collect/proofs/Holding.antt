@@ -7,7 +7,7 @@ use Rattle.std.proofs.Math.Nat.{mul-div_cancel}
 use Rattle.range_plane.specs.Fix.{fix_limit}
 use Rattle.range_plane.specs.declared.fix.Fix.{Fix}
 use Rattle.range_line.specs.declared.message.Message.{Message}
-use Rattle.range_line.specs.Laws.{FilesHavePlaces, LastMessagesComeNext, MessagesAddTheirFixes}
+use Rattle.range_line.proofs.ForCallers.{files_are_steps_apart, last_messages_come_next, messages_add_their_fixes}
 use Rattle.range_line.specs.Lines.{ended_feeder, files_from, FeederView}
 use Rattle.range_line.specs.Messages.{fixes, fixes_in, joined, of_file, IsLawful}
 use Rattle.range_estimator.specs.Estimation.{Estimation}
@@ -27,9 +27,9 @@ pub record IsAt (first step count file : ℕ) : Type 0 where
   pub file_is : file ≡ first + place * step
   pub index : (file - first) / step ≡ place
 
-pub is_at : FilesHavePlaces → (first step count file : ℕ) → 1 ≤ step → Contains (files_from first step count) file → IsAt first step count file
-is_at places first step count file some contained =
-    let p = (places first step count file).0 contained in
+pub is_at : (first step count file : ℕ) → 1 ≤ step → Contains (files_from first step count) file → IsAt first step count file
+is_at first step count file some contained =
+    let p = (files_are_steps_apart first step count file).0 contained in
     record { place = p.0; below = p.1; file_is = p.2; index = place_is first step p.0 file some p.2 }
 
 different_files : (first step p q : ℕ) → 1 ≤ step → p ≢ q → first + p * step ≢ first + q * step
@@ -42,12 +42,12 @@ own_fixes file number block same = grind (arith, nat_tests)
 no_fixes : (file number : ℕ) (block : List Fix) → file ≢ number → cond (file == number) block [] ≡ []
 no_fixes file number block differ = grind (arith, nat_tests)
 
-pub each_holds_more : MessagesAddTheirFixes → (first step : ℕ) (taken : List Message) (m : Message) (es : List Estimation) (i : ℕ) (old new : Estimation)
+pub each_holds_more : (first step : ℕ) (taken : List Message) (m : Message) (es : List Estimation) (i : ℕ) (old new : Estimation)
     → 1 ≤ step → m.file ≡ first + i * step → slice_get es i ≡ Some old → ((all : List Fix) → Holds old all → Holds new (all ++ fixes_in m.body))
     → EachHolds first step taken es → EachHolds first step (taken ++ m ∷ []) (set es i new)
-each_holds_more adds first step taken m es i old new some file at given holds place e is =
+each_holds_more first step taken m es i old new some file at given holds place e is =
     let number : ℕ = first + place * step in
-    let more = adds taken m number in
+    let more = messages_add_their_fixes taken m number in
     elim (set_or_kept es i new place e is) as (λ _. Holds e (fixes (taken ++ m ∷ []) number)) [
       | inl this ↦
           (let same : m.file ≡ number = file ∙ ap (λ (p : ℕ). first + p * step) (sym this.0) in
@@ -63,11 +63,11 @@ each_holds_more adds first step taken m es i old new some file at given holds pl
     ]
 
 -- the message's fixes are few enough for an estimator that has not stopped
-pub few : LastMessagesComeNext → (taken : List Message) (m : Message) (e : Estimation) → IsLawful (taken ++ m ∷ []) m.file → Holds e (fixes taken m.file)
+pub few : (taken : List Message) (m : Message) (e : Estimation) → IsLawful (taken ++ m ∷ []) m.file → Holds e (fixes taken m.file)
     → e.stopped ≡ false
     → length e.fixes + length (fixes_in m.body) ≤ fix_limit
-few last taken m e lawful holds running =
-    let room = (last taken m lawful).room in
+few taken m e lawful holds running =
+    let room = (last_messages_come_next taken m lawful).room in
     let same = ap length (holds.whole running) in omega (arith, room, same)
 
 -- ---- a line that is drained

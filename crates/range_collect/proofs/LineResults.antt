@@ -137,7 +137,7 @@ results_of_line first step size sources feeders ended reads worker es some line 
 
 followed_of : (told : Option Reading) (number size : ℕ) (line : Line) (before f : FeederView) (r : Read) (e : Estimation) (mark : Bool)
     → IsPumped told size (new_feeder line number) before r → ended_feeder before ≡ f
-    → IsSeen f e mark → Holds e (joined f.sent) → IsFollowedAs told number size f r e mark
+    → IsSeen f mark → Holds e (joined f.sent) → IsFollowedAs told number size f r e mark
 followed_of told number size line before f r e mark p same seen holds =
     let file : f.file ≡ number = sym (ap (λ (x : FeederView). x.file) same) ∙ p.file in
     let own : of_file f.sent number ≡ f.sent = ap (of_file f.sent) (sym file) ∙ seen.own in
@@ -147,7 +147,6 @@ followed_of told number size line before f r e mark p same seen holds =
       pumped = subst (λ (x : FeederView). IsPumpedFrom told size x r) same (pumped_ended told size before r p.pumped);
       lawful = subst (λ (n : ℕ). IsLawful f.sent n) file seen.lawful;
       holds = subst (λ (ms : List Message). Holds e (joined ms)) (sym own) holds;
-      estimate = seen.estimate;
       marked = seen.marked;
     }
 
@@ -157,7 +156,7 @@ module _ {F : Type 0} (feeder : F → FeederView) (read : F → Read) (estimator
       (es : List Estimation) (results : List F)
       → IsLineRun first step size sources feeders reads worker → ended ≡ map ended_feeder feeders
       → Twos (λ (f : FeederView) e. Holds e (joined f.sent)) ended es
-      → map feeder results ≡ ended → map read results ≡ reads → map estimator results ≡ es → All (λ x. IsSeen (feeder x) (estimator x) (marked x)) results
+      → map feeder results ≡ ended → map read results ≡ reads → map estimator results ≡ es → All (λ x. IsSeen (feeder x) (marked x)) results
       → (place : ℕ) (told : Option Reading) (x : F) → slice_get sources place ≡ Some told → slice_get results place ≡ Some x
       → IsFollowedAs told (first + place * step) size (feeder x) (read x) (estimator x) (marked x)
   line_followed first step size sources feeders ended reads worker es results line are holds of_feeders of_reads of_es seen place told x in_sources in_results =
@@ -170,7 +169,7 @@ module _ {F : Type 0} (feeder : F → FeederView) (read : F → Read) (estimator
       let before = mapped_from ended_feeder feeders place (feeder x) (subst (λ (l : List FeederView). slice_get l place ≡ Some (feeder x)) are in_ended) in
       let pumped = line.pumped place told before.0 (read x) in_sources before.1 in_reads in
       followed_of told (first + place * step) size worker.line before.0 (feeder x) (read x) (estimator x) (marked x) pumped before.2
-      (of_all (λ (x : F). IsSeen (feeder x) (estimator x) (marked x)) results place x seen in_results) (holds place (feeder x) (estimator x) in_ended in_es)
+      (of_all (λ (x : F). IsSeen (feeder x) (marked x)) results place x seen in_results) (holds place (feeder x) (estimator x) in_ended in_es)
 
   pub all_of_line : (line : Line) (feeders ended : List FeederView) (results : List F) → AreOfLine feeders line → ended ≡ map ended_feeder feeders
       → map feeder results ≡ ended → All (λ x. (feeder x).line ≡ line) results

@@ -1,48 +1,23 @@
 -- The results of all files, from those of the lines that they were dealt to.
-use Rattle.std.proofs.Common.{◌≡◌, ℕ, zero, suc, ◌+◌, ◌*◌, ◌/◌, ◌%◌, ◌<◌, ◌≤◌, List, length, map, min, ap, sym, subst, ◌∙◌, arith, slice_get, Some, Option, inl}
-use Rattle.std.proofs.Common.{inr, ◌⊎◌}
-use Rattle.std.proofs.Math.Nat.{mod-add-div', mod-eq_of_lt, mod-lt}
+use Rattle.std.proofs.Common.{◌≡◌, ℕ, ◌/◌, ◌%◌, ◌<◌, List, length, map, min, ap, sym, subst, ◌∙◌, arith, slice_get, Some, Option, inl}
+use Rattle.std.proofs.Common.{inr}
+use Rattle.std.proofs.Math.Nat.{mod-add-div', mod-eq_of_lt}
 use Rattle.std.proofs.lemmas.Option.{same_Some, slice_get_within}
 use Rattle.std.specs.declared.clone.Clone.{Ghosts}
 use Rattle.range_fixes.specs.Reading.{Reading}
 use Rattle.range_line.specs.Lines.{first_file}
 use Rattle.range_collect.specs.Results.{IsFollowed}
-use Rattle.range_collect.specs.LineFiles.{AreLinesFollowed, Dealt, IsLineFollowed}
+use Rattle.range_collect.specs.LineFiles.{AreLinesFollowed, IsLineFollowed}
+use Rattle.range_collect.specs.Shares.{AreDealt}
 use Rattle.range_collect.specs.declared.followed.Followed.{Followed}
-use Rattle.range_collect.proofs.Deals.{dealt_at, dealt_short}
+use Rattle.range_collect.proofs.Deals.{at_most_or_more, share_of}
 use Rattle.range_lemmas.proofs.Places.{map_length, mapped_from, of_all, same_places, there_is}
 
--- ---- shares
--- a dealt list's member is in the share that its place leaves over
-dealt_place : {X : Type 0} (xs : List X) (shares : List (List X)) (place : ℕ) (x : X) → Dealt xs shares → 0 < length shares → slice_get xs place ≡ Some x
-    → (share : List X) × (slice_get shares (place % length shares) ≡ Some share) × (slice_get share (place / length shares) ≡ Some x)
-dealt_place xs shares place x dealt some is =
-    let w : ℕ = length shares in
-    dealt_at xs shares (place % w) (place / w) x dealt (mod-lt place some) (subst (λ (i : ℕ). slice_get xs i ≡ Some x) (sym (mod-add-div' place w)) is)
-
--- no share is empty where there are at most as many as members, nor longer than the list
-pub share_sizes : {X : Type 0} (xs : List X) (shares : List (List X)) (place : ℕ) (share : List X) → Dealt xs shares → length shares ≤ length xs
-    → slice_get shares place ≡ Some share
-    → (1 ≤ length share) × (length share ≤ length xs)
-share_sizes xs shares place share dealt few is =
-    let below = slice_get_within shares place share is in
-    let x = there_is xs place (omega (arith, below, few)) in
-    let index : place ≡ place + 0 * length shares = omega arith in
-    let at = dealt_at xs shares place 0 x.0 dealt below (subst (λ (i : ℕ). slice_get xs i ≡ Some x.0) index x.1) in
-    let same : at.0 ≡ share = same_Some at.0 share (sym at.1 ∙ is) in
-    let some = slice_get_within at.0 0 x.0 at.2 in
-    let length_is = ap length same in
-    (omega (arith, some, length_is), dealt_short xs shares place share dealt is)
-
-within : (n workers : ℕ) → (workers ≤ n) ⊎ (n < workers)
-within n zero = inl (omega arith)
-within zero (suc workers) = inr (omega arith)
-within (suc n) (suc workers) = elim (within n workers) [ inl h ↦ inl (omega (arith, h)) | inr h ↦ inr (omega (arith, h)) ]
-
--- places that leave the same over by the number of workers do so by the number of lines
+-- ---- numbers
+-- indexes that leave the same over by the number of workers do so by the number of lines
 pub same_over : (i j n workers w : ℕ) → w ≡ min n workers → i < n → j < n → i % workers ≡ j % workers → i % w ≡ j % w
 same_over i j n workers w is below_i below_j same =
-    elim (within n workers) as (λ _. i % w ≡ j % w) [
+    elim (at_most_or_more workers n) as (λ _. i % w ≡ j % w) [
       | inl all ↦ (let w_is : w ≡ workers = omega (arith, is, all) in rw w_is same)
       | inr few ↦
           (let i_is : i % workers ≡ i = mod-eq_of_lt (omega (arith, few, below_i)) in
@@ -53,7 +28,7 @@ same_over i j n workers w is below_i below_j same =
 -- and the other way round
 pub same_under : (i j n workers w : ℕ) → w ≡ min n workers → i < n → j < n → i % w ≡ j % w → i % workers ≡ j % workers
 same_under i j n workers w is below_i below_j same =
-    elim (within n workers) as (λ _. i % workers ≡ j % workers) [
+    elim (at_most_or_more workers n) as (λ _. i % workers ≡ j % workers) [
       | inl all ↦ (let w_is : w ≡ workers = omega (arith, is, all) in rw (← w_is) same)
       | inr few ↦
           (let w_is : w ≡ n = omega (arith, is, few) in
@@ -79,29 +54,29 @@ module _ {A : Type 0} {clone : Ghosts A} (size : ℕ) (sources : List (Option Re
       let l = mapped_from length shares place y in_shares in
       sym r.2 ∙ ((are.each place l.0 r.0 l.1 r.1).count ∙ l.2))
 
-  pub file_followed : (all : List (Followed A clone)) → Dealt sources shares → Dealt all results → AreLinesFollowed size shares results → 0 < length shares
+  pub file_followed : (all : List (Followed A clone)) → AreDealt sources shares → AreDealt all results → AreLinesFollowed size shares results → 0 < length shares
       → (place : ℕ) (source : Option Reading) (f : Followed A clone) → slice_get sources place ≡ Some source → slice_get all place ≡ Some f
       → IsFollowed source place size f
   file_followed all dealt merged are some place source f in_sources in_all =
       let w : ℕ = length shares in
-      let share = dealt_place sources shares place source dealt some in_sources in
+      let share = share_of sources shares place source dealt some in_sources in
       let some_results : 0 < length results = (let count = are.count in omega (arith, count, some)) in
       let count : length results ≡ w = are.count in
-      let result = dealt_place all results place f merged some_results in_all in
+      let result = share_of all results place f merged some_results in_all in
       let in_results : slice_get results (place % w) ≡ Some result.0 = subst (λ (n : ℕ). slice_get results (place % n) ≡ Some result.0) count result.1 in
       let in_result : slice_get result.0 (place / w) ≡ Some f = subst (λ (n : ℕ). slice_get result.0 (place / n) ≡ Some f) count result.2 in
       let followed = (are.each (place % w) share.0 result.0 share.1 in_results).followed (place / w) source f share.2 in_result in
       subst (λ (n : ℕ). IsFollowed source n size f) (mod-add-div' place w) followed
 
-  pub same_line : (all : List (Followed A clone)) → Dealt all results → AreLinesFollowed size shares results → 0 < length shares
+  pub same_line : (all : List (Followed A clone)) → AreDealt all results → AreLinesFollowed size shares results → 0 < length shares
       → (i j : ℕ) (f g : Followed A clone) → slice_get all i ≡ Some f → slice_get all j ≡ Some g → i % length shares ≡ j % length shares
       → f.feeder.line ≡ g.feeder.line
   same_line all merged are some i j f g in_i in_j same =
       let count : length results ≡ length shares = are.count in
       let some_results : 0 < length results = omega (arith, count, some) in
       let over : j % length results ≡ i % length results = rw count (sym same) in
-      let a = dealt_place all results i f merged some_results in_i in
-      let b = dealt_place all results j g merged some_results in_j in
+      let a = share_of all results i f merged some_results in_i in
+      let b = share_of all results j g merged some_results in_j in
       let share_is : b.0 ≡ a.0 = same_Some b.0 a.0 (sym (subst (λ (k : ℕ). slice_get results k ≡ Some b.0) over b.1) ∙ a.1) in
       let in_a : slice_get a.0 (j / length results) ≡ Some g = subst
       (λ (l : List (Followed A clone)). slice_get l (j / length results) ≡ Some g) share_is b.2 in
@@ -112,19 +87,19 @@ module _ {A : Type 0} {clone : Ghosts A} (size : ℕ) (sources : List (Option Re
       of_all P a.0 (i / length results) f share.of_line a.2 ∙ sym (of_all P a.0 (j / length results) g share.of_line in_a)
 
   -- the line of a file begins with the number that its place leaves over
-  line_begins : (all : List (Followed A clone)) → Dealt all results → AreLinesFollowed size shares results → 0 < length shares
+  line_begins : (all : List (Followed A clone)) → AreDealt all results → AreLinesFollowed size shares results → 0 < length shares
       → (i : ℕ) (f : Followed A clone) → slice_get all i ≡ Some f → first_file f.feeder.line ≡ i % length shares
   line_begins all merged are some i f in_i =
       let count : length results ≡ length shares = are.count in
       let some_results : 0 < length results = omega (arith, count, some) in
-      let a = dealt_place all results i f merged some_results in_i in
+      let a = share_of all results i f merged some_results in_i in
       let below = slice_get_within results (i % length results) a.0 a.1 in
       let source = there_is shares (i % length results) (omega (arith, below, count)) in
       let share = are.each (i % length results) source.0 a.0 source.1 a.1 in
       let of_line = of_all (λ (x : Followed A clone). x.feeder.line ≡ share.line) a.0 (i / length results) f share.of_line a.2 in
       ap first_file of_line ∙ (share.begins ∙ ap (λ (n : ℕ). i % n) count)
 
-  pub same_place : (all : List (Followed A clone)) → Dealt all results → AreLinesFollowed size shares results → 0 < length shares
+  pub same_place : (all : List (Followed A clone)) → AreDealt all results → AreLinesFollowed size shares results → 0 < length shares
       → (i j : ℕ) (f g : Followed A clone) → slice_get all i ≡ Some f → slice_get all j ≡ Some g → f.feeder.line ≡ g.feeder.line
       → i % length shares ≡ j % length shares
   same_place all merged are some i j f g in_i in_j same =

@@ -9,10 +9,12 @@ use Rattle.range_line.specs.Messages.{IsLawful, fixes}
 use Rattle.range_estimator.specs.Estimation.{Estimation, IsEstimate}
 use Rattle.range_pump.specs.Pump.{IsPumpedFrom, Read}
 
--- the estimator took a beginning of the fixes, and all of them where it has not stopped
+-- the estimator took a beginning of the fixes, and all of them where it has not stopped; row n is that of the first n fixes that it took, and the corners
+-- are those of all of them
 pub record Holds (e : Estimation) (sent : List Fix) : Type 0 where
   pub prefix : IsPrefix e.fixes sent
   pub whole : e.stopped ≡ false → e.fixes ≡ sent
+  pub estimate : IsEstimate e.fixes e.rows e.corners
 
 -- the file with this number, of which this is the reading where its source tells its bytes, was followed in blocks of this size
 pub record IsFollowedAs (source : Option Reading) (number size : ℕ) (feeder : FeederView) (read : Read) (e : Estimation) (mark : Bool) : Type 0 where
@@ -22,8 +24,6 @@ pub record IsFollowedAs (source : Option Reading) (number size : ℕ) (feeder : 
   -- nothing stands after the mark
   pub lawful : IsLawful feeder.sent number
   pub holds : Holds e (fixes feeder.sent number)
-  -- row n is that of the first n fixes, and the corners are those of all of them
-  pub estimate : IsEstimate e.fixes e.rows e.corners
   pub marked : mark ≡ feeder.closed
 
 -- what is true of every result: a mark was sent where it was taken, a block was handed back only before it, and a file that was read to its end and taken whole

@@ -1,25 +1,23 @@
 -- What is known of the files of one line, and of all lines.
-use Rattle.std.specs.Prelude.{◌≡◌, ℕ, ◌+◌, ◌*◌, ◌<◌, ◌≤◌, List, [], ◌∷◌, ◌++◌, length, slice_get, Some, Option, Bool, All}
+use Rattle.std.specs.Prelude.{◌≡◌, ℕ, ◌+◌, ◌*◌, ◌<◌, ◌≤◌, List, length, slice_get, Some, Option, Bool, All}
 use Rattle.std.specs.declared.clone.Clone.{Ghosts}
 use Rattle.range_options.specs.Limits.{file_limit}
 use Rattle.range_fixes.specs.Reading.{Reading}
 use Rattle.range_line.specs.Lines.{files_from, first_file, new_feeder, FeederView, Line, TakerView}
 use Rattle.range_line.specs.Messages.{of_file, IsLawful}
-use Rattle.range_estimator.specs.Estimation.{Estimation, IsEstimate}
 use Rattle.range_collect.specs.Results.{IsFollowed}
 use Rattle.range_pump.specs.Pump.{IsPumped, Read}
 use Rattle.range_collect.specs.declared.followed.Followed.{Followed}
 
 -- the first file of a line, and the step to the next
-abbrev pub AreNumbers : ℕ → ℕ → Type 0
-AreNumbers first step = (first < file_limit) × (1 ≤ step) × (step ≤ file_limit)
+abbrev pub IsStride : ℕ → ℕ → Type 0
+IsStride first step = (first < file_limit) × (1 ≤ step) × (step ≤ file_limit)
 
--- what is known of the ends of a file that were looked at
-pub record IsSeen (feeder : FeederView) (e : Estimation) (mark : Bool) : Type 0 where
-  pub marked : mark ≡ feeder.closed
+-- what is known of a feeder that was looked at, and of whether its mark was taken
+pub record IsSeen (feeder : FeederView) (taken : Bool) : Type 0 where
+  pub marked : taken ≡ feeder.closed
   pub own : of_file feeder.sent feeder.file ≡ feeder.sent
   pub lawful : IsLawful feeder.sent feeder.file
-  pub estimate : IsEstimate e.fixes e.rows e.corners
 
 -- the pumps of a line have returned, and its worker has nothing more to take
 pub record IsLineRun (first step size : ℕ) (sources : List (Option Reading)) (feeders : List FeederView) (reads : List Read) (worker : TakerView) : Type 0 where
@@ -46,8 +44,3 @@ pub record AreLinesFollowed {A : Type 0} {clone : Ghosts A} (size : ℕ) (shares
   pub each : (place : ℕ) (sources : List (Option Reading)) (followed : List (Followed A clone)) → slice_get shares place ≡ Some sources
       → slice_get results place ≡ Some followed
       → IsLineFollowed place (length shares) size sources followed
-
--- the first member heads the first share, and the others are dealt from the second share on, the first one coming last
-abbrev pub Dealt : {X : Type 0} → List X → List (List X) → Type 0
-Dealt [] shares = All (λ share. share ≡ []) shares
-Dealt {X} (x ∷ xs) shares = (share : List X) × (rest : List (List X)) × (shares ≡ (x ∷ share) ∷ rest) × Dealt xs (rest ++ share ∷ [])

@@ -2,16 +2,17 @@
 //! a line to the estimator of the file.
 #![tactic(auto)]
 
-mod dealing;
+mod context;
+mod file_results;
+mod files;
 mod followed;
-mod following;
-mod job;
+mod line_run;
 mod lines;
-mod merging;
-mod numbers;
-mod pairing;
+mod pumps;
+mod shares;
+mod stack;
+mod stride;
 mod worker;
-mod working;
 
+pub use files::follow;
 pub use followed::Followed;
-pub use following::follow;

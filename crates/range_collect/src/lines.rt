@@ -5,15 +5,15 @@ ghost use Rattle.range_fixes.specs.Reading.{readings};
 ghost use Rattle.range_options.specs.Limits.{file_limit};
 ghost use Rattle.range_collect.specs.LineFiles.{AreLinesFollowed, IsLineFollowed};
 
+use crate::context::Context;
+use crate::file_results::pair;
 use crate::followed::Followed;
-use crate::job::Job;
-use crate::numbers::Numbers;
-use crate::pairing::pair;
-use crate::working::{RunLine, run_line};
+use crate::line_run::{LineRun, run_line};
+use crate::stack::small_stack;
+use crate::stride::Stride;
 use range_options::Plan;
 use range_plane::OutOfMemory;
 use range_pump::Gate;
-use range_pump_threads::small_stack;
 use std::alloc::Allocator;
 use std::io::Read;
 use std::snapshot::Snapshot;
@@ -27,7 +27,7 @@ type Results<A> = Result<Vec<Followed<A>, A>, OutOfMemory>;
 #[derive(Drop)]
 struct LineOf<S: Drop, A: Allocator> {
     sources: Snapshot<Vec<S, A>>,
-    numbers: Numbers,
+    stride: Stride,
     plan: Plan,
 }
 
@@ -37,7 +37,7 @@ impl<S: Read + Drop, A: Allocator + Clone + Copy> Promise<Results<A>> for LineOf
     ghost use Rattle.range_collect.specs.LineFiles.{IsLineFollowed};
 
     ghost kept_by = { λ p r. IfOk r
-        (λ all. IsLineFollowed p.numbers.first p.numbers.step p.plan.block
+        (λ all. IsLineFollowed p.stride.first p.stride.step p.plan.block
         (readings S.remaining p.plan.unit p.sources.value.items) all.items) };
 }
 
@@ -49,19 +49,19 @@ fn follow_line<
     S: Read + Send + Drop,
     A: Allocator + Clone + Copy + Send + Sync,
     G: Gate,
->(job: &Job<'_, R, A, G>, sources: Vec<S, A>, numbers: Numbers) -> Results<A>
+>(context: &Context<'_, R, A, G>, sources: Vec<S, A>, stride: Stride) -> Results<A>
     requires { (1 ≤ vec_len sources) × (vec_len sources ≤ file_limit) }
     ensures { IfOk result
-        (λ all. IsLineFollowed numbers.first numbers.step job.now.plan.block
-        (readings S.remaining job.now.plan.unit sources.items) all.items) }
+        (λ all. IsLineFollowed stride.first stride.step context.now.plan.block
+        (readings S.remaining context.now.plan.unit sources.items) all.items) }
 {
-    let RunLine {
+    let LineRun {
         feeders,
         reads,
         worker,
-    } = run_line(job, sources, numbers)?;
-    let (feeders, estimators) = worker.drain(job.rt, feeders, job.gate);
-    let results = pair(job.alloc, feeders, reads, estimators)?;
+    } = run_line(context, sources, stride)?;
+    let (feeders, estimators) = worker.drain(context.rt, feeders, context.gate);
+    let results = pair(context.alloc, feeders, reads, estimators)?;
     Ok(results)
 }
 
@@ -74,19 +74,19 @@ fn start_line<
     A: Allocator + Clone + Copy + Send + Sync + 's,
     G: Gate,
 >(
-    job: &'s Job<'s, R, A, G>,
+    context: &'s Context<'s, R, A, G>,
     scope: &'s Scope<'s, E>,
     sources: Vec<S, A>,
-    numbers: Numbers,
+    stride: Stride,
 ) -> Result<LineHandle<S, A>, OutOfMemory>
     requires some { (1 ≤ vec_len sources) × (vec_len sources ≤ file_limit) }
-    ensures { IfOk result (λ h. (h.promise.sources.value ≡ sources) × (h.promise.numbers ≡ numbers)
-        × (h.promise.plan ≡ job.now.plan)) }
+    ensures { IfOk result (λ h. (h.promise.sources.value ≡ sources) × (h.promise.stride ≡ stride)
+        × (h.promise.plan ≡ context.now.plan)) }
 {
     let promise = LineOf {
         sources: Snapshot::of(&sources),
-        numbers,
-        plan: job.plan,
+        stride,
+        plan: context.plan,
     };
     match small_stack().spawn_scoped_with(
         scope,
@@ -94,9 +94,9 @@ fn start_line<
         move || -> Results<A>
             requires { (1 ≤ vec_len sources) × (vec_len sources ≤ file_limit) }
             ensures { IfOk result
-                (λ all. IsLineFollowed numbers.first numbers.step job.entry.now.plan.block
-                (readings S.remaining job.entry.now.plan.unit sources.items) all.items) }
-        { follow_line(job, sources, numbers) },
+                (λ all. IsLineFollowed stride.first stride.step context.entry.now.plan.block
+                (readings S.remaining context.entry.now.plan.unit sources.items) all.items) }
+        { follow_line(context, sources, stride) },
     ) {
         Ok(handle) => Ok(handle),
         Err(_) => Err(OutOfMemory),
@@ -112,7 +112,7 @@ fn start_lines<
     A: Allocator + Clone + Copy + Send + Sync + 's,
     G: Gate,
 >(
-    job: &'s Job<'s, R, A, G>,
+    context: &'s Context<'s, R, A, G>,
     scope: &'s Scope<'s, E>,
     shares: Vec<Vec<S, A>, A>,
     handles: &mut Vec<LineHandle<S, A>, A>,
@@ -123,16 +123,16 @@ fn start_lines<
     requires room { (handles.old.items ≡ []) × (vec_len shares ≤ vec_capacity handles.old) }
     ensures sources { OnOk result (map (λ h. h.promise.sources.value) handles.new.items
         ≡ shares.items) }
-    ensures numbers { (place : ℕ) (h : _) → slice_get handles.new.items place ≡ Some h
-        → (h.promise.numbers.first ≡ place) × (h.promise.numbers.step ≡ vec_len shares)
-        × (h.promise.plan ≡ job.now.plan) }
+    ensures stride { (place : ℕ) (h : _) → slice_get handles.new.items place ≡ Some h
+        → (h.promise.stride.first ≡ place) × (h.promise.stride.step ≡ vec_len shares)
+        × (h.promise.plan ≡ context.now.plan) }
     ensures few { vec_len handles.new ≤ vec_len shares }
 {
     let step = shares.len() as u32;
     let mut first = 0;
     for sources in shares {
-        let numbers = Numbers { first, step };
-        let handle = start_line(job, scope, sources, numbers)?;
+        let stride = Stride { first, step };
+        let handle = start_line(context, scope, sources, stride)?;
         handles.push_reserved(handle);
         first += 1;
     }
@@ -149,7 +149,7 @@ fn join_lines<R: Threads, S: Read + Drop, A: Allocator + Clone + Copy>(
     ensures count { IfOk result (λ all. vec_len all ≡ vec_len handles) }
     ensures followed { IfOk result (λ all. (place : ℕ) (h r : _)
         → slice_get handles.items place ≡ Some h → slice_get all.items place ≡ Some r
-        → IsLineFollowed h.promise.numbers.first h.promise.numbers.step h.promise.plan.block
+        → IsLineFollowed h.promise.stride.first h.promise.stride.step h.promise.plan.block
         (readings S.remaining h.promise.plan.unit h.promise.sources.value.items) r.items) }
 {
     let mut refused = false;
@@ -171,7 +171,7 @@ fn run_lines<
     A: Allocator + Clone + Copy + Send + Sync + 's,
     G: Gate,
 >(
-    job: &'s Job<'s, R, A, G>,
+    context: &'s Context<'s, R, A, G>,
     scope: &'s Scope<'s, E>,
     shares: Vec<Vec<S, A>, A>,
 ) -> Result<Vec<Vec<Followed<A>, A>, A>, OutOfMemory>
@@ -179,14 +179,14 @@ fn run_lines<
     requires sources { All (λ share. (1 ≤ vec_len share)
         × (vec_len share ≤ file_limit)) shares.items }
     ensures { IfOk result
-        (λ all. AreLinesFollowed job.now.plan.block
-        (map (λ share. readings S.remaining job.now.plan.unit share.items) shares.items)
+        (λ all. AreLinesFollowed context.now.plan.block
+        (map (λ share. readings S.remaining context.now.plan.unit share.items) shares.items)
         (map (λ r. r.items) all.items)) }
 {
-    let mut handles = Vec::with_capacity(job.alloc, shares.len())?;
-    let results = Vec::with_capacity(job.alloc, shares.len())?;
-    let started = start_lines(job, scope, shares, &mut handles);
-    let joined = join_lines(job.rt, handles, results);
+    let mut handles = Vec::with_capacity(context.alloc, shares.len())?;
+    let results = Vec::with_capacity(context.alloc, shares.len())?;
+    let started = start_lines(context, scope, shares, &mut handles);
+    let joined = join_lines(context.rt, handles, results);
     started?;
     let all = joined?;
     Ok(all)
@@ -199,28 +199,28 @@ pub(crate) fn follow_lines<
     A: Allocator + Clone + Copy + Send + Sync,
     G: Gate,
 >(
-    job: &Job<'_, R, A, G>,
+    context: &Context<'_, R, A, G>,
     shares: Vec<Vec<S, A>, A>,
 ) -> Result<Vec<Vec<Followed<A>, A>, A>, OutOfMemory>
     requires shares { vec_len shares ≤ file_limit }
     requires sources { All (λ share. (1 ≤ vec_len share)
         × (vec_len share ≤ file_limit)) shares.items }
     ensures { IfOk result
-        (λ all. AreLinesFollowed job.now.plan.block
-        (map (λ share. readings S.remaining job.now.plan.unit share.items) shares.items)
+        (λ all. AreLinesFollowed context.now.plan.block
+        (map (λ share. readings S.remaining context.now.plan.unit share.items) shares.items)
         (map (λ r. r.items) all.items)) }
 {
     thread::scope(
         thread::scope_env(),
-        job.rt,
+        context.rt,
         move |scope| -> Result<Vec<Vec<Followed<A>, A>, A>, OutOfMemory>
             requires { (vec_len shares ≤ file_limit)
                 × All (λ share. (1 ≤ vec_len share) × (vec_len share ≤ file_limit)) shares.items }
             ensures { IfOk result
-                (λ all. AreLinesFollowed job.entry.now.plan.block
-                (map (λ share. readings S.remaining job.entry.now.plan.unit share.items)
+                (λ all. AreLinesFollowed context.entry.now.plan.block
+                (map (λ share. readings S.remaining context.entry.now.plan.unit share.items)
                 shares.items)
                 (map (λ r. r.items) all.items)) }
-        { run_lines(job, scope, shares) },
+        { run_lines(context, scope, shares) },
     )
 }

@@ -10,12 +10,9 @@ ghost use Rattle.range_estimator.specs.Estimation.{Estimation};
 ghost use Rattle.range_collect.specs.Follow.{Holds};
 ghost use Rattle.range_collect.specs.Work.{ComesTo, EachHolds};
 
-use crate::numbers::Numbers;
+use crate::stride::Stride;
 use range_estimator::Estimator;
-use range_line::{
-    Body, Feeder, Message, Settled, Taker, files_have_places, last_messages_come_next,
-    messages_add_their_fixes, settle,
-};
+use range_line::{Body, Feeder, Message, Settled, Taker, settle};
 use range_plane::OutOfMemory;
 use range_pump::Gate;
 use std::alloc::Allocator;
@@ -27,7 +24,7 @@ use std::sync::Wait;
 pub(crate) struct Worker<A: Allocator + Clone + Copy> {
     taker: Taker<A>,
     estimators: Vec<Estimator<A>, A>,
-    numbers: Numbers,
+    stride: Stride,
 }
 
 impl<A: Allocator + Clone + Copy> Model for Worker<A> {
@@ -40,8 +37,8 @@ impl<A: Allocator + Clone + Copy> Model for Worker<A> {
     ghost view = { λ w. w.taker };
 
     ghost invariant = { λ w. (w.taker.files
-        ≡ files_from w.numbers.first w.numbers.step (vec_len w.estimators))
-        × EachHolds w.numbers.first w.numbers.step w.taker.taken w.estimators.items };
+        ≡ files_from w.stride.first w.stride.step (vec_len w.estimators))
+        × EachHolds w.stride.first w.stride.step w.taker.taken w.estimators.items };
 }
 
 // Gives the fixes of a message to the estimator of its file, unless that has stopped.
@@ -62,22 +59,19 @@ fn receive<A: Allocator + Copy>(estimator: &mut Estimator<A>, body: Body)
 // Gives a message that was taken to the estimator of its file.
 fn give<A: Allocator + Copy, G: Gate>(
     estimators: &mut Vec<Estimator<A>, A>,
-    numbers: Numbers,
+    stride: Stride,
     message: Message,
     gate: &G,
 )
     requires next { (taken : List Message)
-        × ComesTo numbers.first numbers.step taken message estimators.old.items }
+        × ComesTo stride.first stride.step taken message estimators.old.items }
     ensures holds { (taken : List Message)
-        → EachHolds numbers.first numbers.step taken estimators.old.items
-        → EachHolds numbers.first numbers.step (taken ++ message ∷ []) estimators.new.items }
+        → EachHolds stride.first stride.step taken estimators.old.items
+        → EachHolds stride.first stride.step (taken ++ message ∷ []) estimators.new.items }
     ensures len { vec_len estimators.new ≡ vec_len estimators.old }
 {
-    files_have_places();
-    last_messages_come_next();
-    messages_add_their_fixes();
     let (file, place) = (message.file, message.place);
-    let index = (file - numbers.first) / numbers.step;
+    let index = (file - stride.first) / stride.step;
     receive(&mut estimators[index as usize], message.body);
     gate.after_take(file, place);
 }
@@ -87,10 +81,10 @@ impl<A: Allocator + Clone + Copy> Worker<A> {
     pub(crate) fn new(
         alloc: A,
         taker: Taker<A>,
-        numbers: Numbers,
+        stride: Stride,
         count: usize,
     ) -> Result<Worker<A>, OutOfMemory>
-        requires files { taker.files ≡ files_from numbers.first numbers.step count }
+        requires files { taker.files ≡ files_from stride.first stride.step count }
         requires fresh { taker.taken ≡ [] }
         ensures { IfOk result (λ worker. worker ≡ taker) }
     {
@@ -101,7 +95,7 @@ impl<A: Allocator + Clone + Copy> Worker<A> {
         Ok(Worker {
             taker,
             estimators,
-            numbers,
+            stride,
         })
     }
 
@@ -114,7 +108,7 @@ impl<A: Allocator + Clone + Copy> Worker<A> {
         let Worker {
             mut taker,
             mut estimators,
-            numbers,
+            stride,
         } = self;
         let mut open = estimators.len();
         for _ in rt.forever() {
@@ -127,12 +121,12 @@ impl<A: Allocator + Clone + Copy> Worker<A> {
             if let Body::Mark = message.body {
                 open -= 1;
             }
-            give(&mut estimators, numbers, message, gate);
+            give(&mut estimators, stride, message, gate);
         }
         Worker {
             taker,
             estimators,
-            numbers,
+            stride,
         }
     }
 
@@ -155,7 +149,7 @@ impl<A: Allocator + Clone + Copy> Worker<A> {
         let Worker {
             mut taker,
             mut estimators,
-            numbers,
+            stride,
         } = self;
         for _ in rt.forever() {
             let Settled {
@@ -168,7 +162,7 @@ impl<A: Allocator + Clone + Copy> Worker<A> {
             let Some(message) = extra else {
                 return (feeders, estimators);
             };
-            give(&mut estimators, numbers, message, gate);
+            give(&mut estimators, stride, message, gate);
         }
         unreachable!()
     }

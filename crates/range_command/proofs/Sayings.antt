@@ -6,9 +6,10 @@ use Rattle.range_texts.specs.Seen.{IsOneLine}
 use Rattle.range_command.specs.Answering.{IsSaid, SaysOneLine}
 use Rattle.range_command.specs.Obeying.{IsOfSystem, IsTold, World}
 use Rattle.range_command.specs.Output.{Outlet}
-use Rattle.range_command.specs.Telling.{IsOfOneLine, IsTelling, RefusalsAreOneLine, ShortLinesAreOneLine, line_of, refusal_text}
+use Rattle.range_command.specs.Telling.{IsOfOneLine, IsTelling, line_of, refusal_text}
 use Rattle.range_command.specs.declared.refusal.Refusal.{Refusal}
 use Rattle.range_command.specs.declared.refusal.Refusal.TheVariants as refusals
+use Rattle.range_command.proofs.Lines.{refusal_line, short_is_one_line}
 use Rattle.clap.specs.Words.{Text}
 
 -- what words are told is no text of many lines
@@ -30,15 +31,15 @@ system_in_one (refusals.Unopened path reason) told = absurd told
 system_in_one (refusals.Unwritten reason) told = absurd told
 system_in_one (refusals.Run files fault reason) told = absurd told
 
-line_in_one : {X : Type 0} (contents : X → Option (List ℕ)) (refusal : Refusal) (old new : Outlet X) → RefusalsAreOneLine → ShortLinesAreOneLine
+line_in_one : {X : Type 0} (contents : X → Option (List ℕ)) (refusal : Refusal) (old new : Outlet X)
     → IsOfOneLine refusal → IsTelling refusal (contents old.writer) (contents new.writer)
     → (text : List ℕ) × IsOneLine text × Appends (contents old.writer) (contents new.writer) (line_of text)
-line_in_one contents refusal old new whole short alone (inl told) = (refusal_text refusal, whole refusal alone, told)
-line_in_one contents refusal old new whole short alone (inr told) =
-    let line = short refusal in (line.0, line.1, subst (λ (l : List ℕ). Appends (contents old.writer) (contents new.writer) l) line.2 told)
+line_in_one contents refusal old new alone (inl told) = (refusal_text refusal, refusal_line refusal alone, told)
+line_in_one contents refusal old new alone (inr told) =
+    let line = short_is_one_line refusal in (line.0, line.1, subst (λ (l : List ℕ). Appends (contents old.writer) (contents new.writer) l) line.2 told)
 
 -- what is said is one line
-pub said_in_one : {X : Type 0} (contents : X → Option (List ℕ)) (failure : Option Error) (refusal : Refusal) (old new : Outlet X) → RefusalsAreOneLine
-    → ShortLinesAreOneLine → IsOfOneLine refusal → IsSaid failure refusal contents old new → SaysOneLine failure contents old new
-said_in_one contents failure refusal old new whole short alone (inl left) = inl left
-said_in_one contents failure refusal old new whole short alone (inr said) = inr (λ unfailed. line_in_one contents refusal old new whole short alone (said.1 unfailed))
+pub said_in_one : {X : Type 0} (contents : X → Option (List ℕ)) (failure : Option Error) (refusal : Refusal) (old new : Outlet X)
+    → IsOfOneLine refusal → IsSaid failure refusal contents old new → SaysOneLine failure contents old new
+said_in_one contents failure refusal old new alone (inl left) = inl left
+said_in_one contents failure refusal old new alone (inr said) = inr (λ unfailed. line_in_one contents refusal old new alone (said.1 unfailed))

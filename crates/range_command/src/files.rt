@@ -10,7 +10,7 @@ use crate::source::Source;
 use std::alloc::Global;
 use std::sync::atomic::AtomicI32;
 
-/// The files, opened in the order of their paths. The place of each is for the reason of a read that fails.
+/// The files, opened in the order of their paths. The number of the reason goes to `errnos`, at the index of the file, where a read fails.
 ///
 /// # Errors
 ///
@@ -19,9 +19,9 @@ pub(crate) fn open_all<'a, O: Opener>(
     opener: &O,
     alloc: Global,
     paths: &[String],
-    places: &'a [AtomicI32],
+    errnos: &'a [AtomicI32],
 ) -> Result<Vec<Source<'a, O::File>>, Refusal>
-    requires { length places.now ≡ length paths.now }
+    requires { length errnos.now ≡ length paths.now }
     ensures files { IfOk result (λ sources. map (λ source. O.File.remaining source.source) sources.items
         ≡ map (λ path. bytes_in (O.finds opener.now (string_bytes path))) paths.now) }
     ensures refusal { IfErr result (IsOfFiles (O.finds opener.now) paths.now) }
@@ -32,7 +32,7 @@ pub(crate) fn open_all<'a, O: Opener>(
             Ok(file) => file,
             Err(fault) => return Err(unopened(alloc, path.as_str(), fault)),
         };
-        let source = Source::new(file, &places[sources.len()]);
+        let source = Source::new(file, &errnos[sources.len()]);
         if sources.push(source).is_err() {
             return Err(Refusal::OutOfMemory);
         }

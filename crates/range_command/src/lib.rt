@@ -2,25 +2,25 @@
 //! told in one line and a status.
 #![tactic(auto)]
 
-mod answering;
 mod bad_words;
+mod command;
+mod command_line;
 mod confirmed;
+mod exit_status;
+mod file_run;
 mod files;
-mod obeying;
 mod opener;
 mod output;
 mod reason;
 mod refusal;
+mod refusal_text;
 mod retry;
-mod running;
 mod source;
-mod telling;
-mod words;
 
-pub use answering::{answer, answer_to};
+pub use command::obey;
 pub use confirmed::Confirmed;
-pub use obeying::{obey, obey_with_gate};
+pub use exit_status::{answer, answer_to};
 pub use opener::{OpenFault, Opener, SystemFiles};
 pub use output::Output;
 pub use refusal::Refusal;
-pub use telling::refusals_are_one_line;
+pub use refusal_text::refusals_are_one_line;

@@ -8,7 +8,7 @@ use std::io::Read;
 use std::sync::atomic::{AtomicI32, Ordering};
 
 /// A source that tries a read again where a signal interrupts it, and that leaves the number that the system
-/// gives to the reason of a failed read in a place where it is found after the source has gone to a thread.
+/// gives to the reason of a failed read where it is found after the source has gone to a thread.
 #[derive(Drop)]
 pub(crate) struct Source<'a, S> {
     source: S,

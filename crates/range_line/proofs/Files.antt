@@ -2,11 +2,11 @@
 use Rattle.std.proofs.Common.{◌≡◌, ℕ, zero, suc, ◌+◌, ◌*◌, ◌<◌, ◌≤◌, [], ◌∷◌, ◌++◌, get_or, sym, ◌∙◌, suc-mul, mul-le-mul_right, arith, ap, length}
 use Rattle.std.specs.Prelude.{Contains}
 use Rattle.std.proofs.lemmas.List.FromFn.{length-map-range_with_len, get_or-map-range_with_len, map-range_with_len_more}
-use Rattle.range_line.specs.Laws.{FilesHavePlaces}
+use Rattle.range_line.specs.Laws.{FilesAreStepsApart}
 use Rattle.range_line.specs.Lines.{files_from}
 
-pub files_have_places : FilesHavePlaces
-files_have_places first step n file =
+pub files_are_steps_apart : FilesAreStepsApart
+files_are_steps_apart first step n file =
     let f : ℕ → ℕ = λ j. first + j * step in
     let len = length-map-range_with_len f 0 n in (
       λ c. let below : c.0 < n = (let less = c.1 in omega arith) in (c.0, below, sym c.2 ∙ get_or-map-range_with_len f 0 n c.0 c.0 file below (omega arith)),
@@ -18,7 +18,7 @@ files_more first step n = map-range_with_len_more (λ j. first + j * step) 0 n n
 
 pub file_is_new : (first step n : ℕ) → 1 ≤ step → Contains (files_from first step n) (first + n * step) → ⊥
 file_is_new first step n some_step c =
-    let place = (files_have_places first step n (first + n * step)).0 c in
+    let place = (files_are_steps_apart first step n (first + n * step)).0 c in
     let below = place.1 in
     let same = place.2 in
     let apart : suc place.0 * step ≤ n * step = mul-le-mul_right step (omega arith) in

@@ -1,3 +1,4 @@
+pub mod ForCallers
 pub mod Orderly
 pub mod RuleSteps
 pub mod Passes

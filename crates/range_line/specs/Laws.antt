@@ -49,5 +49,5 @@ pub record ComesNext (messages : List Message) (m : Message) : Type 0 where
 abbrev pub LastMessagesComeNext : Type 0
 LastMessagesComeNext = (messages : List Message) (m : Message) → IsLawful (messages ++ m ∷ []) m.file → ComesNext messages m
 
-abbrev pub FilesHavePlaces : Type 0
-FilesHavePlaces = (first step count file : ℕ) → Contains (files_from first step count) file ↔ ((place : ℕ) × (place < count) × (file ≡ first + place * step))
+abbrev pub FilesAreStepsApart : Type 0
+FilesAreStepsApart = (first step count file : ℕ) → Contains (files_from first step count) file ↔ ((place : ℕ) × (place < count) × (file ≡ first + place * step))

@@ -10,9 +10,9 @@ ghost use Rattle.range_line.specs.Messages.{block_of, has_mark, joined, of_file,
 ghost use Rattle.range_line.specs.Passes.{after_joining_all, line_from, line_of, IsTaking};
 ghost use Rattle.range_line.specs.Rule.{after_opening, feeder_pass, taker_pass, IsRest};
 
+use crate::channel::send;
 use crate::message::{Block, Body, Message};
 use crate::rule::{Ends, LineRule, Opening, Opens, PassView, Takes};
-use crate::waiting::send;
 use crossbeam_channel::{Pass, RuledSender};
 use range_plane::{Fix, OutOfMemory};
 use std::alloc::{Allocator, Global};
@@ -177,21 +177,14 @@ impl<A: Allocator + Clone> Feeder<A> {
         self.file
     }
 
-    /// Whether the mark was sent.
+    /// Whether the mark was sent. What was sent is lawful and of the feeder's file alone.
     pub fn closed(&self) -> bool
-        ensures { result ≡ self.now.closed }
-    {
-        self.closed
-    }
-
-    /// The law of feeders, for the proofs of the crates above: what was sent is lawful and of the feeder's file
-    /// alone, and has the mark exactly where the feeder is closed.
-    pub fn sends_lawfully(&self)
+        ensures value { result ≡ self.now.closed }
         ensures mark { has_mark self.now.sent ≡ self.now.closed }
         ensures own { of_file self.now.sent self.now.file ≡ self.now.sent }
         ensures lawful { IsLawful self.now.sent self.now.file }
     {
-        let _ = &self.closed;
+        self.closed
     }
 
     /// How many fixes were sent.

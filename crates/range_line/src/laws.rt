@@ -1,7 +1,7 @@
-// Laws of lines and of their messages. Each is a function that does nothing and promises the law,
-// for the proofs of the crates above.
+// Laws of lines and of their messages, for who reads what is promised. Each is a function that does nothing and
+// promises the law; nobody calls it, since proofs of crates above cite `proofs/ForCallers.antt`.
 
-ghost use Rattle.range_line.specs.Laws.{FilesHavePlaces, LastMessagesComeNext, LinesAreInOrder, MessagesAddTheirFixes, StreamsAreLawful, TheMarkIsLast};
+ghost use Rattle.range_line.specs.Laws.{FilesAreStepsApart, LastMessagesComeNext, LinesAreInOrder, MessagesAddTheirFixes, StreamsAreLawful, TheMarkIsLast};
 
 /// At every moment of a line: each message that was taken or that the channel holds is of a file of the
 /// line; of each file, what was taken and then what the channel holds is what its feeder sent, and is
@@ -35,6 +35,6 @@ pub fn last_messages_come_next()
 {}
 
 /// The files of a line are its first, and each a step after the one before.
-pub fn files_have_places()
-    ensures { FilesHavePlaces }
+pub fn files_are_steps_apart()
+    ensures { FilesAreStepsApart }
 {}

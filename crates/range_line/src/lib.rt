@@ -3,19 +3,19 @@
 //! feeder sent.
 #![tactic(auto)]
 
+mod channel;
 mod feeder;
 mod laws;
 mod message;
 mod rule;
-mod settling;
+mod settled;
 mod taker;
-mod waiting;
 
 pub use feeder::Feeder;
 pub use laws::{
-    files_have_places, last_messages_come_next, lines_are_in_order, messages_add_their_fixes,
+    files_are_steps_apart, last_messages_come_next, lines_are_in_order, messages_add_their_fixes,
     streams_are_lawful, the_mark_is_last,
 };
 pub use message::{Block, Body, Message};
-pub use settling::{Settled, settle};
+pub use settled::{Settled, settle};
 pub use taker::{Taker, open_line};

@@ -6,10 +6,10 @@ ghost use Rattle.range_options.specs.Limits.{depth_limit, file_limit};
 ghost use Rattle.range_line.specs.Lines.{after_take, files_from, first_file, new_feeder, new_taker};
 ghost use Rattle.range_line.specs.Messages.{IsLawful};
 
+use crate::channel::take;
 use crate::feeder::{Feeder, LinePass};
 use crate::message::Message;
 use crate::rule::{LineRule, PassView};
-use crate::waiting::take;
 use crossbeam_channel::{RuledReceiver, bounded_with};
 use range_plane::OutOfMemory;
 use std::alloc::{Allocator, Global};

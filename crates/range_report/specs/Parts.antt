@@ -1,8 +1,8 @@
 -- The parts of a report, which several threads write.
 use Rattle.std.specs.Prelude.{◌++◌, ◌+◌, ◌-◌, ◌/◌, ℕ, List, drop, length, map, take}
 use Rattle.std.specs.List.{flat_map}
-use Rattle.range_tables.specs.declared.analysis.Analysis.{Analysis}
-use Rattle.range_tables.specs.declared.animal.Animal.{Animal}
+use Rattle.range_analysis.specs.declared.analysis.Analysis.{Analysis}
+use Rattle.range_analysis.specs.declared.animal.Animal.{Animal}
 use Rattle.range_report.specs.declared.parts.Lines.{Lines}
 use Rattle.range_report.specs.declared.parts.Lines.TheVariants.{Head, Rows, Corners, Percents}
 use Rattle.range_report.specs.declared.parts.Part.{Part}

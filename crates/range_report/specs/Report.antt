@@ -8,10 +8,10 @@ use Rattle.range_plane.specs.declared.scale.Scale.TheVariants.{Metre, Decimetre}
 use Rattle.range_lanes.specs.declared.extent.Extent.{Extent}
 use Rattle.range_stats.specs.declared.percents.PercentRow.{PercentRow}
 use Rattle.range_estimator.specs.declared.row.Row.{Row}
-use Rattle.range_tables.specs.Names.{name_at}
-use Rattle.range_tables.specs.declared.animal.Animal.{Animal}
-use Rattle.range_tables.specs.declared.animal.OverlapRow.{OverlapRow}
-use Rattle.range_tables.specs.declared.analysis.Analysis.{Analysis}
+use Rattle.range_analysis.specs.Names.{name_at}
+use Rattle.range_analysis.specs.declared.animal.Animal.{Animal}
+use Rattle.range_analysis.specs.declared.animal.OverlapRow.{OverlapRow}
+use Rattle.range_analysis.specs.declared.analysis.Analysis.{Analysis}
 
 -- the first line, which a report in metres does not have
 abbrev pub unit_line : Scale → List ℕ

@@ -2,15 +2,15 @@
 
 ghost use Rattle.std.specs.Prelude.{◌≡◌, ◌+◌, ◌-◌, ◌++◌, ◌<◌, ◌^◌, All, IfOk, IfSome, OnOk, codes, decimal, length, map};
 ghost use Rattle.std.specs.List.{flat_map};
-ghost use Rattle.range_tables.specs.Names.{name_at};
+ghost use Rattle.range_analysis.specs.Names.{name_at};
 ghost use Rattle.range_report.specs.Report.{animal_line, box_line, corner_line, end_line, field, lines_from, overlap_line, percent_line, point_text, row_head, row_line, row_tail};
 
 use itoa::{Buffer, Integer};
+use range_analysis::{Animal, OverlapRow};
 use range_estimator::Row;
 use range_lanes::Extent;
 use range_plane::Point;
 use range_stats::PercentRow;
-use range_tables::{Animal, OverlapRow};
 use std::alloc::{AllocError, Allocator};
 
 // Appends a number.

@@ -5,7 +5,7 @@ ghost use Rattle.std.specs.List.{flat_map, range_with_len};
 ghost use Rattle.range_report.specs.Parts.{part_count, part_text, text_of};
 ghost use Rattle.range_report.specs.Report.{animal_text};
 
-use range_tables::Animal;
+use range_analysis::Animal;
 use std::alloc::{AllocError, Allocator};
 
 /// How many rows or corners a part has at most.

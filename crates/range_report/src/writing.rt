@@ -9,8 +9,8 @@ use crate::lines::{
     push_box, push_corners, push_end, push_head, push_overlaps, push_percents, push_rows,
 };
 use crate::parts::{Lines, PART_LINES, Part, parts_of};
+use range_analysis::{Analysis, Animal};
 use range_plane::{OutOfMemory, Scale};
-use range_tables::{Analysis, Animal};
 use rayon::prelude::*;
 use std::alloc::{AllocError, Allocator};
 use std::thread::Threads;

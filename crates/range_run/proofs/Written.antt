@@ -3,7 +3,7 @@ use Rattle.std.proofs.Common.{◌≡◌, ℕ, List, Option, subst, sym}
 use Rattle.std.specs.Prelude.{Result, Err, IfErr, OnErr, OnOk}
 use Rattle.std.specs.Io.KnownBytes.{Appends}
 use Rattle.std.proofs.lemmas.Result.{IfErr-weaker, on_ok_weaker}
-use Rattle.range_tables.specs.declared.analysis.Analysis.{Analysis}
+use Rattle.range_analysis.specs.declared.analysis.Analysis.{Analysis}
 use Rattle.range_plane.specs.declared.scale.Scale.{Scale}
 use Rattle.range_fixes.specs.Reading.{Reading}
 use Rattle.range_analysis.specs.Sources.{IsAnalysisOf}

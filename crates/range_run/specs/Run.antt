@@ -1,7 +1,7 @@
 -- What a run writes, and why it ends without its report.
 use Rattle.std.specs.Prelude.{ℕ, List, Option}
 use Rattle.std.specs.Io.KnownBytes.{Appends}
-use Rattle.range_tables.specs.declared.analysis.Analysis.{Analysis}
+use Rattle.range_analysis.specs.declared.analysis.Analysis.{Analysis}
 use Rattle.range_plane.specs.declared.scale.Scale.{Scale}
 use Rattle.range_fixes.specs.Reading.{Reading}
 use Rattle.range_analysis.specs.Sources.{HasNoAnalysisOf, IsAnalysisOf}

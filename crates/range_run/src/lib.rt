@@ -3,8 +3,8 @@
 
 mod fault;
 mod output;
-mod running;
+mod report_run;
 
 pub use fault::{RunFault, status};
 pub use output::write_text;
-pub use running::{run, run_with_gate};
+pub use report_run::{run, run_with_gate};

@@ -1,2 +1,3 @@
+pub mod ForCallers
 mod OneLines
 mod Printable

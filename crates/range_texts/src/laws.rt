@@ -1,5 +1,5 @@
-// Laws of texts of one line. Each is a function that does nothing and promises the law, for the proofs of the
-// crates above.
+// Laws of texts of one line, for who reads what is promised. Each is a function that does nothing and promises the
+// law; nobody calls it, since proofs of crates above cite `proofs/ForCallers.antt`.
 
 ghost use Rattle.range_texts.specs.Laws.{JoinedLinesAreOneLine, NumbersAreOneLine, PrintableTextsAreOneLine, ShownNamesAreOneLine, ShownTextsAreOneLine};
 

@@ -1,4 +1,4 @@
-use Rattle.std.proofs.Common.{length, map, ap, arith}
+use Rattle.std.proofs.Common.{length, ap, arith}
 use Rattle.range_fixes.specs.Reading.{readings}
 use Rattle.range_line.specs.Lines.{ended_feeder}
 use Rattle.range_collect.specs.declared.followed.Followed.{Followed}
@@ -27,7 +27,7 @@ pub pair-requires-clause-results : goal.pair-requires-clause-results
 pair-requires-clause-results g c =
     let line = c.in_ok-feeders.field-0 in
     let d = c.drain-feeders in
-    results_of_line _ _ _ _ _ d.result.0.items line.reads.items _ d.result.1.items c.args.job.now.plan.within.0.0 c.in_ok-feeders.ensures d.ensures.feeders
+    results_of_line _ _ _ _ _ d.result.0.items line.reads.items _ d.result.1.items c.args.context.now.plan.within.0.0 c.in_ok-feeders.ensures d.ensures.feeders
     d.ensures.holds
 
 pub returns : goal.returns
@@ -46,8 +46,8 @@ returns g c =
           (λ f. f.marked) line.worker.line line.feeders.items d.result.0.items results (line_of_feeders _ _ _ _ _ _ _ is) d.ensures.feeders p.feeders;
       count = omega (arith, told, made, is.counts.1);
       followed = line_followed (λ (f : Followed _ _). f.feeder) (λ f. f.read) (λ f. f.estimator)
-          (λ f. f.marked) c.args.numbers.first c.args.numbers.step c.args.job.now.plan.block
-          (readings g.S.Read.remaining c.args.job.now.plan.unit c.args.sources.items) line.feeders.items d.result.0.items
+          (λ f. f.marked) c.args.stride.first c.args.stride.step c.args.context.now.plan.block
+          (readings g.S.Read.remaining c.args.context.now.plan.unit c.args.sources.items) line.feeders.items d.result.0.items
           line.reads.items line.worker d.result.1.items
           results
           is d.ensures.feeders d.ensures.holds p.feeders p.reads p.estimators p.seen;

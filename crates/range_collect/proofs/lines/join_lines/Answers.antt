@@ -1,4 +1,4 @@
-use Rattle.std.proofs.Common.{◌≡◌, ◌++◌, ◌∷◌, [], false, Some, map, length, slice_get, arith, rules, sym, ap, ◌∙◌, subst, append_assoc}
+use Rattle.std.proofs.Common.{◌≡◌, ◌++◌, ◌∷◌, [], false, Some, length, slice_get, arith, rules, sym, ap, ◌∙◌, subst, append_assoc}
 use Rattle.std.proofs.lemmas.List.{append-nil, length_push, nil_from_length}
 use Rattle.std.specs.Vec.Iter.{into_iter_items}
 use Rattle.range_fixes.specs.Reading.{readings}
@@ -21,7 +21,7 @@ loop-handle-preserved-in-Ok g c =
             j.1 ∙ (ap (λ l. j.0 ++ l) step ∙ sym (append_assoc j.0 (h ∷ []) _)),
             (let d = length_push j.0 h in let n = ap length a.items in let l = length_push c.loop-handle.all.items c.in-Ok.results in
                 omega (arith, d, n, l, j.2)),
-            rw a.items (twos_pushed (λ h r. IsLineFollowed h.promise.numbers.first h.promise.numbers.step h.promise.plan.block
+            rw a.items (twos_pushed (λ h r. IsLineFollowed h.promise.stride.first h.promise.stride.step h.promise.plan.block
                 (readings g.S.Read.remaining h.promise.plan.unit h.promise.sources.value.items) r.items)
                 j.0 c.loop-handle.all.items h c.in-Ok.results j.2 j.3 c.in-Ok.ensures),
           );

@@ -1,4 +1,4 @@
-use Rattle.std.proofs.Common.{◌≡◌, refl, Vec, length, map, ap, sym, ◌∙◌, subst, arith, slice_get, Some}
+use Rattle.std.proofs.Common.{◌≡◌, refl, Vec, length, ap, sym, ◌∙◌, subst, arith, slice_get, Some}
 use Rattle.std.proofs.lemmas.Option.{same_Some, slice_get_within}
 use Rattle.range_fixes.specs.Reading.{readings}
 use Rattle.range_lemmas.proofs.Places.{map_length, mapped, mapped_from, there_is}
@@ -12,7 +12,7 @@ returns g c =
     let shares = c.args.shares in
     let all = c.in_ok-all.all in
     let joined = c.in_ok-all.ensures in
-    let shares_count = map_length (λ (share : Vec _ _). readings g.S.Read.remaining c.args.job.now.plan.unit share.items) shares.items in
+    let shares_count = map_length (λ (share : Vec _ _). readings g.S.Read.remaining c.args.context.now.plan.unit share.items) shares.items in
     let all_count = map_length (λ (r : Vec _ _). r.items) all.items in
     let made = map_length (λ h. h.promise.sources.value) handles.items in
     let same = ap length started.sources in
@@ -24,9 +24,9 @@ returns g c =
           let h = there_is handles.items place (omega (arith, within, joined.count, handles.ok.0, all.ok.0)) in
           let share = subst (λ l. slice_get l place ≡ Some h.0.promise.sources.value) started.sources
           (mapped (λ h. h.promise.sources.value) handles.items place h.0 h.1) in
-          let told = same_Some _ sources (sym (mapped (λ (share : Vec _ _). readings g.S.Read.remaining c.args.job.now.plan.unit share.items) shares.items place
+          let told = same_Some _ sources (sym (mapped (λ (share : Vec _ _). readings g.S.Read.remaining c.args.context.now.plan.unit share.items) shares.items place
           h.0.promise.sources.value share) ∙ in_shares) in
-          let numbers = started.numbers place h.0 h.1 in
-          same_line_followed _ _ _ _ _ _ _ _ _ _ numbers.0 (numbers.1 ∙ (shares.ok.0 ∙ sym shares_count)) refl told r.2
-          (rw numbers.2 at (joined.followed place h.0 r.0 h.1 r.1));
+          let stride = started.stride place h.0 h.1 in
+          same_line_followed _ _ _ _ _ _ _ _ _ _ stride.0 (stride.1 ∙ (shares.ok.0 ∙ sym shares_count)) refl told r.2
+          (rw stride.2 at (joined.followed place h.0 r.0 h.1 r.1));
     }

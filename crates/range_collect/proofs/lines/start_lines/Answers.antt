@@ -2,7 +2,7 @@ use Rattle.std.proofs.Common.{◌≡◌, ◌≤◌, All, length, arith, refl, ap
 use Rattle.std.proofs.lemmas.List.Elements.{All-head, All-rest}
 use Rattle.std.proofs.lemmas.Option.{slice_get_within}
 use Rattle.range_options.specs.Limits.{file_limit}
-use Rattle.range_collect.specs.declared.numbers.Numbers.{Numbers}
+use Rattle.range_collect.specs.declared.stride.Stride.{Stride}
 use Rattle.range_lemmas.proofs.Places.{before_or_last, moved}
 use Rattle.range_collect.proofs.lines.start_lines.Goals as goal
 
@@ -14,7 +14,7 @@ loop-sources-init g c =
     let zero = ap length none in
     record {
       sources = rw (none, all) refl;
-      numbers = λ place h is. let within = slice_get_within _ place h is in absurd (omega (arith, within, zero));
+      stride = λ place h is. let within = slice_get_within _ place h is in absurd (omega (arith, within, zero));
       sizes = rw all c.requires.sources;
       first = omega (arith, zero, c.args.handles.now.ok.0);
       step = omega (arith, c.args.shares.ok.0);
@@ -39,11 +39,11 @@ loop-sources-preserved g c =
     let sources = ap length source in
     record {
       sources = rw items (moved _ hs h c.in-Some.sources _ _ _ inv.sources source made.0);
-      numbers = rw items (λ place v is. elim (before_or_last hs v h place is) [
-        | inl before ↦ inv.numbers place v before
+      stride = rw items (λ place v is. elim (before_or_last hs v h place is) [
+        | inl before ↦ inv.stride place v before
         | inr last ↦ (let place_is : c.loop-sources.first ≡ place = (let at = last.0 in omega (arith, at, inv.first, c.loop-sources.handles.ok.0)) in
-            subst (λ x. (x.promise.numbers.first ≡ place) × (x.promise.numbers.step ≡ vec_len c.args.shares) × (x.promise.plan ≡ c.args.job.now.plan)) last.1
-            (ap (λ (n : Numbers). n.first) made.1 ∙ place_is, ap (λ (n : Numbers). n.step) made.1 ∙ inv.step, made.2))
+            subst (λ x. (x.promise.stride.first ≡ place) × (x.promise.stride.step ≡ vec_len c.args.shares) × (x.promise.plan ≡ c.args.context.now.plan)) last.1
+            (ap (λ (n : Stride). n.first) made.1 ∙ place_is, ap (λ (n : Stride). n.step) made.1 ∙ inv.step, made.2))
       ]);
       sizes = All-rest (λ (share : Vec _ _). (1 ≤ vec_len share) × (vec_len share ≤ file_limit)) _ _ _ source inv.sizes;
       first = omega (arith, inv.first, c.push_reserved.ensures.len);

@@ -1,6 +1,6 @@
 use Rattle.std.proofs.Common.{◌≡◌, ℕ, ◌++◌, ◌*◌, List, length}
 use Rattle.std.specs.List.{flat_map, range_with_len}
-use Rattle.range_tables.specs.declared.animal.Animal.{Animal}
+use Rattle.range_analysis.specs.declared.animal.Animal.{Animal}
 use Rattle.range_report.specs.declared.parts.Lines.{Lines}
 use Rattle.range_report.specs.declared.parts.Lines.TheVariants.{Corners, Rows}
 use Rattle.range_report.specs.Parts.{part_count, part_lines, part_text, text_of}

@@ -33,7 +33,7 @@ settle-later-requires g c =
 pub give-requires-clause-next : goal.give-requires-clause-next
 give-requires-clause-next g c =
     let inv = c.loop.invariant in
-    let n = c.self.inside.numbers in
+    let n = c.self.inside.stride in
     let s = c.settle-later.ensures in
     let m : Message = c.in-Some-extra.message in
     let t = ap (λ (v : TakerView). v.taken) (s.taker ∙ ap (ended_taker c.loop.taker) c.in-Some-extra.is) in
@@ -50,7 +50,7 @@ give-requires-clause-next g c =
 pub loop-preserved : goal.loop-preserved
 loop-preserved g c =
     let inv = c.loop.invariant in
-    let n = c.self.inside.numbers in
+    let n = c.self.inside.stride in
     let s = c.settle-later.ensures in
     let taker = s.taker ∙ ap (ended_taker c.loop.taker) c.in-Some-extra.is in
     let files = ap (λ (v : TakerView). v.files) taker in
@@ -67,7 +67,7 @@ loop-preserved g c =
 pub returns-in_default-clause-holds : goal.returns-in_default-clause-holds
 returns-in_default-clause-holds g c = λ place f e in_feeders in_estimators.
     let inv = c.loop.invariant in
-    let n = c.self.inside.numbers in
+    let n = c.self.inside.stride in
     let s = c.settle-later.ensures in
     let fs = c.settle-later.result.feeders.items in
     let old : List Message = c.loop.taker.taken in
@@ -81,7 +81,7 @@ returns-in_default-clause-holds g c = λ place f e in_feeders in_estimators.
 pub returns-in_default-clause-count : goal.returns-in_default-clause-count
 returns-in_default-clause-count g c =
     let inv = c.loop.invariant in
-    let n = c.self.inside.numbers in
+    let n = c.self.inside.stride in
     let s = c.settle-later.ensures in
     let order = ap (map (λ (f : FeederView). f.file)) s.feeders ∙ (ended_files c.loop.feeders.items ∙ (inv.order ∙ inv.known)) in
     let count : length (map (λ (f : FeederView). f.file) c.settle-later.result.feeders.items) ≡ vec_len c.loop.estimators =

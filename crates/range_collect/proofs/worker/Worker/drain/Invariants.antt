@@ -8,6 +8,6 @@ invariant-loop g l = record {
   line : AreOfLine l.feeders.items l.taker.line;
   order : map (λ f. f.file) l.feeders.items ≡ l.taker.files;
   feeders : map ended_feeder l.feeders.items ≡ map ended_feeder l.fn.feeders.items;
-  known : l.taker.files ≡ files_from l.numbers.first l.numbers.step (vec_len l.estimators);
-  holds : EachHolds l.numbers.first l.numbers.step l.taker.taken l.estimators.items;
+  known : l.taker.files ≡ files_from l.stride.first l.stride.step (vec_len l.estimators);
+  holds : EachHolds l.stride.first l.stride.step l.taker.taken l.estimators.items;
 }

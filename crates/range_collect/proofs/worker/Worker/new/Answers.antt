@@ -13,7 +13,7 @@ loop-made-preserved g c =
     let inv = c.loop-made.invariant in
     let e : Estimation = c.new.result in
     let none = ap (λ (e : Estimation). e.fixes) c.new.ensures.value in
-    let holds : Holds e [] = record { prefix = ([], ap (λ l. l ++ []) none); whole = λ _. none } in
+    let holds : Holds e [] = record { prefix = ([], ap (λ l. l ++ []) none); whole = λ _. none; estimate = c.new.ensures.estimate } in
     record {
       len = omega (arith, inv.len, c.push_reserved.ensures.len);
       room = omega (arith, inv.room, c.push_reserved.ensures.capacity);
@@ -23,9 +23,9 @@ loop-made-preserved g c =
 pub invariant_of-result : goal.invariant_of-result
 invariant_of-result g c =
     let inv = c.loop-made.invariant in
-    let numbers = c.args.numbers in
-    let all : EachHolds numbers.first numbers.step [] c.loop-made.estimators.items =
+    let stride = c.args.stride in
+    let all : EachHolds stride.first stride.step [] c.loop-made.estimators.items =
     λ place e is. of_all (λ (e : Estimation). Holds e []) c.loop-made.estimators.items place e inv.holds is in (
-      c.requires.files ∙ ap (files_from numbers.first numbers.step) (omega (arith, inv.len)),
-      subst (λ (ms : List Message). EachHolds numbers.first numbers.step ms c.loop-made.estimators.items) (sym c.requires.fresh) all,
+      c.requires.files ∙ ap (files_from stride.first stride.step) (omega (arith, inv.len)),
+      subst (λ (ms : List Message). EachHolds stride.first stride.step ms c.loop-made.estimators.items) (sym c.requires.fresh) all,
     )

@@ -10,7 +10,7 @@ use Rattle.range_collect.proofs.worker.Worker.work.Goals.{in-None, in-Some+then-
 pub give-requires-clause-next : goal.give-requires-clause-next
 give-requires-clause-next g c =
     let inv = c.loop.invariant in
-    let n = c.self.inside.numbers in
+    let n = c.self.inside.stride in
     let t = ap (λ (v : TakerView). v.taken) c.in-Some-take.ensures.taken in
     let m : Message = c.in-Some-take.message in
     let files = inv.known ∙ ap (files_from n.first n.step) c.loop.estimators.ok.0 in
@@ -26,7 +26,7 @@ give-requires-clause-next g c =
 pub loop-preserved : goal.loop-preserved
 loop-preserved g c =
     let inv = c.loop.invariant in
-    let n = c.self.inside.numbers in
+    let n = c.self.inside.stride in
     let e = c.in-Some-take.ensures in
     let t = ap (λ (v : TakerView). v.taken) e.taken in
     record {
@@ -49,7 +49,7 @@ left g c = elim c.match-next.branch as (λ _. c.match-next.taker ≡ c.loop.take
 pub invariant_of-result : goal.invariant_of-result
 invariant_of-result g c =
     let inv = c.loop.invariant in
-    let n = c.self.inside.numbers in
+    let n = c.self.inside.stride in
     let same = left g c in (
       ap (λ (t : TakerView). t.files) same ∙ inv.known,
       subst (λ (t : TakerView). EachHolds n.first n.step t.taken c.loop.estimators.items) (sym same) inv.holds,

@@ -8,6 +8,6 @@ invariant-loop g l = record {
   line : l.taker.line ≡ l.fn.self.line;
   files : l.taker.files ≡ l.fn.self.files;
   live : l.taker.ended ≡ false;
-  known : l.taker.files ≡ files_from l.numbers.first l.numbers.step (vec_len l.estimators);
-  holds : EachHolds l.numbers.first l.numbers.step l.taker.taken l.estimators.items;
+  known : l.taker.files ≡ files_from l.stride.first l.stride.step (vec_len l.estimators);
+  holds : EachHolds l.stride.first l.stride.step l.taker.taken l.estimators.items;
 }

@@ -1,4 +1,4 @@
 use Rattle.range_line.proofs.feeder.Feeder.closed.Goals as goal
 
-pub returns : goal.returns
-returns g c = cc
+pub returns-clause-value : goal.returns-clause-value
+returns-clause-value g c = cc

@@ -1,5 +1,0 @@
-use Rattle.std.proofs.Common.{rules}
-use Rattle.range_analysis.proofs.losses.lost.Goals as goal
-
-pub returns : goal.returns
-returns c = search rules

@@ -1,0 +1,68 @@
+// From the words of the command line to what is written.
+
+ghost use Rattle.std.specs.Prelude.{◌≡◌, ◌≢◌, IfErr, OnOk, map, string_bytes};
+ghost use Rattle.std.specs.Io.KnownBytes.{Appends};
+ghost use Rattle.range_command.specs.Obeying.{IsObeyed, IsOfReply, IsTold, world};
+ghost use Rattle.range_command.specs.Status.{refusal_status};
+
+use crate::bad_words::bad_words;
+use crate::file_run::run_over;
+use crate::opener::Opener;
+use crate::output::Output;
+use crate::reason::known_reason;
+use crate::refusal::Refusal;
+use range_pump::Gate;
+use range_run::write_text;
+use range_words::{WordFault, read_words};
+use std::alloc::Global;
+use std::io::{Read, Write};
+use std::sync::Wait;
+use std::thread::Threads;
+
+/// Does what the words ask for, of which the first is the program's name and is not read: writes the help or the
+/// version, or the report of a run over the files that they name, or over the input where they name none. Nothing is
+/// written with a status other than 0 and 4.
+/// The gate hears of the messages on the lines, as `analyse` says.
+pub fn obey<
+    R: Wait + Threads + Sync + AllocGlobal,
+    O: Opener,
+    S: Read + Send + Drop,
+    W: Write,
+    G: Gate,
+>(
+    rt: &R,
+    opener: &O,
+    words: &[String],
+    input: S,
+    gate: &G,
+    out: &mut Output<W>,
+) -> Result<(), Refusal>
+    ensures done { OnOk result
+        (IsObeyed (map string_bytes words.now) (world (S.remaining input) (O.finds opener.now))
+        (W.contents out.old.writer) (W.contents out.new.writer)) }
+    ensures told { IfErr result
+        (IsTold (map string_bytes words.now) (world (S.remaining input) (O.finds opener.now))) }
+    ensures unwritten { IfErr result (λ refusal. refusal_status refusal ≢ 4 → out.new ≡ out.old) }
+{
+    let alloc = rt.alloc();
+    match read_words(alloc, words) {
+        Ok(words) => run_over(rt, opener, words, input, gate, out),
+        Err(WordFault::Help(text)) => write_reply(alloc, text.as_str(), out),
+        Err(WordFault::Version(text)) => write_reply(alloc, text.as_str(), out),
+        Err(WordFault::BadWords(text)) => Err(bad_words(alloc, words, text.as_str())),
+        Err(fault) => Err(Refusal::Words(fault)),
+    }
+}
+
+// Writes the help or the version.
+fn write_reply<W: Write>(alloc: Global, text: &str, out: &mut Output<W>) -> Result<(), Refusal>
+    ensures text { OnOk result
+        (Appends (W.contents out.old.writer) (W.contents out.new.writer) text.now) }
+    ensures refusal { IfErr result IsOfReply }
+{
+    if write_text(out, text.as_bytes()).is_ok() {
+        return Ok(());
+    }
+    let reason = known_reason(alloc, out.failure());
+    Err(Refusal::Unwritten { reason })
+}

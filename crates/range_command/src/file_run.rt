@@ -1,0 +1,111 @@
+// A run over the files of the words, or over the input where they name none.
+
+ghost use Rattle.std.specs.Prelude.{◌≡◌, ◌≢◌, ◌≤◌, ◌∷◌, [], IfErr, IfOk, OnOk, vec_len};
+ghost use Rattle.range_options.specs.Limits.{file_limit};
+ghost use Rattle.range_command.specs.Obeying.{IsOfRun, Reports, world};
+ghost use Rattle.range_command.specs.Status.{refusal_status};
+
+use crate::files::open_all;
+use crate::opener::Opener;
+use crate::output::Output;
+use crate::reason::known_reason;
+use crate::refusal::Refusal;
+use crate::source::Source;
+use range_analysis::AnalyseFault;
+use range_fixes::ReadFault;
+use range_pump::Gate;
+use range_run::{RunFault, run_with_gate};
+use range_words::Words;
+use std::alloc::{AllocError, Global};
+use std::io;
+use std::io::{Read, Write};
+use std::sync::Wait;
+use std::sync::atomic::{AtomicI32, Ordering};
+use std::thread::Threads;
+
+/// Runs over the files of the words, or over the input where they name none, through a gate.
+pub(crate) fn run_over<
+    R: Wait + Threads + Sync + AllocGlobal,
+    O: Opener,
+    S: Read + Send + Drop,
+    W: Write,
+    G: Gate,
+>(rt: &R, opener: &O, words: Words, input: S, gate: &G, out: &mut Output<W>) -> Result<(), Refusal>
+    requires files { vec_len words.files ≤ file_limit }
+    ensures done { OnOk result
+        (Reports words (world (S.remaining input) (O.finds opener.now))
+        (W.contents out.old.writer) (W.contents out.new.writer)) }
+    ensures told { IfErr result (IsOfRun words (world (S.remaining input) (O.finds opener.now))) }
+    ensures unwritten { IfErr result (λ refusal. refusal_status refusal ≢ 4 → out.new ≡ out.old) }
+{
+    let Words { files, options } = words;
+    let alloc = rt.alloc();
+    let errnos = unset_errnos(alloc, files.len().max(1))?;
+    let outcome = if files.is_empty() {
+        let sources = alone(alloc, Source::new(input, &errnos[0]))?;
+        run_with_gate(rt, alloc, sources, gate, &options, out)
+    } else {
+        let sources = open_all(opener, alloc, files.as_slice(), errnos.as_slice())?;
+        run_with_gate(rt, alloc, sources, gate, &options, out)
+    };
+    match outcome {
+        Ok(()) => Ok(()),
+        Err(fault) => {
+            let error = error_of(&fault, errnos.as_slice(), out.failure());
+            let reason = known_reason(alloc, error);
+            Err(Refusal::Run {
+                files,
+                fault,
+                reason,
+            })
+        }
+    }
+}
+
+// For each source where the number of a reason goes. 0 is no such number.
+fn unset_errnos(alloc: Global, count: usize) -> Result<Vec<AtomicI32>, AllocError>
+    ensures { IfOk result (λ errnos. vec_len errnos ≡ count) }
+{
+    let mut errnos = Vec::new(alloc);
+    for _ in 0..count {
+        if errnos.push(AtomicI32::new(0)).is_err() {
+            return Err(AllocError);
+        }
+    }
+    Ok(errnos)
+}
+
+// A list of one source.
+fn alone<S: Drop>(alloc: Global, source: S) -> Result<Vec<S>, AllocError>
+    ensures { IfOk result (λ sources. sources.items ≡ source ∷ []) }
+{
+    let mut sources = Vec::new(alloc);
+    match sources.push(source) {
+        Ok(()) => Ok(sources),
+        Err(_) => Err(AllocError),
+    }
+}
+
+// The error behind the fault: that of the read or of the write that failed, where it is known.
+fn error_of(
+    fault: &RunFault,
+    errnos: &[AtomicI32],
+    written: Option<io::Error>,
+) -> Option<io::Error> {
+    match fault {
+        RunFault::Write => written,
+        RunFault::Analyse(
+            AnalyseFault::File {
+                file,
+                fault: ReadFault::Read,
+            },
+        ) => {
+            let number = errnos.get(*file as usize)?.load(Ordering::Relaxed);
+            if number == 0 {
+                return None;
+            }
+            Some(io::Error::from_raw_os_error(number))
+        }
+        _ => None,
+    }
+}

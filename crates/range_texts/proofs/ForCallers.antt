@@ -1,0 +1,18 @@
+-- What is one line, for the proofs of crates above: the laws of `src/laws.rt`.
+use Rattle.range_texts.specs.Laws.{JoinedLinesAreOneLine, NumbersAreOneLine, PrintableTextsAreOneLine, ShownNamesAreOneLine, ShownTextsAreOneLine}
+use Rattle.range_texts.proofs.OneLines.{joined, name_line, number, printable, shown_line}
+
+pub joined_lines_are_one_line : JoinedLinesAreOneLine
+joined_lines_are_one_line = joined
+
+pub printable_texts_are_one_line : PrintableTextsAreOneLine
+printable_texts_are_one_line = printable
+
+pub numbers_are_one_line : NumbersAreOneLine
+numbers_are_one_line = number
+
+pub shown_texts_are_one_line : ShownTextsAreOneLine
+shown_texts_are_one_line = shown_line
+
+pub shown_names_are_one_line : ShownNamesAreOneLine
+shown_names_are_one_line = name_line
