@@ -15,6 +15,7 @@ import tempfile
 
 import by_definition
 
+BYTES = r'b"(?:[^"\\]|\\.)*"'
 ROW = re.compile(r"\((\d+), (\d+), (\d+), (\d+)\)")
 LIMIT, FIXES = 1 << 27, 1 << 20
 
@@ -31,19 +32,24 @@ def scattered(count, mask):
 FAR = scattered(250, 0xFF_FFFF)
 # The lists of points of each test of percent polygons, in its order.
 TESTS = {
-    "square": [[(0, 0), (10, 0), (10, 10), (0, 10), (5, 5)]],
-    "segment": [[(5, 5), (10, 5), (20, 5)]],
-    "one_place": [[(7, 7)] * 3],
-    "one_fix": [[(3, 4)]],
-    "no_fix": [[]],
-    "ties": [[(10, 5), (0, 5), (8, 9), (2, 1), (9, 2), (1, 8)]],
-    "line": [[(i, 0) for i in range(250)]],
-    "scattered_far": [FAR],
-    "levels_in_any_order": [FAR],
-    "scattered_near": [scattered(250, 0xF)],
-    "many_scattered": [scattered(1300, 0xFF_FFFF), scattered(1300, 0x3F)],
-    "many_corners": [[(i, i * i) for i in range(3000)] + [(1500, 3_000_000 + i) for i in range(600)]],
-    "at_the_limits": [[(LIMIT, LIMIT)] + [(0, 0)] * (FIXES - 1)],
+    "a_square_has_these_percent_polygons": [[(0, 0), (10, 0), (10, 10), (0, 10), (5, 5)]],
+    "fixes_in_line_have_percent_polygons_without_area": [[(5, 5), (10, 5), (20, 5)]],
+    "fixes_at_one_place_have_one_corner_at_each_level": [[(7, 7)] * 3],
+    "one_fix_is_kept_at_each_level": [[(3, 4)]],
+    "without_a_fix_no_corner_is_kept": [[]],
+    "of_fixes_as_far_from_the_mean_the_first_are_kept": [[(10, 5), (0, 5), (8, 9), (2, 1), (9, 2), (1, 8)]],
+    "a_line_has_two_corners_at_each_level": [[(i, 0) for i in range(250)]],
+    "scattered_fixes_have_the_polygons_of_another_program": [FAR],
+    "levels_may_come_in_any_order_and_twice": [FAR],
+    "fixes_with_many_ties_have_the_polygons_of_another_program": [scattered(250, 0xF)],
+    "more_fixes_than_are_marked_at_once_have_the_polygons_of_another_program": [
+        scattered(1300, 0xFF_FFFF),
+        scattered(1300, 0x3F),
+    ],
+    "a_hull_of_too_many_corners_for_marks_has_these_percent_polygons": [
+        [(i, i * i) for i in range(3000)] + [(1500, 3_000_000 + i) for i in range(600)]
+    ],
+    "the_farthest_of_the_most_fixes_is_kept_last": [[(LIMIT, LIMIT)] + [(0, 0)] * (FIXES - 1)],
 }
 
 
@@ -79,15 +85,22 @@ def wrong_percents(text):
 
 def texts_in(text, name):
     """The texts of bytes of a constant of a source."""
-    value = re.search(rf"^const {name}: .*?=\s*(.*?);$", text, re.DOTALL | re.MULTILINE)[1]
-    return [ast.literal_eval(literal).decode() for literal in re.findall(r'b"(?:[^"\\]|\\.)*"', value)]
+    value = re.search(rf"^(?:pub )?const {name}: .*?=\s*(.*?);$", text, re.DOTALL | re.MULTILINE)[1]
+    return [ast.literal_eval(literal).decode() for literal in re.findall(BYTES, value)]
 
 
-def herd_of(text):
+def files_in(text, worked):
+    """The texts of the herd's files, of which some are constants of the source of worked tracks."""
+    value = re.search(r"^const FILES: .*?= \[(.*?)\];$", text, re.DOTALL | re.MULTILINE)[1]
+    for item in re.findall(rf"{BYTES}|\w+", value):
+        yield ast.literal_eval(item).decode() if item.startswith("b") else texts_in(worked, item)[0]
+
+
+def herd_of(text, worked):
     """The report of the herd's files, and the one that stands in its source."""
     with tempfile.TemporaryDirectory() as folder:
         files = [pathlib.Path(folder, f"{i}.csv") for i in range(5)]
-        for file, track in zip(files, texts_in(text, "FILES"), strict=True):
+        for file, track in zip(files, files_in(text, worked), strict=True):
             file.write_text(track)
         tracks = [by_definition.read(file) for file in files]
     return by_definition.report(tracks, [50, 95, 100], "m"), *texts_in(text, "REPORT")
@@ -111,7 +124,8 @@ def main():
     crates = pathlib.Path(sys.argv[1])
     wrong, compared = wrong_percents((crates / "test_geometry/src/percents.rt").read_text())
     print(f"{compared - len(wrong)} of {compared} rows of percent polygons agree", *wrong, sep="\n")
-    made, kept = herd_of((crates / "test_command/src/herd.rt").read_text())
+    herd, worked = crates / "test_command/src/herd.rt", crates / "test_doubles/src/tracks.rt"
+    made, kept = herd_of(herd.read_text(), worked.read_text())
     print(f"the herd's report is {'' if made == kept else 'not '}by the definitions")
     draw = random.Random(1)
     clouds = [[(draw.randrange(4), draw.randrange(4)) for _ in range(7)] for _ in range(60)]

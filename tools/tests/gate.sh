@@ -14,7 +14,7 @@ printf '#!/bin/sh\necho release/homerange\n' >tools/program.sh
 printf '#!/bin/sh\ncat tools/says\n' >tools/test.sh
 printf '#!/bin/sh\n[ "$#" -eq 0 ] || { cat missing; exit; }\necho it is installed >>called\n: >missing\n' >tools/setup.sh
 printf '#!/bin/sh\necho release.sh: the same\n' >tools/release.sh
-echo 'print("2 passed, 0 failed")' >hostile/growths.py
+echo 'print("2 passed, 0 failed")' >hostile/allocations.py
 printf '#!/bin/sh\necho "9 passed, 0 failed"\n' >with/rt
 chmod +x tools/*.sh with/rt
 echo '4 passed, 0 failed' >tools/says
@@ -36,18 +36,18 @@ ends() {
 }
 
 holds 'all parts' says
-holds 'the quick ones come first' ran 'release tools gate built growths'
+holds 'the quick ones come first' ran 'release tools gate built allocations'
 holds 'all are counted' ends '17 passed, 0 failed'
 holds 'the program of the gate is kept' grep -q '9 passed' kept
 touch anew
 holds 'without a program of these sources' says
-holds 'the gate comes first' ran 'release gate tools built growths'
+holds 'the gate comes first' ran 'release gate tools built allocations'
 rm anew
 holds 'the quick parts alone' says --quick
-holds 'they are these' ran 'release tools growths'
+holds 'they are these' ran 'release tools allocations'
 if [ ! -x /usr/bin/rt ] && [ ! -x /bin/rt ]; then
     holds 'without the toolchain' says_without
-    holds 'all else is tested' ran 'release tools growths'
+    holds 'all else is tested' ran 'release tools allocations'
     holds 'the gate is skipped' ends '7 passed, 0 failed, 1 skipped'
     holds 'it says why' grep -q '^test: gate: skipped, since there is no rt' said
 fi

@@ -2,12 +2,11 @@
 
 use crate::files::{levels_of, same_animal};
 use crate::tables::{FOX_TABLES, HARE_TABLES, expect_animals, overlap};
-use range_analysis::{AnalyseFault, analyse};
+use range_analysis::{AnalyseFault, Analysis, analyse};
 use range_fixes::ReadFault;
-use range_options::Plan;
+use range_options::{BLOCK_LIMIT, DEPTH_LIMIT, FILE_LIMIT, Plan, WORKER_LIMIT};
 use range_plane::Scale;
 use range_pump::Gate;
-use range_tables::Analysis;
 use std::alloc::Global;
 use std::process::Abort;
 use std::sync::Wait;
@@ -15,7 +14,7 @@ use std::sync::atomic::{AtomicBool, AtomicU64, Ordering};
 use std::test::Fail;
 use std::thread;
 use std::thread::Threads;
-use test_doubles::ScriptedSource;
+use test_doubles::{HEADER, ScriptedSource};
 use test_files::{BadFile, bad_records, files_without_fix, too_many_records};
 
 const FOX: &[u8] =
@@ -90,22 +89,25 @@ pub(crate) fn analysed<R: Wait + Threads + Sync + Abort, G: Gate>(
     sources: Vec<ScriptedSource<'_>>,
     gate: &G,
     plan: Plan,
-) -> Result<Analysis, AnalyseFault> {
-    assert!(rt; !sources.is_empty() && sources.len() <= 64, "sources");
-    let levels = levels_of(rt, alloc, &[50, 95, 100]);
-    analyse(rt, alloc, sources, gate, plan, &levels)
+) -> Result<Result<Analysis, AnalyseFault>, Fail> {
+    assert!(rt;
+        !sources.is_empty() && sources.len() <= FILE_LIMIT as usize,
+        "sources"
+    );
+    let levels = levels_of(alloc, &[50, 95, 100])?;
+    Ok(analyse(rt, alloc, sources, gate, plan, &levels))
 }
 
 // Each plan comes to the same, and its blocks are those that are sent: a mark a file besides.
 #[test]
-fn several_plans(rt: HostRuntime) -> Result<(), Fail> {
+fn each_plan_has_the_same_analysis_and_sends_its_blocks(rt: HostRuntime) -> Result<(), Fail> {
     for (block, depth, workers, messages) in [
         (1, 1, 1, 10),
         (2, 4, 2, 7),
-        (3, 64, 8, 5),
+        (3, DEPTH_LIMIT, WORKER_LIMIT, 5),
         (4, 1, 2, 5),
         (5, 2, 1, 4),
-        (1024, 4, 2, 4),
+        (BLOCK_LIMIT, 4, 2, 4),
     ] {
         let unit = Scale::Metre;
         let plan = Plan::new(block, depth, workers, unit).ok_or("no plan")?;
@@ -114,7 +116,7 @@ fn several_plans(rt: HostRuntime) -> Result<(), Fail> {
             ScriptedSource::new(HARE, 8),
         ]?;
         let gate = Counting::new(u64::from(workers.min(2)));
-        let analysis = analysed(&rt, rt.alloc(), sources, &gate, plan)
+        let analysis = analysed(&rt, rt.alloc(), sources, &gate, plan)?
             .ok()
             .ok_or("no analysis")?;
         expect_animals(&rt, &analysis, &[FOX_TABLES, HARE_TABLES]);
@@ -130,29 +132,28 @@ fn several_plans(rt: HostRuntime) -> Result<(), Fail> {
 }
 
 // The text of a file of one fix, of an animal with this name.
-fn text_of(alloc: Global, name: &[u8]) -> Result<Vec<u8>, Fail> {
-    let mut text = Vec::from_slice(alloc, b"animal,second,easting,northing\n")?;
+fn one_fix_of(alloc: Global, name: &[u8]) -> Result<Vec<u8>, Fail> {
+    let mut text = Vec::from_slice(alloc, HEADER)?;
     text.extend_from_slice(name)?;
     text.extend_from_slice(b",0,16777217,3\n")?;
     Ok(text)
 }
 
-// Names of each length are kept whole, and the unit is that of the plan.
 #[test]
-fn names_and_unit(rt: HostRuntime) -> Result<(), Fail> {
+fn names_are_kept_whole_and_the_unit_is_that_of_the_plan(rt: HostRuntime) -> Result<(), Fail> {
     let alloc = rt.alloc();
     let longest = b"abcdefghijklmnopqrstuvwxyz012345";
     let mut texts = Vec::new(alloc);
     for length in 1..=longest.len() {
-        texts.push(text_of(alloc, &longest[..length])?)?;
+        texts.push(one_fix_of(alloc, &longest[..length])?)?;
     }
     let mut sources = Vec::new(alloc);
     for text in &texts {
         sources.push(ScriptedSource::new(text.as_slice(), 8192))?;
     }
-    let plan = Plan::new(256, 4, 8, Scale::Decimetre).ok_or("no plan")?;
-    let gate = Counting::new(8);
-    let analysis = analysed(&rt, alloc, sources, &gate, plan)
+    let plan = Plan::new(256, 4, WORKER_LIMIT, Scale::Decimetre).ok_or("no plan")?;
+    let gate = Counting::new(u64::from(WORKER_LIMIT));
+    let analysis = analysed(&rt, alloc, sources, &gate, plan)?
         .ok()
         .ok_or("no analysis")?;
     assert!(rt; analysis.unit == Scale::Decimetre, "the unit");
@@ -173,7 +174,7 @@ fn names_and_unit(rt: HostRuntime) -> Result<(), Fail> {
 fn eight_texts(alloc: Global) -> Result<Vec<Vec<u8>>, Fail> {
     let mut texts = Vec::new(alloc);
     for name in [b"A", b"B", b"C", b"D", b"E", b"F", b"G", b"H"] {
-        texts.push(text_of(alloc, name)?)?;
+        texts.push(one_fix_of(alloc, name)?)?;
     }
     Ok(texts)
 }
@@ -194,7 +195,7 @@ fn fault_of_eight<R: Wait + Threads + Sync + Abort>(
         })?;
     }
     let plan = Plan::new(2, 4, 3, Scale::Decimetre).ok_or("no plan")?;
-    Ok(analysed(rt, alloc, sources, &Counting::new(3), plan).err())
+    Ok(analysed(rt, alloc, sources, &Counting::new(3), plan)?.err())
 }
 
 // Checks that the first of these bad files is answered, with its fault.
@@ -213,7 +214,7 @@ fn expect_first<R: Wait + Threads + Sync + Abort>(
 
 // Each fault is answered as that of its file, which stands at each place in turn.
 #[test]
-fn one_bad_source(rt: HostRuntime) -> Result<(), Fail> {
+fn a_fault_is_answered_as_that_of_its_file(rt: HostRuntime) -> Result<(), Fail> {
     let unit = Scale::Decimetre;
     let (records, files) = (bad_records(3, unit), files_without_fix());
     let mut place = 0u32;
@@ -226,7 +227,7 @@ fn one_bad_source(rt: HostRuntime) -> Result<(), Fail> {
 
 // Of two bad files, also of one source that fails, the first is answered.
 #[test]
-fn two_bad_sources(rt: HostRuntime) -> Result<(), Fail> {
+fn of_two_bad_sources_the_first_is_answered(rt: HostRuntime) -> Result<(), Fail> {
     let (firsts, lasts) = (
         bad_records(3, Scale::Decimetre),
         bad_records(0, Scale::Decimetre),
@@ -246,7 +247,7 @@ fn fault_of_six<R: Wait + Threads + Sync + Abort>(
 ) -> Result<Option<AnalyseFault>, Fail> {
     let mut texts = Vec::new(alloc);
     for name in [b"fox".as_slice(), b"foxes", b"fo", b"hare", b"owl", b"hare"] {
-        texts.push(text_of(alloc, name)?)?;
+        texts.push(one_fix_of(alloc, name)?)?;
     }
     let mut sources = Vec::new(alloc);
     for (file, good) in texts.iter().enumerate() {
@@ -256,12 +257,12 @@ fn fault_of_six<R: Wait + Threads + Sync + Abort>(
         })?;
     }
     let plan = Plan::new(2, 4, 2, Scale::Decimetre).ok_or("no plan")?;
-    Ok(analysed(rt, alloc, sources, &Counting::new(2), plan).err())
+    Ok(analysed(rt, alloc, sources, &Counting::new(2), plan)?.err())
 }
 
 // An animal that stands in an earlier file is told where no file is bad.
 #[test]
-fn same_animal_in_sources(rt: HostRuntime) -> Result<(), Fail> {
+fn an_animal_in_two_files_is_answered_where_no_file_is_bad(rt: HostRuntime) -> Result<(), Fail> {
     let alloc = rt.alloc();
     let same = same_animal(alloc, 3, 5, b"hare")?;
     assert!(rt;
@@ -279,14 +280,14 @@ fn same_animal_in_sources(rt: HostRuntime) -> Result<(), Fail> {
 
 // A source that fails is a fault of its file, also where another file has a fault behind it.
 #[test]
-fn failing_source(rt: HostRuntime) -> Result<(), Fail> {
+fn a_source_that_fails_is_a_fault_of_its_file(rt: HostRuntime) -> Result<(), Fail> {
     for reads in 0..9 {
         let first = ScriptedSource::new(FOX, 8192);
         let second = ScriptedSource::failing(HARE, 8, reads);
         let last = ScriptedSource::new(b"", 8192);
         let sources = vec![in rt.alloc(); first, second, last]?;
         let plan = Plan::new(2, 4, 2, Scale::Metre).ok_or("no plan")?;
-        let answer = analysed(&rt, rt.alloc(), sources, &Counting::new(2), plan);
+        let answer = analysed(&rt, rt.alloc(), sources, &Counting::new(2), plan)?;
         let (file, fault) = (1, ReadFault::Read);
         let expected = AnalyseFault::File { file, fault };
         assert!(rt; answer.err() == Some(expected), "after {reads} reads");
@@ -325,8 +326,12 @@ impl Gate for Holding {
 
 // Of two files without a byte the first is told, also where the second ends first.
 #[test]
-fn two_empty_sources(rt: HostRuntime) -> Result<(), Fail> {
-    for (block, depth, workers) in [(1, 1, 1), (256, 4, 2), (1024, 64, 8)] {
+fn of_two_empty_sources_the_first_is_answered(rt: HostRuntime) -> Result<(), Fail> {
+    for (block, depth, workers) in [
+        (1, 1, 1),
+        (256, 4, 2),
+        (BLOCK_LIMIT, DEPTH_LIMIT, WORKER_LIMIT),
+    ] {
         for held in [0, 1] {
             let plan = Plan::new(block, depth, workers, Scale::Metre).ok_or("no plan")?;
             let sources = vec![in rt.alloc();
@@ -338,7 +343,7 @@ fn two_empty_sources(rt: HostRuntime) -> Result<(), Fail> {
                 has_taken: AtomicBool::new(false),
                 has_held: AtomicBool::new(false),
             };
-            let answer = analysed(&rt, rt.alloc(), sources, &gate, plan);
+            let answer = analysed(&rt, rt.alloc(), sources, &gate, plan)?;
             let (file, fault) = (0, ReadFault::NoHeader);
             let expected = AnalyseFault::File { file, fault };
             assert!(rt; answer.err() == Some(expected), "file {held} is held");

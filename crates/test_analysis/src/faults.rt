@@ -13,7 +13,7 @@ use std::process::Abort;
 use std::sync::Wait;
 use std::test::Fail;
 use std::thread::Threads;
-use test_doubles::ScriptedSource;
+use test_doubles::{HEADER, ScriptedSource};
 use test_files::{bad_records, files_without_fix};
 
 // What a reader says of its file.
@@ -23,7 +23,7 @@ const A: Said = Ok(b"A");
 
 const B: Said = Ok(b"B");
 
-const HEADER: Said = Err(ReadFault::BadHeader);
+const BAD_HEADER: Said = Err(ReadFault::BadHeader);
 
 const EMPTY: Said = Err(ReadFault::NoFixes);
 
@@ -55,26 +55,31 @@ fn expect_fault<R: Wait + Threads + Sync + Abort>(
 }
 
 #[test]
-fn order_of_faults(rt: HostRuntime) -> Result<(), Fail> {
+fn faults_are_judged_by_how_far_they_reach(rt: HostRuntime) -> Result<(), Fail> {
     let alloc = rt.alloc();
     let of_file = |file, fault| AnalyseFault::File { file, fault };
     let line_cut = |file| AnalyseFault::LineCut { file };
     let memory = AnalyseFault::OutOfMemory;
     expect_fault(&rt, alloc, &[(EMPTY, false)], line_cut(0))?;
-    expect_fault(&rt, alloc, &[(HEADER, true), (A, false)], line_cut(1))?;
+    expect_fault(&rt, alloc, &[(BAD_HEADER, true), (A, false)], line_cut(1))?;
     expect_fault(&rt, alloc, &[(A, false), (A, false)], line_cut(0))?;
     let files = [(A, true), (A, true), (B, false)];
     expect_fault(&rt, alloc, &files, line_cut(2))?;
     expect_fault(&rt, alloc, &[(A, false), (MEMORY, true)], memory)?;
     let memory = AnalyseFault::OutOfMemory;
-    expect_fault(&rt, alloc, &[(HEADER, true), (MEMORY, false)], memory)?;
+    expect_fault(&rt, alloc, &[(BAD_HEADER, true), (MEMORY, false)], memory)?;
     let header = of_file(0, ReadFault::BadHeader);
-    expect_fault(&rt, alloc, &[(HEADER, true), (EMPTY, true)], header)?;
+    expect_fault(&rt, alloc, &[(BAD_HEADER, true), (EMPTY, true)], header)?;
     let empty = of_file(1, ReadFault::NoFixes);
     let files = [(A, true), (EMPTY, true), (A, true)];
     expect_fault(&rt, alloc, &files, empty)?;
     let header = of_file(2, ReadFault::BadHeader);
-    expect_fault(&rt, alloc, &[(A, true), (A, true), (HEADER, true)], header)?;
+    expect_fault(
+        &rt,
+        alloc,
+        &[(A, true), (A, true), (BAD_HEADER, true)],
+        header,
+    )?;
     let memory = AnalyseFault::OutOfMemory;
     let files = [(A, true), (A, true), (B, false), (MEMORY, true)];
     expect_fault(&rt, alloc, &files, memory)
@@ -88,7 +93,7 @@ fn expect_of_file<R: Wait + Threads + Sync + Abort>(
     fault: ReadFault,
 ) -> Result<(), Fail> {
     let names = [b"A".as_slice(), b"B", b"C", b"D", b"E", b"F", b"G", b"H"];
-    for (file, last) in [(0u32, A), (3, HEADER), (6, EMPTY), (7, Err(fault))] {
+    for (file, last) in [(0u32, A), (3, BAD_HEADER), (6, EMPTY), (7, Err(fault))] {
         let mut files = Vec::new(alloc);
         for (place, name) in names.iter().enumerate() {
             let said = match place {
@@ -106,7 +111,7 @@ fn expect_of_file<R: Wait + Threads + Sync + Abort>(
 }
 
 #[test]
-fn one_of_eight_files(rt: HostRuntime) -> Result<(), Fail> {
+fn the_fault_of_one_of_eight_files_is_answered_as_its_own(rt: HostRuntime) -> Result<(), Fail> {
     for file in bad_records(6, Scale::Decimetre) {
         expect_of_file(&rt, rt.alloc(), file.fault)?;
     }
@@ -118,12 +123,12 @@ fn one_of_eight_files(rt: HostRuntime) -> Result<(), Fail> {
 
 // A header alone, pumped on a line whose taker is gone: its mark was handed back, so its line was cut.
 #[test]
-fn header_whose_taker_is_gone(rt: HostRuntime) -> Result<(), Fail> {
+fn a_mark_that_was_handed_back_is_a_cut_line(rt: HostRuntime) -> Result<(), Fail> {
     let alloc = rt.alloc();
     let (mut feeders, taker) = open_line(alloc, 0, 1, 1, 1)?;
     let feeder = feeders.pop().ok_or("no feeder")?;
     drop(taker);
-    let source = ScriptedSource::new(b"animal,second,easting,northing\n", 8192);
+    let source = ScriptedSource::new(HEADER, 8192);
     let pumped = pump(&rt, alloc, source, feeder, &FreeGate, 1, Scale::Metre);
     assert!(rt; matches!(pumped.read, Err(ReadFault::NoFixes)), "the fault");
     assert!(rt; !pumped.feeder.closed(), "the mark");
@@ -134,7 +139,7 @@ fn header_whose_taker_is_gone(rt: HostRuntime) -> Result<(), Fail> {
         estimator: Estimator::new(alloc),
         marked: false,
     });
-    let levels = levels_of(&rt, alloc, &[50, 95, 100]);
+    let levels = levels_of(alloc, &[50, 95, 100])?;
     let fault = judge(&rt, alloc, all, &levels, Scale::Metre).err();
     assert!(rt; fault == Some(AnalyseFault::LineCut { file: 0 }));
     Ok(())
@@ -142,7 +147,7 @@ fn header_whose_taker_is_gone(rt: HostRuntime) -> Result<(), Fail> {
 
 // Names are compared by their bytes.
 #[test]
-fn repeats(rt: HostRuntime) -> Result<(), Fail> {
+fn animals_are_the_same_where_all_bytes_of_their_names_are(rt: HostRuntime) -> Result<(), Fail> {
     let cases: [(&[&[u8]], Option<(u32, u32, &[u8])>); 8] = [
         (&[b"A", b"B", b"A"], Some((0, 2, b"A"))),
         (&[b"A", b"B"], None),
@@ -182,7 +187,7 @@ fn expect_text(
 }
 
 #[test]
-fn texts(rt: HostRuntime) -> Result<(), Fail> {
+fn each_fault_has_its_text(rt: HostRuntime) -> Result<(), Fail> {
     let alloc = rt.alloc();
     let text = "out of memory, or a thread could not be started";
     expect_text(&rt, alloc, &AnalyseFault::OutOfMemory, text)?;

@@ -3,14 +3,13 @@
 ghost use Rattle.range_fixes.specs.declared.fault.ReadFault.TheVariants.{Gone};
 ghost use Rattle.std.specs.Prelude.{◌≢◌, ◌≤◌, Err, IfOk, length};
 
-use range_analysis::{AnalyseFault, judge};
+use range_analysis::{AnalyseFault, Analysis, judge};
 use range_collect::Followed;
 use range_estimator::Estimator;
 use range_fixes::{Name, ReadFault};
 use range_line::{Feeder, open_line};
-use range_options::Levels;
+use range_options::{FILE_LIMIT, Levels};
 use range_plane::{Fix, Point, Scale};
-use range_tables::Analysis;
 use std::alloc::Global;
 use std::process::Abort;
 use std::sync::Wait;
@@ -97,9 +96,9 @@ fn followed<R: Wait + Abort>(rt: &R, alloc: Global, file: File) -> Result<Follow
 }
 
 // These levels.
-pub(crate) fn levels_of<R: Abort>(rt: &R, alloc: Global, levels: &[u8]) -> Levels {
-    let levels = Vec::from_slice(alloc, levels).expect(rt, "memory");
-    Levels::new(levels).expect(rt, "levels")
+pub(crate) fn levels_of(alloc: Global, levels: &[u8]) -> Result<Levels, Fail> {
+    let levels = Vec::from_slice(alloc, levels)?;
+    Ok(Levels::new(levels).ok_or("no levels")?)
 }
 
 // What these files come to.
@@ -113,7 +112,10 @@ pub(crate) fn judged<R: Wait + Threads + Sync + Abort>(
     for file in files {
         all.push(followed(rt, alloc, *file)?)?;
     }
-    assert!(rt; !all.is_empty() && all.len() <= 64, "files");
-    let levels = levels_of(rt, alloc, levels);
+    assert!(rt;
+        !all.is_empty() && all.len() <= FILE_LIMIT as usize,
+        "files"
+    );
+    let levels = levels_of(alloc, levels)?;
     Ok(judge(rt, alloc, all, &levels, Scale::Metre))
 }

@@ -1,6 +1,6 @@
 //! Tests of judging, over results that no run of threads gives at will; of the tables that it makes; of
 //! sources that are analysed in several plans, and with each fault; and of reports, over analyses that are made
-//! by hand, each growth refused in turn.
+//! by hand, each allocation refused in turn.
 #![tactic(auto)]
 
 #[cfg(test)]
@@ -10,7 +10,7 @@ mod faults;
 #[cfg(test)]
 mod files;
 #[cfg(test)]
-mod report_growths;
+mod report_allocations;
 #[cfg(test)]
 mod reports;
 #[cfg(test)]

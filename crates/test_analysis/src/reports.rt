@@ -1,12 +1,12 @@
 // The reports of analyses that are made by hand.
 
+use range_analysis::{Analysis, Animal, Animals, OverlapRow, Overlaps, Percents};
 use range_estimator::{Row, Rows};
 use range_fixes::Name;
 use range_lanes::Extent;
 use range_plane::{Point, Polygon, Scale, are_corners};
 use range_report::{report, report_parts};
 use range_stats::PercentRow;
-use range_tables::{Analysis, Animal, Animals, OverlapRow, Overlaps, Percents};
 use std::alloc::Global;
 use std::process::Abort;
 use std::test::Fail;
@@ -114,7 +114,7 @@ fn two_animals(alloc: Global) -> Result<Analysis, Fail> {
 }
 
 #[test]
-fn reports_two_animals(rt: HostRuntime) -> Result<(), Fail> {
+fn two_animals_have_this_report(rt: HostRuntime) -> Result<(), Fail> {
     let alloc = rt.alloc();
     let analysis = two_animals(alloc)?;
     let text = report(&rt, alloc, &analysis).ok().ok_or("memory")?;
@@ -140,16 +140,15 @@ fn expect_parts<R: Threads + Sync + Abort>(
     Ok(())
 }
 
-// A short report is one part.
 #[test]
-fn parts_of_two_animals(rt: HostRuntime) -> Result<(), Fail> {
+fn a_short_report_is_one_part(rt: HostRuntime) -> Result<(), Fail> {
     let analysis = two_animals(rt.alloc())?;
     expect_parts(&rt, rt.alloc(), analysis, 1, REPORT)
 }
 
 // The rows of one animal, more than a part has, are counted on from part to part.
 #[test]
-fn rows_of_two_parts(rt: HostRuntime) -> Result<(), Fail> {
+fn rows_are_counted_on_from_part_to_part(rt: HostRuntime) -> Result<(), Fail> {
     let alloc = rt.alloc();
     let mut rows = Vec::new(alloc);
     let mut lines = Vec::from_slice(alloc, b"animal,A,fixes,8193\nbox,A,0,0,0,0\n")?;
@@ -178,7 +177,7 @@ fn rows_of_two_parts(rt: HostRuntime) -> Result<(), Fail> {
 
 // The same of the corners of one animal.
 #[test]
-fn corners_of_two_parts(rt: HostRuntime) -> Result<(), Fail> {
+fn corners_are_counted_on_from_part_to_part(rt: HostRuntime) -> Result<(), Fail> {
     let alloc = rt.alloc();
     let mut corners = Vec::new(alloc);
     let mut lines = Vec::from_slice(alloc, b"animal,A,fixes,0\nbox,A,0,0,0,0\n")?;
@@ -210,7 +209,7 @@ fn corners_of_two_parts(rt: HostRuntime) -> Result<(), Fail> {
 
 // In decimetres the report begins with a line that says so, with and without animals.
 #[test]
-fn unit_line(rt: HostRuntime) -> Result<(), Fail> {
+fn a_report_in_decimetres_begins_with_its_unit(rt: HostRuntime) -> Result<(), Fail> {
     let alloc = rt.alloc();
     let animals = vec![in alloc; segment(alloc)?, segment(alloc)?]?;
     let overlaps = Vec::new(alloc);

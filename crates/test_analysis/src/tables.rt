@@ -1,25 +1,21 @@
 // Tests of the tables of animals.
 
 use crate::files::{File, judged};
+use crate::reports::percent;
+use range_analysis::{Analysis, Animal, OverlapRow};
 use range_plane::Scale;
-use range_stats::PercentRow;
-use range_tables::{Analysis, Animal, OverlapRow};
 use std::alloc::Global;
 use std::process::Abort;
 use std::sync::Wait;
 use std::test::Fail;
 use std::thread::Threads;
+use test_doubles::SQUARE;
+use test_files::are_at;
 
 // A square and a fix within it, a line that ends at its corner, and one fix far from both.
 const FOX: File = File {
     said: Ok(b"fox"),
-    places: &[
-        (0, 0, 0),
-        (60, 10, 0),
-        (120, 10, 10),
-        (180, 0, 10),
-        (240, 5, 5),
-    ],
+    places: &SQUARE,
     mark: true,
 };
 
@@ -42,15 +38,6 @@ fn analysis_of<R: Wait + Threads + Sync + Abort>(
     levels: &[u8],
 ) -> Result<Analysis, Fail> {
     Ok(judged(rt, alloc, files, levels)?.ok().ok_or("no analysis")?)
-}
-
-const fn percent(level: u8, kept: u32, corners: u32, area2: u128) -> PercentRow {
-    PercentRow {
-        level,
-        kept,
-        corners,
-        area2,
-    }
 }
 
 // What an animal is to be: its name, its box by its least and greatest corners, the second, corners and
@@ -113,15 +100,6 @@ fn has_rows(animal: &Animal, expected: &[(u64, u32, u128)]) -> bool {
         })
 }
 
-fn has_corners(animal: &Animal, expected: &[(i64, i64)]) -> bool {
-    let found = animal.polygon.corners();
-    found.len() == expected.len()
-        && found
-            .iter()
-            .zip(expected)
-            .all(|(p, &(e, n))| p.e == e && p.n == n)
-}
-
 fn has_percents(animal: &Animal, expected: [(u8, u32, u32, u128); 3]) -> bool {
     let expected = expected.map(|(level, kept, corners, area2)| percent(
         level, kept, corners, area2,
@@ -137,7 +115,10 @@ pub(crate) fn expect_animals(rt: &impl Abort, analysis: &Analysis, expected: &[E
         assert!(rt; animal.name.as_slice() == expected.name, "the name");
         assert!(rt; has_extent(animal, expected.extent), "the box");
         assert!(rt; has_rows(animal, expected.rows), "rows");
-        assert!(rt; has_corners(animal, expected.corners), "corners");
+        assert!(rt;
+            are_at(animal.polygon.corners(), expected.corners),
+            "corners"
+        );
         assert!(rt; has_percents(animal, expected.percents), "percents");
     }
 }
@@ -152,7 +133,7 @@ pub(crate) const fn overlap(animal: u32, range: u32, count: u64, fixes: u32) -> 
 }
 
 #[test]
-fn animals(rt: HostRuntime) -> Result<(), Fail> {
+fn animals_have_these_tables_in_the_order_of_their_files(rt: HostRuntime) -> Result<(), Fail> {
     let analysis = analysis_of(&rt, rt.alloc(), &[FOX, HARE, OWL], &[50, 95, 100])?;
     expect_animals(&rt, &analysis, &[FOX_TABLES, HARE_TABLES, OWL_TABLES]);
     assert!(rt; analysis.unit == Scale::Metre, "the unit");
@@ -160,7 +141,7 @@ fn animals(rt: HostRuntime) -> Result<(), Fail> {
 }
 
 #[test]
-fn overlaps(rt: HostRuntime) -> Result<(), Fail> {
+fn each_two_animals_have_their_overlaps(rt: HostRuntime) -> Result<(), Fail> {
     let analysis = analysis_of(&rt, rt.alloc(), &[FOX, HARE, OWL], &[100])?;
     let expected = [
         overlap(0, 1, 1, 5),
@@ -175,7 +156,7 @@ fn overlaps(rt: HostRuntime) -> Result<(), Fail> {
 }
 
 #[test]
-fn repeated_levels(rt: HostRuntime) -> Result<(), Fail> {
+fn a_level_that_is_repeated_has_its_polygon_twice(rt: HostRuntime) -> Result<(), Fail> {
     let analysis = analysis_of(&rt, rt.alloc(), &[FOX, HARE, OWL], &[7, 7])?;
     for animal in analysis.animals.as_slice() {
         let percents = animal.percents.as_slice();
@@ -185,7 +166,9 @@ fn repeated_levels(rt: HostRuntime) -> Result<(), Fail> {
 }
 
 #[test]
-fn one_animal(rt: HostRuntime) -> Result<(), Fail> {
+fn one_animal_without_levels_has_neither_percents_nor_overlaps(
+    rt: HostRuntime,
+) -> Result<(), Fail> {
     let analysis = analysis_of(&rt, rt.alloc(), &[HARE], &[])?;
     let [hare] = analysis.animals.as_slice() else {
         return Err(Fail::from("one animal"));

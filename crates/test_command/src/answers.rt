@@ -1,7 +1,7 @@
 // What the program answers to whole command lines: its status, its report and its line of fault.
 
 use crate::failing::{Failures, Output};
-use crate::runs::{FILE_A, REPORT_A};
+use crate::runs::REPORT_A;
 use crate::started::Line;
 use range_command::{SystemFiles, answer};
 use std::fs::File;
@@ -9,6 +9,7 @@ use std::process::Abort;
 use std::rt::Files;
 use std::sync::Wait;
 use std::thread::Threads;
+use test_doubles::FILE_A;
 
 // A command line over an input is answered by this status and this line, and by file A's report where it is whole.
 fn expect<R: Wait + Threads + Sync + Files<File = File> + AllocGlobal + Abort>(
@@ -30,7 +31,7 @@ fn expect<R: Wait + Threads + Sync + Files<File = File> + AllocGlobal + Abort>(
 }
 
 #[test]
-fn reports(rt: HostRuntime) {
+fn a_whole_run_is_answered_by_status_0_and_its_report(rt: HostRuntime) {
     let all = [
         b"homerange".as_slice(),
         b"--percent",
@@ -51,7 +52,7 @@ fn reports(rt: HostRuntime) {
 
 // No word is left out, wherever it stands, and none ends the line.
 #[test]
-fn refused_words(rt: HostRuntime) {
+fn no_word_is_left_out_wherever_it_stands(rt: HostRuntime) {
     let line = "homerange: unexpected argument '--bogus' found\n";
     let late = [
         b"homerange".as_slice(),
@@ -75,7 +76,7 @@ fn refused_words(rt: HostRuntime) {
 }
 
 #[test]
-fn refused_files(rt: HostRuntime) {
+fn a_file_that_is_missing_or_bad_is_told_with_status_1(rt: HostRuntime) {
     let line = "homerange: /no/such/fox.csv: No such file or directory\n";
     expect(&rt, &[b"homerange", b"/no/such/fox.csv"], FILE_A, 1, line);
     let fox = b"animal,second,easting,northing\nfox,1,2,3\nfox,1.5,2,3\n";
@@ -86,7 +87,7 @@ fn refused_files(rt: HostRuntime) {
 
 // An output that fails is told, but not where it is a pipe whose reader has gone.
 #[test]
-fn refusing_outputs(rt: HostRuntime) {
+fn an_output_that_fails_is_told_but_not_a_closed_pipe(rt: HostRuntime) {
     let alloc = rt.alloc();
     let full = "homerange: standard output: No space left on device\n";
     for (number, line) in [(28, full), (32, "")] {

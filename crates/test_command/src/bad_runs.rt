@@ -5,11 +5,13 @@ use crate::runs::run_in;
 use range_analysis::AnalyseFault;
 use range_command::{Output, SystemFiles, obey};
 use range_plane::Scale;
+use range_pump::FreeGate;
 use range_run::{RunFault, status};
 use std::fs::File;
 use std::process::Abort;
 use std::rt::Files;
 use std::sync::Wait;
+use std::test::Fail;
 use std::thread::Threads;
 use test_files::{BadFile, bad_records, files_without_fix};
 
@@ -18,36 +20,39 @@ use test_files::{BadFile, bad_records, files_without_fix};
 fn expect_refused<R: Wait + Threads + Sync + Files<File = File> + AllocGlobal + Abort>(
     rt: &R,
     bad: BadFile,
-) {
+) -> Result<(), Fail> {
     let alloc = rt.alloc();
     let (file, fault) = (0, bad.fault);
     let mut out = Vec::new(alloc);
-    let outcome = run_in(rt, alloc, bad.source(), Scale::Decimetre, &mut out);
+    let outcome = run_in(rt, alloc, bad.source(), Scale::Decimetre, &mut out)?;
     assert!(rt; out.is_empty() && status(&outcome) == 1, "{fault}");
     let expected = RunFault::Analyse(AnalyseFault::File { file, fault });
     assert!(rt; outcome == Err(expected), "{fault}");
-    let words = line(rt, alloc, &["--unit", "dm"]);
+    let words = line(alloc, &["--unit", "dm"])?;
     let mut out = Output::new(Vec::new(alloc));
     let refused = obey(
         rt,
         &SystemFiles::new(rt),
         words.as_slice(),
         bad.source(),
+        &FreeGate,
         &mut out,
     );
-    let refusal = refused.err().expect(rt, "a refusal");
+    let refusal = refused.err().ok_or("no refusal")?;
     assert!(rt; out.writer().is_empty() && refusal.status() == 1, "{fault}");
-    let told = format!(in alloc; "{refusal}").expect(rt, "memory");
-    let text = format!(in alloc; "standard input: {fault}").expect(rt, "memory");
+    let told = format!(in alloc; "{refusal}")?;
+    let text = format!(in alloc; "standard input: {fault}")?;
     assert!(rt; told.as_str() == text.as_str(), "{told}");
+    Ok(())
 }
 
 #[test]
-fn each_fault_but_too_many_records(rt: HostRuntime) {
+fn each_fault_of_a_file_is_told_and_nothing_is_written(rt: HostRuntime) -> Result<(), Fail> {
     for file in bad_records(3, Scale::Decimetre) {
-        expect_refused(&rt, file);
+        expect_refused(&rt, file)?;
     }
     for file in files_without_fix() {
-        expect_refused(&rt, file);
+        expect_refused(&rt, file)?;
     }
+    Ok(())
 }

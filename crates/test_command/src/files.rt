@@ -1,16 +1,16 @@
 // Runs over files that words name, in the order of the words.
 
 use crate::line::line;
-use crate::runs::FILE_A;
 use range_command::{Output, SystemFiles, obey};
+use range_pump::FreeGate;
 use std::fs;
 use std::fs::File;
 use std::process::Abort;
 use std::rt::Files;
 use std::sync::Wait;
+use std::test::Fail;
 use std::thread::Threads;
-
-const FILE_B: &[u8] = b"animal,second,easting,northing\nB,0,5,5\nB,60,10,5\nB,120,20,5\n";
+use test_doubles::{FILE_A, FILE_B};
 
 const LINES_A: &[u8] =
     b"animal,A,fixes,5\nbox,A,0,0,10,10\nrow,A,1,0,1,0\nrow,A,2,60,2,0\nrow,A,3,120,3,100\nrow,A,4,180,4,200\nrow,A,5,240,4,200\ncorner,A,1,0,0\ncorner,A,2,10,0\ncorner,A,3,10,10\ncorner,A,4,0,10\npercent,A,50,3,3,50\npercent,A,95,5,4,200\npercent,A,100,5,4,200\n";
@@ -24,57 +24,60 @@ fn expect<R: Wait + Threads + Sync + Files<File = File> + AllocGlobal + Abort>(
     words: &[&str],
     parts: &[&[u8]],
     text: &str,
-) {
+) -> Result<(), Fail> {
     let alloc = rt.alloc();
     let mut report = Vec::new(alloc);
     for part in parts {
-        report.extend_from_slice(part).expect(rt, "memory");
+        report.extend_from_slice(part)?;
     }
-    let words = line(rt, alloc, words);
+    let words = line(alloc, words)?;
     let mut out = Output::new(Vec::new(alloc));
     let told = match obey(
         rt,
         &SystemFiles::new(rt),
         words.as_slice(),
         b"".as_slice(),
+        &FreeGate,
         &mut out,
     ) {
         Ok(()) => String::new(alloc),
         Err(refusal) => {
             assert!(rt; refusal.status() == 1);
-            format!(in alloc; "{refusal}").expect(rt, "memory")
+            format!(in alloc; "{refusal}")?
         }
     };
     assert!(rt; told.as_str() == text, "{told}");
     assert!(rt; out.writer().as_slice() == report.as_slice());
+    Ok(())
 }
 
 #[test]
-fn reports_and_refusals(rt: HostRuntime) {
+fn files_are_read_in_the_order_of_the_words(rt: HostRuntime) -> Result<(), Fail> {
     let cut = b"animal,second,easting,northing\nA,0,0\n".as_slice();
     let files = [("a.csv", FILE_A), ("b.csv", FILE_B), ("cut.csv", cut)];
     for (path, text) in files {
-        fs::write(&rt, path, text).expect(&rt, "a file");
+        fs::write(&rt, path, text)?;
     }
     let a_first = b"overlap,A,B,1,5\noverlap,B,A,2,3\nend,2\n".as_slice();
     let b_first = b"overlap,B,A,2,3\noverlap,A,B,1,5\nend,2\n".as_slice();
     let one = b"end,1\n".as_slice();
-    expect(&rt, &["a.csv", "b.csv"], &[LINES_A, LINES_B, a_first], "");
-    expect(&rt, &["b.csv", "a.csv"], &[LINES_B, LINES_A, b_first], "");
-    expect(&rt, &["b.csv"], &[LINES_B, one], "");
+    expect(&rt, &["a.csv", "b.csv"], &[LINES_A, LINES_B, a_first], "")?;
+    expect(&rt, &["b.csv", "a.csv"], &[LINES_B, LINES_A, b_first], "")?;
+    expect(&rt, &["b.csv"], &[LINES_B, one], "")?;
     let same = "a.csv and a.csv have the same animal, A";
-    expect(&rt, &["a.csv", "a.csv"], &[], same);
+    expect(&rt, &["a.csv", "a.csv"], &[], same)?;
     let fields = "cut.csv: record 1: 3 fields where 4 are wanted";
-    expect(&rt, &["a.csv", "cut.csv"], &[], fields);
+    expect(&rt, &["a.csv", "cut.csv"], &[], fields)?;
     // Linux gives no byte of this file, for a reason of its own.
     let memory = "/proc/self/mem";
     let reason = "/proc/self/mem: Input/output error";
-    expect(&rt, &["a.csv", memory], &[], reason);
-    expect(&rt, &[memory, "cut.csv"], &[], reason);
-    expect(&rt, &["a.csv", "cut.csv", memory], &[], fields);
+    expect(&rt, &["a.csv", memory], &[], reason)?;
+    expect(&rt, &[memory, "cut.csv"], &[], reason)?;
+    expect(&rt, &["a.csv", "cut.csv", memory], &[], fields)?;
     let missing = "missing.csv: No such file or directory";
-    expect(&rt, &["a.csv", "missing.csv", "cut.csv"], &[], missing);
+    expect(&rt, &["a.csv", "missing.csv", "cut.csv"], &[], missing)?;
     for (path, _) in files {
-        fs::remove_file(&rt, path).expect(&rt, "a file");
+        fs::remove_file(&rt, path)?;
     }
+    Ok(())
 }

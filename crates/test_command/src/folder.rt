@@ -4,12 +4,13 @@ ghost use Rattle.std.specs.Prelude.{Err, List, Ok, Option, Result, Some, codes, 
 ghost use Rattle.std.specs.Str.{bytes_eq};
 
 use crate::line::line;
-use crate::runs::FILE_A;
 use range_command::{OpenFault, Opener, Output, answer_to};
 use std::alloc::Global;
 use std::process::Abort;
 use std::sync::Wait;
+use std::test::Fail;
 use std::thread::Threads;
+use test_doubles::FILE_A;
 
 // A path and the bytes of its file.
 #[derive(Clone, Copy)]
@@ -53,7 +54,7 @@ fn expect<R: Wait + Threads + Sync + AllocGlobal + Abort>(
     status: u8,
     said: &str,
     report: &[u8],
-) {
+) -> Result<(), Fail> {
     let alloc = rt.alloc();
     let folder = Folder {
         first: Held {
@@ -65,7 +66,7 @@ fn expect<R: Wait + Threads + Sync + AllocGlobal + Abort>(
             bytes: FOX,
         },
     };
-    let words = line(rt, alloc, words);
+    let words = line(alloc, words)?;
     let mut out = Output::new(Vec::new(alloc));
     let mut errors = Output::new(Vec::new(alloc));
     let input = b"".as_slice();
@@ -74,19 +75,22 @@ fn expect<R: Wait + Threads + Sync + AllocGlobal + Abort>(
     assert!(rt; errors.writer().as_slice() == said.as_bytes());
     assert!(rt; out.writer().as_slice().starts_with(report));
     assert!(rt; out.writer().is_empty() == report.is_empty());
+    Ok(())
 }
 
 // Reports come in the order of the words, and the first file that is not there is told, also behind a bad one.
 #[test]
-fn files_in_memory(rt: HostRuntime) {
-    expect(&rt, &["fox.csv", "a.csv"], 0, "", b"animal,fox,fixes,1\n");
-    expect(&rt, &["a.csv", "fox.csv"], 0, "", b"animal,A,fixes,5\n");
+fn reports_follow_the_words_and_the_first_missing_file_is_told(
+    rt: HostRuntime,
+) -> Result<(), Fail> {
+    expect(&rt, &["fox.csv", "a.csv"], 0, "", b"animal,fox,fixes,1\n")?;
+    expect(&rt, &["a.csv", "fox.csv"], 0, "", b"animal,A,fixes,5\n")?;
     let missing = "homerange: b.csv: not in the folder\n";
-    expect(&rt, &["a.csv", "b.csv", "c.csv"], 1, missing, b"");
+    expect(&rt, &["a.csv", "b.csv", "c.csv"], 1, missing, b"")?;
     let same = "homerange: a.csv and a.csv have the same animal, A\n";
-    expect(&rt, &["a.csv", "fox.csv", "a.csv"], 1, same, b"");
-    expect(&rt, &["a.csv", "a.csv", "b.csv"], 1, missing, b"");
+    expect(&rt, &["a.csv", "fox.csv", "a.csv"], 1, same, b"")?;
+    expect(&rt, &["a.csv", "a.csv", "b.csv"], 1, missing, b"")?;
     let empty = "homerange: standard input: empty where animal,second,easting,northing is wanted\n";
-    expect(&rt, &[], 1, empty, b"");
-    expect(&rt, &["b.csv", "--version"], 0, "", b"homerange 1.0.0 (");
+    expect(&rt, &[], 1, empty, b"")?;
+    expect(&rt, &["b.csv", "--version"], 0, "", b"homerange 1.0.0 (")
 }

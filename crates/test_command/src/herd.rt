@@ -2,16 +2,19 @@
 
 use crate::options::options;
 use crate::runs::REPORT_A;
+use range_options::{BLOCK_LIMIT, DEPTH_LIMIT, WORKER_LIMIT};
 use range_plane::Scale;
 use range_run::run;
 use std::alloc::Global;
 use std::process::Abort;
 use std::sync::Wait;
+use std::test::Fail;
 use std::thread::Threads;
+use test_doubles::{FILE_A, FILE_B};
 
 const FILES: [&[u8]; 5] = [
-    b"animal,second,easting,northing\nA,0,0,0\nA,60,10,0\nA,120,10,10\nA,180,0,10\nA,240,5,5\n",
-    b"animal,second,easting,northing\nB,0,5,5\nB,60,10,5\nB,120,20,5\n",
+    FILE_A,
+    FILE_B,
     b"animal,second,easting,northing\nC,0,7,7\nC,0,7,7\nC,0,7,7\n",
     b"animal,second,easting,northing\nD,0,0,0\nD,0,2,2\nD,0,1,1\nD,0,4,4\n",
     b"animal,second,easting,northing\nE,0,5,5\nE,0,6,5\nE,0,6,6\nE,0,0,5\n",
@@ -31,31 +34,38 @@ fn expect_report<R: Wait + Threads + Sync + Abort>(
     alloc: Global,
     files: &[&'static [u8]],
     report: &[u8],
-) {
+) -> Result<(), Fail> {
     assert!(rt; !files.is_empty() && files.len() <= 5, "files");
-    for workers in [1, 2, 3, 4, 5, 6, 7, 8] {
-        for (block, depth) in [(1, 1), (1, 64), (256, 4), (1024, 1), (1024, 64)] {
+    for workers in 1..=WORKER_LIMIT {
+        for (block, depth) in [
+            (1, 1),
+            (1, DEPTH_LIMIT),
+            (256, 4),
+            (BLOCK_LIMIT, 1),
+            (BLOCK_LIMIT, DEPTH_LIMIT),
+        ] {
             let plan = (block, depth, workers);
-            let options = options(rt, alloc, &[50, 95, 100], plan, Scale::Metre);
-            let sources = Vec::from_slice(alloc, files).expect(rt, "memory");
+            let options = options(alloc, &[50, 95, 100], plan, Scale::Metre)?;
+            let sources = Vec::from_slice(alloc, files)?;
             let mut out = Vec::new(alloc);
             assert!(rt; run(rt, alloc, sources, &options, &mut out) == Ok(()));
             assert!(rt; out.as_slice() == report, "{workers} workers");
         }
     }
+    Ok(())
 }
 
 #[test]
-fn one_animal(rt: HostRuntime) {
-    expect_report(&rt, rt.alloc(), &FILES[..1], REPORT_A);
+fn one_animal_has_the_same_report_in_each_plan(rt: HostRuntime) -> Result<(), Fail> {
+    expect_report(&rt, rt.alloc(), &FILES[..1], REPORT_A)
 }
 
 #[test]
-fn two_animals(rt: HostRuntime) {
-    expect_report(&rt, rt.alloc(), &FILES[..2], REPORT_OF_TWO);
+fn two_animals_have_the_same_report_in_each_plan(rt: HostRuntime) -> Result<(), Fail> {
+    expect_report(&rt, rt.alloc(), &FILES[..2], REPORT_OF_TWO)
 }
 
 #[test]
-fn five_animals(rt: HostRuntime) {
-    expect_report(&rt, rt.alloc(), &FILES, REPORT);
+fn five_animals_have_the_same_report_in_each_plan(rt: HostRuntime) -> Result<(), Fail> {
+    expect_report(&rt, rt.alloc(), &FILES, REPORT)
 }

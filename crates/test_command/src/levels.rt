@@ -2,12 +2,13 @@
 
 use range_options::Levels;
 use range_words::{LevelFault, levels};
-use std::alloc::Allocator;
+use std::alloc::{Allocator, Global};
 use std::process::Abort;
+use std::test::Fail;
 use test_doubles::Refusing;
 
 #[test]
-fn good_lists(rt: HostRuntime) {
+fn good_lists_are_read(rt: HostRuntime) -> Result<(), Fail> {
     let cases = [
         (b"50,95,100".as_slice(), [50, 95, 100].as_slice()),
         (b"7,7", &[7, 7]),
@@ -16,13 +17,14 @@ fn good_lists(rt: HostRuntime) {
         (b"0000000000000000000000000000000000000000100", &[100]),
     ];
     for (text, expected) in cases {
-        let found = levels(rt.alloc(), text).expect(&rt, "levels");
+        let found = levels(rt.alloc(), text)?;
         assert!(rt; found.as_slice() == expected, "{text:?}");
     }
+    Ok(())
 }
 
 #[test]
-fn bad_lists(rt: HostRuntime) {
+fn the_first_bad_level_of_a_list_is_told(rt: HostRuntime) {
     let cases = [
         (b"".as_slice(), 0),
         (b"0", 0),
@@ -51,7 +53,7 @@ fn bad_lists(rt: HostRuntime) {
 }
 
 #[test]
-fn long_lists(rt: HostRuntime) {
+fn more_levels_than_the_most_are_refused(rt: HostRuntime) {
     for text in [
         b"1,2,3,4,5,6,7,8,9".as_slice(),
         b"1,2,3,4,5,6,7,8,",
@@ -62,19 +64,20 @@ fn long_lists(rt: HostRuntime) {
     }
 }
 
-// Levels are numbers from 1 to 100.
+fn are_levels(alloc: Global, levels: &[u8]) -> Result<bool, Fail> {
+    let levels = Vec::from_slice(alloc, levels)?;
+    Ok(Levels::new(levels).is_some())
+}
+
 #[test]
-fn levels_within_limits(rt: HostRuntime) {
-    let within = |levels: &[u8]| -> bool {
-        let levels = Vec::from_slice(rt.alloc(), levels).expect(&rt, "memory");
-        Levels::new(levels).is_some()
-    };
+fn levels_are_numbers_from_1_to_100(rt: HostRuntime) -> Result<(), Fail> {
     for levels in [[].as_slice(), &[1], &[100, 1, 50]] {
-        assert!(rt; within(levels), "{levels:?}");
+        assert!(rt; are_levels(rt.alloc(), levels)?, "{levels:?}");
     }
     for levels in [[0].as_slice(), &[101], &[50, 0]] {
-        assert!(rt; !within(levels), "{levels:?}");
+        assert!(rt; !are_levels(rt.alloc(), levels)?, "{levels:?}");
     }
+    Ok(())
 }
 
 // Reads a list of levels, again where it is refused, which says so. How often it was refused.
@@ -94,9 +97,9 @@ fn levels_again<A: Allocator + Copy>(rt: &impl Abort, alloc: A) -> u32 {
 
 // A list takes memory once.
 #[test]
-fn levels_are_refused_each_growth(rt: HostRuntime) {
+fn levels_fails_only_at_a_refused_allocation(rt: HostRuntime) {
     let first = Refusing::new(rt.alloc(), 1);
-    assert!(rt; levels_again(&rt, &first) == 1, "the first growth");
+    assert!(rt; levels_again(&rt, &first) == 1, "the first allocation");
     let second = Refusing::new(rt.alloc(), 2);
-    assert!(rt; levels_again(&rt, &second) == 0, "one growth");
+    assert!(rt; levels_again(&rt, &second) == 0, "one allocation");
 }

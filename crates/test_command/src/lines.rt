@@ -4,6 +4,7 @@ use crate::started::Line;
 use range_command::{Output, SystemFiles, answer};
 use std::io;
 use std::io::Write;
+use std::test::Fail;
 
 // A writer that takes so many bytes at most, and counts its writes.
 #[derive(Drop)]
@@ -28,11 +29,11 @@ impl Write for Counted {
 
 // A path of any length, with characters that are not seen and a byte that takes part in two, is said in one write.
 #[test]
-fn one_write(rt: HostRuntime) {
+fn a_refusal_goes_out_in_one_write(rt: HostRuntime) -> Result<(), Fail> {
     let alloc = rt.alloc();
-    let mut path = String::from_str(alloc, "/no/such/\u{9b}\u{85}").expect(&rt, "memory");
+    let mut path = String::from_str(alloc, "/no/such/\u{9b}\u{85}")?;
     for _ in 0..30_000 {
-        path.push_str("fox\n").expect(&rt, "memory");
+        path.push_str("fox\n")?;
     }
     for words in [
         [b"homerange".as_slice(), path.as_str().as_bytes()],
@@ -63,4 +64,5 @@ fn one_write(rt: HostRuntime) {
             assert!(rt; said.writes == writes);
         }
     }
+    Ok(())
 }

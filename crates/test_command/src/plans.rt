@@ -3,7 +3,7 @@
 
 use crate::line::line;
 use crate::options::options;
-use range_command::{Output, SystemFiles, obey_with_gate};
+use range_command::{Output, SystemFiles, obey};
 use range_plane::Scale;
 use range_pump::Gate;
 use range_run::run_with_gate;
@@ -12,6 +12,7 @@ use std::process::Abort;
 use std::rt::Files;
 use std::sync::Wait;
 use std::sync::atomic::{AtomicU64, Ordering};
+use std::test::Fail;
 use std::thread;
 use std::thread::Threads;
 
@@ -92,13 +93,13 @@ fn expect_obeyed<R: Wait + Threads + Sync + Files<File = File> + AllocGlobal + A
     words: &[&str],
     held: u64,
     sent: u64,
-) {
+) -> Result<(), Fail> {
     let alloc = rt.alloc();
     let gate = Holding::new(held, 0);
-    let words = line(rt, alloc, words);
+    let words = line(alloc, words)?;
     let mut out = Output::new(Vec::new(alloc));
     assert!(rt;
-        obey_with_gate(
+        obey(
             rt,
             &SystemFiles::new(rt),
             words.as_slice(),
@@ -113,27 +114,29 @@ fn expect_obeyed<R: Wait + Threads + Sync + Files<File = File> + AllocGlobal + A
         gate.sent.load(Ordering::SeqCst),
     );
     assert!(rt; now == held && all == sent, "{now} and {all}");
+    Ok(())
 }
 
 // One message is with the worker, the line holds as many as it is deep, and the pump has one more.
 #[test]
-fn blocks_and_depths(rt: HostRuntime) {
-    expect_obeyed(&rt, &["--block", "1", "--depth", "1"], 3, 10);
-    expect_obeyed(&rt, &["--block", "1", "--depth", "5"], 7, 10);
-    expect_obeyed(&rt, &["--block", "2", "--depth", "1"], 3, 6);
-    expect_obeyed(&rt, &["--block", "4", "--depth", "64"], 4, 4);
-    expect_obeyed(&rt, &["--block", "1"], 6, 10);
-    expect_obeyed(&rt, &[], 2, 2);
+fn blocks_and_lines_are_as_long_as_the_words_say(rt: HostRuntime) -> Result<(), Fail> {
+    expect_obeyed(&rt, &["--block", "1", "--depth", "1"], 3, 10)?;
+    expect_obeyed(&rt, &["--block", "1", "--depth", "5"], 7, 10)?;
+    expect_obeyed(&rt, &["--block", "2", "--depth", "1"], 3, 6)?;
+    expect_obeyed(&rt, &["--block", "4", "--depth", "64"], 4, 4)?;
+    expect_obeyed(&rt, &["--block", "1"], 6, 10)?;
+    expect_obeyed(&rt, &[], 2, 2)
 }
 
 // Two workers take messages of two files at once: that of the first file waits for that of the second.
 #[test]
-fn workers(rt: HostRuntime) {
+fn two_workers_take_messages_at_once(rt: HostRuntime) -> Result<(), Fail> {
     let alloc = rt.alloc();
     let gate = Holding::new(1, 1);
-    let options = options(&rt, alloc, &[50], (1, 1, 2), Scale::Metre);
-    let sources = vec![in alloc; NINE, OTHER].expect(&rt, "memory");
+    let options = options(alloc, &[50], (1, 1, 2), Scale::Metre)?;
+    let sources = vec![in alloc; NINE, OTHER]?;
     let mut out = Vec::new(alloc);
     let outcome = run_with_gate(&rt, alloc, sources, &gate, &options, &mut out);
     assert!(rt; outcome.is_ok() && gate.held.load(Ordering::SeqCst) > 0);
+    Ok(())
 }

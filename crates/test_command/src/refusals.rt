@@ -4,19 +4,29 @@ use crate::line::{line, texts};
 use range_analysis::AnalyseFault;
 use range_command::{Output, Refusal, SystemFiles, obey};
 use range_fixes::{Name, ReadFault};
+use range_options::FILE_LIMIT;
+use range_pump::FreeGate;
 use range_run::RunFault;
 use std::alloc::Global;
 use std::fs::File;
 use std::process::Abort;
 use std::rt::Files;
 use std::sync::Wait;
+use std::test::Fail;
 use std::thread::Threads;
 
 // A refusal is told by this text and this status.
-fn expect_told<R: Abort>(rt: &R, alloc: Global, refusal: &Refusal, status: u8, text: &str) {
-    let shown = format!(in alloc; "{refusal}").expect(rt, "memory");
+fn expect_told<R: Abort>(
+    rt: &R,
+    alloc: Global,
+    refusal: &Refusal,
+    status: u8,
+    text: &str,
+) -> Result<(), Fail> {
+    let shown = format!(in alloc; "{refusal}")?;
     assert!(rt; shown.as_str() == text, "{shown}");
     assert!(rt; refusal.status() == status);
+    Ok(())
 }
 
 // Words are refused by this text and this status, and nothing is written.
@@ -25,30 +35,25 @@ fn expect_refused<R: Wait + Threads + Sync + Files<File = File> + AllocGlobal + 
     words: &[&str],
     status: u8,
     text: &str,
-) {
+) -> Result<(), Fail> {
     let alloc = rt.alloc();
-    let words = line(rt, alloc, words);
+    let words = line(alloc, words)?;
     let mut out = Output::new(Vec::new(alloc));
     let refused = obey(
         rt,
         &SystemFiles::new(rt),
         words.as_slice(),
         b"".as_slice(),
+        &FreeGate,
         &mut out,
     );
-    expect_told(
-        rt,
-        alloc,
-        &refused.err().expect(rt, "a refusal"),
-        status,
-        text,
-    );
+    expect_told(rt, alloc, &refused.err().ok_or("no refusal")?, status, text)?;
     assert!(rt; out.writer().is_empty());
+    Ok(())
 }
 
-// Words that are refused, and what is said of them.
 #[test]
-fn words(rt: HostRuntime) {
+fn bad_words_are_told_with_status_2(rt: HostRuntime) -> Result<(), Fail> {
     let cases = [
         (
             ["--bogus"].as_slice(),
@@ -72,13 +77,14 @@ fn words(rt: HostRuntime) {
         ),
     ];
     for (words, text) in cases {
-        expect_refused(&rt, words, 2, text);
+        expect_refused(&rt, words, 2, text)?;
     }
+    Ok(())
 }
 
 // Words whose characters would end the line, or change how it is shown.
 #[test]
-fn unseen_characters(rt: HostRuntime) {
+fn characters_that_are_not_seen_are_written_out(rt: HostRuntime) -> Result<(), Fail> {
     let cases = [
         (
             ["--bo\ngus\u{1b}"].as_slice(),
@@ -102,13 +108,14 @@ fn unseen_characters(rt: HostRuntime) {
         ),
     ];
     for (words, text) in cases {
-        expect_refused(&rt, words, 2, text);
+        expect_refused(&rt, words, 2, text)?;
     }
+    Ok(())
 }
 
 // Files that cannot be opened, of which the first is told, so that its name can be told from the line.
 #[test]
-fn files(rt: HostRuntime) {
+fn the_first_file_that_cannot_be_opened_is_told(rt: HostRuntime) -> Result<(), Fail> {
     let cases = [
         (
             ["/no/such.csv", "/"].as_slice(),
@@ -129,21 +136,22 @@ fn files(rt: HostRuntime) {
         (&["/", "/no/such.csv"], "/: Is a directory"),
     ];
     for (words, text) in cases {
-        expect_refused(&rt, words, 1, text);
+        expect_refused(&rt, words, 1, text)?;
     }
+    Ok(())
 }
 
 #[test]
-fn many_files(rt: HostRuntime) {
-    let words = vec![in rt.alloc(); "/no/such.csv"; 65].expect(&rt, "memory");
+fn a_file_more_than_the_most_is_refused(rt: HostRuntime) -> Result<(), Fail> {
+    let words = vec![in rt.alloc(); "/no/such.csv"; FILE_LIMIT as usize + 1]?;
     let text = "more than 64 files; MORE FILES in the manual page says how to run more";
-    expect_refused(&rt, words.as_slice(), 2, text);
+    expect_refused(&rt, words.as_slice(), 2, text)
 }
 
 #[test]
-fn help_is_written(rt: HostRuntime) {
+fn help_is_written(rt: HostRuntime) -> Result<(), Fail> {
     let alloc = rt.alloc();
-    let words = line(&rt, alloc, &["--help"]);
+    let words = line(alloc, &["--help"])?;
     let mut out = Output::new(Vec::new(alloc));
     assert!(rt;
         obey(
@@ -151,6 +159,7 @@ fn help_is_written(rt: HostRuntime) {
             &SystemFiles::new(&rt),
             words.as_slice(),
             b"".as_slice(),
+            &FreeGate,
             &mut out
         )
         .is_ok()
@@ -158,12 +167,13 @@ fn help_is_written(rt: HostRuntime) {
     let help = out.writer().as_slice();
     assert!(rt; help.starts_with(b"Home ranges of tagged animals"));
     assert!(rt; help.ends_with(b"says why.\n"));
+    Ok(())
 }
 
 #[test]
-fn version_is_written(rt: HostRuntime) {
+fn version_is_written(rt: HostRuntime) -> Result<(), Fail> {
     let alloc = rt.alloc();
-    let words = line(&rt, alloc, &["--version", "/no/such.csv"]);
+    let words = line(alloc, &["--version", "/no/such.csv"])?;
     let mut out = Output::new(Vec::new(alloc));
     assert!(rt;
         obey(
@@ -171,27 +181,35 @@ fn version_is_written(rt: HostRuntime) {
             &SystemFiles::new(&rt),
             words.as_slice(),
             b"".as_slice(),
+            &FreeGate,
             &mut out
         )
         .is_ok()
     );
     assert!(rt; out.writer().as_slice().starts_with(b"homerange 1.0.0 ("));
+    Ok(())
 }
 
 // A run over these files that ends with this fault is told by this text and this status.
-fn expect_run<R: Abort>(rt: &R, alloc: Global, paths: &[&str], fault: RunFault, told: (u8, &str)) {
+fn expect_run<R: Abort>(
+    rt: &R,
+    alloc: Global,
+    paths: &[&str],
+    fault: RunFault,
+    told: (u8, &str),
+) -> Result<(), Fail> {
     let (status, text) = told;
     let refused = Refusal::Run {
-        files: texts(rt, alloc, paths),
+        files: texts(alloc, paths)?,
         fault,
         reason: None,
     };
-    expect_told(rt, alloc, &refused, status, text);
+    expect_told(rt, alloc, &refused, status, text)
 }
 
 // The faults of a run over two files, and of one over standard input.
 #[test]
-fn faults_of_files(rt: HostRuntime) {
+fn a_fault_is_told_with_the_name_of_its_file(rt: HostRuntime) -> Result<(), Fail> {
     let alloc = rt.alloc();
     let fields = ReadFault::WrongFieldCount {
         rec: 5,
@@ -201,14 +219,14 @@ fn faults_of_files(rt: HostRuntime) {
     let of_file = |file, fault| RunFault::Analyse(AnalyseFault::File { file, fault });
     let text = "a\\tb.csv: record 5: 3 fields where 4 are wanted";
     let paths = ["b.csv", "a\tb.csv"];
-    expect_run(&rt, alloc, &paths, of_file(1, fields), (1, text));
+    expect_run(&rt, alloc, &paths, of_file(1, fields), (1, text))?;
     let text = "standard input: no record after the header, or none that is used";
-    expect_run(&rt, alloc, &[], of_file(0, ReadFault::NoFixes), (1, text));
+    expect_run(&rt, alloc, &[], of_file(0, ReadFault::NoFixes), (1, text))
 }
 
 // The name of an animal in two files, as it is shown in one line.
 #[test]
-fn same_animals(rt: HostRuntime) {
+fn an_animal_in_two_files_is_told_with_both(rt: HostRuntime) -> Result<(), Fail> {
     let alloc = rt.alloc();
     let cases = [
         (
@@ -228,46 +246,46 @@ fn same_animals(rt: HostRuntime) {
         let same = AnalyseFault::SameAnimal {
             first: 0,
             second: 2,
-            animal: Name::new(Vec::from_slice(alloc, name).expect(&rt, "memory")),
+            animal: Name::new(Vec::from_slice(alloc, name)?),
         };
         let paths = ["b.csv", "c.csv", "a\tb.csv"];
-        expect_run(&rt, alloc, &paths, RunFault::Analyse(same), (1, text));
+        expect_run(&rt, alloc, &paths, RunFault::Analyse(same), (1, text))?;
     }
+    Ok(())
 }
 
-// The faults of runs in which no file is at fault.
 #[test]
-fn other_faults(rt: HostRuntime) {
+fn faults_of_no_file_are_told_with_their_status(rt: HostRuntime) -> Result<(), Fail> {
     let alloc = rt.alloc();
     let paths = ["b.csv", "c.csv"];
     let cut = RunFault::Analyse(AnalyseFault::LineCut { file: 1 });
     let text = "c.csv: its fixes were not all handed on";
-    expect_run(&rt, alloc, &paths, cut, (5, text));
+    expect_run(&rt, alloc, &paths, cut, (5, text))?;
     let memory = RunFault::Analyse(AnalyseFault::OutOfMemory);
     let text = "out of memory, or a thread could not be started";
-    expect_run(&rt, alloc, &paths, memory, (3, text));
-    expect_run(&rt, alloc, &[], RunFault::OutOfMemory, (3, "out of memory"));
+    expect_run(&rt, alloc, &paths, memory, (3, text))?;
+    expect_run(&rt, alloc, &[], RunFault::OutOfMemory, (3, "out of memory"))?;
     let text = "the report could not be written";
-    expect_run(&rt, alloc, &[], RunFault::Write, (4, text));
+    expect_run(&rt, alloc, &[], RunFault::Write, (4, text))
 }
 
 // A help or a version that the system does not take is told by its reason, where it gave one.
 #[test]
-fn unwritten(rt: HostRuntime) {
+fn a_help_that_is_not_taken_is_told_by_its_reason(rt: HostRuntime) -> Result<(), Fail> {
     let alloc = rt.alloc();
-    let full = String::from_str(alloc, "No space left on device").expect(&rt, "memory");
+    let full = String::from_str(alloc, "No space left on device")?;
     let text = "standard output: No space left on device";
     let refused = Refusal::Unwritten { reason: Some(full) };
-    expect_told(&rt, alloc, &refused, 4, text);
+    expect_told(&rt, alloc, &refused, 4, text)?;
     let text = "the help or the version could not be written";
-    expect_told(&rt, alloc, &Refusal::Unwritten { reason: None }, 4, text);
+    expect_told(&rt, alloc, &Refusal::Unwritten { reason: None }, 4, text)
 }
 
 // Names have at most the 32 bytes that the help tells.
 #[test]
-fn longest_name(rt: HostRuntime) {
+fn a_name_has_at_most_the_bytes_that_the_help_tells(rt: HostRuntime) -> Result<(), Fail> {
     let alloc = rt.alloc();
-    let words = line(&rt, alloc, &[]);
+    let words = line(alloc, &[])?;
     let cases = [
         (
             b"animal,second,easting,northing\nxxxxxxxxxxxxxxxxxxxxxxxxxxxxxxxx,0,0,0\n".as_slice(),
@@ -285,8 +303,10 @@ fn longest_name(rt: HostRuntime) {
             &SystemFiles::new(&rt),
             words.as_slice(),
             text,
+            &FreeGate,
             &mut out,
         );
         assert!(rt; outcome.is_ok() == is_read && out.writer().is_empty() != is_read);
     }
+    Ok(())
 }

@@ -9,11 +9,9 @@ use std::alloc::Global;
 use std::io::{Read, Write};
 use std::process::Abort;
 use std::sync::Wait;
+use std::test::Fail;
 use std::thread::Threads;
-use test_doubles::ScriptedSource;
-
-pub(crate) const FILE_A: &[u8] =
-    b"animal,second,easting,northing\nA,0,0,0\nA,60,10,0\nA,120,10,10\nA,180,0,10\nA,240,5,5\n";
+use test_doubles::{CUT_A, FILE_A, FILE_B, HEADER, QUOTED_A, ScriptedSource};
 
 pub(crate) const REPORT_A: &[u8] =
     b"animal,A,fixes,5\nbox,A,0,0,10,10\nrow,A,1,0,1,0\nrow,A,2,60,2,0\nrow,A,3,120,3,100\nrow,A,4,180,4,200\nrow,A,5,240,4,200\ncorner,A,1,0,0\ncorner,A,2,10,0\ncorner,A,3,10,10\ncorner,A,4,0,10\npercent,A,50,3,3,50\npercent,A,95,5,4,200\npercent,A,100,5,4,200\nend,1\n";
@@ -27,7 +25,7 @@ pub(crate) fn run_over<R: Wait + Threads + Sync + Abort, S: Read + Send + Drop, 
     alloc: Global,
     source: S,
     out: &mut W,
-) -> Result<(), RunFault> {
+) -> Result<Result<(), RunFault>, Fail> {
     run_in(rt, alloc, source, Scale::Metre, out)
 }
 
@@ -38,13 +36,11 @@ pub(crate) fn run_in<R: Wait + Threads + Sync + Abort, S: Read + Send + Drop, W:
     source: S,
     unit: Scale,
     out: &mut W,
-) -> Result<(), RunFault> {
-    let options = options(rt, alloc, &[50, 95, 100], (256, 4, 2), unit);
+) -> Result<Result<(), RunFault>, Fail> {
+    let options = options(alloc, &[50, 95, 100], (256, 4, 2), unit)?;
     let mut sources = Vec::new(alloc);
-    if sources.push(source).is_err() {
-        return Err(RunFault::OutOfMemory);
-    }
-    run(rt, alloc, sources, &options, out)
+    sources.push(source)?;
+    Ok(run(rt, alloc, sources, &options, out))
 }
 
 // Runs over a text, and over it behind a byte order mark, by a few bytes a read and by all.
@@ -53,41 +49,41 @@ fn expect_report<R: Wait + Threads + Sync + Abort>(
     alloc: Global,
     text: &[u8],
     report: &[u8],
-) {
-    let mut marked = Vec::from_slice(alloc, b"\xEF\xBB\xBF").expect(rt, "memory");
-    marked.extend_from_slice(text).expect(rt, "memory");
+) -> Result<(), Fail> {
+    let mut marked = Vec::from_slice(alloc, b"\xEF\xBB\xBF")?;
+    marked.extend_from_slice(text)?;
     for text in [text, marked.as_slice()] {
         for most in READS {
             let mut out = Vec::new(alloc);
             let source = ScriptedSource::new(text, most);
-            let outcome = run_over(rt, alloc, source, &mut out);
+            let outcome = run_over(rt, alloc, source, &mut out)?;
             assert!(rt; outcome == Ok(()) && status(&outcome) == 0);
             assert!(rt; out.as_slice() == report, "by {most} bytes");
         }
     }
+    Ok(())
 }
 
 #[test]
-fn reports(rt: HostRuntime) {
+fn a_run_writes_this_report_and_ends_with_status_0(rt: HostRuntime) -> Result<(), Fail> {
     let alloc = rt.alloc();
-    let quoted =
-        b"\"animal\",\"second\",\"easting\",\"northing\"\r\n\"A\",0,0,0\r\n\"A\",60,10,0\r\n\"A\",120,10,10\r\n\"A\",180,0,10\r\n\"A\",240,5,5\r\n";
     let cases = [
         (FILE_A, REPORT_A),
-        (quoted.as_slice(), REPORT_A),
+        (QUOTED_A, REPORT_A),
         (
             b"animal,second,easting,northing\n\xFF,7,16777216,3",
             b"animal,\xFF,fixes,1\nbox,\xFF,16777216,3,16777216,3\nrow,\xFF,1,7,1,0\ncorner,\xFF,1,16777216,3\npercent,\xFF,50,1,1,0\npercent,\xFF,95,1,1,0\npercent,\xFF,100,1,1,0\nend,1\n",
         ),
     ];
     for (text, report) in cases {
-        expect_report(&rt, alloc, text, report);
+        expect_report(&rt, alloc, text, report)?;
     }
+    Ok(())
 }
 
 // Records that are used, and others among them, whose fixes are left out.
 #[test]
-fn use_column(rt: HostRuntime) {
+fn fixes_of_records_that_are_not_used_are_left_out(rt: HostRuntime) -> Result<(), Fail> {
     let alloc = rt.alloc();
     let cases = [
         (
@@ -104,17 +100,18 @@ fn use_column(rt: HostRuntime) {
         ),
     ];
     for (text, report) in cases {
-        expect_report(&rt, alloc, text, report);
+        expect_report(&rt, alloc, text, report)?;
     }
+    Ok(())
 }
 
 // Ranges without area, the largest area, and corners that come, stay and go.
 #[test]
-fn rows_and_corners(rt: HostRuntime) {
+fn ranges_of_each_shape_have_these_reports(rt: HostRuntime) -> Result<(), Fail> {
     let alloc = rt.alloc();
     let cases = [
         (
-            b"animal,second,easting,northing\nB,0,5,5\nB,60,10,5\nB,120,20,5\n".as_slice(),
+            FILE_B,
             b"animal,B,fixes,3\nbox,B,5,5,20,5\nrow,B,1,0,1,0\nrow,B,2,60,2,0\nrow,B,3,120,2,0\ncorner,B,1,5,5\ncorner,B,2,20,5\npercent,B,50,2,2,0\npercent,B,95,3,2,0\npercent,B,100,3,2,0\nend,1\n".as_slice(),
         ),
         (
@@ -143,14 +140,15 @@ fn rows_and_corners(rt: HostRuntime) {
         ),
     ];
     for (text, report) in cases {
-        expect_report(&rt, alloc, text, report);
+        expect_report(&rt, alloc, text, report)?;
     }
+    Ok(())
 }
 
 // Reports in decimetres, which begin with a line that says so: of the square of above, each coordinate ten
 // times as great, and of the greatest square.
 #[test]
-fn decimetres(rt: HostRuntime) {
+fn a_report_in_decimetres_begins_with_its_unit(rt: HostRuntime) -> Result<(), Fail> {
     let alloc = rt.alloc();
     let cases = [
         (
@@ -166,30 +164,30 @@ fn decimetres(rt: HostRuntime) {
         for most in READS {
             let source = ScriptedSource::new(text, most);
             let mut out = Vec::new(alloc);
-            assert!(rt; run_in(&rt, alloc, source, Scale::Decimetre, &mut out) == Ok(()));
+            assert!(rt; run_in(&rt, alloc, source, Scale::Decimetre, &mut out)? == Ok(()));
             assert!(rt; out.as_slice() == report, "by {most} bytes");
         }
     }
+    Ok(())
 }
 
-// Two animals in decimetres: the line stands once.
 #[test]
-fn two_files_in_decimetres(rt: HostRuntime) {
+fn the_unit_of_two_animals_stands_once(rt: HostRuntime) -> Result<(), Fail> {
     let alloc = rt.alloc();
-    let options = options(&rt, alloc, &[], (256, 4, 2), Scale::Decimetre);
+    let options = options(alloc, &[], (256, 4, 2), Scale::Decimetre)?;
     let first = b"animal,second,easting,northing\nA,0,16777217,0\n".as_slice();
     let second = b"animal,second,easting,northing\nB,0,16777217,0\n".as_slice();
-    let sources = vec![in alloc; first, second].expect(&rt, "memory");
+    let sources = vec![in alloc; first, second]?;
     let mut out = Vec::new(alloc);
     assert!(rt; run(&rt, alloc, sources, &options, &mut out) == Ok(()));
     let report =
         b"unit,dm\nanimal,A,fixes,1\nbox,A,16777217,0,16777217,0\nrow,A,1,0,1,0\ncorner,A,1,16777217,0\nanimal,B,fixes,1\nbox,B,16777217,0,16777217,0\nrow,B,1,0,1,0\ncorner,B,1,16777217,0\noverlap,A,B,1,1\noverlap,B,A,1,1\nend,2\n";
     assert!(rt; out.as_slice() == report.as_slice());
+    Ok(())
 }
 
-// Coordinates past the limit of the unit that is asked for.
 #[test]
-fn limits_of_units(rt: HostRuntime) {
+fn coordinates_past_the_limit_of_their_unit_are_refused(rt: HostRuntime) -> Result<(), Fail> {
     let alloc = rt.alloc();
     let (m, dm) = (Scale::Metre, Scale::Decimetre);
     let (rec, field) = (1, 2);
@@ -212,28 +210,46 @@ fn limits_of_units(rt: HostRuntime) {
     ];
     for (text, unit, is_refused) in cases {
         let mut out = Vec::new(alloc);
-        let outcome = run_in(&rt, alloc, text, unit, &mut out);
+        let outcome = run_in(&rt, alloc, text, unit, &mut out)?;
         let fault = ReadFault::TooLarge { rec, field, unit };
         let refusal = RunFault::Analyse(AnalyseFault::File { file: 0, fault });
         assert!(rt; outcome == if is_refused { Err(refusal) } else { Ok(()) });
         assert!(rt; out.is_empty() == is_refused);
     }
+    Ok(())
+}
+
+// A run over a text answers this fault with status 1 and writes nothing, by a few bytes a read and by all.
+fn expect_fault<R: Wait + Threads + Sync + Abort>(
+    rt: &R,
+    alloc: Global,
+    text: &[u8],
+    fault: ReadFault,
+) -> Result<(), Fail> {
+    for most in READS {
+        let mut out = Vec::new(alloc);
+        let source = ScriptedSource::new(text, most);
+        let outcome = run_over(rt, alloc, source, &mut out)?;
+        assert!(rt; status(&outcome) == 1 && out.is_empty());
+        let refusal = RunFault::Analyse(AnalyseFault::File { file: 0, fault });
+        assert!(rt; outcome == Err(refusal), "by {most} bytes");
+    }
+    Ok(())
 }
 
 #[test]
-fn refused_files(rt: HostRuntime) {
+fn a_bad_file_ends_a_run_with_status_1_and_nothing_written(rt: HostRuntime) -> Result<(), Fail> {
     let alloc = rt.alloc();
     let wrong = |rec, found, wanted| ReadFault::WrongFieldCount { rec, found, wanted };
-    let cut = FILE_A.strip_suffix(b",5\n").expect(&rt, "a suffix");
     let cases = [
         (b"".as_slice(), ReadFault::NoHeader),
-        (b"animal,second,easting,northing\n", ReadFault::NoFixes),
+        (HEADER, ReadFault::NoFixes),
         (b"Animal,second,easting,northing\n", ReadFault::BadHeader),
         (
             b"animal,second,easting,northing\nA,0,1,2\nA,0,3",
             wrong(2, 3, 4),
         ),
-        (cut, wrong(5, 3, 4)),
+        (CUT_A, wrong(5, 3, 4)),
         (
             b"animal,second,easting,northing,Use\nA,0,0,0,1\n",
             ReadFault::BadHeader,
@@ -260,43 +276,35 @@ fn refused_files(rt: HostRuntime) {
         ),
     ];
     for (text, fault) in cases {
-        for most in READS {
-            let mut out = Vec::new(alloc);
-            let source = ScriptedSource::new(text, most);
-            let outcome = run_over(&rt, alloc, source, &mut out);
-            assert!(rt; status(&outcome) == 1 && out.is_empty());
-            let refusal = RunFault::Analyse(AnalyseFault::File { file: 0, fault });
-            assert!(rt; outcome == Err(refusal), "by {most} bytes");
-        }
+        expect_fault(&rt, alloc, text, fault)?;
     }
+    Ok(())
 }
 
 // The animals of two files, and how they overlap; the same animal twice; and the first of two faults.
 #[test]
-fn two_files(rt: HostRuntime) {
+fn two_files_have_a_report_with_overlaps_or_the_first_fault(rt: HostRuntime) -> Result<(), Fail> {
     let alloc = rt.alloc();
-    let file_b = b"animal,second,easting,northing\nB,0,5,5\nB,60,10,5\nB,120,20,5\n".as_slice();
     let report =
         b"animal,A,fixes,5\nbox,A,0,0,10,10\nrow,A,1,0,1,0\nrow,A,2,60,2,0\nrow,A,3,120,3,100\nrow,A,4,180,4,200\nrow,A,5,240,4,200\ncorner,A,1,0,0\ncorner,A,2,10,0\ncorner,A,3,10,10\ncorner,A,4,0,10\npercent,A,100,5,4,200\npercent,A,50,3,3,50\nanimal,B,fixes,3\nbox,B,5,5,20,5\nrow,B,1,0,1,0\nrow,B,2,60,2,0\nrow,B,3,120,2,0\ncorner,B,1,5,5\ncorner,B,2,20,5\npercent,B,100,3,2,0\npercent,B,50,2,2,0\noverlap,A,B,1,5\noverlap,B,A,2,3\nend,2\n".as_slice();
-    let no_fixes = b"animal,second,easting,northing\n".as_slice();
     let same = AnalyseFault::SameAnimal {
         first: 0,
         second: 1,
-        animal: Name::new(Vec::from_slice(alloc, b"A").expect(&rt, "memory")),
+        animal: Name::new(Vec::from_slice(alloc, b"A")?),
     };
     let empty = AnalyseFault::File {
         file: 0,
         fault: ReadFault::NoHeader,
     };
     let cases = [
-        ([FILE_A, file_b], Ok(())),
+        ([FILE_A, FILE_B], Ok(())),
         ([FILE_A, FILE_A], Err(RunFault::Analyse(same))),
-        ([b"".as_slice(), no_fixes], Err(RunFault::Analyse(empty))),
+        ([b"".as_slice(), HEADER], Err(RunFault::Analyse(empty))),
     ];
     for (files, expected) in cases {
         for plan in [(256, 4, 2), (1, 1, 8)] {
-            let options = options(&rt, alloc, &[100, 50], plan, Scale::Metre);
-            let sources = vec![in alloc; files[0], files[1]].expect(&rt, "memory");
+            let options = options(alloc, &[100, 50], plan, Scale::Metre)?;
+            let sources = vec![in alloc; files[0], files[1]]?;
             let mut out = Vec::new(alloc);
             let outcome = run(&rt, alloc, sources, &options, &mut out);
             assert!(rt; outcome == expected);
@@ -304,15 +312,15 @@ fn two_files(rt: HostRuntime) {
             assert!(rt; outcome.is_ok() || out.is_empty());
         }
     }
+    Ok(())
 }
 
-// The status of each end that a run may have.
 #[test]
-fn statuses(rt: HostRuntime) {
+fn each_end_of_a_run_has_its_status(rt: HostRuntime) -> Result<(), Fail> {
     let same = AnalyseFault::SameAnimal {
         first: 0,
         second: 1,
-        animal: Name::new(Vec::from_slice(rt.alloc(), b"A").expect(&rt, "memory")),
+        animal: Name::new(Vec::from_slice(rt.alloc(), b"A")?),
     };
     let (file, fault) = (1, ReadFault::NoFixes);
     let cases = [
@@ -330,4 +338,5 @@ fn statuses(rt: HostRuntime) {
     for (outcome, expected) in cases {
         assert_eq!(rt; status(&outcome), expected);
     }
+    Ok(())
 }

@@ -3,6 +3,7 @@
 use range_texts::{Name, OneLine, is_unseen};
 use std::alloc::Global;
 use std::process::Abort;
+use std::test::Fail;
 
 // The format characters (general category Cf) of Unicode 14.0.0, as Python's `unicodedata` has them.
 const FORMATS: [(char, char); 21] = [
@@ -30,21 +31,22 @@ const FORMATS: [(char, char); 21] = [
 ];
 
 // Each character from one to another is unseen.
-fn expect_unseen<R: Abort>(rt: &R, first: char, last: char) {
+fn expect_unseen<R: Abort>(rt: &R, first: char, last: char) -> Result<(), Fail> {
     for code in u32::from(first)..=u32::from(last) {
-        let character = char::from_u32(code).expect(rt, "a character");
+        let character = char::from_u32(code).ok_or("no character")?;
         assert!(rt; is_unseen(character), "{code}");
     }
+    Ok(())
 }
 
 // Each character that controls, formats or ends a line is unseen, and so are blanks that show nothing.
 #[test]
-fn unseen(rt: HostRuntime) {
+fn characters_that_control_format_or_show_nothing_are_unseen(rt: HostRuntime) -> Result<(), Fail> {
     for (first, last) in FORMATS {
-        expect_unseen(&rt, first, last);
+        expect_unseen(&rt, first, last)?;
     }
-    expect_unseen(&rt, '\u{0}', '\u{1f}');
-    expect_unseen(&rt, '\u{7f}', '\u{9f}');
+    expect_unseen(&rt, '\u{0}', '\u{1f}')?;
+    expect_unseen(&rt, '\u{7f}', '\u{9f}')?;
     let others = [
         '\u{2028}',
         '\u{2029}',
@@ -62,45 +64,51 @@ fn unseen(rt: HostRuntime) {
         '\u{10ffff}',
     ];
     for character in others {
-        expect_unseen(&rt, character, character);
+        expect_unseen(&rt, character, character)?;
     }
+    Ok(())
 }
 
-// Letters, marks, signs and pictures of any script stand as they are.
 #[test]
-fn seen(rt: HostRuntime) {
+fn letters_marks_signs_and_pictures_are_seen(rt: HostRuntime) {
     for character in "aZ09 ~\\'\"-_./éßØæ߷Жא؟अ中가\u{301}€∑🦊".chars() {
         assert!(rt; !is_unseen(character), "{character}");
     }
 }
 
 // A text is shown so where it is to be told, and so where a backslash stays; and as a name as where it is told.
-fn expect_shown<R: Abort>(rt: &R, alloc: Global, text: &str, told: &str, plain: &str) {
-    let shown = format!(in alloc; "{}", OneLine::new(text)).expect(rt, "memory");
+fn expect_shown<R: Abort>(
+    rt: &R,
+    alloc: Global,
+    text: &str,
+    told: &str,
+    plain: &str,
+) -> Result<(), Fail> {
+    let shown = format!(in alloc; "{}", OneLine::new(text))?;
     assert!(rt; shown.as_str() == told, "{shown}");
-    let shown = format!(in alloc; "{}", OneLine::plain(text)).expect(rt, "memory");
+    let shown = format!(in alloc; "{}", OneLine::plain(text))?;
     assert!(rt; shown.as_str() == plain, "{shown}");
-    expect_name(rt, alloc, text.as_bytes(), told);
+    expect_name(rt, alloc, text.as_bytes(), told)
 }
 
 // The name of an animal is shown so.
-fn expect_name<R: Abort>(rt: &R, alloc: Global, bytes: &[u8], told: &str) {
+fn expect_name<R: Abort>(rt: &R, alloc: Global, bytes: &[u8], told: &str) -> Result<(), Fail> {
     let name = Name { bytes };
-    let shown = format!(in alloc; "{name}").expect(rt, "memory");
+    let shown = format!(in alloc; "{name}")?;
     assert!(rt; shown.as_str() == told, "{shown}");
+    Ok(())
 }
 
-// How texts and names are shown, and that they can be told from it.
 #[test]
-fn shown(rt: HostRuntime) {
+fn texts_and_names_are_shown_so_that_they_can_be_told(rt: HostRuntime) -> Result<(), Fail> {
     let alloc = rt.alloc();
-    expect_shown(&rt, alloc, "fox.csv", "fox.csv", "fox.csv");
-    expect_shown(&rt, alloc, "Jörð 🦊", "Jörð 🦊", "Jörð 🦊");
+    expect_shown(&rt, alloc, "fox.csv", "fox.csv", "fox.csv")?;
+    expect_shown(&rt, alloc, "Jörð 🦊", "Jörð 🦊", "Jörð 🦊")?;
     let (unseen, written) = ("fo\u{200b}x", "fo\\u{200b}x");
-    expect_shown(&rt, alloc, unseen, written, written);
-    expect_shown(&rt, alloc, written, "fo\\\\u{200b}x", written);
+    expect_shown(&rt, alloc, unseen, written, written)?;
+    expect_shown(&rt, alloc, written, "fo\\\\u{200b}x", written)?;
     let (unseen, written) = ("\u{9b}31m\u{85}", "\\u{9b}31m\\u{85}");
-    expect_shown(&rt, alloc, unseen, written, written);
-    expect_shown(&rt, alloc, "a\tb\r\n", "a\\tb\\r\\n", "a\\tb\\r\\n");
-    expect_name(&rt, alloc, b"f\xFFo\x9bx\\", "f\\xffo\\x9bx\\\\");
+    expect_shown(&rt, alloc, unseen, written, written)?;
+    expect_shown(&rt, alloc, "a\tb\r\n", "a\\tb\\r\\n", "a\\tb\\r\\n")?;
+    expect_name(&rt, alloc, b"f\xFFo\x9bx\\", "f\\xffo\\x9bx\\\\")
 }

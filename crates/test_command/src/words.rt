@@ -1,27 +1,35 @@
 // What words say, and which are refused.
 
 use crate::line::read;
+use range_options::FILE_LIMIT;
 use range_plane::Scale;
 use range_words::{LevelFault, WordFault};
 use std::alloc::Global;
 use std::process::Abort;
+use std::test::Fail;
 
 // What `--version` says: the name, the version, and the sum of the logic, as `rt version` says it.
 const VERSION: &str = "homerange 1.0.0 (logic dac8208d650f15bf)\n";
 
 // Words say this: so many files, these levels, and this block, depth and workers; the unit is the metre.
-fn expect<R: Abort>(rt: &R, alloc: Global, words: &[&str], said: (usize, &[u8], (u32, u32, u32))) {
+fn expect<R: Abort>(
+    rt: &R,
+    alloc: Global,
+    words: &[&str],
+    said: (usize, &[u8], (u32, u32, u32)),
+) -> Result<(), Fail> {
     let (files, levels, plan) = said;
-    let read = read(rt, alloc, words).expect(rt, "words");
+    let read = read(alloc, words)??;
     let found = read.options.plan;
     assert!(rt; read.files.len() == files);
     assert!(rt; read.options.levels.as_slice() == levels);
     assert!(rt; (found.block, found.depth, found.workers) == plan);
     assert!(rt; found.unit == Scale::Metre);
+    Ok(())
 }
 
 #[test]
-fn words_that_are_read(rt: HostRuntime) {
+fn words_say_files_levels_and_the_plan(rt: HostRuntime) -> Result<(), Fail> {
     let alloc = rt.alloc();
     let (plan, levels) = ((256, 4, 2), [50, 95, 100].as_slice());
     let cases = [
@@ -48,12 +56,13 @@ fn words_that_are_read(rt: HostRuntime) {
         (&["--", "--block"], (1, levels, plan)),
     ];
     for (words, said) in cases {
-        expect(&rt, alloc, words, said);
+        expect(&rt, alloc, words, said)?;
     }
+    Ok(())
 }
 
 #[test]
-fn units(rt: HostRuntime) {
+fn words_say_the_unit(rt: HostRuntime) -> Result<(), Fail> {
     let alloc = rt.alloc();
     let cases = [
         (["--unit", "m"].as_slice(), Scale::Metre),
@@ -61,23 +70,25 @@ fn units(rt: HostRuntime) {
         (&["x.csv", "--unit", "dm", "--block", "1"], Scale::Decimetre),
     ];
     for (words, unit) in cases {
-        let read = read(&rt, alloc, words).expect(&rt, "words");
+        let read = read(alloc, words)??;
         assert!(rt; read.options.plan.unit == unit, "{words:?}");
     }
+    Ok(())
 }
 
 #[test]
-fn paths_are_kept(rt: HostRuntime) {
+fn paths_are_kept(rt: HostRuntime) -> Result<(), Fail> {
     let alloc = rt.alloc();
-    let read = read(&rt, alloc, &["b.csv", "a b.csv", "b.csv"]).expect(&rt, "words");
+    let read = read(alloc, &["b.csv", "a b.csv", "b.csv"])??;
     let files = read.files.as_slice();
     assert!(rt; files.len() == 3 && files[0].as_str() == "b.csv");
     assert!(rt; files[1].as_str() == "a b.csv" && files[2].as_str() == "b.csv");
+    Ok(())
 }
 
 // Words that `clap` refuses by something else than its help and the version.
 #[test]
-fn bad_words(rt: HostRuntime) {
+fn words_that_clap_refuses_are_bad(rt: HostRuntime) -> Result<(), Fail> {
     let alloc = rt.alloc();
     let cases = [
         ["--block", "0"].as_slice(),
@@ -104,16 +115,17 @@ fn bad_words(rt: HostRuntime) {
         &["--bogus", "--version"],
     ];
     for words in cases {
-        let refused = read(&rt, alloc, words);
+        let refused = read(alloc, words)?;
         assert!(rt;
             matches!(&refused, Err(WordFault::BadWords(_))),
             "{words:?}"
         );
     }
+    Ok(())
 }
 
 #[test]
-fn bad_levels(rt: HostRuntime) {
+fn bad_levels_are_told_by_their_fault(rt: HostRuntime) -> Result<(), Fail> {
     let alloc = rt.alloc();
     let bad = |index| LevelFault::BadLevel { index };
     let cases = [
@@ -125,32 +137,34 @@ fn bad_levels(rt: HostRuntime) {
         ("1,2,3,4,5,6,7,8,9", LevelFault::TooMany),
     ];
     for (levels, fault) in cases {
-        let refused = read(&rt, alloc, &["--percent", levels]);
+        let refused = read(alloc, &["--percent", levels])?;
         assert!(rt;
             matches!(&refused, Err(WordFault::BadLevels(found)) if *found == fault),
             "{levels}"
         );
     }
+    Ok(())
 }
 
 // One file more is refused, and before levels that are bad.
 #[test]
-fn sixty_four_files(rt: HostRuntime) {
+fn a_file_more_than_the_most_is_refused_before_bad_levels(rt: HostRuntime) -> Result<(), Fail> {
     let alloc = rt.alloc();
     for levels in ["--percent=50", "--percent=0"] {
-        let mut words = vec![in alloc; "x"; 65].expect(&rt, "memory");
-        words.push(levels).expect(&rt, "memory");
-        let refused = read(&rt, alloc, words.as_slice());
+        let mut words = vec![in alloc; "x"; FILE_LIMIT as usize + 1]?;
+        words.push(levels)?;
+        let refused = read(alloc, words.as_slice())?;
         assert!(rt; matches!(&refused, Err(WordFault::TooManyFiles)));
     }
-    let words = vec![in alloc; "x"; 64].expect(&rt, "memory");
-    let read = read(&rt, alloc, words.as_slice()).expect(&rt, "words");
-    assert!(rt; read.files.len() == 64);
+    let words = vec![in alloc; "x"; FILE_LIMIT as usize]?;
+    let read = read(alloc, words.as_slice())??;
+    assert!(rt; read.files.len() == FILE_LIMIT as usize);
+    Ok(())
 }
 
 // The help names every option with its default, in lines of 80 columns, and is asked for before a word that is bad.
 #[test]
-fn help(rt: HostRuntime) {
+fn the_help_names_each_option_with_its_default(rt: HostRuntime) -> Result<(), Fail> {
     let alloc = rt.alloc();
     let parts = [
         "Usage: homerange [--percent LIST] [--unit UNIT] [--block N] [--depth N]\n",
@@ -176,7 +190,7 @@ fn help(rt: HostRuntime) {
         "(p*n + 99)/100",
     ];
     for words in [["--help"].as_slice(), &["-h"], &["--help", "--bogus"]] {
-        let refused = read(&rt, alloc, words);
+        let refused = read(alloc, words)?;
         let text = match &refused {
             Err(WordFault::Help(text)) => text.as_str(),
             _ => "",
@@ -188,21 +202,23 @@ fn help(rt: HostRuntime) {
             assert!(rt; line.chars().count() <= 80, "{line}");
         }
     }
+    Ok(())
 }
 
 // The version is asked for as help is, and its text is one line.
 #[test]
-fn version(rt: HostRuntime) {
+fn the_version_is_asked_for_as_help_is(rt: HostRuntime) -> Result<(), Fail> {
     let alloc = rt.alloc();
     for words in [
         ["--version"].as_slice(),
         &["-V"],
         &["--block", "1", "--version", "--bogus"],
     ] {
-        let refused = read(&rt, alloc, words);
+        let refused = read(alloc, words)?;
         assert!(rt;
             matches!(&refused, Err(WordFault::Version(text)) if text.as_str() == VERSION),
             "{words:?}"
         );
     }
+    Ok(())
 }

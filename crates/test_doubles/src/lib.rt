@@ -1,11 +1,21 @@
-//! An allocator that refuses one growth, and a source that does as it is told. They are for tests alone.
+//! An allocator that refuses one allocation, a source that does as it is told, numbers that look drawn at random, and
+//! worked tracks. They are for tests alone.
 #![tactic(auto)]
 
+mod random;
 mod scripted;
+mod tracks;
 
+pub use random::next_random;
 pub use scripted::ScriptedSource;
 use std::alloc::{AllocError, Allocator};
 use std::sync::atomic::{AtomicU64, Ordering};
+pub use tracks::{
+    CUT_A, FILE_A, FILE_B, HEADER, HEADER_WITH_USE, MARKED_A, MARKED_AND_QUOTED_A, QUOTED_A, SQUARE,
+};
+
+/// More allocations than any run makes that is refused each of them in turn.
+pub const MANY_ALLOCATIONS: u32 = 1000;
 
 /// A number of allocations that no run comes to.
 const NEVER: u64 = 1 << 63;
@@ -21,7 +31,7 @@ pub struct Refusing<A: Allocator> {
 }
 
 impl<A: Allocator> Refusing<A> {
-    /// Refuses growth `number` of those to come, the first being 1; with 0 it refuses none.
+    /// Refuses allocation `number` of those to come, the first being 1; with 0 it refuses none.
     pub fn new(inner: A, number: u32) -> Refusing<A> {
         let left = if number == 0 {
             NEVER
@@ -41,7 +51,7 @@ impl<A: Allocator> Refusing<A> {
     }
 }
 
-// Counts a growth, and answers whether it is the one to refuse.
+// Counts an allocation, and answers whether it is the one to refuse.
 fn is_refused(left: &AtomicU64) -> bool {
     left.fetch_sub(1, Ordering::SeqCst) == 1
 }
@@ -81,26 +91,26 @@ mod tests {
     }
 
     #[test]
-    fn the_growth_of_that_number_alone_is_refused(rt: HostRuntime) {
+    fn the_allocation_of_that_number_alone_is_refused(rt: HostRuntime) {
         for number in 1..=3 {
             let alloc = Refusing::new(rt.alloc(), number);
             let mut list = Vec::new(&alloc);
-            let mut growths = 0u32;
+            let mut allocations = 0u32;
             let mut refusals = 0u32;
             for x in 0..NUMBERS {
                 let capacity = list.capacity();
                 if list.push(x).is_err() {
                     refusals = refusals.wrapping_add(1);
-                    growths = growths.wrapping_add(1);
-                    assert_eq!(rt; growths, number, "the allocation that failed");
-                    assert!(rt; alloc.has_refused(), "at growth {number}");
-                    assert!(rt; counts_up(&list, x), "after growth {number}");
-                    assert!(rt; list.push(x).is_ok(), "again after growth {number}");
+                    allocations = allocations.wrapping_add(1);
+                    assert_eq!(rt; allocations, number, "the allocation that failed");
+                    assert!(rt; alloc.has_refused(), "at allocation {number}");
+                    assert!(rt; counts_up(&list, x), "after allocation {number}");
+                    assert!(rt; list.push(x).is_ok(), "again after allocation {number}");
                 }
                 if list.capacity() > capacity {
-                    growths = growths.wrapping_add(1);
+                    allocations = allocations.wrapping_add(1);
                 }
-                assert_eq!(rt; alloc.has_refused(), growths >= number, "at {x}");
+                assert_eq!(rt; alloc.has_refused(), allocations >= number, "at {x}");
             }
             assert_eq!(rt; refusals, 1, "refusals");
             assert!(rt; counts_up(&list, NUMBERS), "in the end");
@@ -108,7 +118,7 @@ mod tests {
     }
 
     #[test]
-    fn with_0_no_growth_is_refused(rt: HostRuntime) {
+    fn with_0_no_allocation_is_refused(rt: HostRuntime) {
         let alloc = Refusing::new(rt.alloc(), 0);
         let mut list = Vec::new(&alloc);
         assert!(rt; !alloc.has_refused(), "before the first");

@@ -1,29 +1,21 @@
 // Fixes, and estimators that take them, for the tests.
 
 use range_estimator::Estimator;
-use range_plane::{Fix, Point, Polygon};
+use range_plane::{FIX_LIMIT, Fix, Point, Polygon};
 use std::alloc::{Allocator, Global};
 use std::process::Abort;
+use std::test::Fail;
 
-// Fixes by their seconds, eastings and northings: a square, and a fix within it.
-pub(crate) const SQUARE: [(u64, i64, i64); 5] = [
-    (0, 0, 0),
-    (60, 10, 0),
-    (120, 10, 10),
-    (180, 0, 10),
-    (240, 5, 5),
-];
-
-// The corners and the doubled area of each of its rows.
+// The corners and the doubled area of each row of the square.
 pub(crate) const SQUARE_ROWS: [(u32, u128); 5] = [(1, 0), (2, 0), (3, 100), (4, 200), (4, 200)];
 
-pub(crate) fn fixes_of(rt: &impl Abort, alloc: Global, places: &[(u64, i64, i64)]) -> Vec<Fix> {
+pub(crate) fn fixes_of(alloc: Global, places: &[(u64, i64, i64)]) -> Result<Vec<Fix>, Fail> {
     let mut fixes = Vec::new(alloc);
     for &(second, e, n) in places {
-        let at = Point::new(e, n).expect(rt, "a point");
-        fixes.push(Fix { second, at }).expect(rt, "memory");
+        let at = Point::new(e, n).ok_or("no point")?;
+        fixes.push(Fix { second, at })?;
     }
-    fixes
+    Ok(fixes)
 }
 
 // Whether the estimator takes a block that it may be given.
@@ -34,8 +26,8 @@ pub(crate) fn takes<A: Allocator + Copy>(
 ) -> bool {
     assert!(rt; !estimator.stopped(), "running");
     let taken = estimator.rows().len();
-    assert!(rt; taken <= 1_048_576, "few fixes");
-    assert!(rt; block.len() <= 1_048_576 - taken, "room");
+    assert!(rt; taken <= FIX_LIMIT as usize, "few fixes");
+    assert!(rt; block.len() <= FIX_LIMIT as usize - taken, "room");
     estimator.take_block(block).is_ok()
 }
 
@@ -67,18 +59,19 @@ pub(crate) fn has_rows<A: Allocator + Copy>(
 
 // Whether these are the corners of the estimator's polygon, in this order.
 pub(crate) fn has_corners<A: Allocator + Copy>(
-    rt: &impl Abort,
     alloc: Global,
     estimator: &Estimator<A>,
     corners: &[(i64, i64)],
-) -> bool {
-    let polygon: Polygon = estimator.polygon(alloc).expect(rt, "memory");
+) -> Result<bool, Fail> {
+    let polygon: Polygon = estimator.polygon(alloc)?;
     let found = polygon.corners();
-    found.len() == corners.len()
-        && found
-            .iter()
-            .zip(corners)
-            .all(|(p, &(e, n))| p.e == e && p.n == n)
+    Ok(
+        found.len() == corners.len()
+            && found
+                .iter()
+                .zip(corners)
+                .all(|(p, &(e, n))| p.e == e && p.n == n),
+    )
 }
 
 // Whether the estimator holds these fixes, and a row for each, of its second.

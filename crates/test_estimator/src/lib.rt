@@ -1,11 +1,11 @@
 //! Tests of estimators: their rows and polygons against worked ones and those by definition, and a block
-//! refused its memory, a growth at a time.
+//! refused its memory, an allocation at a time.
 #![tactic(auto)]
 
 #[cfg(test)]
-mod fixes;
+mod allocations;
 #[cfg(test)]
-mod growths;
+mod fixes;
 #[cfg(test)]
 mod plain;
 #[cfg(test)]

@@ -1,15 +1,12 @@
-//! Files with each fault that a reader can have of its bytes or its source. They are for tests alone.
+//! Files with each fault that a reader can have of its bytes or its source, and what names and corners have to be. They
+//! are for tests alone.
 #![tactic(auto)]
 
-use range_fixes::ReadFault;
-use range_plane::Scale;
-use test_doubles::ScriptedSource;
-
-const HEADER: &[u8] = b"animal,second,easting,northing\n";
+use range_fixes::{Name, ReadFault};
+use range_plane::{Point, Scale};
+use test_doubles::{HEADER, HEADER_WITH_USE, ScriptedSource};
 
 const GOOD: &[u8] = b"A,7,1,2\n";
-
-const HEADER_WITH_USE: &[u8] = b"animal,second,easting,northing,use\n";
 
 const USED: &[u8] = b"A,7,1,2,1\n";
 
@@ -118,4 +115,18 @@ pub fn files_without_fix() -> [BadFile; 4] {
 pub fn too_many_records() -> BadFile {
     let fault = ReadFault::TooManyFixes;
     without_fix(HEADER_WITH_USE, UNUSED, u64::MAX, fault)
+}
+
+/// Whether a reader gave this name.
+pub fn is_name(read: &Result<Name, ReadFault>, name: &[u8]) -> bool {
+    matches!(read, Ok(found) if found.as_slice() == name)
+}
+
+/// Whether these points are at these places, in this order.
+pub fn are_at(points: &[Point], places: &[(i64, i64)]) -> bool {
+    points.len() == places.len()
+        && points
+            .iter()
+            .zip(places)
+            .all(|(p, &(e, n))| p.e == e && p.n == n)
 }

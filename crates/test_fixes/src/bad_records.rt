@@ -1,9 +1,11 @@
 // A bad record, at the first place and at later ones, in files of both headers.
 
-use crate::files::{HEADER, expect, too_large};
+use crate::files::{expect, too_large};
 use range_fixes::ReadFault;
 use std::alloc::Global;
 use std::process::Abort;
+use std::test::Fail;
+use test_doubles::{HEADER, HEADER_WITH_USE};
 
 // How a file is written: its header, how many fields that has, a good record, and what stands behind the first
 // four fields of a bad one.
@@ -38,49 +40,50 @@ fn bad_records(rec: u32, wanted: u32) -> [(&'static [u8], ReadFault); 10] {
 }
 
 // A file with so many good records, this bad one, and a good one.
-fn text_of(rt: &impl Abort, alloc: Global, form: Form, before: u32, record: &[u8]) -> Vec<u8> {
-    let mut text = Vec::from_slice(alloc, form.header).expect(rt, "memory");
+fn text_of(alloc: Global, form: Form, before: u32, record: &[u8]) -> Result<Vec<u8>, Fail> {
+    let mut text = Vec::from_slice(alloc, form.header)?;
     for _ in 0..before {
-        text.extend_from_slice(form.good).expect(rt, "memory");
+        text.extend_from_slice(form.good)?;
     }
-    text.extend_from_slice(record).expect(rt, "memory");
-    text.extend_from_slice(form.end).expect(rt, "memory");
-    text.extend_from_slice(form.good).expect(rt, "memory");
-    text
+    text.extend_from_slice(record)?;
+    text.extend_from_slice(form.end)?;
+    text.extend_from_slice(form.good)?;
+    Ok(text)
 }
 
 // Checks that each bad record is told by its place, and that the fixes before it are given.
-fn expect_bad_records(rt: &impl Abort, alloc: Global, form: Form) {
+fn expect_bad_records(rt: &impl Abort, alloc: Global, form: Form) -> Result<(), Fail> {
     for before in [0u32, 1, 4] {
         let records = bad_records(before.saturating_add(1), form.fields);
         let count = if before == 0 { 8 } else { records.len() };
         let last = if before == 0 { None } else { Some((0, 0)) };
         for &(record, fault) in &records[..count] {
-            let text = text_of(rt, alloc, form, before, record);
+            let text = text_of(alloc, form, before, record)?;
             expect(rt, alloc, text.as_slice(), (before, last, Some(fault)));
         }
     }
+    Ok(())
 }
 
 #[test]
-fn places_of_bad_records(rt: HostRuntime) {
+fn a_bad_record_is_told_by_its_place(rt: HostRuntime) -> Result<(), Fail> {
     let form = Form {
         header: HEADER,
         fields: 4,
         good: b"A,9,0,0\n",
         end: b"\n",
     };
-    expect_bad_records(&rt, rt.alloc(), form);
+    expect_bad_records(&rt, rt.alloc(), form)
 }
 
 // A record that is left out is checked as one that is used.
 #[test]
-fn bad_records_that_are_left_out(rt: HostRuntime) {
+fn a_bad_record_that_is_left_out_is_told_as_well(rt: HostRuntime) -> Result<(), Fail> {
     let form = Form {
-        header: b"animal,second,easting,northing,use\n",
+        header: HEADER_WITH_USE,
         fields: 5,
         good: b"A,9,0,0,1\n",
         end: b",0\n",
     };
-    expect_bad_records(&rt, rt.alloc(), form);
+    expect_bad_records(&rt, rt.alloc(), form)
 }

@@ -5,12 +5,8 @@ use range_plane::{FIX_LIMIT, Fix, Point, Scale};
 use std::alloc::Global;
 use std::io::Read;
 use std::process::Abort;
-use test_doubles::ScriptedSource;
-
-pub(crate) const HEADER: &[u8] = b"animal,second,easting,northing\n";
-
-const FILE_A: &[u8] =
-    b"animal,second,easting,northing\nA,0,0,0\nA,60,10,0\nA,120,10,10\nA,180,0,10\nA,240,5,5\n";
+use std::test::Fail;
+use test_doubles::{FILE_A, HEADER, HEADER_WITH_USE, ScriptedSource};
 
 // What a source gave: how many fixes, the point of the last one, and the fault after them.
 pub(crate) type Outcome = (u32, Option<(i64, i64)>, Option<ReadFault>);
@@ -71,15 +67,22 @@ pub(crate) fn expect(rt: &impl Abort, alloc: Global, text: &[u8], expected: Outc
     }
 }
 
-// Checks what these records give under the header.
-fn expect_records(rt: &impl Abort, alloc: Global, records: &[u8], expected: Outcome) {
-    let mut text = Vec::from_slice(alloc, HEADER).expect(rt, "memory");
-    text.extend_from_slice(records).expect(rt, "memory");
+// Checks what these records give under this header.
+pub(crate) fn expect_records(
+    rt: &impl Abort,
+    alloc: Global,
+    header: &[u8],
+    records: &[u8],
+    expected: Outcome,
+) -> Result<(), Fail> {
+    let mut text = Vec::from_slice(alloc, header)?;
+    text.extend_from_slice(records)?;
     expect(rt, alloc, text.as_slice(), expected);
+    Ok(())
 }
 
 #[test]
-fn good_records(rt: HostRuntime) {
+fn good_records_are_read(rt: HostRuntime) -> Result<(), Fail> {
     let alloc = rt.alloc();
     expect(&rt, alloc, FILE_A, (5, Some((5, 5)), None));
     let cases = [
@@ -98,12 +101,13 @@ fn good_records(rt: HostRuntime) {
         (b"a name,0,0,0", 1, (0, 0)),
     ];
     for (records, count, last) in cases {
-        expect_records(&rt, alloc, records, (count, Some(last), None));
+        expect_records(&rt, alloc, HEADER, records, (count, Some(last), None))?;
     }
+    Ok(())
 }
 
 #[test]
-fn headers(rt: HostRuntime) {
+fn a_header_is_taken_only_as_it_is_specified(rt: HostRuntime) {
     let alloc = rt.alloc();
     let bad = (0, None, Some(ReadFault::BadHeader));
     let good = (1, Some((1, 2)), None);
@@ -112,10 +116,7 @@ fn headers(rt: HostRuntime) {
         (HEADER, (0, None, Some(ReadFault::NoFixes))),
         (b"Animal,second,easting,northing\n", bad),
         (b"animal,second,northing,easting\n", bad),
-        (
-            b"animal,second,easting,northing,use\n",
-            (0, None, Some(ReadFault::NoFixes)),
-        ),
+        (HEADER_WITH_USE, (0, None, Some(ReadFault::NoFixes))),
         (b"animal,second,easting,northing,Use\n", bad),
         (b"animal,second,easting,northing,use,use\n", bad),
         (b"animal,second,easting,use,northing\n", bad),
@@ -138,7 +139,7 @@ fn headers(rt: HostRuntime) {
 }
 
 #[test]
-fn bad_fields(rt: HostRuntime) {
+fn a_bad_field_is_told_by_its_fault(rt: HostRuntime) -> Result<(), Fail> {
     let alloc = rt.alloc();
     let name = ReadFault::BadName { rec: 1 };
     let number = ReadFault::NotNumber { rec: 1, field: 2 };
@@ -169,12 +170,13 @@ fn bad_fields(rt: HostRuntime) {
         (b"A,0,0,18446744073709551616", too_large(1, 3)),
     ];
     for (records, fault) in cases {
-        expect_records(&rt, alloc, records, (0, None, Some(fault)));
+        expect_records(&rt, alloc, HEADER, records, (0, None, Some(fault)))?;
     }
+    Ok(())
 }
 
 #[test]
-fn order_of_checks(rt: HostRuntime) {
+fn the_first_fault_in_the_order_of_checks_is_told(rt: HostRuntime) -> Result<(), Fail> {
     let alloc = rt.alloc();
     let cases = [
         (
@@ -208,14 +210,15 @@ fn order_of_checks(rt: HostRuntime) {
     ];
     for (records, count, fault) in cases {
         let last = if count > 0 { Some((0, 0)) } else { None };
-        expect_records(&rt, alloc, records, (count, last, Some(fault)));
+        expect_records(&rt, alloc, HEADER, records, (count, last, Some(fault)))?;
     }
+    Ok(())
 }
 
 // The file A, cut after its first bytes: from so many of them to before so many. A cut inside the last
 // number is not seen.
 #[test]
-fn cut_files(rt: HostRuntime) {
+fn a_cut_file_gives_its_whole_records_and_then_its_fault(rt: HostRuntime) {
     let alloc = rt.alloc();
     let wanted = 4;
     let wrong = |rec, found| Some(ReadFault::WrongFieldCount { rec, found, wanted });
@@ -251,9 +254,8 @@ fn cut_files(rt: HostRuntime) {
     }
 }
 
-// Numbers of any length are read by their value.
 #[test]
-fn long_numbers(rt: HostRuntime) {
+fn numbers_of_any_length_are_read_by_their_value(rt: HostRuntime) -> Result<(), Fail> {
     let alloc = rt.alloc();
     let large = too_large(1, 2);
     let cases = [
@@ -261,18 +263,19 @@ fn long_numbers(rt: HostRuntime) {
         (b'9', 400, (0, None, Some(large))),
     ];
     for (digit, count, expected) in cases {
-        let mut record = Vec::from_slice(alloc, b"A,0,").expect(&rt, "memory");
+        let mut record = Vec::from_slice(alloc, b"A,0,")?;
         for _ in 0..count {
-            record.push(digit).expect(&rt, "memory");
+            record.push(digit)?;
         }
-        record.extend_from_slice(b"7,0").expect(&rt, "memory");
-        expect_records(&rt, alloc, record.as_slice(), expected);
+        record.extend_from_slice(b"7,0")?;
+        expect_records(&rt, alloc, HEADER, record.as_slice(), expected)?;
     }
+    Ok(())
 }
 
 // As many fixes as a file may have, and one more; one that is malformed, and fixes without end.
 #[test]
-fn most_fixes(rt: HostRuntime) {
+fn a_fix_more_than_the_most_is_refused(rt: HostRuntime) {
     let most_fixes = u64::from(FIX_LIMIT);
     let many = Some(ReadFault::TooManyFixes);
     let cases = [
@@ -293,7 +296,7 @@ fn most_fixes(rt: HostRuntime) {
     }
 }
 
-// The points of the fixes of the file A.
+// The points of the fixes of file A.
 const POINTS: [(i64, i64); 5] = [(0, 0), (10, 0), (10, 10), (0, 10), (5, 5)];
 
 // How many fixes stand in the whole lines among so many bytes of the file A.
@@ -329,7 +332,7 @@ fn fixes_before_failure(rt: &impl Abort, alloc: Global, most: usize, reads: usiz
 // A source that fails at each of its reads in turn is no short file: it gives the fixes of whole lines that
 // were read, and then `Read`; all of them and then `Read` where the last read fails.
 #[test]
-fn failing_source(rt: HostRuntime) {
+fn a_source_that_fails_gives_the_fixes_before_and_is_told(rt: HostRuntime) {
     for most in [1, 3, 8, 8192] {
         let mut before = 0;
         for reads in 0..100 {
@@ -343,20 +346,19 @@ fn failing_source(rt: HostRuntime) {
     }
 }
 
-fn fix(rt: &impl Abort, second: u64, e: i64, n: i64) -> Fix {
-    let at = Point::new(e, n).expect(rt, "a point");
-    Fix { second, at }
+fn fix(second: u64, e: i64, n: i64) -> Result<Fix, Fail> {
+    let at = Point::new(e, n).ok_or("no point")?;
+    Ok(Fix { second, at })
 }
 
-// Each fix of a file, and the name and the count with it.
 #[test]
-fn fixes_in_turn(rt: HostRuntime) {
+fn fixes_come_in_turn_with_name_and_count(rt: HostRuntime) -> Result<(), Fail> {
     let fixes = [
-        fix(&rt, 0, 0, 0),
-        fix(&rt, 60, 10, 0),
-        fix(&rt, 120, 10, 10),
-        fix(&rt, 180, 0, 10),
-        fix(&rt, 240, 5, 5),
+        fix(0, 0, 0)?,
+        fix(60, 10, 0)?,
+        fix(120, 10, 10)?,
+        fix(180, 0, 10)?,
+        fix(240, 5, 5)?,
     ];
     for most in [1, 3, 8, 8192] {
         let source = ScriptedSource::new(FILE_A, most);
@@ -376,20 +378,21 @@ fn fixes_in_turn(rt: HostRuntime) {
             "the name in the end"
         );
     }
+    Ok(())
 }
 
-// A name of each length is kept whole.
 #[test]
-fn names(rt: HostRuntime) {
+fn a_name_of_each_length_is_kept_whole(rt: HostRuntime) -> Result<(), Fail> {
     let longest = b"abcdefghijklmnopqrstuvwxyz012345";
     for length in 1..=longest.len() {
         let name = &longest[..length];
-        let mut text = Vec::from_slice(rt.alloc(), HEADER).expect(&rt, "memory");
-        text.extend_from_slice(name).expect(&rt, "memory");
-        text.extend_from_slice(b",60,1,2").expect(&rt, "memory");
+        let mut text = Vec::from_slice(rt.alloc(), HEADER)?;
+        text.extend_from_slice(name)?;
+        text.extend_from_slice(b",60,1,2")?;
         let source = ScriptedSource::new(text.as_slice(), 8192);
         let mut reader = FixReader::new(rt.alloc(), source, Scale::Metre);
-        assert!(rt; reader.next() == Ok(Some(fix(&rt, 60, 1, 2))), "the fix");
+        assert!(rt; reader.next() == Ok(Some(fix(60, 1, 2)?)), "the fix");
         assert!(rt; reader.name() == Some(name), "a name of {length} bytes");
     }
+    Ok(())
 }

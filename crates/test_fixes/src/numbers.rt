@@ -3,7 +3,7 @@
 use range_numbers::{VALUE_LIMIT, value_of};
 
 #[test]
-fn values_up_to_a_limit(rt: HostRuntime) {
+fn digits_up_to_a_limit_have_their_value_and_all_else_has_none(rt: HostRuntime) {
     for (bytes, value) in [
         (b"0".as_slice(), Some(0)),
         (b"100", Some(100)),
@@ -19,7 +19,7 @@ fn values_up_to_a_limit(rt: HostRuntime) {
 }
 
 #[test]
-fn values_past_a_limit(rt: HostRuntime) {
+fn values_past_a_limit_are_past_it(rt: HostRuntime) {
     for bytes in [
         b"101".as_slice(),
         b"18446744073709551616",
@@ -32,7 +32,7 @@ fn values_past_a_limit(rt: HostRuntime) {
 
 // The digits are taken in groups, which share some: so digits that stand side by side differ.
 #[test]
-fn values_of_rising_digits(rt: HostRuntime) {
+fn rising_digits_of_each_length_have_their_value(rt: HostRuntime) {
     for (bytes, value) in [
         (b"1".as_slice(), 1),
         (b"12", 12),
@@ -61,7 +61,7 @@ fn values_of_rising_digits(rt: HostRuntime) {
 }
 
 #[test]
-fn values_of_falling_digits(rt: HostRuntime) {
+fn falling_digits_of_each_length_have_their_value(rt: HostRuntime) {
     for (bytes, value) in [
         (b"9".as_slice(), 9),
         (b"98", 98),
@@ -107,7 +107,7 @@ fn numbers_with(byte: u8) -> (bool, bool) {
 }
 
 #[test]
-fn each_byte_at_each_place(rt: HostRuntime) {
+fn no_byte_but_a_digit_is_taken_at_any_place(rt: HostRuntime) {
     for byte in [0, b' ', b'/', b':', b'a', 0x7F, 0x80, 0xB0, 0xFF] {
         assert!(rt; !numbers_with(byte).0, "{byte}");
     }

@@ -2,6 +2,7 @@
 
 use range_fixes::ReadFault;
 use range_plane::Scale;
+use std::test::Fail;
 
 // Every fault, by its number, and its text.
 const TEXTS: [(ReadFault, &str); 19] = [
@@ -95,9 +96,10 @@ const TEXTS: [(ReadFault, &str); 19] = [
 ];
 
 #[test]
-fn every_fault(rt: HostRuntime) {
+fn every_fault_has_its_text(rt: HostRuntime) -> Result<(), Fail> {
     for (fault, text) in TEXTS {
-        let said = format!(in rt.alloc(); "{fault}").expect(&rt, "memory");
+        let said = format!(in rt.alloc(); "{fault}")?;
         assert!(rt; said.as_str() == text, "{fault}");
     }
+    Ok(())
 }

@@ -1,14 +1,15 @@
 // The limits of coordinates in metres and in decimetres.
 
-use crate::files::{HEADER, outcome_in};
+use crate::files::outcome_in;
 use range_fixes::ReadFault;
 use range_plane::Scale;
-use test_doubles::ScriptedSource;
+use std::test::Fail;
+use test_doubles::{HEADER, ScriptedSource};
 
 // What a file with these coordinates gives, however it is cut into reads: its fix, or the field that is past
 // the limit of the unit.
 #[test]
-fn limits(rt: HostRuntime) {
+fn coordinates_are_taken_up_to_the_limit_of_their_unit(rt: HostRuntime) -> Result<(), Fail> {
     let alloc = rt.alloc();
     let (m, dm) = (Scale::Metre, Scale::Decimetre);
     let cases = [
@@ -27,8 +28,8 @@ fn limits(rt: HostRuntime) {
         (b"A,1099511627777,0,0", dm, Err(1)),
     ];
     for (record, unit, expected) in cases {
-        let mut text = Vec::from_slice(alloc, HEADER).expect(&rt, "memory");
-        text.extend_from_slice(record).expect(&rt, "memory");
+        let mut text = Vec::from_slice(alloc, HEADER)?;
+        text.extend_from_slice(record)?;
         let rec = 1;
         let expected = match expected {
             Ok(at) => (1, Some(at), None),
@@ -40,4 +41,5 @@ fn limits(rt: HostRuntime) {
             assert!(rt; found == expected, "by {most} bytes");
         }
     }
+    Ok(())
 }

@@ -1,24 +1,16 @@
 // What the reader answers to files that say of each record whether its fix is used.
 
-use crate::files::{Outcome, expect, outcome};
+use crate::files::{expect, expect_records, outcome};
 use range_fixes::ReadFault;
 use range_plane::FIX_LIMIT;
 use std::alloc::Global;
 use std::process::Abort;
-use test_doubles::ScriptedSource;
-
-const HEADER: &[u8] = b"animal,second,easting,northing,use\n";
-
-// Checks what these records give under the header.
-fn expect_records(rt: &impl Abort, alloc: Global, records: &[u8], expected: Outcome) {
-    let mut text = Vec::from_slice(alloc, HEADER).expect(rt, "memory");
-    text.extend_from_slice(records).expect(rt, "memory");
-    expect(rt, alloc, text.as_slice(), expected);
-}
+use std::test::Fail;
+use test_doubles::{HEADER_WITH_USE, ScriptedSource};
 
 // Records that are left out at the beginning, at the end and throughout.
 #[test]
-fn used_records(rt: HostRuntime) {
+fn fixes_of_records_that_are_not_used_are_left_out(rt: HostRuntime) -> Result<(), Fail> {
     let alloc = rt.alloc();
     let cases = [
         (
@@ -40,21 +32,41 @@ fn used_records(rt: HostRuntime) {
         ),
     ];
     for (records, count, last) in cases {
-        expect_records(&rt, alloc, records, (count, Some(last), None));
+        expect_records(
+            &rt,
+            alloc,
+            HEADER_WITH_USE,
+            records,
+            (count, Some(last), None),
+        )?;
     }
+    Ok(())
 }
 
 // Checks the fault of each of these records, and that so many fixes at one place come before it.
-fn expect_faults(rt: &impl Abort, alloc: Global, cases: &[(&[u8], u32, ReadFault)]) {
+fn expect_faults(
+    rt: &impl Abort,
+    alloc: Global,
+    cases: &[(&[u8], u32, ReadFault)],
+) -> Result<(), Fail> {
     for &(records, count, fault) in cases {
         let last = if count > 0 { Some((0, 0)) } else { None };
-        expect_records(rt, alloc, records, (count, last, Some(fault)));
+        expect_records(
+            rt,
+            alloc,
+            HEADER_WITH_USE,
+            records,
+            (count, last, Some(fault)),
+        )?;
     }
+    Ok(())
 }
 
 // What is wrong with the column itself, and with how many fields there are.
 #[test]
-fn faults_of_fields(rt: HostRuntime) {
+fn a_use_that_is_neither_0_nor_1_and_a_wrong_count_of_fields_are_told(
+    rt: HostRuntime,
+) -> Result<(), Fail> {
     let bad = |rec| ReadFault::BadUse { rec };
     let wanted = 5;
     let wrong = |rec, found| ReadFault::WrongFieldCount { rec, found, wanted };
@@ -72,12 +84,14 @@ fn faults_of_fields(rt: HostRuntime) {
         (b"A,0,0,0,0\nA,0,0,0\n", 0, wrong(2, 4)),
         (b"A,0,x,0,2", 0, number(1, 2)),
     ];
-    expect_faults(&rt, rt.alloc(), &cases);
+    expect_faults(&rt, rt.alloc(), &cases)
 }
 
 // A record that is left out has the next held against it, and is no fix.
 #[test]
-fn faults_of_order(rt: HostRuntime) {
+fn records_that_are_left_out_are_held_against_their_neighbours(
+    rt: HostRuntime,
+) -> Result<(), Fail> {
     let falls = |rec| ReadFault::SecondFalls { rec };
     let other = |rec| ReadFault::OtherAnimal { rec };
     let cases = [
@@ -89,7 +103,7 @@ fn faults_of_order(rt: HostRuntime) {
         (b"A,0,0,0,0", 0, ReadFault::NoFixes),
         (b"A,0,0,0,0\nA,0,0,0,0\n", 0, ReadFault::NoFixes),
     ];
-    expect_faults(&rt, rt.alloc(), &cases);
+    expect_faults(&rt, rt.alloc(), &cases)
 }
 
 const FILE: &[u8] = b"animal,second,easting,northing,use\nA,0,0,0,1\nA,60,10,0,0\nA,120,10,10,1\n";
@@ -97,7 +111,7 @@ const FILE: &[u8] = b"animal,second,easting,northing,use\nA,0,0,0,1\nA,60,10,0,0
 // A file, cut after its first bytes: from so many of them to before so many. Cut after `northing` it has a
 // good header of four fields.
 #[test]
-fn cut_files(rt: HostRuntime) {
+fn a_cut_file_gives_its_whole_records_and_then_its_fault(rt: HostRuntime) {
     let alloc = rt.alloc();
     let wanted = 5;
     let wrong = |rec, found| Some(ReadFault::WrongFieldCount { rec, found, wanted });
@@ -138,8 +152,8 @@ fn cut_files(rt: HostRuntime) {
 // As many records as a file may have, of which the first alone is used, or none, or all; one more, good or
 // not; and records without end.
 #[test]
-fn most_records(rt: HostRuntime) {
-    let none = HEADER;
+fn a_record_more_than_the_most_is_refused_though_it_is_left_out(rt: HostRuntime) {
+    let none = HEADER_WITH_USE;
     let one = b"animal,second,easting,northing,use\nA,0,5,6,1\n".as_slice();
     let unused = b"A,0,0,0,0\n".as_slice();
     let used = b"A,0,0,0,1\n".as_slice();

@@ -3,18 +3,20 @@
 use crate::files::Case;
 use range_collect::{Followed, follow};
 use range_estimator::Row;
-use range_fixes::{Name, ReadFault};
-use range_options::Plan;
-use range_plane::{Point, Polygon, Scale};
+use range_fixes::ReadFault;
+use range_options::{FILE_LIMIT, Plan};
+use range_plane::{Polygon, Scale};
 use range_pump::Gate;
 use std::alloc::Global;
 use std::io::Read;
 use std::process::Abort;
 use std::sync::Wait;
+use std::test::Fail;
 use std::thread::Threads;
+use test_files::{are_at, is_name};
 
-pub(crate) fn plan(rt: &impl Abort, block: u32, depth: u32, workers: u32) -> Plan {
-    Plan::new(block, depth, workers, Scale::Metre).expect(rt, "a plan")
+pub(crate) fn plan(block: u32, depth: u32, workers: u32) -> Result<Plan, Fail> {
+    Ok(Plan::new(block, depth, workers, Scale::Metre).ok_or("no plan")?)
 }
 
 // Follows sources side by side, and gives a result for each.
@@ -24,12 +26,12 @@ pub(crate) fn follow_all<R: Wait + Threads + Sync + Abort, S: Read + Send + Drop
     sources: Vec<S>,
     gate: &G,
     plan: Plan,
-) -> Vec<Followed> {
+) -> Result<Vec<Followed>, Fail> {
     let count = sources.len();
-    assert!(rt; count > 0 && count <= 64, "sources");
-    let all = follow(rt, alloc, alloc, sources, gate, plan).expect(rt, "memory");
+    assert!(rt; count > 0 && count <= FILE_LIMIT as usize, "sources");
+    let all = follow(rt, alloc, alloc, sources, gate, plan)?;
     assert!(rt; all.len() == count, "results");
-    all
+    Ok(all)
 }
 
 // Whether the rows that were found are the first of these.
@@ -40,17 +42,13 @@ pub(crate) fn begin_with(rows: &[(u64, u32, u128)], found: &[Row]) -> bool {
         })
 }
 
-// Whether the corners that were found are these.
-pub(crate) fn are_corners(found: &[Point], corners: &[(i64, i64)]) -> bool {
-    found.len() == corners.len()
-        && found
-            .iter()
-            .zip(corners)
-            .all(|(p, &(e, n))| p.e == e && p.n == n)
-}
-
 // Checks that the file was read to its end, sent and taken whole.
-pub(crate) fn expect_whole(rt: &impl Abort, alloc: Global, followed: &Followed, case: Case) {
+pub(crate) fn expect_whole(
+    rt: &impl Abort,
+    alloc: Global,
+    followed: &Followed,
+    case: Case,
+) -> Result<(), Fail> {
     assert!(rt; followed.marked && followed.feeder.closed(), "the mark");
     assert!(rt; !followed.estimator.stopped(), "running");
     assert!(rt; is_name(&followed.read, case.name), "the name");
@@ -58,13 +56,9 @@ pub(crate) fn expect_whole(rt: &impl Abort, alloc: Global, followed: &Followed, 
     assert!(rt; rows.len() == case.rows.len(), "so many rows");
     assert!(rt; begin_with(case.rows, rows), "the rows");
     assert!(rt; followed.feeder.sent_fixes() == rows.len() as u64, "fixes");
-    let polygon: Polygon = followed.estimator.polygon(alloc).expect(rt, "memory");
-    assert!(rt; are_corners(polygon.corners(), case.corners), "corners");
-}
-
-// Whether the reader gave this name.
-pub(crate) fn is_name(read: &Result<Name, ReadFault>, name: &[u8]) -> bool {
-    matches!(read, Ok(found) if found.as_slice() == name)
+    let polygon: Polygon = followed.estimator.polygon(alloc)?;
+    assert!(rt; are_at(polygon.corners(), case.corners), "corners");
+    Ok(())
 }
 
 // Whether the file of an animal `A` was read to its end, and its mark and so many fixes were taken.

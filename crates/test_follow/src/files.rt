@@ -1,8 +1,8 @@
 // Files whose rows and polygons were made by hand.
 
 use std::alloc::Global;
-use std::process::Abort;
-use test_doubles::ScriptedSource;
+use std::test::Fail;
+use test_doubles::{FILE_A, FILE_B, ScriptedSource};
 
 // The text of a file; its animal's name; the second, the corners and the doubled area of each of its rows;
 // and the corners in the end.
@@ -16,7 +16,7 @@ pub(crate) struct Case {
 
 // A square, and a fix within it.
 pub(crate) const SQUARE: Case = Case {
-    text: b"animal,second,easting,northing\nA,0,0,0\nA,60,10,0\nA,120,10,10\nA,180,0,10\nA,240,5,5\n",
+    text: FILE_A,
     name: b"A",
     rows: &[
         (0, 1, 0),
@@ -28,23 +28,9 @@ pub(crate) const SQUARE: Case = Case {
     corners: &[(0, 0), (10, 0), (10, 10), (0, 10)],
 };
 
-// The square behind a byte order mark, within quotes, and both.
-pub(crate) const MARKED: &[u8] =
-    b"\xEF\xBB\xBFanimal,second,easting,northing\nA,0,0,0\nA,60,10,0\nA,120,10,10\nA,180,0,10\nA,240,5,5\n";
-
-pub(crate) const QUOTED: &[u8] =
-    b"\"animal\",\"second\",\"easting\",\"northing\"\r\n\"A\",0,0,0\r\n\"A\",60,10,0\r\n\"A\",120,10,10\r\n\"A\",180,0,10\r\n\"A\",240,5,5\r\n";
-
-pub(crate) const MARKED_AND_QUOTED: &[u8] =
-    b"\xEF\xBB\xBF\"animal\",\"second\",\"easting\",\"northing\"\r\n\"A\",0,0,0\r\n\"A\",60,10,0\r\n\"A\",120,10,10\r\n\"A\",180,0,10\r\n\"A\",240,5,5\r\n";
-
-// The square without its last field.
-pub(crate) const CUT: &[u8] =
-    b"animal,second,easting,northing\nA,0,0,0\nA,60,10,0\nA,120,10,10\nA,180,0,10\nA,240,5\n";
-
 // Fixes in a line.
 pub(crate) const LINE: Case = Case {
-    text: b"animal,second,easting,northing\nB,0,5,5\nB,60,10,5\nB,120,20,5\n",
+    text: FILE_B,
     name: b"B",
     rows: &[(0, 1, 0), (60, 2, 0), (120, 2, 0)],
     corners: &[(5, 5), (20, 5)],
@@ -125,16 +111,12 @@ pub(crate) const OUTWARD: Case = Case {
 
 // Sources of the files.
 pub(crate) fn sources_of(
-    rt: &impl Abort,
     alloc: Global,
     cases: &[Case],
-) -> Vec<ScriptedSource<'static>> {
+) -> Result<Vec<ScriptedSource<'static>>, Fail> {
     let mut sources = Vec::new(alloc);
     for case in cases {
-        assert!(rt;
-            sources.push(ScriptedSource::new(case.text, 8192)).is_ok(),
-            "memory"
-        );
+        sources.push(ScriptedSource::new(case.text, 8192))?;
     }
-    sources
+    Ok(sources)
 }

@@ -3,16 +3,18 @@
 
 use crate::checks::{expect_whole, follow_all, is_whole, plan};
 use crate::files::{Case, LINE, SQUARE, sources_of};
-use range_options::Plan;
+use range_options::{BLOCK_LIMIT, DEPTH_LIMIT, Plan};
+use range_plane::FIX_LIMIT;
 use range_pump::Gate;
 use std::alloc::Global;
 use std::io::Read;
 use std::process::Abort;
 use std::sync::Wait;
 use std::sync::atomic::{AtomicBool, AtomicU64, Ordering};
+use std::test::Fail;
 use std::thread::Threads;
 use std::{io, thread};
-use test_doubles::ScriptedSource;
+use test_doubles::{HEADER, ScriptedSource};
 
 const MOST_TURNS: u64 = 10_000_000;
 
@@ -168,74 +170,81 @@ fn expect_meeting<R: Wait + Threads + Sync + Abort>(
     cases: &[Case],
     calls: [Call; 2],
     plan: Plan,
-) {
+) -> Result<(), Fail> {
     let mut files = Vec::new(alloc);
     for &case in cases {
-        let calls = Calls::new(case.rows.len() as u64, plan);
-        assert!(rt; files.push(calls).is_ok(), "memory");
+        files.push(Calls::new(case.rows.len() as u64, plan))?;
     }
     let meeting = Meeting::new(calls, files);
-    let all = follow_all(rt, alloc, sources_of(rt, alloc, cases), &meeting, plan);
+    let all = follow_all(rt, alloc, sources_of(alloc, cases)?, &meeting, plan)?;
     for (followed, &case) in all.iter().zip(cases) {
-        expect_whole(rt, alloc, followed, case);
+        expect_whole(rt, alloc, followed, case)?;
     }
     assert!(rt; meeting.has_met(), "both calls at once");
     assert!(rt; meeting.has_heard_all(), "each call in its turn");
+    Ok(())
 }
 
 #[test]
-fn two_pumps_at_once(rt: HostRuntime) {
+fn two_pumps_run_at_once(rt: HostRuntime) -> Result<(), Fail> {
     for workers in [1, 2] {
-        for block in [1, 2, 5, 1024] {
+        for block in [1, 2, 5, BLOCK_LIMIT] {
             let calls = [Call::BeforeSend(0, 0), Call::BeforeSend(1, 0)];
-            let plan = plan(&rt, block, 4, workers);
-            expect_meeting(&rt, rt.alloc(), &[SQUARE, LINE], calls, plan);
+            let plan = plan(block, 4, workers)?;
+            expect_meeting(&rt, rt.alloc(), &[SQUARE, LINE], calls, plan)?;
         }
     }
+    Ok(())
 }
 
 // While the worker has the first message, the line takes as many as it is deep, and the pump has one more.
 #[test]
-fn a_pump_and_its_worker_at_once(rt: HostRuntime) {
+fn a_pump_and_its_worker_run_at_once(rt: HostRuntime) -> Result<(), Fail> {
     for workers in [1, 2] {
         for (depth, place) in [(1, 1), (1, 2), (3, 4), (4, 5)] {
             let calls = [Call::BeforeSend(0, place), Call::AfterTake(0, 0)];
-            let plan = plan(&rt, 1, depth, workers);
-            expect_meeting(&rt, rt.alloc(), &[SQUARE], calls, plan);
+            let plan = plan(1, depth, workers)?;
+            expect_meeting(&rt, rt.alloc(), &[SQUARE], calls, plan)?;
         }
     }
+    Ok(())
 }
 
 // Checks that a pump comes as far ahead of a worker that is at its first message as this plan's line is deep.
-fn expect_ahead<R: Wait + Threads + Sync + Abort>(rt: &R, alloc: Global, plan: Plan) {
+fn expect_ahead<R: Wait + Threads + Sync + Abort>(
+    rt: &R,
+    alloc: Global,
+    plan: Plan,
+) -> Result<(), Fail> {
     let fixes = 100;
     let ahead = u64::from(plan.depth.saturating_add(1));
     let calls = [Call::BeforeSend(0, ahead), Call::AfterTake(0, 0)];
     let (mut files, mut sources) = (Vec::new(alloc), Vec::new(alloc));
-    assert!(rt; files.push(Calls::new(fixes, plan)).is_ok(), "memory");
-    let header = b"animal,second,easting,northing\n".as_slice();
-    let source = ScriptedSource::repeated(header, b"A,0,0,0\n", fixes, b"", 8192);
-    assert!(rt; sources.push(source).is_ok(), "memory");
+    files.push(Calls::new(fixes, plan))?;
+    let source = ScriptedSource::repeated(HEADER, b"A,0,0,0\n", fixes, b"", 8192);
+    sources.push(source)?;
     let meeting = Meeting::new(calls, files);
-    for followed in &follow_all(rt, alloc, sources, &meeting, plan) {
+    for followed in &follow_all(rt, alloc, sources, &meeting, plan)? {
         assert!(rt; is_whole(followed, fixes as usize), "the end");
     }
     assert!(rt; meeting.has_met(), "ahead by {ahead}");
     assert!(rt; meeting.has_heard_all(), "each call in its turn");
+    Ok(())
 }
 
 #[test]
-fn a_pump_ahead_by_the_depth(rt: HostRuntime) {
-    for depth in [1, 5, 63, 64] {
-        expect_ahead(&rt, rt.alloc(), plan(&rt, 1, depth, 1));
+fn a_pump_goes_ahead_by_the_depth_of_its_line(rt: HostRuntime) -> Result<(), Fail> {
+    for depth in [1, 5, DEPTH_LIMIT - 1, DEPTH_LIMIT] {
+        expect_ahead(&rt, rt.alloc(), plan(1, depth, 1)?)?;
     }
+    Ok(())
 }
 
 #[test]
-fn two_workers_at_once(rt: HostRuntime) {
+fn two_workers_run_at_once(rt: HostRuntime) -> Result<(), Fail> {
     let calls = [Call::AfterTake(0, 0), Call::AfterTake(1, 0)];
-    let plan = plan(&rt, 1, 4, 2);
-    expect_meeting(&rt, rt.alloc(), &[SQUARE, LINE], calls, plan);
+    let plan = plan(1, 4, 2)?;
+    expect_meeting(&rt, rt.alloc(), &[SQUARE, LINE], calls, plan)
 }
 
 // Whether the first message was taken, and how many turns a read waited for it.
@@ -273,23 +282,23 @@ impl Read for Held<'_> {
 }
 
 #[test]
-fn a_worker_while_its_source_is_read(rt: HostRuntime) {
+fn a_worker_runs_while_its_source_is_read(rt: HostRuntime) -> Result<(), Fail> {
     let alloc = rt.alloc();
     let gate = FirstTake {
         taken: AtomicBool::new(false),
         turns: AtomicU64::new(0),
     };
     let mut sources = Vec::new(alloc);
-    let header = b"animal,second,easting,northing\n".as_slice();
     let held = Held {
-        source: ScriptedSource::repeated(header, b"A,0,0,0\n", 1_048_576, b"", 8192),
+        source: ScriptedSource::repeated(HEADER, b"A,0,0,0\n", u64::from(FIX_LIMIT), b"", 8192),
         free: 65_536,
         gate: &gate,
     };
-    assert!(rt; sources.push(held).is_ok(), "memory");
-    let all = follow_all(&rt, alloc, sources, &gate, plan(&rt, 256, 4, 1));
+    sources.push(held)?;
+    let all = follow_all(&rt, alloc, sources, &gate, plan(256, 4, 1)?)?;
     for followed in &all {
-        assert!(rt; is_whole(followed, 1_048_576), "the end");
+        assert!(rt; is_whole(followed, FIX_LIMIT as usize), "the end");
     }
     assert!(rt; gate.turns.load(Ordering::SeqCst) < MOST_TURNS, "at once");
+    Ok(())
 }

@@ -1,8 +1,10 @@
 //! Tests of files that are followed side by side: worked rows and polygons in many plans, threads that meet
 //! at gates and each call of a gate, files with each fault beside others, or with more fixes than are taken,
-//! sources that fail, and growths refused in turn.
+//! sources that fail, and allocations refused in turn.
 #![tactic(auto)]
 
+#[cfg(test)]
+mod allocations;
 #[cfg(test)]
 mod checks;
 #[cfg(test)]
@@ -11,7 +13,5 @@ mod faults;
 mod files;
 #[cfg(test)]
 mod gates;
-#[cfg(test)]
-mod growths;
 #[cfg(test)]
 mod plans;

@@ -1,13 +1,14 @@
 // Tests of lists of points.
 
-use crate::growths::{MANY_GROWTHS, is_last_run};
+use crate::allocations::is_last_run;
 use range_plane::{Columns, Point};
 use std::alloc::Allocator;
 use std::process::Abort;
-use test_doubles::Refusing;
+use std::test::Fail;
+use test_doubles::{MANY_ALLOCATIONS, Refusing};
 
 // Two columns of points take memory at least once each.
-const LEAST_GROWTHS: u32 = 2;
+const LEAST_ALLOCATIONS: u32 = 2;
 
 const POINTS: u8 = 100;
 
@@ -32,18 +33,19 @@ fn is_diagonal<A: Allocator>(columns: &Columns<A>, count: u8) -> bool {
 }
 
 #[test]
-fn pushes(rt: HostRuntime) {
+fn a_pushed_point_is_the_last_one(rt: HostRuntime) -> Result<(), Fail> {
     let mut columns = Columns::new(rt.alloc());
     assert!(rt; columns.is_empty(), "at first");
-    columns.push(Point { e: 1, n: 2 }).expect(&rt, "memory");
+    columns.push(Point { e: 1, n: 2 })?;
     assert!(rt; columns.len() == 1 && !columns.is_empty(), "after a push");
     assert!(rt; columns.at(0) == Point { e: 1, n: 2 }, "the pushed point");
+    Ok(())
 }
 
 #[test]
-fn reserved_pushes(rt: HostRuntime) {
+fn points_pushed_into_reserved_room_keep_their_order(rt: HostRuntime) -> Result<(), Fail> {
     let mut columns = Columns::new(rt.alloc());
-    columns.reserve(3).expect(&rt, "memory");
+    columns.reserve(3)?;
     assert!(rt; columns.spare() >= 3, "after reserve");
     columns.push_reserved(Point { e: 1, n: 2 });
     columns.push_reserved(Point { e: 3, n: 4 });
@@ -53,6 +55,7 @@ fn reserved_pushes(rt: HostRuntime) {
     assert!(rt; columns.northings() == [2, 4, 6].as_slice(), "northings");
     columns.clear();
     assert!(rt; columns.len() == 0 && columns.spare() >= 3, "after clear");
+    Ok(())
 }
 
 // Pushes the points of the diagonal, each again where it is refused. How many were refused.
@@ -71,11 +74,11 @@ fn push_each<A: Allocator + Copy>(rt: &impl Abort, alloc: A) -> u32 {
 }
 
 #[test]
-fn push_is_refused_each_growth(rt: HostRuntime) {
-    for number in 1..MANY_GROWTHS {
+fn push_fails_only_at_a_refused_allocation(rt: HostRuntime) {
+    for number in 1..MANY_ALLOCATIONS {
         let alloc = Refusing::new(rt.alloc(), number);
         let refusals = push_each(&rt, &alloc);
-        if is_last_run(&rt, &alloc, number, refusals, LEAST_GROWTHS) {
+        if is_last_run(&rt, &alloc, number, refusals, LEAST_ALLOCATIONS) {
             return;
         }
     }
@@ -102,11 +105,11 @@ fn reserve_each<A: Allocator + Copy>(rt: &impl Abort, alloc: A) -> u32 {
 }
 
 #[test]
-fn reserve_is_refused_each_growth(rt: HostRuntime) {
-    for number in 1..MANY_GROWTHS {
+fn reserve_fails_only_at_a_refused_allocation(rt: HostRuntime) {
+    for number in 1..MANY_ALLOCATIONS {
         let alloc = Refusing::new(rt.alloc(), number);
         let refusals = reserve_each(&rt, &alloc);
-        if is_last_run(&rt, &alloc, number, refusals, LEAST_GROWTHS) {
+        if is_last_run(&rt, &alloc, number, refusals, LEAST_ALLOCATIONS) {
             return;
         }
     }

@@ -2,9 +2,10 @@
 
 use crate::points::{parabola, points_of};
 use range_plane::are_corners;
+use std::test::Fail;
 
 #[test]
-fn corners_in_order(rt: HostRuntime) {
+fn corners_in_order_are_corners(rt: HostRuntime) -> Result<(), Fail> {
     let cases = [
         ([].as_slice(), "none"),
         (&[(4, 0)], "one"),
@@ -13,13 +14,14 @@ fn corners_in_order(rt: HostRuntime) {
         (&[(0, 1), (1, 0), (3, 0), (4, 2), (2, 4)], "a pentagon"),
     ];
     for (places, name) in cases {
-        let points = points_of(&rt, rt.alloc(), places);
+        let points = points_of(rt.alloc(), places)?;
         assert!(rt; are_corners(&points), "{name}");
     }
+    Ok(())
 }
 
 #[test]
-fn other_points(rt: HostRuntime) {
+fn points_in_another_order_or_in_line_are_no_corners(rt: HostRuntime) -> Result<(), Fail> {
     let cases = [
         ([(4, 0), (0, 3)].as_slice(), "two from the east"),
         (&[(0, 3), (0, 3)], "one twice"),
@@ -40,14 +42,16 @@ fn other_points(rt: HostRuntime) {
         (&[(0, 1), (3, 0), (2, 4), (1, 0), (4, 2)], "a pentagram"),
     ];
     for (places, name) in cases {
-        let points = points_of(&rt, rt.alloc(), places);
+        let points = points_of(rt.alloc(), places)?;
         assert!(rt; !are_corners(&points), "{name}");
     }
+    Ok(())
 }
 
 #[test]
-fn many(rt: HostRuntime) {
-    let points = parabola(&rt, rt.alloc(), 4096);
+fn a_parabola_of_many_points_is_all_corners(rt: HostRuntime) -> Result<(), Fail> {
+    let points = parabola(rt.alloc(), 4096)?;
     assert_eq!(rt; points.len(), 4096);
     assert!(rt; are_corners(&points));
+    Ok(())
 }

@@ -4,15 +4,16 @@ use crate::points::points_of;
 use range_plane::{COORDINATE_LIMIT, Point, Polygon, are_corners};
 use std::alloc::Global;
 use std::process::Abort;
+use std::test::Fail;
 
 // A northing, and the first and the last easting of the points there that are covered. Where the first
 // is above the last none is.
 type Row = (i64, i64, i64);
 
-fn polygon_of(rt: &impl Abort, alloc: Global, corners: &[(i64, i64)]) -> Polygon {
-    let corners = points_of(rt, alloc, corners);
+fn polygon_of(rt: &impl Abort, alloc: Global, corners: &[(i64, i64)]) -> Result<Polygon, Fail> {
+    let corners = points_of(alloc, corners)?;
     assert!(rt; are_corners(&corners), "corners");
-    Polygon::of_corners(corners)
+    Ok(Polygon::of_corners(corners))
 }
 
 fn has(polygon: &Polygon, e: i64, n: i64) -> bool {
@@ -29,7 +30,7 @@ const TRIANGLE: [(i64, i64); 3] = [(0, 0), (4, 0), (0, 4)];
 const PENTAGON: [(i64, i64); 5] = [(0, 1), (1, 0), (3, 0), (4, 2), (2, 4)];
 
 #[test]
-fn rows(rt: HostRuntime) {
+fn a_polygon_covers_these_points_of_each_row(rt: HostRuntime) -> Result<(), Fail> {
     let cases = [
         ([].as_slice(), [(0, 1, 0)].as_slice()),
         (&[(3, 4)], &[(3, 1, 0), (4, 3, 3), (5, 1, 0)]),
@@ -61,16 +62,17 @@ fn rows(rt: HostRuntime) {
         ),
     ];
     for (corners, rows) in cases {
-        let polygon = polygon_of(&rt, rt.alloc(), corners);
+        let polygon = polygon_of(&rt, rt.alloc(), corners)?;
         for row in rows {
             assert!(rt; has_row(&polygon, *row), "{corners:?} {row:?}");
         }
     }
+    Ok(())
 }
 
 // The corners are those handed in, in their order, and have this doubled area.
 #[test]
-fn corners_and_area(rt: HostRuntime) {
+fn a_polygon_keeps_its_corners_and_has_their_area(rt: HostRuntime) -> Result<(), Fail> {
     let cases = [
         ([].as_slice(), 0),
         (&[(3, 4)], 0),
@@ -80,21 +82,24 @@ fn corners_and_area(rt: HostRuntime) {
         (&PENTAGON, 19),
     ];
     for (corners, area2) in cases {
-        let polygon = polygon_of(&rt, rt.alloc(), corners);
-        let expected = points_of(&rt, rt.alloc(), corners);
+        let polygon = polygon_of(&rt, rt.alloc(), corners)?;
+        let expected = points_of(rt.alloc(), corners)?;
         assert!(rt; polygon.corners() == expected.as_slice(), "{corners:?}");
         assert!(rt; polygon.area2() == area2, "{corners:?}");
     }
+    Ok(())
 }
 
 #[test]
-fn rhombus_at_the_limits(rt: HostRuntime) {
+fn a_rhombus_at_the_limits_covers_its_edges_and_nothing_outside(
+    rt: HostRuntime,
+) -> Result<(), Fail> {
     let (half, far) = (COORDINATE_LIMIT / 2, COORDINATE_LIMIT);
     let polygon = polygon_of(
         &rt,
         rt.alloc(),
         &[(0, half), (half, 0), (far, half), (half, far)],
-    );
+    )?;
     let places = [
         (0, half, true),
         (half, 0, true),
@@ -109,4 +114,5 @@ fn rhombus_at_the_limits(rt: HostRuntime) {
     for (e, n, inside) in places {
         assert!(rt; has(&polygon, e, n) == inside, "{e} {n}");
     }
+    Ok(())
 }

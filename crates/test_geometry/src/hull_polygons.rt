@@ -1,30 +1,33 @@
 // Tests of the hull against `Polygon::plain`, which makes polygons straight from the definitions.
 
-use crate::points::{LATTICE, has_corners, insert, next, plain_of, points_of};
+use crate::points::{LATTICE, has_corners, insert, plain_of, points_of};
 use range_hull::OnlineHull;
 use range_plane::{COORDINATE_LIMIT, Point};
 use std::alloc::Global;
 use std::process::Abort;
+use std::test::Fail;
+use test_doubles::next_random;
 
 // Checks the hull of each first part of the points, of which there are few.
-fn expect_plain(rt: &impl Abort, alloc: Global, points: &[Point]) {
+fn expect_plain(rt: &impl Abort, alloc: Global, points: &[Point]) -> Result<(), Fail> {
     let mut hull = OnlineHull::new(alloc);
-    hull.reserve(points.len()).expect(rt, "memory");
+    hull.reserve(points.len())?;
     for (i, p) in points.iter().enumerate() {
         insert(rt, &mut hull, *p);
         let first = &points[..=i];
-        let polygon = plain_of(rt, alloc, first);
+        let polygon = plain_of(rt, alloc, first)?;
         assert!(rt;
-            has_corners(rt, alloc, &hull, polygon.corners()),
+            has_corners(alloc, &hull, polygon.corners())?,
             "corners to {i}"
         );
         assert!(rt; hull.area2() == polygon.area2(), "area to {i}");
     }
+    Ok(())
 }
 
 #[test]
-fn each_first_part(rt: HostRuntime) {
-    expect_plain(&rt, rt.alloc(), &points_of(&rt, rt.alloc(), &LATTICE));
+fn the_hull_of_each_first_part_is_its_polygon(rt: HostRuntime) -> Result<(), Fail> {
+    expect_plain(&rt, rt.alloc(), &points_of(rt.alloc(), &LATTICE)?)
 }
 
 // How the coordinates of a cloud are drawn.
@@ -52,22 +55,22 @@ impl Cloud {
         }
     }
 
-    fn points(self, rt: &impl Abort, alloc: Global, seed: &mut u64) -> Vec<Point> {
+    fn points(self, alloc: Global, seed: &mut u64) -> Result<Vec<Point>, Fail> {
         let mut points = Vec::new(alloc);
         for _ in 0..16 {
-            *seed = next(*seed);
+            *seed = next_random(*seed);
             let e = self.coordinate(*seed);
-            *seed = next(*seed);
+            *seed = next_random(*seed);
             let n = self.coordinate(*seed);
-            let p = Point::new(e, n).expect(rt, "a point");
-            points.push(p).expect(rt, "memory");
+            let p = Point::new(e, n).ok_or("no point")?;
+            points.push(p)?;
         }
-        points
+        Ok(points)
     }
 }
 
 #[test]
-fn clouds(rt: HostRuntime) {
+fn the_hulls_of_random_points_are_their_polygons(rt: HostRuntime) -> Result<(), Fail> {
     let alloc = rt.alloc();
     let mut seed = 1;
     for cloud in [
@@ -80,7 +83,8 @@ fn clouds(rt: HostRuntime) {
         Cloud::Limits,
     ] {
         for _ in 0..12 {
-            expect_plain(&rt, alloc, &cloud.points(&rt, alloc, &mut seed));
+            expect_plain(&rt, alloc, &cloud.points(alloc, &mut seed)?)?;
         }
     }
+    Ok(())
 }

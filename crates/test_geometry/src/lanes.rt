@@ -1,35 +1,37 @@
 // Tests of marks, counts, boxes and sums.
 
 use crate::points::{
-    DECIMETRE_LIMITS, METRE_LIMITS, columns_of, parabola, plain_of, point, points_of,
+    DECIMETRE_LIMITS, METRE_LIMITS, columns_of, parabola, plain_at, plain_of, point,
 };
 use range_lanes::{Extent, count_inside, extremes, mark_inside, sums};
 use range_plane::{COORDINATE_LIMIT, Columns, Polygon};
 use std::alloc::Global;
 use std::process::Abort;
-
-fn polygon(rt: &impl Abort, alloc: Global, corners: &[(i64, i64)]) -> Polygon {
-    plain_of(rt, alloc, &points_of(rt, alloc, corners))
-}
+use std::test::Fail;
 
 // The points on the line from `(0, start)` on that rises by `rise` for each easting.
-fn line(rt: &impl Abort, alloc: Global, points: u8, start: i64, rise: u8) -> Columns {
+fn line(rt: &impl Abort, alloc: Global, points: u8, start: i64, rise: u8) -> Result<Columns, Fail> {
     assert!(rt; 0 <= start && start < 100);
     let mut cols = Columns::new(alloc);
     for i in 0..points {
         let n = start + i64::from(rise) * i64::from(i);
-        cols.push(point(rt, (i64::from(i), n))).expect(rt, "memory");
+        cols.push(point((i64::from(i), n))?)?;
     }
-    cols
+    Ok(cols)
 }
 
 // The marks of the points. Their count is that of `count_inside`.
-fn marks(rt: &impl Abort, alloc: Global, corners: &Polygon, cols: &Columns) -> Vec<bool> {
-    let mut marks = vec![in alloc; false; cols.len()].expect(rt, "memory");
+fn marks(
+    rt: &impl Abort,
+    alloc: Global,
+    corners: &Polygon,
+    cols: &Columns,
+) -> Result<Vec<bool>, Fail> {
+    let mut marks = vec![in alloc; false; cols.len()]?;
     mark_inside(corners, cols, &mut marks);
     let count = marks.iter().filter(|mark| **mark).count();
     assert!(rt; u64::try_from(count) == Ok(count_inside(corners, cols)));
-    marks
+    Ok(marks)
 }
 
 const FAR: i64 = COORDINATE_LIMIT;
@@ -39,7 +41,7 @@ const TRIANGLE: [(i64, i64); 3] = [(0, 0), (4, 0), (0, 4)];
 const WIDE_TRIANGLE: [(i64, i64); 3] = [(0, 0), (16, 0), (0, 16)];
 
 #[test]
-fn counts_along_a_line(rt: HostRuntime) {
+fn the_points_of_a_line_within_a_polygon_are_counted(rt: HostRuntime) -> Result<(), Fail> {
     let cases = [
         ([].as_slice(), [0, 0, 0, 0, 0, 0]),
         (&[(3, 0)], [0, 0, 1, 1, 1, 1]),
@@ -48,9 +50,9 @@ fn counts_along_a_line(rt: HostRuntime) {
         (&WIDE_TRIANGLE, [0, 1, 7, 8, 9, 17]),
     ];
     for (corners, counts) in cases {
-        let polygon = polygon(&rt, rt.alloc(), corners);
+        let polygon = plain_at(&rt, rt.alloc(), corners)?;
         for (points, count) in [0, 1, 7, 8, 9, 17].iter().zip(counts) {
-            let cols = line(&rt, rt.alloc(), *points, 0, 0);
+            let cols = line(&rt, rt.alloc(), *points, 0, 0)?;
             assert_eq!(&rt;
                 count_inside(&polygon, &cols),
                 count,
@@ -58,6 +60,7 @@ fn counts_along_a_line(rt: HostRuntime) {
             );
         }
     }
+    Ok(())
 }
 
 fn extent(min_e: i64, min_n: i64, max_e: i64, max_n: i64) -> Extent {
@@ -90,7 +93,7 @@ fn expect_box(rt: &impl Abort, cols: &Columns, extent: Option<Extent>, expected:
 }
 
 #[test]
-fn extremes_and_sums(rt: HostRuntime) {
+fn extremes_and_sums_are_those_of_the_points(rt: HostRuntime) -> Result<(), Fail> {
     let cases = [
         ([].as_slice(), None, (0, 0)),
         (&[(5, 7)], Some(extent(5, 7, 5, 7)), (5, 7)),
@@ -98,31 +101,30 @@ fn extremes_and_sums(rt: HostRuntime) {
         (
             &DECIMETRE_LIMITS[1..3],
             Some(extent(FAR, 0, FAR, FAR)),
-            (268_435_456, 134_217_728),
+            (2 * FAR as u64, FAR as u64),
         ),
     ];
     for (places, extent, expected) in cases {
-        let cols = columns_of(&rt, rt.alloc(), places);
+        let cols = columns_of(rt.alloc(), places)?;
         expect_box(&rt, &cols, extent, expected);
     }
+    Ok(())
 }
 
 // The points from the last to the first.
-fn turned(rt: &impl Abort, alloc: Global, cols: &Columns) -> Columns {
+fn turned(alloc: Global, cols: &Columns) -> Result<Columns, Fail> {
     let mut turned = Columns::new(alloc);
     for i in 0..cols.len() {
-        turned
-            .push(cols.at(cols.len() - 1 - i))
-            .expect(rt, "memory");
+        turned.push(cols.at(cols.len() - 1 - i))?;
     }
-    turned
+    Ok(turned)
 }
 
 // The box and both sums of the first points of a line along the eastings, and of one that also rises: of
 // none, of less than go through the lanes at once, of two such groups, and of one point more. They are the
 // same from the other end.
 #[test]
-fn extremes_and_sums_along_lines(rt: HostRuntime) {
+fn extremes_and_sums_are_the_same_from_either_end(rt: HostRuntime) -> Result<(), Fail> {
     let cases = [
         (0, 0, 0, None, (0, 0)),
         (1, 0, 0, Some(extent(0, 0, 0, 0)), (0, 0)),
@@ -134,42 +136,46 @@ fn extremes_and_sums_along_lines(rt: HostRuntime) {
         (17, 5, 3, Some(extent(0, 5, 16, 53)), (136, 493)),
     ];
     for (points, start, rise, extent, expected) in cases {
-        let cols = line(&rt, rt.alloc(), points, start, rise);
+        let cols = line(&rt, rt.alloc(), points, start, rise)?;
         expect_box(&rt, &cols, extent, expected);
-        expect_box(&rt, &turned(&rt, rt.alloc(), &cols), extent, expected);
+        expect_box(&rt, &turned(rt.alloc(), &cols)?, extent, expected);
     }
+    Ok(())
 }
 
 #[test]
-fn marks_of_a_square(rt: HostRuntime) {
-    let square = polygon(&rt, rt.alloc(), &[(0, 0), (10, 0), (10, 10), (0, 10)]);
-    let cols = line(&rt, rt.alloc(), 17, 0, 1);
-    let marks = marks(&rt, rt.alloc(), &square, &cols);
+fn points_up_to_the_corner_of_a_square_are_marked(rt: HostRuntime) -> Result<(), Fail> {
+    let square = plain_at(&rt, rt.alloc(), &[(0, 0), (10, 0), (10, 10), (0, 10)])?;
+    let cols = line(&rt, rt.alloc(), 17, 0, 1)?;
+    let marks = marks(&rt, rt.alloc(), &square, &cols)?;
     for (i, mark) in marks.iter().enumerate() {
         assert_eq!(rt; *mark, i <= 10, "{i}");
     }
     assert_eq!(rt; count_inside(&square, &cols), 11);
+    Ok(())
 }
 
 const FAR_TRIANGLE: [(i64, i64); 3] = [(0, 0), (FAR, 0), (FAR, FAR)];
 
 // The triangle below the diagonal covers the points on it, and none of those one above.
 #[test]
-fn diagonals_at_the_limits(rt: HostRuntime) {
-    let diagonal = line(&rt, rt.alloc(), 9, 0, 1);
-    let above = line(&rt, rt.alloc(), 9, 1, 1);
+fn a_triangle_at_the_limits_covers_its_diagonal_and_not_the_one_above(
+    rt: HostRuntime,
+) -> Result<(), Fail> {
+    let diagonal = line(&rt, rt.alloc(), 9, 0, 1)?;
+    let above = line(&rt, rt.alloc(), 9, 1, 1)?;
     for limits in [METRE_LIMITS, DECIMETRE_LIMITS] {
-        let triangle = polygon(&rt, rt.alloc(), &limits[..3]);
+        let triangle = plain_at(&rt, rt.alloc(), &limits[..3])?;
         assert_eq!(rt; count_inside(&triangle, &diagonal), 9);
         assert_eq!(rt; count_inside(&triangle, &above), 0);
     }
+    Ok(())
 }
 
 #[test]
-fn marks_at_the_limits(rt: HostRuntime) {
-    let triangle = polygon(&rt, rt.alloc(), &FAR_TRIANGLE);
+fn marks_are_exact_at_the_limits(rt: HostRuntime) -> Result<(), Fail> {
+    let triangle = plain_at(&rt, rt.alloc(), &FAR_TRIANGLE)?;
     let cols = columns_of(
-        &rt,
         rt.alloc(),
         &[
             (FAR, FAR),
@@ -182,46 +188,46 @@ fn marks_at_the_limits(rt: HostRuntime) {
             (FAR - 1, 0),
             (0, 1),
         ],
-    );
-    let marks = marks(&rt, rt.alloc(), &triangle, &cols);
+    )?;
+    let marks = marks(&rt, rt.alloc(), &triangle, &cols)?;
     let expected = [true, false, true, true, false, true, false, true, false];
     assert!(rt; marks.as_slice() == expected.as_slice());
     assert_eq!(rt; extremes(&cols), Some(extent(0, 0, FAR, FAR)));
+    Ok(())
 }
 
 // So many points, in turn the corners of the greatest square in decimetres.
-fn far_corners(rt: &impl Abort, alloc: Global, points: u8) -> Columns {
+fn far_corners(alloc: Global, points: u8) -> Result<Columns, Fail> {
     let mut cols = Columns::new(alloc);
     for place in DECIMETRE_LIMITS.iter().cycle().take(usize::from(points)) {
-        cols.push(point(rt, *place)).expect(rt, "memory");
+        cols.push(point(*place)?)?;
     }
-    cols
+    Ok(cols)
 }
 
 // The square covers each of its corners, and three of them all but the fourth.
 #[test]
-fn corners_at_the_limits(rt: HostRuntime) {
+fn the_greatest_square_covers_its_corners_in_each_lane(rt: HostRuntime) -> Result<(), Fail> {
     let alloc = rt.alloc();
-    let square = polygon(&rt, alloc, &DECIMETRE_LIMITS);
-    let triangle = polygon(&rt, alloc, &DECIMETRE_LIMITS[..3]);
+    let square = plain_at(&rt, alloc, &DECIMETRE_LIMITS)?;
+    let triangle = plain_at(&rt, alloc, &DECIMETRE_LIMITS[..3])?;
     for points in 0..41u8 {
-        let cols = far_corners(&rt, alloc, points);
+        let cols = far_corners(alloc, points)?;
         assert!(rt; cols.len() == usize::from(points));
-        let inside = marks(&rt, alloc, &square, &cols);
+        let inside = marks(&rt, alloc, &square, &cols)?;
         assert!(rt; inside.iter().all(|mark| *mark), "{points}");
-        let inside = marks(&rt, alloc, &triangle, &cols);
+        let inside = marks(&rt, alloc, &triangle, &cols)?;
         for (i, mark) in inside.iter().enumerate() {
             assert!(rt; *mark == (i % 4 != 3), "{points} {i}");
         }
     }
     let mut places = Vec::new(alloc);
     for _ in 0..9 {
-        places
-            .extend_from_slice(&DECIMETRE_LIMITS)
-            .expect(&rt, "memory");
-        places.push((1, 1)).expect(&rt, "memory");
+        places.extend_from_slice(&DECIMETRE_LIMITS)?;
+        places.push((1, 1))?;
     }
-    assert_eq!(rt; count_inside(&square, &columns_of(&rt, alloc, &places)), 45);
+    assert_eq!(rt; count_inside(&square, &columns_of(alloc, &places)?), 45);
+    Ok(())
 }
 
 // Whether so many corners `(i, i * i)` cover a point: not below the parabola, nor above the line from first to last.
@@ -231,7 +237,7 @@ fn is_in_parabola(corners: u8, e: u8, n: u16) -> bool {
 }
 
 // For each easting the northings at both ends of what they cover, and some past these.
-fn places_near_parabola(rt: &impl Abort, alloc: Global, corners: u8) -> Vec<(u8, u16)> {
+fn places_near_parabola(alloc: Global, corners: u8) -> Result<Vec<(u8, u16)>, Fail> {
     let last = u16::from(corners.saturating_sub(1));
     let mut places = Vec::new(alloc);
     for e in 0..corners.saturating_add(1) {
@@ -244,58 +250,60 @@ fn places_near_parabola(rt: &impl Abort, alloc: Global, corners: u8) -> Vec<(u8,
             high,
             high.saturating_add(1),
         ] {
-            places.push((e, n)).expect(rt, "memory");
+            places.push((e, n))?;
         }
     }
-    places
+    Ok(places)
 }
 
 // Checks the marks of each first part of the places near so many corners.
-fn expect_near_parabola(rt: &impl Abort, alloc: Global, corners: u8) {
-    let polygon = plain_of(rt, alloc, &parabola(rt, alloc, u16::from(corners)));
+fn expect_near_parabola(rt: &impl Abort, alloc: Global, corners: u8) -> Result<(), Fail> {
+    let polygon = plain_of(rt, alloc, &parabola(alloc, u16::from(corners))?)?;
     assert!(rt; polygon.corners().len() == usize::from(corners));
     let mut cols = Columns::new(alloc);
     let mut expected = Vec::new(alloc);
-    for (e, n) in &places_near_parabola(rt, alloc, corners) {
-        let q = point(rt, (i64::from(*e), i64::from(*n)));
+    for (e, n) in &places_near_parabola(alloc, corners)? {
+        let q = point((i64::from(*e), i64::from(*n)))?;
         let inside = is_in_parabola(corners, *e, *n);
         assert!(rt; polygon.covers(q) == inside, "{e} {n}");
-        cols.push(q).expect(rt, "memory");
-        expected.push(inside).expect(rt, "memory");
+        cols.push(q)?;
+        expected.push(inside)?;
         assert!(rt;
-            marks(rt, alloc, &polygon, &cols) == expected,
+            marks(rt, alloc, &polygon, &cols)? == expected,
             "up to {e} {n}"
         );
     }
+    Ok(())
 }
 
 #[test]
-fn marks_near_parabolas(rt: HostRuntime) {
+fn marks_are_exact_next_to_the_edges_of_parabolas(rt: HostRuntime) -> Result<(), Fail> {
     for corners in [0, 1, 2, 3, 12, 13, 16, 35, 36, 37] {
-        expect_near_parabola(&rt, rt.alloc(), corners);
+        expect_near_parabola(&rt, rt.alloc(), corners)?;
     }
+    Ok(())
 }
 
 // Points one above the other, from below so many corners to above them: groups of eight without, at both edges, near
 // them, and so far within that some of the corners cover all eight.
-fn expect_across_parabola(rt: &impl Abort, alloc: Global, corners: u8) {
-    let polygon = plain_of(rt, alloc, &parabola(rt, alloc, u16::from(corners)));
+fn expect_across_parabola(rt: &impl Abort, alloc: Global, corners: u8) -> Result<(), Fail> {
+    let polygon = plain_of(rt, alloc, &parabola(alloc, u16::from(corners))?)?;
     let mut cols = Columns::new(alloc);
     let mut expected = Vec::new(alloc);
     let e = corners / 2;
     for n in 0..u16::from(corners) * u16::from(corners) {
-        let q = point(rt, (i64::from(e), i64::from(n)));
-        cols.push(q).expect(rt, "memory");
-        expected
-            .push(is_in_parabola(corners, e, n))
-            .expect(rt, "memory");
+        let q = point((i64::from(e), i64::from(n)))?;
+        cols.push(q)?;
+        expected.push(is_in_parabola(corners, e, n))?;
     }
-    assert!(rt; marks(rt, alloc, &polygon, &cols) == expected, "{corners}");
+    assert!(rt; marks(rt, alloc, &polygon, &cols)? == expected, "{corners}");
+    Ok(())
 }
 
 #[test]
-fn marks_across_parabolas(rt: HostRuntime) {
+fn marks_are_exact_across_parabolas(rt: HostRuntime) -> Result<(), Fail> {
     for corners in [12, 13, 24, 36, 37, 50] {
-        expect_across_parabola(&rt, rt.alloc(), corners);
+        expect_across_parabola(&rt, rt.alloc(), corners)?;
     }
+    Ok(())
 }

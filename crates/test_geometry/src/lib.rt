@@ -1,8 +1,10 @@
 //! Tests of the plane, of what a polygon covers of many points, of lists of points in pieces, of the on-line
 //! hull, and of percent polygons and overlaps: worked values, values from other programs, polygons against those by
-//! definition, and each call that takes memory refused it, a growth at a time.
+//! definition, and each call that takes memory refused it, an allocation at a time.
 #![tactic(auto)]
 
+#[cfg(test)]
+mod allocations;
 #[cfg(test)]
 mod columns;
 #[cfg(test)]
@@ -10,11 +12,9 @@ mod corners;
 #[cfg(test)]
 mod covering;
 #[cfg(test)]
-mod growths;
+mod hull_allocations;
 #[cfg(test)]
 mod hull_covering;
-#[cfg(test)]
-mod hull_growths;
 #[cfg(test)]
 mod hull_polygons;
 #[cfg(test)]
@@ -24,9 +24,9 @@ mod lanes;
 #[cfg(test)]
 mod limits;
 #[cfg(test)]
-mod list_edits;
+mod list_allocations;
 #[cfg(test)]
-mod list_growths;
+mod list_edits;
 #[cfg(test)]
 mod list_searches;
 #[cfg(test)]
@@ -40,4 +40,4 @@ mod plain;
 #[cfg(test)]
 mod points;
 #[cfg(test)]
-mod stats_growths;
+mod stats_allocations;

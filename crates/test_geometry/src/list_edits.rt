@@ -6,13 +6,10 @@ ghost use Rattle.range_pieces.specs.PointList.{Stands, place};
 
 use range_pieces::{Cursor, PIECE_SIZE, PointList};
 use range_plane::Point;
+use std::alloc::Global;
 use std::process::Abort;
-
-// The next number of Knuth's generator for MMIX.
-fn next(seed: u64) -> u64 {
-    seed.wrapping_mul(6364136223846793005)
-        .wrapping_add(1442695040888963407)
-}
+use std::test::Fail;
+use test_doubles::next_random;
 
 fn below(seed: u64, limit: usize) -> usize
     requires { 0 < limit }
@@ -36,95 +33,97 @@ fn cursor_at(chain: &PointList, k: usize) -> Cursor
 
 // Puts `p` in the place of the points from `from` up to `to`.
 fn replace_in_list(
-    rt: &(impl Abort + AllocGlobal),
+    alloc: Global,
     list: &[Point],
     from: usize,
     to: usize,
     p: Point,
-) -> Vec<Point> {
-    let mut edited = Vec::new(rt.alloc());
+) -> Result<Vec<Point>, Fail> {
+    let mut edited = Vec::new(alloc);
     for (i, q) in list.iter().enumerate() {
         if i == from {
-            edited.push(p).expect(rt, "memory");
+            edited.push(p)?;
         }
         if i < from || i >= to {
-            edited.push(*q).expect(rt, "memory");
+            edited.push(*q)?;
         }
     }
     if from >= list.len() {
-        edited.push(p).expect(rt, "memory");
+        edited.push(p)?;
     }
-    edited
+    Ok(edited)
 }
 
 // Makes `count` edits, each of a run of fewer than `longest` points.
-fn edit_many(rt: &(impl Abort + AllocGlobal), count: u32, longest: usize)
+fn edit_many(rt: &(impl Abort + AllocGlobal), count: u32, longest: usize) -> Result<(), Fail>
     requires { 0 < longest }
 {
     let mut chain = PointList::new(rt.alloc());
     let mut list: Vec<Point> = Vec::new(rt.alloc());
     let mut seed = 1;
     for i in 0..count {
-        chain.reserve(1).expect(rt, "memory");
+        chain.reserve(1)?;
         let len = chain.len();
         if len == usize::MAX {
-            return;
+            return Ok(());
         }
-        seed = next(seed);
+        seed = next_random(seed);
         let from = below(seed, len + 1);
-        seed = next(seed);
+        seed = next_random(seed);
         let to = from.saturating_add(below(seed, longest)).min(len);
-        let p = Point::new(i64::from(i), 0).expect(rt, "a point");
+        let p = Point::new(i64::from(i), 0).ok_or("no point")?;
         if chain.spare() > 0 && from <= to {
             let start = cursor_at(&chain, from);
             let end = cursor_at(&chain, to);
             chain.replace_run(start, end, p);
         }
-        list = replace_in_list(rt, &list, from, to, p);
-        let points = chain.to_vec(rt.alloc()).expect(rt, "memory");
+        list = replace_in_list(rt.alloc(), &list, from, to, p)?;
+        let points = chain.to_vec(rt.alloc())?;
         assert!(rt; points.as_slice() == list.as_slice(), "after edit {i}");
         assert!(rt; chain.len() == list.len(), "after edit {i}");
     }
+    Ok(())
 }
 
 #[test]
-fn inserts_are_those_in_a_list(rt: HostRuntime) {
-    edit_many(&rt, 1200, 1);
+fn inserts_are_those_in_a_list(rt: HostRuntime) -> Result<(), Fail> {
+    edit_many(&rt, 1200, 1)
 }
 
 #[test]
-fn short_runs_are_those_in_a_list(rt: HostRuntime) {
-    edit_many(&rt, 1200, 3);
+fn short_runs_are_those_in_a_list(rt: HostRuntime) -> Result<(), Fail> {
+    edit_many(&rt, 1200, 3)
 }
 
 // A chain of four pieces, of which runs of up to three pieces are replaced.
 #[test]
-fn runs_across_pieces(rt: HostRuntime) {
+fn runs_across_pieces_are_those_in_a_list(rt: HostRuntime) -> Result<(), Fail> {
     for to in [0, 1, 2, 255, 256, 257, 300, 512, 513, 768, 769, 1023, 1024] {
         for from in [0, 1, 2, 128, 255, 256, 257, 511, 600, 768, 1023] {
             let mut chain = PointList::new(rt.alloc());
-            chain.reserve(4 * PIECE_SIZE + 1).expect(&rt, "memory");
+            chain.reserve(4 * PIECE_SIZE + 1)?;
             let mut list: Vec<Point> = Vec::new(rt.alloc());
             for i in 0..4 * PIECE_SIZE {
-                let p = Point::new(i as i64, 1).expect(&rt, "a point");
-                list.push(p).expect(&rt, "memory");
+                let p = Point::new(i as i64, 1).ok_or("no point")?;
+                list.push(p)?;
                 if chain.spare() > 0 {
                     let end = chain.end();
                     chain.replace_run(end, end, p);
                 }
             }
             assert!(rt; chain.piece_count() == 4);
-            let p = Point::new(7, 7).expect(&rt, "a point");
+            let p = Point::new(7, 7).ok_or("no point")?;
             if from <= to && to <= chain.len() && chain.spare() > 0 {
                 let start = cursor_at(&chain, from);
                 let end = cursor_at(&chain, to);
                 chain.replace_run(start, end, p);
-                let list = replace_in_list(&rt, &list, from, to, p);
-                let points = chain.to_vec(rt.alloc()).expect(&rt, "memory");
+                let list = replace_in_list(rt.alloc(), &list, from, to, p)?;
+                let points = chain.to_vec(rt.alloc())?;
                 assert!(rt; points.as_slice() == list.as_slice(), "{from} to {to}");
             }
         }
     }
+    Ok(())
 }
 
 // Goes through all points, and back.
@@ -148,16 +147,17 @@ fn go_on_and_back(rt: &impl Abort, chain: &PointList) {
 }
 
 #[test]
-fn cursors_go_on_and_back(rt: HostRuntime) {
+fn cursors_go_on_and_back(rt: HostRuntime) -> Result<(), Fail> {
     let mut chain = PointList::new(rt.alloc());
     assert!(rt; chain.len() == 0);
-    chain.reserve(600).expect(&rt, "memory");
+    chain.reserve(600)?;
     for i in 0..600 {
-        let p = Point::new(i, 5).expect(&rt, "a point");
+        let p = Point::new(i, 5).ok_or("no point")?;
         if chain.spare() > 0 {
             let start = chain.start();
             chain.replace_run(start, start, p);
         }
     }
     go_on_and_back(&rt, &chain);
+    Ok(())
 }

@@ -5,44 +5,51 @@ use range_hull::OnlineHull;
 use range_marker::{Marker, add_point};
 use range_plane::FIX_LIMIT;
 use std::process::Abort;
+use std::test::Fail;
 
 const PLACES: [(i64, i64); 5] = [(5, 5), (10, 5), (11, 5), (0, 0), (5, 12)];
 
 // Marks the places, adds each to the hull, whose polygon covers those with these marks, and marks them again.
-fn expect_added(rt: &(impl Abort + AllocGlobal), hull: &mut OnlineHull, expected: [bool; 5]) {
-    let cols = columns_of(rt, rt.alloc(), &PLACES);
+fn expect_added(
+    rt: &(impl Abort + AllocGlobal),
+    hull: &mut OnlineHull,
+    expected: [bool; 5],
+) -> Result<(), Fail> {
+    let cols = columns_of(rt.alloc(), &PLACES)?;
     let mut marker = Marker::new(rt.alloc());
-    marker.mark(hull, &cols).expect(rt, "memory");
+    marker.mark(hull, &cols)?;
     assert!(rt; marker.marks() == expected.as_slice(), "marks");
     for (place, covered) in PLACES.iter().zip(expected) {
-        let p = point(rt, *place);
-        hull.reserve(1).expect(rt, "memory");
+        let p = point(*place)?;
+        hull.reserve(1)?;
         assert!(rt; hull.points() < FIX_LIMIT, "few");
         assert!(rt; !covered || hull.covers(p), "covered");
         add_point(hull, p, covered);
     }
     marker.forget();
-    marker.mark(hull, &cols).expect(rt, "memory");
+    marker.mark(hull, &cols)?;
     assert!(rt; marker.marks().iter().all(|mark| *mark), "all");
+    Ok(())
 }
 
-// Those outside are the only ones that are inserted, and are covered from then on.
 #[test]
-fn marks_before_and_after(rt: HostRuntime) {
-    let square = points_of(&rt, rt.alloc(), &[(0, 0), (10, 0), (10, 10), (0, 10)]);
-    let mut hull = hull_of(&rt, rt.alloc(), &square);
-    expect_added(&rt, &mut hull, [true, true, false, true, false]);
+fn points_outside_alone_are_inserted_and_covered_from_then_on(rt: HostRuntime) -> Result<(), Fail> {
+    let square = points_of(rt.alloc(), &[(0, 0), (10, 0), (10, 10), (0, 10)])?;
+    let mut hull = hull_of(&rt, rt.alloc(), &square)?;
+    expect_added(&rt, &mut hull, [true, true, false, true, false])?;
     assert!(rt; hull.inserted() == 6 && hull.points() == 9);
-    expect_added(&rt, &mut hull, [true; 5]);
+    expect_added(&rt, &mut hull, [true; 5])?;
     assert!(rt; hull.inserted() == 6 && hull.points() == 14);
+    Ok(())
 }
 
 // A polygon of so many corners that it is not copied for a few points.
 #[test]
-fn marks_by_the_hull(rt: HostRuntime) {
-    let hull = hull_of(&rt, rt.alloc(), &parabola(&rt, rt.alloc(), 90));
-    let cols = columns_of(&rt, rt.alloc(), &[(4, 16), (4, 15), (4, 356), (4, 357)]);
+fn a_hull_of_many_corners_marks_points_itself(rt: HostRuntime) -> Result<(), Fail> {
+    let hull = hull_of(&rt, rt.alloc(), &parabola(rt.alloc(), 90)?)?;
+    let cols = columns_of(rt.alloc(), &[(4, 16), (4, 15), (4, 356), (4, 357)])?;
     let mut marker = Marker::new(rt.alloc());
-    marker.mark(&hull, &cols).expect(&rt, "memory");
+    marker.mark(&hull, &cols)?;
     assert!(rt; marker.marks() == [true, false, true, false].as_slice());
+    Ok(())
 }

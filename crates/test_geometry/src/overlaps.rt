@@ -1,10 +1,11 @@
 // Tests of overlaps.
 
-use crate::points::{SEGMENT, SQUARE, columns_of, plain_of, points_of};
+use crate::points::{SEGMENT, SQUARE, columns_of, plain_at};
 use range_stats::overlap;
+use std::test::Fail;
 
 #[test]
-fn overlaps(rt: HostRuntime) {
+fn fixes_within_the_other_range_are_counted(rt: HostRuntime) -> Result<(), Fail> {
     let alloc = rt.alloc();
     let square = SQUARE.as_slice();
     let segment = SEGMENT.as_slice();
@@ -20,8 +21,9 @@ fn overlaps(rt: HostRuntime) {
         (&[], square, 0),
     ];
     for (fixes, range, count) in cases {
-        let fixes = columns_of(&rt, alloc, fixes);
-        let range = plain_of(&rt, alloc, &points_of(&rt, alloc, range));
+        let fixes = columns_of(alloc, fixes)?;
+        let range = plain_at(&rt, alloc, range)?;
         assert_eq!(rt; overlap(&fixes, &range), count);
     }
+    Ok(())
 }

@@ -6,6 +6,7 @@ use range_plane::{COORDINATE_LIMIT, Columns, FIX_LIMIT, Point};
 use range_stats::{PercentRow, Ranking, percent};
 use std::alloc::Global;
 use std::process::Abort;
+use std::test::Fail;
 
 // How many points a level keeps, and how many corners and which doubled area they have.
 type Row = (u8, u32, u32, u128);
@@ -21,16 +22,17 @@ fn has_row(found: PercentRow, (level, kept, corners, area2): Row) -> bool {
 }
 
 // Checks rows, each by itself, and all and each read off one ranking.
-fn expect_rows(rt: &impl Abort, alloc: Global, fixes: &Columns, rows: &[Row]) {
+fn expect_percents(
+    rt: &impl Abort,
+    alloc: Global,
+    fixes: &Columns,
+    rows: &[Row],
+) -> Result<(), Fail> {
     assert!(rt; fixes.len() <= FIX_LIMIT as usize, "few fixes");
-    let levels = rows
-        .iter()
-        .map(|row| row.0)
-        .collect::<Vec<u8>>(alloc)
-        .expect(rt, "memory");
-    let ranking = Ranking::new(alloc, fixes, &levels).expect(rt, "memory");
+    let levels = rows.iter().map(|row| row.0).collect::<Vec<u8>>(alloc)?;
+    let ranking = Ranking::new(alloc, fixes, &levels)?;
     assert!(rt; levels.iter().all(|level| *level <= 100));
-    let all = ranking.rows(alloc, &levels).expect(rt, "memory");
+    let all = ranking.rows(alloc, &levels)?;
     assert!(rt; all.len() == rows.len());
     for (row, found) in rows.iter().zip(all) {
         assert!(rt; has_row(found, *row), "{found:?}");
@@ -38,17 +40,18 @@ fn expect_rows(rt: &impl Abort, alloc: Global, fixes: &Columns, rows: &[Row]) {
     for row in rows {
         let level = row.0;
         assert!(rt; level <= 100);
-        let found = percent(alloc, fixes, level).expect(rt, "memory");
+        let found = percent(alloc, fixes, level)?;
         assert!(rt; has_row(found, *row), "{found:?}");
-        let found = ranking.row(alloc, level).expect(rt, "memory");
+        let found = ranking.row(alloc, level)?;
         assert!(rt; has_row(found, *row), "{found:?}");
     }
+    Ok(())
 }
 
 #[test]
-fn square(rt: HostRuntime) {
-    let fixes = columns_of(&rt, rt.alloc(), &SQUARE);
-    expect_rows(
+fn a_square_has_these_percent_polygons(rt: HostRuntime) -> Result<(), Fail> {
+    let fixes = columns_of(rt.alloc(), &SQUARE)?;
+    expect_percents(
         &rt,
         rt.alloc(),
         &fixes,
@@ -60,39 +63,39 @@ fn square(rt: HostRuntime) {
             (95, 5, 4, 200),
             (100, 5, 4, 200),
         ],
-    );
+    )
 }
 
 #[test]
-fn segment(rt: HostRuntime) {
-    let fixes = columns_of(&rt, rt.alloc(), &SEGMENT);
+fn fixes_in_line_have_percent_polygons_without_area(rt: HostRuntime) -> Result<(), Fail> {
+    let fixes = columns_of(rt.alloc(), &SEGMENT)?;
     let rows = [(50, 2, 2, 0), (95, 3, 2, 0), (100, 3, 2, 0)];
-    expect_rows(&rt, rt.alloc(), &fixes, &rows);
+    expect_percents(&rt, rt.alloc(), &fixes, &rows)
 }
 
 #[test]
-fn one_place(rt: HostRuntime) {
-    let fixes = columns_of(&rt, rt.alloc(), &[(7, 7), (7, 7), (7, 7)]);
+fn fixes_at_one_place_have_one_corner_at_each_level(rt: HostRuntime) -> Result<(), Fail> {
+    let fixes = columns_of(rt.alloc(), &[(7, 7), (7, 7), (7, 7)])?;
     let rows = [(1, 1, 1, 0), (50, 2, 1, 0), (100, 3, 1, 0)];
-    expect_rows(&rt, rt.alloc(), &fixes, &rows);
+    expect_percents(&rt, rt.alloc(), &fixes, &rows)
 }
 
 #[test]
-fn one_fix(rt: HostRuntime) {
-    let fixes = columns_of(&rt, rt.alloc(), &[(3, 4)]);
+fn one_fix_is_kept_at_each_level(rt: HostRuntime) -> Result<(), Fail> {
+    let fixes = columns_of(rt.alloc(), &[(3, 4)])?;
     let rows = [(1, 1, 1, 0), (50, 1, 1, 0), (100, 1, 1, 0)];
-    expect_rows(&rt, rt.alloc(), &fixes, &rows);
+    expect_percents(&rt, rt.alloc(), &fixes, &rows)
 }
 
 #[test]
-fn no_fix(rt: HostRuntime) {
-    let fixes = columns_of(&rt, rt.alloc(), &[]);
-    expect_rows(&rt, rt.alloc(), &fixes, &[(50, 0, 0, 0)]);
+fn without_a_fix_no_corner_is_kept(rt: HostRuntime) -> Result<(), Fail> {
+    let fixes = columns_of(rt.alloc(), &[])?;
+    expect_percents(&rt, rt.alloc(), &fixes, &[(50, 0, 0, 0)])
 }
 
 #[test]
-fn ties(rt: HostRuntime) {
-    let fixes = columns_of(&rt, rt.alloc(), &RING);
+fn of_fixes_as_far_from_the_mean_the_first_are_kept(rt: HostRuntime) -> Result<(), Fail> {
+    let fixes = columns_of(rt.alloc(), &RING)?;
     let rows = [
         (1, 1, 1, 0),
         (50, 3, 3, 40),
@@ -100,24 +103,24 @@ fn ties(rt: HostRuntime) {
         (67, 5, 5, 100),
         (100, 6, 6, 120),
     ];
-    expect_rows(&rt, rt.alloc(), &fixes, &rows);
+    expect_percents(&rt, rt.alloc(), &fixes, &rows)
 }
 
 #[test]
-fn line(rt: HostRuntime) {
+fn a_line_has_two_corners_at_each_level(rt: HostRuntime) -> Result<(), Fail> {
     let mut fixes = Columns::new(rt.alloc());
     for i in 0..250 {
-        let point = Point::new(i, 0).expect(&rt, "a point");
-        fixes.push(point).expect(&rt, "memory");
+        let point = Point::new(i, 0).ok_or("no point")?;
+        fixes.push(point)?;
     }
     let rows = [(1, 3, 2, 0), (100, 250, 2, 0)];
-    expect_rows(&rt, rt.alloc(), &fixes, &rows);
+    expect_percents(&rt, rt.alloc(), &fixes, &rows)
 }
 
 #[test]
-fn scattered_far(rt: HostRuntime) {
-    let fixes = scattered(&rt, rt.alloc(), 250, 0xFF_FFFF);
-    expect_rows(
+fn scattered_fixes_have_the_polygons_of_another_program(rt: HostRuntime) -> Result<(), Fail> {
+    let fixes = scattered(rt.alloc(), 250, 0xFF_FFFF)?;
+    expect_percents(
         &rt,
         rt.alloc(),
         &fixes,
@@ -130,14 +133,13 @@ fn scattered_far(rt: HostRuntime) {
             (99, 248, 16, 528_520_494_414_530),
             (100, 250, 13, 535_309_414_729_752),
         ],
-    );
+    )
 }
 
-// Levels in no order, and one of them twice.
 #[test]
-fn levels_in_any_order(rt: HostRuntime) {
-    let fixes = scattered(&rt, rt.alloc(), 250, 0xFF_FFFF);
-    expect_rows(
+fn levels_may_come_in_any_order_and_twice(rt: HostRuntime) -> Result<(), Fail> {
+    let fixes = scattered(rt.alloc(), 250, 0xFF_FFFF)?;
+    expect_percents(
         &rt,
         rt.alloc(),
         &fixes,
@@ -149,14 +151,13 @@ fn levels_in_any_order(rt: HostRuntime) {
             (1, 3, 3, 13_606_412_965),
             (95, 238, 18, 501_845_282_572_989),
         ],
-    );
+    )
 }
 
-// With many ties.
 #[test]
-fn scattered_near(rt: HostRuntime) {
-    let fixes = scattered(&rt, rt.alloc(), 250, 0xF);
-    expect_rows(
+fn fixes_with_many_ties_have_the_polygons_of_another_program(rt: HostRuntime) -> Result<(), Fail> {
+    let fixes = scattered(rt.alloc(), 250, 0xF)?;
+    expect_percents(
         &rt,
         rt.alloc(),
         &fixes,
@@ -169,14 +170,15 @@ fn scattered_near(rt: HostRuntime) {
             (99, 248, 9, 428),
             (100, 250, 6, 443),
         ],
-    );
+    )
 }
 
-// More points than are marked at once.
 #[test]
-fn many_scattered(rt: HostRuntime) {
-    let far = scattered(&rt, rt.alloc(), 1300, 0xFF_FFFF);
-    expect_rows(
+fn more_fixes_than_are_marked_at_once_have_the_polygons_of_another_program(
+    rt: HostRuntime,
+) -> Result<(), Fail> {
+    let far = scattered(rt.alloc(), 1300, 0xFF_FFFF)?;
+    expect_percents(
         &rt,
         rt.alloc(),
         &far,
@@ -186,9 +188,9 @@ fn many_scattered(rt: HostRuntime) {
             (95, 1235, 25, 524_802_166_184_445),
             (100, 1300, 19, 555_318_582_666_498),
         ],
-    );
-    let near = scattered(&rt, rt.alloc(), 1300, 0x3F);
-    expect_rows(
+    )?;
+    let near = scattered(rt.alloc(), 1300, 0x3F)?;
+    expect_percents(
         &rt,
         rt.alloc(),
         &near,
@@ -198,21 +200,23 @@ fn many_scattered(rt: HostRuntime) {
             (95, 1235, 18, 7_526),
             (100, 1300, 8, 7_926),
         ],
-    );
+    )
 }
 
 // More corners than those of a hull for which points are marked, and points that it covers.
 #[test]
-fn many_corners(rt: HostRuntime) {
+fn a_hull_of_too_many_corners_for_marks_has_these_percent_polygons(
+    rt: HostRuntime,
+) -> Result<(), Fail> {
     let mut fixes = Columns::new(rt.alloc());
-    for corner in parabola(&rt, rt.alloc(), 3000) {
-        fixes.push(corner).expect(&rt, "memory");
+    for corner in parabola(rt.alloc(), 3000)? {
+        fixes.push(corner)?;
     }
     for i in 0..600 {
-        let within = point(&rt, (1500, i64::wrapping_add(3_000_000, i)));
-        fixes.push(within).expect(&rt, "memory");
+        let within = point((1500, i64::wrapping_add(3_000_000, i)))?;
+        fixes.push(within)?;
     }
-    expect_rows(
+    expect_percents(
         &rt,
         rt.alloc(),
         &fixes,
@@ -221,26 +225,27 @@ fn many_corners(rt: HostRuntime) {
             (95, 3420, 2820, 7_467_305_480),
             (100, 3600, 3000, 8_991_002_000),
         ],
-    );
+    )
 }
 
 // All at one corner of the plane but the first, which is as far from their mean as any can be: the square of
 // their number times that distance is nearly 2^95.
 #[test]
-fn at_the_limits(rt: HostRuntime) {
+fn the_farthest_of_the_most_fixes_is_kept_last(rt: HostRuntime) -> Result<(), Fail> {
     let mut fixes = Columns::new(rt.alloc());
     let far = Point {
         e: COORDINATE_LIMIT,
         n: COORDINATE_LIMIT,
     };
-    fixes.push(far).expect(&rt, "memory");
+    fixes.push(far)?;
     for _ in 1..FIX_LIMIT {
-        fixes.push(Point { e: 0, n: 0 }).expect(&rt, "memory");
+        fixes.push(Point { e: 0, n: 0 })?;
     }
-    assert!(rt; fixes.len() <= 1_048_576);
-    let ranking = Ranking::new(rt.alloc(), &fixes, &[99, 100]).expect(&rt, "memory");
+    assert!(rt; fixes.len() <= FIX_LIMIT as usize);
+    let ranking = Ranking::new(rt.alloc(), &fixes, &[99, 100])?;
     for row in [(99, 1_038_091, 1, 0), (100, 1_048_576, 2, 0)] {
-        let found = ranking.row(rt.alloc(), row.0).expect(&rt, "memory");
+        let found = ranking.row(rt.alloc(), row.0)?;
         assert!(rt; has_row(found, row), "{found:?}");
     }
+    Ok(())
 }

@@ -1,11 +1,12 @@
 // Tests of polygons by definition.
 
-use crate::growths::{MANY_GROWTHS, is_last_run};
+use crate::allocations::is_last_run;
 use crate::points::{LATTICE, WORKED, Worked, plain_of, points_of};
 use range_plane::{Point, Polygon};
 use std::alloc::{Allocator, Global};
 use std::process::Abort;
-use test_doubles::Refusing;
+use std::test::Fail;
+use test_doubles::{MANY_ALLOCATIONS, Refusing};
 
 // The corners of the first 14 points of the lattice, for which a list grows more than once.
 const OCTAGON: [(i64, i64); 8] = [
@@ -19,8 +20,8 @@ const OCTAGON: [(i64, i64); 8] = [
     (1, 5),
 ];
 
-// The first corner takes memory, and so does one past those that the first growth has room for.
-const LEAST_GROWTHS: u32 = 2;
+// The first corner takes memory, and so does one past those that the first allocation has room for.
+const LEAST_ALLOCATIONS: u32 = 2;
 
 // Checks how many corners the points have, and their doubled area.
 fn expect_row(rt: &impl Abort, points: &[Point], polygon: &Polygon, (corners, area2): (u32, u128)) {
@@ -33,30 +34,37 @@ fn expect_row(rt: &impl Abort, points: &[Point], polygon: &Polygon, (corners, ar
 }
 
 // Checks the polygon of each first part of the points, and the corners of all.
-fn expect_rows(rt: &impl Abort, alloc: Global, (places, rows, corners): Worked) {
-    let points = points_of(rt, alloc, places);
+fn expect_first_parts(
+    rt: &impl Abort,
+    alloc: Global,
+    (places, rows, corners): Worked,
+) -> Result<(), Fail> {
+    let points = points_of(alloc, places)?;
     assert!(rt; places.len() == rows.len(), "rows");
     for (i, row) in rows.iter().enumerate() {
         let first = &points[..points.len().min(i.saturating_add(1))];
-        expect_row(rt, first, &plain_of(rt, alloc, first), *row);
+        expect_row(rt, first, &plain_of(rt, alloc, first)?, *row);
     }
-    let corners = points_of(rt, alloc, corners);
-    let polygon = plain_of(rt, alloc, &points);
+    let corners = points_of(alloc, corners)?;
+    let polygon = plain_of(rt, alloc, &points)?;
     assert!(rt; polygon.corners() == corners.as_slice(), "corners");
+    Ok(())
 }
 
 #[test]
-fn rows(rt: HostRuntime) {
+fn each_first_part_has_these_corners_and_this_area(rt: HostRuntime) -> Result<(), Fail> {
     for case in WORKED {
-        expect_rows(&rt, rt.alloc(), case);
+        expect_first_parts(&rt, rt.alloc(), case)?;
     }
+    Ok(())
 }
 
 #[test]
-fn no_points(rt: HostRuntime) {
-    let polygon = plain_of(&rt, rt.alloc(), &[]);
+fn without_a_point_there_is_no_corner_and_no_area(rt: HostRuntime) -> Result<(), Fail> {
+    let polygon = plain_of(&rt, rt.alloc(), &[])?;
     assert!(rt; polygon.corners().is_empty() && polygon.area2() == 0);
     assert!(rt; !polygon.covers(Point { e: 0, n: 0 }));
+    Ok(())
 }
 
 // Twice the signed area of a triangle, by other products than the crate's.
@@ -81,18 +89,18 @@ fn wraps(a: Point, best: Point, b: Point) -> bool {
 }
 
 // The corners by gift wrapping (Jarvis 1973), from the first point by easting, then northing.
-fn wrapped(rt: &impl Abort, alloc: Global, points: &[Point]) -> Vec<Point> {
+fn wrapped(alloc: Global, points: &[Point]) -> Result<Vec<Point>, Fail> {
     let mut corners = Vec::new(alloc);
     let Some(first) = points
         .iter()
         .copied()
         .reduce(|a, b| { if (b.e, b.n) < (a.e, a.n) { b } else { a } })
     else {
-        return corners;
+        return Ok(corners);
     };
     let mut at = first;
     for _ in 0..points.len() {
-        corners.push(at).expect(rt, "memory");
+        corners.push(at)?;
         let mut best = at;
         for b in points {
             if *b != at && wraps(at, best, *b) {
@@ -100,26 +108,27 @@ fn wrapped(rt: &impl Abort, alloc: Global, points: &[Point]) -> Vec<Point> {
             }
         }
         if best == first {
-            return corners;
+            return Ok(corners);
         }
         at = best;
     }
-    corners
+    Ok(corners)
 }
 
 #[test]
-fn agrees_with_gift_wrapping(rt: HostRuntime) {
+fn plain_agrees_with_gift_wrapping(rt: HostRuntime) -> Result<(), Fail> {
     let alloc = rt.alloc();
-    let points = points_of(&rt, alloc, &LATTICE);
+    let points = points_of(alloc, &LATTICE)?;
     for count in 0..25 {
         let first = &points[..points.len().min(count)];
-        let polygon = plain_of(&rt, alloc, first);
-        let corners = wrapped(&rt, alloc, first);
+        let polygon = plain_of(&rt, alloc, first)?;
+        let corners = wrapped(alloc, first)?;
         assert!(rt;
             polygon.corners() == corners.as_slice(),
             "the first {count}"
         );
     }
+    Ok(())
 }
 
 // Makes a polygon, again where it is refused. How often it was refused.
@@ -140,15 +149,15 @@ fn plain_again<A: Allocator + Copy>(
 }
 
 #[test]
-fn plain_is_refused_each_growth(rt: HostRuntime) {
-    let points = points_of(&rt, rt.alloc(), &LATTICE[..14]);
-    let corners = points_of(&rt, rt.alloc(), &OCTAGON);
-    for number in 1..MANY_GROWTHS {
+fn plain_fails_only_at_a_refused_allocation(rt: HostRuntime) -> Result<(), Fail> {
+    let points = points_of(rt.alloc(), &LATTICE[..14])?;
+    let corners = points_of(rt.alloc(), &OCTAGON)?;
+    for number in 1..MANY_ALLOCATIONS {
         let alloc = Refusing::new(rt.alloc(), number);
         let refusals = plain_again(&rt, &alloc, &points, &corners);
-        if is_last_run(&rt, &alloc, number, refusals, LEAST_GROWTHS) {
-            return;
+        if is_last_run(&rt, &alloc, number, refusals, LEAST_ALLOCATIONS) {
+            return Ok(());
         }
     }
-    assert!(rt; false, "no run without a refusal");
+    Err(Fail::from("no run without a refusal"))
 }

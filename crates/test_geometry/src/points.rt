@@ -1,9 +1,11 @@
 // Points, and lists, polygons and hulls of them, for the tests.
 
 use range_hull::OnlineHull;
-use range_plane::{Columns, FIX_LIMIT, Point, Polygon};
+use range_plane::{COORDINATE_LIMIT, Columns, FIX_LIMIT, Point, Polygon};
 use std::alloc::{Allocator, Global};
 use std::process::Abort;
+use std::test::Fail;
+use test_doubles::next_random;
 
 pub(crate) const SQUARE: [(i64, i64); 5] = [(0, 0), (10, 0), (10, 10), (0, 10), (5, 5)];
 
@@ -19,9 +21,9 @@ pub(crate) const METRE_LIMITS: [(i64, i64); 4] = [
 
 pub(crate) const DECIMETRE_LIMITS: [(i64, i64); 4] = [
     (0, 0),
-    (134_217_728, 0),
-    (134_217_728, 134_217_728),
-    (0, 134_217_728),
+    (COORDINATE_LIMIT, 0),
+    (COORDINATE_LIMIT, COORDINATE_LIMIT),
+    (0, COORDINATE_LIMIT),
 ];
 
 // Six points, the last of which takes the corner away that the third is until then.
@@ -117,73 +119,74 @@ pub(crate) const WORKED: [Worked; 8] = [
     ),
 ];
 
-pub(crate) fn point(rt: &impl Abort, (e, n): (i64, i64)) -> Point {
-    Point::new(e, n).expect(rt, "a point")
+pub(crate) fn point((e, n): (i64, i64)) -> Result<Point, Fail> {
+    Ok(Point::new(e, n).ok_or("no point")?)
 }
 
-pub(crate) fn points_of(rt: &impl Abort, alloc: Global, places: &[(i64, i64)]) -> Vec<Point> {
+pub(crate) fn points_of(alloc: Global, places: &[(i64, i64)]) -> Result<Vec<Point>, Fail> {
     let mut points = Vec::new(alloc);
     for place in places {
-        points.push(point(rt, *place)).expect(rt, "memory");
+        points.push(point(*place)?)?;
     }
-    points
+    Ok(points)
 }
 
-pub(crate) fn columns_of(rt: &impl Abort, alloc: Global, places: &[(i64, i64)]) -> Columns {
+pub(crate) fn columns_of(alloc: Global, places: &[(i64, i64)]) -> Result<Columns, Fail> {
     let mut columns = Columns::new(alloc);
     for place in places {
-        columns.push(point(rt, *place)).expect(rt, "memory");
+        columns.push(point(*place)?)?;
     }
-    columns
-}
-
-// The next number of Knuth's generator for MMIX.
-pub(crate) fn next(seed: u64) -> u64 {
-    seed.wrapping_mul(6364136223846793005)
-        .wrapping_add(1442695040888963407)
+    Ok(columns)
 }
 
 // So many points anywhere in a square of this side, one less than a power of two.
-pub(crate) fn scattered(rt: &impl Abort, alloc: Global, count: u32, mask: u32) -> Columns {
+pub(crate) fn scattered(alloc: Global, count: u32, mask: u32) -> Result<Columns, Fail> {
     let mut columns = Columns::new(alloc);
     let mut seed = 1;
     for _ in 0..count {
-        seed = next(seed);
+        seed = next_random(seed);
         let e = (seed >> 33) as u32 & mask;
-        seed = next(seed);
+        seed = next_random(seed);
         let n = (seed >> 33) as u32 & mask;
-        let p = point(rt, (i64::from(e), i64::from(n)));
-        columns.push(p).expect(rt, "memory");
+        let p = point((i64::from(e), i64::from(n)))?;
+        columns.push(p)?;
     }
-    columns
+    Ok(columns)
 }
 
 // The polygon of few points.
-pub(crate) fn plain_of(rt: &impl Abort, alloc: Global, points: &[Point]) -> Polygon {
+pub(crate) fn plain_of(rt: &impl Abort, alloc: Global, points: &[Point]) -> Result<Polygon, Fail> {
     assert!(rt; points.len() < 100);
-    Polygon::plain(alloc, points).expect(rt, "memory")
+    Ok(Polygon::plain(alloc, points)?)
+}
+
+// The polygon of the points at few places.
+pub(crate) fn plain_at(
+    rt: &impl Abort,
+    alloc: Global,
+    places: &[(i64, i64)],
+) -> Result<Polygon, Fail> {
+    plain_of(rt, alloc, &points_of(alloc, places)?)
 }
 
 // The points `(i, i * i)`, for i from 0 on.
-pub(crate) fn parabola(rt: &impl Abort, alloc: Global, count: u16) -> Vec<Point> {
+pub(crate) fn parabola(alloc: Global, count: u16) -> Result<Vec<Point>, Fail> {
     let mut points = Vec::new(alloc);
     for i in 0..count {
         let e = i64::from(i);
-        points
-            .push(point(rt, (e, e.wrapping_mul(e))))
-            .expect(rt, "memory");
+        points.push(point((e, e.wrapping_mul(e)))?)?;
     }
-    points
+    Ok(points)
 }
 
 // The points `(i, 4095 * 4095 - i * i)`, for i from 0 on, of which there are 4096 at most.
-pub(crate) fn arch(rt: &impl Abort, alloc: Global, count: u16) -> Vec<Point> {
+pub(crate) fn arch(alloc: Global, count: u16) -> Result<Vec<Point>, Fail> {
     let mut points = Vec::new(alloc);
-    for p in &parabola(rt, alloc, count) {
+    for p in &parabola(alloc, count)? {
         let n = i64::wrapping_sub(4095 * 4095, p.n);
-        points.push(point(rt, (p.e, n))).expect(rt, "memory");
+        points.push(point((p.e, n))?)?;
     }
-    points
+    Ok(points)
 }
 
 // Inserts a point for which there has to be room.
@@ -193,22 +196,25 @@ pub(crate) fn insert<A: Allocator>(rt: &impl Abort, hull: &mut OnlineHull<A>, p:
 }
 
 // The hull of the points, inserted one after the other.
-pub(crate) fn hull_of(rt: &impl Abort, alloc: Global, points: &[Point]) -> OnlineHull {
+pub(crate) fn hull_of(
+    rt: &impl Abort,
+    alloc: Global,
+    points: &[Point],
+) -> Result<OnlineHull, Fail> {
     let mut hull = OnlineHull::new(alloc);
-    hull.reserve(points.len()).expect(rt, "memory");
+    hull.reserve(points.len())?;
     for p in points {
         insert(rt, &mut hull, *p);
     }
-    hull
+    Ok(hull)
 }
 
 // Whether the hull has these corners, in this order.
 pub(crate) fn has_corners<A: Allocator>(
-    rt: &impl Abort,
     alloc: Global,
     hull: &OnlineHull<A>,
     corners: &[Point],
-) -> bool {
-    let polygon = hull.polygon(alloc).expect(rt, "memory");
-    polygon.corners() == corners && usize::try_from(hull.corner_count()) == Ok(corners.len())
+) -> Result<bool, Fail> {
+    let polygon = hull.polygon(alloc)?;
+    Ok(polygon.corners() == corners && usize::try_from(hull.corner_count()) == Ok(corners.len()))
 }

@@ -5,6 +5,7 @@ ghost use Rattle.range_line.specs.Lines.{AreForFiles, AreOfLine};
 
 use crate::messages::{are_fixes, fixes, is_block, is_mark};
 use range_line::{Feeder, Settled, Taker, open_line, settle};
+use range_options::BLOCK_LIMIT;
 use range_plane::OutOfMemory;
 use std::alloc::Global;
 use std::process::Abort;
@@ -69,7 +70,7 @@ fn are_ends(settled: &Settled, ends: &[(u32, u64, bool)]) -> bool {
 }
 
 #[test]
-fn one_feeder_and_three_takes(rt: HostRuntime) -> Result<(), Fail> {
+fn what_one_feeder_sent_is_taken_in_turn(rt: HostRuntime) -> Result<(), Fail> {
     let (feeder, mut taker) = three_messages(&rt, rt.alloc())?;
     assert!(rt; is_block(&taker.take(&rt), 3, 0, 60, 2), "the first block");
     assert!(rt;
@@ -84,7 +85,7 @@ fn one_feeder_and_three_takes(rt: HostRuntime) -> Result<(), Fail> {
 }
 
 #[test]
-fn one_feeder_and_two_takes(rt: HostRuntime) -> Result<(), Fail> {
+fn settling_gives_the_message_that_was_left(rt: HostRuntime) -> Result<(), Fail> {
     let (feeder, mut taker) = three_messages(&rt, rt.alloc())?;
     assert!(rt; is_block(&taker.take(&rt), 3, 0, 60, 2), "the first block");
     assert!(rt;
@@ -101,7 +102,7 @@ fn one_feeder_and_two_takes(rt: HostRuntime) -> Result<(), Fail> {
 
 // Ended with all messages on it, the line gives them in turn.
 #[test]
-fn one_feeder_and_no_take(rt: HostRuntime) -> Result<(), Fail> {
+fn settling_gives_each_message_that_was_left_in_turn(rt: HostRuntime) -> Result<(), Fail> {
     let (feeder, taker) = three_messages(&rt, rt.alloc())?;
     let settled = settle_one(&rt, rt.alloc(), feeder, taker)?;
     assert!(rt; is_block(&settled.extra, 3, 0, 60, 2), "the first block");
@@ -115,9 +116,8 @@ fn one_feeder_and_no_take(rt: HostRuntime) -> Result<(), Fail> {
     Ok(())
 }
 
-// A line is ended in the same way where its feeder is not closed.
 #[test]
-fn one_feeder_without_a_mark(rt: HostRuntime) -> Result<(), Fail> {
+fn a_line_without_a_mark_is_settled_in_the_same_way(rt: HostRuntime) -> Result<(), Fail> {
     let (mut feeders, taker) = open_line(rt.alloc(), 3, 1, 1, 4)?;
     let mut feeder = feeders.pop().ok_or("no feeder")?;
     let block = fixes(rt.alloc(), 60, 2)?;
@@ -130,9 +130,10 @@ fn one_feeder_without_a_mark(rt: HostRuntime) -> Result<(), Fail> {
     Ok(())
 }
 
-// Where all feeders are gone the taker is given what they sent, and then nothing, also when it asks again.
 #[test]
-fn the_feeders_are_gone(rt: HostRuntime) -> Result<(), Fail> {
+fn without_feeders_the_taker_is_given_what_they_sent_and_then_nothing(
+    rt: HostRuntime,
+) -> Result<(), Fail> {
     let (feeder, mut taker) = three_messages(&rt, rt.alloc())?;
     drop(feeder);
     assert!(rt; is_block(&taker.take(&rt), 3, 0, 60, 2), "the first block");
@@ -150,7 +151,7 @@ fn the_feeders_are_gone(rt: HostRuntime) -> Result<(), Fail> {
 }
 
 #[test]
-fn the_taker_is_gone(rt: HostRuntime) -> Result<(), Fail> {
+fn without_a_taker_a_message_is_handed_back(rt: HostRuntime) -> Result<(), Fail> {
     let (mut feeders, taker) = open_line(rt.alloc(), 3, 1, 1, 4)?;
     let mut feeder = feeders.pop().ok_or("no feeder")?;
     drop(taker);
@@ -163,9 +164,10 @@ fn the_taker_is_gone(rt: HostRuntime) -> Result<(), Fail> {
     Ok(())
 }
 
-// The line holds the messages of all feeders in the order in which they were sent.
 #[test]
-fn three_feeders(rt: HostRuntime) -> Result<(), Fail> {
+fn messages_of_three_feeders_are_taken_in_the_order_they_were_sent(
+    rt: HostRuntime,
+) -> Result<(), Fail> {
     let alloc = rt.alloc();
     let (mut feeders, mut taker) = open_line(alloc, 1, 2, 3, 4)?;
     let mut third = feeders.pop().ok_or("no third feeder")?;
@@ -200,10 +202,9 @@ fn three_feeders(rt: HostRuntime) -> Result<(), Fail> {
     Ok(())
 }
 
-// A mark is sent behind a block of each number of fixes, up to the most, and taken.
 #[test]
-fn a_mark_behind_each_number_of_fixes(rt: HostRuntime) -> Result<(), Fail> {
-    for count in 1..=1024 {
+fn a_mark_is_sent_behind_each_number_of_fixes(rt: HostRuntime) -> Result<(), Fail> {
+    for count in 1..=BLOCK_LIMIT as usize {
         let (mut feeders, mut taker) = open_line(rt.alloc(), 3, 1, 1, 2)?;
         let mut feeder = feeders.pop().ok_or("no feeder")?;
         let block = fixes(rt.alloc(), 60, count)?;

@@ -1,5 +1,5 @@
 //! Tests of lines: what one and three feeders send and the taker takes, a line whose taker is gone, a list
-//! that one thread sends and another takes, and each growth of `open_line` refused.
+//! that one thread sends and another takes, and each allocation of `open_line` refused.
 #![tactic(auto)]
 
 #[cfg(test)]

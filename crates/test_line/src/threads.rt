@@ -5,7 +5,7 @@ ghost use Rattle.std.specs.Prelude.{◌≡◌, false, true, [], ◌∷◌, IfOk}
 
 use crate::messages::{are_fixes, fixes};
 use range_line::{Body, Feeder, Settled, Taker, open_line, settle};
-use range_plane::OutOfMemory;
+use range_plane::{FIX_LIMIT, OutOfMemory};
 use std::alloc::Global;
 use std::snapshot::Snapshot;
 use std::sync::Wait;
@@ -37,7 +37,7 @@ fn send_all<R: Wait>(rt: &R, alloc: Global, mut feeder: Feeder) -> Feeder
         let Ok(block) = fixes(alloc, second, 1) else {
             break;
         };
-        if feeder.sent_fixes() >= 1_048_576 || feeder.send(rt, block).is_err() {
+        if feeder.sent_fixes() >= u64::from(FIX_LIMIT) || feeder.send(rt, block).is_err() {
             break;
         }
     }

@@ -69,7 +69,7 @@ fn expect_pumped<R: Wait + Abort>(
 
 // In the first record, within a block, and behind a full one.
 #[test]
-fn faults_of_records(rt: HostRuntime) -> Result<(), Fail> {
+fn a_fault_of_a_record_is_answered_with_the_fixes_before_it(rt: HostRuntime) -> Result<(), Fail> {
     for unit in [Scale::Metre, Scale::Decimetre] {
         for (fixes, block) in [(0, 1), (1, 1), (3, 1), (0, 3), (1, 3), (3, 3), (5, 3)] {
             for file in bad_records(fixes, unit) {
@@ -81,7 +81,7 @@ fn faults_of_records(rt: HostRuntime) -> Result<(), Fail> {
 }
 
 #[test]
-fn faults_of_files(rt: HostRuntime) -> Result<(), Fail> {
+fn a_fault_of_a_file_is_answered_without_a_fix(rt: HostRuntime) -> Result<(), Fail> {
     for block in [1, 3] {
         for file in files_without_fix() {
             expect_pumped(&rt, rt.alloc(), file, block, Scale::Metre)?;
@@ -91,6 +91,6 @@ fn faults_of_files(rt: HostRuntime) -> Result<(), Fail> {
 }
 
 #[test]
-fn too_many(rt: HostRuntime) -> Result<(), Fail> {
+fn too_many_records_are_answered(rt: HostRuntime) -> Result<(), Fail> {
     expect_pumped(&rt, rt.alloc(), too_many_records(), 3, Scale::Metre)
 }

@@ -2,7 +2,7 @@
 
 ghost use Rattle.std.specs.Prelude.{◌≡◌, ◌≤◌, false, [], IfOk};
 
-use range_fixes::{Name, ReadFault};
+use range_fixes::ReadFault;
 use range_line::{Body, Feeder, Message, Taker, open_line};
 use range_plane::{Fix, Scale};
 use range_pump::{Gate, Pumped, pump};
@@ -11,22 +11,8 @@ use std::process::Abort;
 use std::sync::Wait;
 use std::sync::atomic::{AtomicU64, AtomicUsize, Ordering};
 use std::test::Fail;
-use test_doubles::ScriptedSource;
-
-// Fixes by their seconds, eastings and northings: a square, and a fix within it.
-const SQUARE: [(u64, i64, i64); 5] = [
-    (0, 0, 0),
-    (60, 10, 0),
-    (120, 10, 10),
-    (180, 0, 10),
-    (240, 5, 5),
-];
-
-// The fixes of `SQUARE`.
-pub(crate) const FILE_A: &[u8] =
-    b"animal,second,easting,northing\nA,0,0,0\nA,60,10,0\nA,120,10,10\nA,180,0,10\nA,240,5,5\n";
-
-const HEADER: &[u8] = b"animal,second,easting,northing\n";
+use test_doubles::{CUT_A, FILE_A, HEADER, SQUARE, ScriptedSource};
+use test_files::is_name;
 
 const FILE: u32 = 3;
 
@@ -87,10 +73,6 @@ pub(crate) fn ends(pumped: &Pumped, fixes: u64, closed: bool, fault: ReadFault) 
     pumped.feeder.sent_fixes() == fixes
         && pumped.feeder.closed() == closed
         && matches!(&pumped.read, Err(found) if *found == fault)
-}
-
-fn is_name(read: &Result<Name, ReadFault>, bytes: &[u8]) -> bool {
-    matches!(read, Ok(name) if name.as_slice() == bytes)
 }
 
 // Whether these are the fixes of `SQUARE` from the place on, `count` of them.
@@ -162,7 +144,7 @@ fn expect_taken<R: Wait + Abort>(rt: &R, taker: &mut Taker, fixes: usize)
 }
 
 #[test]
-fn whole_file(rt: HostRuntime) -> Result<(), Fail> {
+fn a_whole_file_is_sent_in_blocks_and_a_mark(rt: HostRuntime) -> Result<(), Fail> {
     let (feeder, mut taker) = open_one(rt.alloc(), 4)?;
     let gate = Expecting::new(&[0, 2, 4, 5]);
     let source = ScriptedSource::new(FILE_A, 8192);
@@ -175,9 +157,8 @@ fn whole_file(rt: HostRuntime) -> Result<(), Fail> {
     Ok(())
 }
 
-// The last block is full, and none comes after it.
 #[test]
-fn full_blocks(rt: HostRuntime) -> Result<(), Fail> {
+fn no_block_comes_behind_a_last_one_that_is_full(rt: HostRuntime) -> Result<(), Fail> {
     let (feeder, mut taker) = open_one(rt.alloc(), 4)?;
     let gate = Expecting::new(&[0, 5]);
     let source = ScriptedSource::new(FILE_A, 8192);
@@ -190,11 +171,10 @@ fn full_blocks(rt: HostRuntime) -> Result<(), Fail> {
 }
 
 #[test]
-fn cut_record(rt: HostRuntime) -> Result<(), Fail> {
+fn the_fixes_before_a_cut_record_are_sent(rt: HostRuntime) -> Result<(), Fail> {
     let (feeder, mut taker) = open_one(rt.alloc(), 4)?;
-    let text = FILE_A.strip_suffix(b",5\n").ok_or("no suffix")?;
     let gate = Expecting::new(&[0, 2, 4]);
-    let source = ScriptedSource::new(text, 8192);
+    let source = ScriptedSource::new(CUT_A, 8192);
     let pumped = pump(&rt, rt.alloc(), source, feeder, &gate, 2, Scale::Metre);
     let fault = ReadFault::WrongFieldCount {
         rec: 5,
@@ -207,9 +187,8 @@ fn cut_record(rt: HostRuntime) -> Result<(), Fail> {
     Ok(())
 }
 
-// A fix past the limit of metres is sent in decimetres.
 #[test]
-fn units(rt: HostRuntime) -> Result<(), Fail> {
+fn a_fix_past_the_limit_of_metres_is_sent_in_decimetres(rt: HostRuntime) -> Result<(), Fail> {
     let text = b"animal,second,easting,northing\nA,0,16777217,0\n".as_slice();
     let (feeder, mut taker) = open_one(rt.alloc(), 4)?;
     let (gate, source) = (Expecting::new(&[0]), ScriptedSource::new(text, 8192));
@@ -231,7 +210,7 @@ fn units(rt: HostRuntime) -> Result<(), Fail> {
 }
 
 #[test]
-fn taker_gone(rt: HostRuntime) -> Result<(), Fail> {
+fn without_a_taker_the_fixes_are_gone(rt: HostRuntime) -> Result<(), Fail> {
     for (text, fault) in [(FILE_A, ReadFault::Gone), (HEADER, ReadFault::NoFixes)] {
         let (feeder, taker) = open_one(rt.alloc(), 4)?;
         drop(taker);
@@ -245,7 +224,7 @@ fn taker_gone(rt: HostRuntime) -> Result<(), Fail> {
 
 // A source that fails at each of its reads in turn: the fixes before are sent, and the mark.
 #[test]
-fn failing_sources(rt: HostRuntime) -> Result<(), Fail> {
+fn the_fixes_before_a_failed_read_are_sent_and_the_mark(rt: HostRuntime) -> Result<(), Fail> {
     for most in [1, 3, 8, 8192] {
         let mut before = 0;
         for reads in 0..100 {
@@ -275,9 +254,8 @@ fn failing_sources(rt: HostRuntime) -> Result<(), Fail> {
     Ok(())
 }
 
-// A name of each length comes whole.
 #[test]
-fn names(rt: HostRuntime) -> Result<(), Fail> {
+fn a_name_of_each_length_comes_whole(rt: HostRuntime) -> Result<(), Fail> {
     let alloc = rt.alloc();
     let longest = b"abcdefghijklmnopqrstuvwxyz012345";
     for length in 1..=longest.len() {

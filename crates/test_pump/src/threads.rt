@@ -2,7 +2,7 @@
 
 ghost use Rattle.std.specs.Prelude.{◌≡◌, false, []};
 
-use crate::pumps::{Expecting, FILE_A, ends, is_block, open_one};
+use crate::pumps::{Expecting, ends, is_block, open_one};
 use range_fixes::ReadFault;
 use range_line::{Feeder, Message, Taker};
 use range_plane::Scale;
@@ -12,7 +12,7 @@ use std::sync::Wait;
 use std::test::Fail;
 use std::thread;
 use std::thread::{Scope, Threads};
-use test_doubles::ScriptedSource;
+use test_doubles::{FILE_A, ScriptedSource};
 
 // Pumps the file in a thread of the scope, takes one message and drops the taker. What was taken, and what
 // the pump gives back; `None` where no thread was started.
@@ -63,7 +63,7 @@ fn take_one<R: Wait + Threads + Sync>(
 // The block that was taken is sent, and maybe the one behind it; the next is handed back, whenever the taker
 // goes, and nothing comes after it.
 #[test]
-fn the_taker_goes(rt: HostRuntime) -> Result<(), Fail> {
+fn a_block_is_handed_back_once_the_taker_has_gone(rt: HostRuntime) -> Result<(), Fail> {
     for run in 0..20 {
         let (feeder, taker) = open_one(rt.alloc(), 1)?;
         let gate = Expecting::new(&[0, 1, 2]);

@@ -1,4 +1,4 @@
--- It refuses the growth that `is_refused` names, and else answers what the inner allocator answers. Assumes `Logic`.
+-- It refuses the allocation that `is_refused` names, and else answers what the inner allocator answers. Assumes `Logic`.
 use Rattle.std.proofs.Common.{◌≡◌, ℕ, ◌+◌, ◌^◌, ◌<◌, true, false, List, [], ◌∷◌, Ok, Err, refl, w64, Bor}
 use seplogic.Ra.Ura.{Ura}
 use mir.Syntax.{Ty, Args, Fn, a_type, dnil, dcons}

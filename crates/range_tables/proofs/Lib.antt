@@ -1,4 +1,0 @@
-pub mod Analyses
-pub mod Boxes
-pub mod AnimalPairs
-pub mod Rows

@@ -1,6 +1,0 @@
-use Rattle.std.proofs.Common.{◌≡◌, ◌++◌, map}
-use Rattle.range_tables.specs.Tables.{others}
-use Rattle.range_tables.proofs.overlaps.push_pairs.Given as goal
-
-abbrev pub invariant-loop-range : goal.invariant-loop-range
-invariant-loop-range l = l.pairs.items ≡ l.initial.pairs.items ++ map (λ range. (l.animal, range)) (others l.range l.animal)

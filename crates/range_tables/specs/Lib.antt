@@ -1,4 +1,0 @@
-pub mod Names
-pub mod Overlaps
-pub mod Tables
-pub mod Tracks
