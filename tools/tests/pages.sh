@@ -2,7 +2,7 @@
 # wherever it stands; and by made-up pages that a fault is told.
 # shellcheck shell=sh disable=SC2154
 
-holds 'links, files and numbers on pages' python3 "$tools/tests/pages.py" "$top"
+holds 'links, files and numbers on pages' python3 "$tools/tests/page_facts.py" "$top"
 
 rm -rf pages
 mkdir -p pages/docs pages/src
@@ -21,7 +21,7 @@ printf 'fixes\tdocs/FOX.md\thas ([0-9,]+)\nfixes\tsrc/fox.py\tFIXES = ([0-9_]+)\
 # What is said of a repository whose CONTRIBUTING.md is standard input.
 looks() {
     cat >pages/CONTRIBUTING.md
-    python3 "$tools/tests/pages.py" pages numbers >looked 2>&1
+    python3 "$tools/tests/page_facts.py" pages numbers >looked 2>&1
     ended=$?
 }
 # It has this one fault.

@@ -1,6 +1,6 @@
 """Finds what is wrong on the pages of a repository.
 
-    python3 pages.py TOP [NUMBERS]
+    python3 page_facts.py TOP [NUMBERS]
 
 TOP is the folder of the repository. On each page (`*.md`) a link within the repository has to lead to a file that is there,
 and to a heading of it where it names one. Each file that CONTRIBUTING.md names has to be there: a span such as
