@@ -3,8 +3,7 @@
 use range_estimator::Rows;
 use range_fixes::Name;
 use range_lanes::Extent;
-use range_lists::List;
-use range_plane::Polygon;
+use range_plane::{List, Polygon};
 use range_stats::PercentRow;
 
 /// Percent polygons, in the order of their levels.

@@ -6,7 +6,7 @@ use Rattle.std.proofs.lemmas.List.{length-drop, length-set}
 use Rattle.std.proofs.lemmas.Nat.{div-add-mod', div-mul-add, mod-mul-add}
 use Rattle.std.proofs.lemmas.Option.{same_Some, slice_get-map, slice_get_past, slice_get_within}
 use Rattle.range_collect.specs.Shares.{AreDealt, AreSharesOf}
-use Rattle.range_lemmas.proofs.Places.{map_length, mapped, mapped_from, of_all, set_or_kept, slice_get_last, there_is}
+use Rattle.range_lemmas.proofs.Indices.{map_length, mapped, mapped_from, of_all, set_or_kept, slice_get_last, there_is}
 
 -- ---- stride
 pub at_most_or_more : (a b : ℕ) → (a ≤ b) ⊎ (b < a)

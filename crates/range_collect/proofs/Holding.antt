@@ -13,7 +13,7 @@ use Rattle.range_line.specs.Messages.{fixes, fixes_in, joined, of_file, IsLawful
 use Rattle.range_estimator.specs.Estimation.{Estimation}
 use Rattle.range_collect.specs.Follow.{Holds}
 use Rattle.range_collect.specs.Work.{EachHolds}
-use Rattle.range_lemmas.proofs.Places.{mapped, range_at, set_or_kept}
+use Rattle.range_lemmas.proofs.Indices.{mapped, range_at, set_or_kept}
 
 -- ---- the estimators of a line
 pub place_is : (first step place file : ℕ) → 1 ≤ step → file ≡ first + place * step → (file - first) / step ≡ place

@@ -16,7 +16,7 @@ use Rattle.range_estimator.specs.Estimation.{Estimation}
 use Rattle.range_collect.specs.Follow.{Holds, IsFollowedAs, IsResult}
 use Rattle.range_collect.specs.LineFiles.{IsLineRun, IsSeen}
 use Rattle.range_pump.specs.Pump.{IsPumped, IsPumpedFrom, Read}
-use Rattle.range_lemmas.proofs.Places.{all_of, map_length, mapped, mapped_from, of_all, range_at, same_places, there_is, Threes, Twos}
+use Rattle.range_lemmas.proofs.Indices.{all_of, map_length, mapped, mapped_from, of_all, range_at, same_indices, there_is, Threes, Twos}
 
 -- ---- what the pumps gave
 module _ {S H : Type 0} (tell : Scale → S → Option Reading) (source : H → S) (feeder : H → FeederView) (plan : H → Plan) where
@@ -65,7 +65,7 @@ files_of_line first step size sources feeders reads worker line =
     let files : List ℕ = files_from first step (length sources) in
     let count : length (map (λ (f : FeederView). f.file) feeders) ≡ length files =
     map_length (λ (f : FeederView). f.file) feeders ∙ (line.counts.0 ∙ sym (length-map-range_with_len (λ (j : ℕ). first + j * step) 0 (length sources))) in
-    same_places (map (λ (f : FeederView). f.file) feeders) files count (λ place x y in_feeders in_files.
+    same_indices (map (λ (f : FeederView). f.file) feeders) files count (λ place x y in_feeders in_files.
     let f = mapped_from (λ (f : FeederView). f.file) feeders place x in_feeders in
     sym f.2 ∙ ((pumped_of first step size sources feeders reads worker line place f.0 f.1).2.file
     ∙ sym (range_at (λ (j : ℕ). first + j * step) (length sources) place y in_files).1))

@@ -11,7 +11,7 @@ use Rattle.range_collect.specs.LineFiles.{AreLinesFollowed, IsLineFollowed}
 use Rattle.range_collect.specs.Shares.{AreDealt}
 use Rattle.range_collect.specs.declared.followed.Followed.{Followed}
 use Rattle.range_collect.proofs.Deals.{at_most_or_more, share_of}
-use Rattle.range_lemmas.proofs.Places.{map_length, mapped_from, of_all, same_places, there_is}
+use Rattle.range_lemmas.proofs.Indices.{map_length, mapped_from, of_all, same_indices, there_is}
 
 -- ---- numbers
 -- indexes that leave the same over by the number of workers do so by the number of lines
@@ -48,7 +48,7 @@ same_line_followed first step block place w size told sources results followed e
 module _ {A : Type 0} {clone : Ghosts A} (size : ℕ) (sources : List (Option Reading)) (shares : List (List (Option Reading)))
     (results : List (List (Followed A clone))) where
   pub shares_alike : AreLinesFollowed size shares results → map length results ≡ map length shares
-  shares_alike are = same_places (map length results) (map length shares) (map_length length results ∙ (are.count ∙ sym (map_length length shares)))
+  shares_alike are = same_indices (map length results) (map length shares) (map_length length results ∙ (are.count ∙ sym (map_length length shares)))
       (λ place x y in_results in_shares.
       let r = mapped_from length results place x in_results in
       let l = mapped_from length shares place y in_shares in

@@ -12,7 +12,7 @@ use Rattle.range_plane.specs.declared.fix.Fix.{Fix}
 use Rattle.range_estimator.specs.declared.row.Row.{Row}
 use Rattle.range_estimator.specs.Estimation.{IsEstimate, IsTable}
 use Rattle.range_estimator.specs.Table.{fix_at, fixes_of}
-use Rattle.range_lemmas.proofs.Places.{before_or_last, slice_get_before, slice_get_last}
+use Rattle.range_lemmas.proofs.Indices.{before_or_last, slice_get_before, slice_get_last}
 use Rattle.range_estimator.proofs.Sets.{polygon_pushed}
 
 -- ---- fixes by their rows and points
@@ -35,23 +35,23 @@ abbrev Gives : List Fix → ℕ → ℕ → Type 0
 Gives fixes corners area = (L : List Position) × IsPolygon (points_of fixes) L × (length L ≡ corners) × (area2 L ≡ pos area)
 
 -- a fix more changes no row before it
-row_before : (fixes : List Fix) (fix : Fix) (place second corners area : ℕ) → place < length fixes → IsRow fixes (place + 1) second corners area
-    → IsRow (fixes ++ fix ∷ []) (place + 1) second corners area
-row_before fixes fix place second corners area h row =
+row_before : (fixes : List Fix) (fix : Fix) (index second corners area : ℕ) → index < length fixes → IsRow fixes (index + 1) second corners area
+    → IsRow (fixes ++ fix ∷ []) (index + 1) second corners area
+row_before fixes fix index second corners area h row =
     record {
       some = row.some;
-      last = ap (option_map (λ f. f.second)) (slice_get_before fixes fix (place + 1 - 1) (omega arith)) ∙ row.last;
-      polygon = subst (λ fs. Gives fs corners area) (sym (take-append-le (place + 1) fixes (fix ∷ []) (omega arith))) row.polygon;
+      last = ap (option_map (λ f. f.second)) (slice_get_before fixes fix (index + 1 - 1) (omega arith)) ∙ row.last;
+      polygon = subst (λ fs. Gives fs corners area) (sym (take-append-le (index + 1) fixes (fix ∷ []) (omega arith))) row.polygon;
     }
 
 row_of_all : (fixes : List Fix) (row : Row) (p : Position) (n : ℕ) → n ≡ length fixes → Gives (fixes ++ fix_at row p ∷ []) row.corners row.area2
     → IsRow (fixes ++ fix_at row p ∷ []) (n + 1) row.second row.corners row.area2
 row_of_all fixes row p n h gives =
     let all = fixes ++ fix_at row p ∷ [] in
-    let place : n + 1 - 1 ≡ length fixes = omega arith in
+    let index : n + 1 - 1 ≡ length fixes = omega arith in
     record {
       some = omega arith;
-      last = ap (λ k. option_map (λ f. f.second) (slice_get all k)) place ∙ ap (option_map (λ f. f.second)) (slice_get_last fixes (fix_at row p));
+      last = ap (λ k. option_map (λ f. f.second) (slice_get all k)) index ∙ ap (option_map (λ f. f.second)) (slice_get_last fixes (fix_at row p));
       polygon = subst (λ fs. Gives fs row.corners row.area2) (sym (take_all (n + 1) all (omega (arith, length-append fixes (fix_at row p ∷ []))))) gives;
     }
 
@@ -61,10 +61,10 @@ table_pushed fixes rows row p table gives =
     let fix = fix_at row p in
     record {
       count = omega (arith, table.count, length-append fixes (fix ∷ []), length-append rows (row ∷ []));
-      each = λ place r e. elim (before_or_last rows r row place e) [
-        | inl k ↦ row_before fixes fix place r.second r.corners r.area2 (omega (arith, table.count, slice_get_within rows place r k)) (table.each place r k)
-        | inr l ↦ subst (λ (x : Row). IsRow (fixes ++ fix ∷ []) (place + 1) x.second x.corners x.area2) l.1
-            (row_of_all fixes row p place (l.0 ∙ table.count) gives)
+      each = λ index r e. elim (before_or_last rows r row index e) [
+        | inl k ↦ row_before fixes fix index r.second r.corners r.area2 (omega (arith, table.count, slice_get_within rows index r k)) (table.each index r k)
+        | inr l ↦ subst (λ (x : Row). IsRow (fixes ++ fix ∷ []) (index + 1) x.second x.corners x.area2) l.1
+            (row_of_all fixes row p index (l.0 ∙ table.count) gives)
       ];
     }
 

@@ -9,7 +9,7 @@ use Rattle.range_estimator.specs.declared.row.Row.{Row}
 -- a row for each fix, that of the fixes up to it
 pub record IsTable (fixes : List Fix) (rows : List Row) : Type 0 where
   pub count : length rows ≡ length fixes
-  pub each : (place : ℕ) (row : Row) → slice_get rows place ≡ Some row → IsRow fixes (place + 1) row.second row.corners row.area2
+  pub each : (index : ℕ) (row : Row) → slice_get rows index ≡ Some row → IsRow fixes (index + 1) row.second row.corners row.area2
 
 -- the rows and the corners are those of the fixes
 pub record IsEstimate (fixes : List Fix) (rows : List Row) (corners : List Position) : Type 0 where

@@ -6,7 +6,7 @@ ghost use Rattle.range_plane.specs.Row.{points_of};
 use range_plane::{Columns, Fix, OutOfMemory};
 use std::alloc::Allocator;
 
-// Puts the points of a block in the place of others.
+// Puts the points of a block in place of others.
 pub(crate) fn load<A: Allocator>(points: &mut Columns<A>, block: &[Fix]) -> Result<(), OutOfMemory>
     ensures { OnOk result (points.new.points ≡ points_of block.now) }
 {

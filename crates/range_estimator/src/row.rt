@@ -1,6 +1,6 @@
 // The rows of the table of incremental area analysis.
 
-use range_lists::List;
+use range_plane::List;
 
 /// A row of the table of incremental area analysis (Harris et al. 1990): the range after one of the fixes.
 #[derive(Clone, Copy, PartialEq, Eq, Debug)]

@@ -18,7 +18,7 @@ use Rattle.range_hull.specs.Area.{wedge, path, signed, swept, swept_before, swep
 use Rattle.range_hull.specs.Chain.{bend, IsChain, LiesWithin}
 use Rattle.range_hull.specs.Hull.{inner, corners_of, AreChains}
 use Rattle.range_hull.proofs.Bends.{turn_of}
-use Rattle.range_hull.proofs.Chains.{IsPlaced, within_between}
+use Rattle.range_hull.proofs.Chains.{ReplacesRun, within_between}
 use Rattle.range_hull.proofs.Hulls.{length_corners}
 
 wedge_of : Expr → Expr → Expr → Expr → Expr
@@ -137,19 +137,19 @@ edge_origin p =
     (λ k. edge_none origin origin p h k))
 
 -- ---- how the doubled area grows
--- the doubled area before and after each step of an insertion, at the place where p falls
-pub record Grows (side : Side) (L : List Position) (p : Position) (from place to : ℕ) (a b c d : ℤ) : Type 0 where
-  pub outside : 0 < place → place < length L → b ≡ a +ℤ bend side (at L (place - 1)) p (at L place)
-  pub at_first : place ≡ 0 → b ≡ a
-  pub at_last : place ≡ length L → b ≡ a
-  pub before : 0 < place → c -ℤ swept_before side L p from ≡ b -ℤ swept_before side L p place
-  pub none_before : place ≡ 0 → c ≡ b
-  pub after : place < length L → d -ℤ swept_after side L p to ≡ c -ℤ swept_after side L p place
-  pub none_after : place ≡ length L → d ≡ c
+-- the doubled area before and after each step of an insertion, at the index where p falls
+pub record Grows (side : Side) (L : List Position) (p : Position) (from index to : ℕ) (a b c d : ℤ) : Type 0 where
+  pub outside : 0 < index → index < length L → b ≡ a +ℤ bend side (at L (index - 1)) p (at L index)
+  pub at_first : index ≡ 0 → b ≡ a
+  pub at_last : index ≡ length L → b ≡ a
+  pub before : 0 < index → c -ℤ swept_before side L p from ≡ b -ℤ swept_before side L p index
+  pub none_before : index ≡ 0 → c ≡ b
+  pub after : index < length L → d -ℤ swept_after side L p to ≡ c -ℤ swept_after side L p index
+  pub none_after : index ≡ length L → d ≡ c
 
-grown_between : (side : Side) (L : List Position) (p : Position) (from place to : ℕ) (a b c d : ℤ) → IsPlaced side L p from place to
-    → Grows side L p from place to a b c d → 0 < place → place < length L → d +ℤ swept side L ≡ a +ℤ swept side (replaced L p from to)
-grown_between Lower L p from place to a b c d t g h k =
+grown_between : (side : Side) (L : List Position) (p : Position) (from index to : ℕ) (a b c d : ℤ) → ReplacesRun side L p from index to
+    → Grows side L p from index to a b c d → 0 < index → index < length L → d +ℤ swept side L ≡ a +ℤ swept side (replaced L p from to)
+grown_between Lower L p from index to a b c d t g h k =
     omega (
       arith,
       linear,
@@ -158,10 +158,10 @@ grown_between Lower L p from place to a b c d t g h k =
       g.after k,
       path_before L (drop to L) p from (t.starts h) (omega (arith, t.low)),
       path_after L p to (t.stops k),
-      path_split L place h k,
-      turn_wedges (at L (place - 1)) p (at L place),
+      path_split L index h k,
+      turn_wedges (at L (index - 1)) p (at L index),
     )
-grown_between Upper L p from place to a b c d t g h k =
+grown_between Upper L p from index to a b c d t g h k =
     omega (
       arith,
       linear,
@@ -170,14 +170,14 @@ grown_between Upper L p from place to a b c d t g h k =
       g.after k,
       path_before L (drop to L) p from (t.starts h) (omega (arith, t.low)),
       path_after L p to (t.stops k),
-      path_split L place h k,
-      turn_wedges (at L (place - 1)) p (at L place),
+      path_split L index h k,
+      turn_wedges (at L (index - 1)) p (at L index),
     )
 
-grown_first : (side : Side) (L : List Position) (p : Position) (from place to : ℕ) (a b c d : ℤ) → IsPlaced side L p from place to
-    → Grows side L p from place to a b c d → place ≡ 0 → 0 < length L
+grown_first : (side : Side) (L : List Position) (p : Position) (from index to : ℕ) (a b c d : ℤ) → ReplacesRun side L p from index to
+    → Grows side L p from index to a b c d → index ≡ 0 → 0 < length L
     → d +ℤ swept side L +ℤ signed side (wedge p (at L 0)) ≡ a +ℤ swept side (replaced L p from to)
-grown_first Lower L p from place to a b c d t g z k =
+grown_first Lower L p from index to a b c d t g z k =
     let f : from ≡ 0 = omega (arith, t.low, z) in
     omega (
       arith,
@@ -189,7 +189,7 @@ grown_first Lower L p from place to a b c d t g z k =
       ap (λ (n : ℕ). path (take n L ++ p ∷ drop to L)) f,
       ap (λ (n : ℕ). wedge p (at L n) +ℤ path (drop n L)) z,
     )
-grown_first Upper L p from place to a b c d t g z k =
+grown_first Upper L p from index to a b c d t g z k =
     let f : from ≡ 0 = omega (arith, t.low, z) in
     omega (
       arith,
@@ -216,10 +216,10 @@ grown_empty Upper p from to = omega (
   path_end [] p to (omega arith),
 )
 
-grown_last : (side : Side) (L : List Position) (p : Position) (from place to : ℕ) (a b c d : ℤ) → IsPlaced side L p from place to
-    → Grows side L p from place to a b c d → 0 < place → place ≡ length L
+grown_last : (side : Side) (L : List Position) (p : Position) (from index to : ℕ) (a b c d : ℤ) → ReplacesRun side L p from index to
+    → Grows side L p from index to a b c d → 0 < index → index ≡ length L
     → d +ℤ swept side L +ℤ signed side (wedge (at L (length L - 1)) p) ≡ a +ℤ swept side (replaced L p from to)
-grown_last Lower L p from place to a b c d t g h e =
+grown_last Lower L p from index to a b c d t g h e =
     omega (
       arith,
       linear,
@@ -228,10 +228,10 @@ grown_last Lower L p from place to a b c d t g h e =
       g.none_after e,
       path_before L (drop to L) p from (t.starts h) (omega (arith, t.low, e)),
       path_end L p to (omega (arith, t.high, e)),
-      ap path (take_all place L (omega (arith, e))),
+      ap path (take_all index L (omega (arith, e))),
       ap (λ (n : ℕ). wedge (at L (n - 1)) p) e,
     )
-grown_last Upper L p from place to a b c d t g h e =
+grown_last Upper L p from index to a b c d t g h e =
     omega (
       arith,
       linear,
@@ -240,7 +240,7 @@ grown_last Upper L p from place to a b c d t g h e =
       g.none_after e,
       path_before L (drop to L) p from (t.starts h) (omega (arith, t.low, e)),
       path_end L p to (omega (arith, t.high, e)),
-      ap path (take_all place L (omega (arith, e))),
+      ap path (take_all index L (omega (arith, e))),
       ap (λ (n : ℕ). wedge (at L (n - 1)) p) e,
     )
 
@@ -251,35 +251,35 @@ signed_naught Upper = refl
 grown_so : (x y : ℤ) (side : Side) (e f : ℤ) → e ≡ f → x +ℤ signed side f ≡ y → x +ℤ signed side e ≡ y
 grown_so x y side e f h g = ap (λ (z : ℤ). x +ℤ signed side z) h ∙ g
 
-grown_from : (side : Side) (L : List Position) (p : Position) (from place to : ℕ) (a b c d : ℤ) → IsPlaced side L p from place to
-    → Grows side L p from place to a b c d → 0 < length L → d +ℤ swept side L +ℤ signed side (open_edge (at L 0) (at L (length L - 1)) p) ≡ a +ℤ swept side
+grown_from : (side : Side) (L : List Position) (p : Position) (from index to : ℕ) (a b c d : ℤ) → ReplacesRun side L p from index to
+    → Grows side L p from index to a b c d → 0 < length L → d +ℤ swept side L +ℤ signed side (open_edge (at L 0) (at L (length L - 1)) p) ≡ a +ℤ swept side
     (replaced L p from to)
-grown_from side L p from place to a b c d t g k =
-    elim (cases_lt 0 place) [
+grown_from side L p from index to a b c d t g k =
+    elim (cases_lt 0 index) [
       | inr z ↦ grown_so (d +ℤ swept side L) (a +ℤ swept side (replaced L p from to)) side _ _ (edge_first (at L 0) (at L (length L - 1)) p (t.after 0 z k))
-          (grown_first side L p from place to a b c d t g (omega (arith, z)) k)
-      | inl s ↦ elim (cases_lt place (length L)) [
+          (grown_first side L p from index to a b c d t g (omega (arith, z)) k)
+      | inl s ↦ elim (cases_lt index (length L)) [
         | inl l ↦ grown_so (d +ℤ swept side L) (a +ℤ swept side (replaced L p from to)) side _ _
             (edge_none (at L 0) (at L (length L - 1)) p (let u : rank (at L 0) <ℤ rank p = t.before 0 s in omega (arith, linear))
             (let u : rank p <ℤ rank (at L (length L - 1)) = t.after (length L - 1) (omega (arith, l)) (omega arith) in omega (arith, linear)))
-            (omega (arith, linear, signed_naught side, grown_between side L p from place to a b c d t g s l))
+            (omega (arith, linear, signed_naught side, grown_between side L p from index to a b c d t g s l))
         | inr m ↦
-            let e : place ≡ length L = omega (arith, m, t.high, t.within) in
+            let e : index ≡ length L = omega (arith, m, t.high, t.within) in
             grown_so (d +ℤ swept side L) (a +ℤ swept side (replaced L p from to)) side _ _
             (edge_last (at L 0) (at L (length L - 1)) p (let u : rank (at L 0) <ℤ rank p = t.before 0 s in omega (arith, linear))
             (t.before (length L - 1) (omega (arith, e, k))))
-            (grown_last side L p from place to a b c d t g s e)
+            (grown_last side L p from index to a b c d t g s e)
       ]
     ]
 
-pub grown : (side : Side) (L : List Position) (p : Position) (from place to : ℕ) (a b c d : ℤ) → IsPlaced side L p from place to
-    → Grows side L p from place to a b c d → d +ℤ swept side L +ℤ signed side (open_edge (at L 0) (at L (length L - 1)) p) ≡ a +ℤ swept side
+pub grown : (side : Side) (L : List Position) (p : Position) (from index to : ℕ) (a b c d : ℤ) → ReplacesRun side L p from index to
+    → Grows side L p from index to a b c d → d +ℤ swept side L +ℤ signed side (open_edge (at L 0) (at L (length L - 1)) p) ≡ a +ℤ swept side
     (replaced L p from to)
-grown side [] p from place to a b c d t g =
-    let z : place ≡ 0 = omega (arith, t.high, t.within) in
+grown side [] p from index to a b c d t g =
+    let z : index ≡ 0 = omega (arith, t.high, t.within) in
     grown_so (d +ℤ swept side []) (a +ℤ swept side (replaced [] p from to)) side _ _ (edge_origin p)
     (omega (arith, linear, signed_naught side, grown_empty side p from to, g.at_first z, g.none_before z, g.none_after z))
-grown side (x ∷ L) p from place to a b c d t g = grown_from side (x ∷ L) p from place to a b c d t g (omega arith)
+grown side (x ∷ L) p from index to a b c d t g = grown_from side (x ∷ L) p from index to a b c d t g (omega arith)
 
 -- a point within the chain adds nothing
 pub not_grown : {side : Side} {L : List Position} → IsChain side L → (p : Position) (a : ℤ) → LiesWithin side L p

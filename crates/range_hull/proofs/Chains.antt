@@ -9,7 +9,7 @@ use Rattle.range_plane.specs.Order.{rank, rank_base}
 use Rattle.range_plane.specs.Plane.{Position, IsAtMost, IsWithinLimits, origin}
 use Rattle.range_lemmas.proofs.Integers.{linear}
 use Rattle.range_lemmas.proofs.Numbered.{by_one_number}
-use Rattle.range_lemmas.proofs.Places.{replaced_length}
+use Rattle.range_lemmas.proofs.Indices.{replaced_length}
 use Rattle.range_pieces.specs.Pieces.{replaced}
 use Rattle.range_pieces.specs.PointList.{IsRising}
 use Rattle.range_hull.specs.declared.side.Side.{Side}
@@ -17,20 +17,20 @@ use Rattle.range_hull.specs.Chain.{bend, IsChain, LiesWithin, on_corner, on_chor
 use Rattle.range_hull.proofs.Bends.{bend_rotate, bend_flip, bend_back, bend_from, bend_to, bend_outer, bend_inner, dents_later, dents_earlier, lifted}
 use Rattle.range_hull.proofs.Bends.{chord_left, chord_right}
 
--- p falls at `place`, outside of the chain; the corners from `from` up to `to` dent the chain with p, and those around them don't
-pub record IsPlaced (side : Side) (L : List Position) (p : Position) (from place to : ℕ) : Type 0 where
-  pub low : from ≤ place
-  pub high : place ≤ to
+-- p falls at `index`, outside of the chain; the corners from `from` up to `to` dent the chain with p, and those around them don't
+pub record ReplacesRun (side : Side) (L : List Position) (p : Position) (from index to : ℕ) : Type 0 where
+  pub low : from ≤ index
+  pub high : index ≤ to
   pub within : to ≤ length L
-  pub starts : 0 < place → 0 < from
-  pub stops : place < length L → to < length L
-  pub before : (i : ℕ) → i < place → rank (at L i) <ℤ rank p
-  pub after : (i : ℕ) → place ≤ i → i < length L → rank p <ℤ rank (at L i)
-  pub outside : 0 < place → place < length L → pos 0 <ℤ bend side (at L (place - 1)) p (at L place)
+  pub starts : 0 < index → 0 < from
+  pub stops : index < length L → to < length L
+  pub before : (i : ℕ) → i < index → rank (at L i) <ℤ rank p
+  pub after : (i : ℕ) → index ≤ i → i < length L → rank p <ℤ rank (at L i)
+  pub outside : 0 < index → index < length L → pos 0 <ℤ bend side (at L (index - 1)) p (at L index)
   pub bends_before : 2 ≤ from → pos 0 <ℤ bend side (at L (from - 2)) (at L (from - 1)) p
-  pub dents_before : from < place → bend side (at L (from - 1)) (at L from) p ≤ℤ pos 0
+  pub dents_before : from < index → bend side (at L (from - 1)) (at L from) p ≤ℤ pos 0
   pub bends_after : to + 1 < length L → pos 0 <ℤ bend side p (at L to) (at L (to + 1))
-  pub dents_after : place < to → bend side p (at L (to - 1)) (at L to) ≤ℤ pos 0
+  pub dents_after : index < to → bend side p (at L (to - 1)) (at L to) ≤ℤ pos 0
 
 pub at_left : (L : List Position) (p : Position) (from to m : ℕ) → from ≤ to → to ≤ length L → m < from → at (replaced L p from to) m ≡ at L m
 at_left L p from to m h k lt =
@@ -50,9 +50,9 @@ at_right L p from to m x h k e le =
     ∙ ap (λ (y : ℕ). get_or L y origin) (let g : to + (x - to) ≡ x = omega arith in g)
 
 -- ---- bends with p of the corners that stay
-near_before : {side : Side} {L : List Position} {p : Position} {from place to : ℕ} → IsChain side L → IsPlaced side L p from place to → (i : ℕ) → i + 1 < from
+near_before : {side : Side} {L : List Position} {p : Position} {from index to : ℕ} → IsChain side L → ReplacesRun side L p from index to → (i : ℕ) → i + 1 < from
     → pos 0 <ℤ bend side (at L i) (at L (from - 1)) p
-near_before {side} {L} {p} {from} {place} {to} c t i h =
+near_before {side} {L} {p} {from} {index} {to} c t i h =
     elim (eq-or-lt_of_le (let k : i + 2 ≤ from = omega arith in k)) [
       | inl e ↦ subst (λ (x : ℕ). pos 0 <ℤ bend side (at L x) (at L (from - 1)) p) (let f : from - 2 ≡ i = omega (arith, e) in f) (t.bends_before (omega arith))
       | inr lt ↦ bend_outer side (at L i) (at L (from - 2)) (at L (from - 1)) p
@@ -61,9 +61,9 @@ near_before {side} {L} {p} {from} {place} {to} c t i h =
           (c.convex i (from - 2) (from - 1) (omega (arith, lt)) (omega (arith, lt)) (omega (arith, t.low, t.high, t.within))) (t.bends_before (omega arith))
     ]
 
-bends_before : {side : Side} {L : List Position} {p : Position} {from place to : ℕ} → IsChain side L → IsPlaced side L p from place to → (i j : ℕ) → i < j
+bends_before : {side : Side} {L : List Position} {p : Position} {from index to : ℕ} → IsChain side L → ReplacesRun side L p from index to → (i j : ℕ) → i < j
     → j < from → pos 0 <ℤ bend side (at L i) (at L j) p
-bends_before {side} {L} {p} {from} {place} {to} c t i j ij h =
+bends_before {side} {L} {p} {from} {index} {to} c t i j ij h =
     elim (eq-or-lt_of_le (let k : j + 1 ≤ from = omega arith in k)) [
       | inl e ↦ subst (λ (x : ℕ). pos 0 <ℤ bend side (at L i) (at L x) p) (let f : from - 1 ≡ j = omega (arith, e) in f) (near_before c t i (omega arith))
       | inr lt ↦ bend_inner side (at L i) (at L j) (at L (from - 1)) p (c.rising i j ij (omega (arith, t.low, t.high, t.within)))
@@ -71,18 +71,18 @@ bends_before {side} {L} {p} {from} {place} {to} c t i j ij h =
           (c.convex i j (from - 1) ij (omega (arith, lt)) (omega (arith, t.low, t.high, t.within))) (near_before c t j lt)
     ]
 
-near_after : {side : Side} {L : List Position} {p : Position} {from place to : ℕ} → IsChain side L → IsPlaced side L p from place to → (j : ℕ) → to < j
+near_after : {side : Side} {L : List Position} {p : Position} {from index to : ℕ} → IsChain side L → ReplacesRun side L p from index to → (j : ℕ) → to < j
     → j < length L → pos 0 <ℤ bend side p (at L to) (at L j)
-near_after {side} {L} {p} {from} {place} {to} c t j h k =
+near_after {side} {L} {p} {from} {index} {to} c t j h k =
     elim (eq-or-lt_of_le (let m : to + 1 ≤ j = omega arith in m)) [
       | inl e ↦ subst (λ (x : ℕ). pos 0 <ℤ bend side p (at L to) (at L x)) e (t.bends_after (omega (arith, e)))
       | inr lt ↦ bend_inner side p (at L to) (at L (to + 1)) (at L j) (t.after to t.high (omega arith)) (c.rising to (to + 1) (omega arith) (omega (arith, lt)))
           (c.rising (to + 1) j lt k) (t.bends_after (omega (arith, lt))) (c.convex to (to + 1) j (omega arith) lt k)
     ]
 
-bends_after : {side : Side} {L : List Position} {p : Position} {from place to : ℕ} → IsChain side L → IsPlaced side L p from place to → (i j : ℕ) → to ≤ i
+bends_after : {side : Side} {L : List Position} {p : Position} {from index to : ℕ} → IsChain side L → ReplacesRun side L p from index to → (i j : ℕ) → to ≤ i
     → i < j → j < length L → pos 0 <ℤ bend side p (at L i) (at L j)
-bends_after {side} {L} {p} {from} {place} {to} c t i j h ij k =
+bends_after {side} {L} {p} {from} {index} {to} c t i j h ij k =
     elim (eq-or-lt_of_le h) [
       | inl e ↦ subst (λ (x : ℕ). pos 0 <ℤ bend side p (at L x) (at L j)) e (near_after c t j (omega (arith, e)) k)
       | inr lt ↦ bend_outer side p (at L to) (at L i) (at L j) (t.after to t.high (omega (arith, lt))) (c.rising to i lt (omega arith)) (c.rising i j ij k)
@@ -90,31 +90,31 @@ bends_after {side} {L} {p} {from} {place} {to} c t i j h ij k =
     ]
 
 -- p lies outside of every chord above it
-outside_left : {side : Side} {L : List Position} {p : Position} {from place to : ℕ} → IsChain side L → IsPlaced side L p from place to → (i : ℕ) → i < place
-    → place < length L → pos 0 <ℤ bend side (at L i) p (at L place)
-outside_left {side} {L} {p} {from} {place} {to} c t i h k =
-    elim (eq-or-lt_of_le (let m : i + 1 ≤ place = omega arith in m)) [
-      | inl e ↦ subst (λ (x : ℕ). pos 0 <ℤ bend side (at L x) p (at L place)) (let f : place - 1 ≡ i = omega (arith, e) in f) (t.outside (omega arith) k)
+outside_left : {side : Side} {L : List Position} {p : Position} {from index to : ℕ} → IsChain side L → ReplacesRun side L p from index to → (i : ℕ) → i < index
+    → index < length L → pos 0 <ℤ bend side (at L i) p (at L index)
+outside_left {side} {L} {p} {from} {index} {to} c t i h k =
+    elim (eq-or-lt_of_le (let m : i + 1 ≤ index = omega arith in m)) [
+      | inl e ↦ subst (λ (x : ℕ). pos 0 <ℤ bend side (at L x) p (at L index)) (let f : index - 1 ≡ i = omega (arith, e) in f) (t.outside (omega arith) k)
       | inr lt ↦
-          let a = at L i in let b = at L (place - 1) in let d = at L place in
-          let g : pos 0 <ℤ bend side d a p = bend_to side a b p d (c.rising i place h k) (c.rising (place - 1) place (omega arith) k)
-          (t.after place (omega arith) k) (let u : pos 0 <ℤ bend side d a b =
-          omega (arith, linear, bend_rotate side d a b, c.convex i (place - 1) place (omega (arith, lt)) (omega arith) k) in u)
+          let a = at L i in let b = at L (index - 1) in let d = at L index in
+          let g : pos 0 <ℤ bend side d a p = bend_to side a b p d (c.rising i index h k) (c.rising (index - 1) index (omega arith) k)
+          (t.after index (omega arith) k) (let u : pos 0 <ℤ bend side d a b =
+          omega (arith, linear, bend_rotate side d a b, c.convex i (index - 1) index (omega (arith, lt)) (omega arith) k) in u)
           (let v : pos 0 <ℤ bend side d b p = omega (arith, linear, bend_rotate side d b p, t.outside (omega arith) k) in v) in
           omega (arith, linear, bend_rotate side d a p)
     ]
 
-outside_chord : {side : Side} {L : List Position} {p : Position} {from place to : ℕ} → IsChain side L → IsPlaced side L p from place to → (i j : ℕ) → i < place
-    → place ≤ j → j < length L → pos 0 <ℤ bend side (at L i) p (at L j)
-outside_chord {side} {L} {p} {from} {place} {to} c t i j h g k =
+outside_chord : {side : Side} {L : List Position} {p : Position} {from index to : ℕ} → IsChain side L → ReplacesRun side L p from index to → (i j : ℕ) → i < index
+    → index ≤ j → j < length L → pos 0 <ℤ bend side (at L i) p (at L j)
+outside_chord {side} {L} {p} {from} {index} {to} c t i j h g k =
     elim (eq-or-lt_of_le g) [
       | inl e ↦ subst (λ (x : ℕ). pos 0 <ℤ bend side (at L i) p (at L x)) e (outside_left c t i h (omega (arith, e)))
-      | inr lt ↦ bend_from side (at L i) p (at L place) (at L j) (t.before i h) (c.rising i place h (omega (arith, lt))) (c.rising i j (omega arith) k)
-          (outside_left c t i h (omega (arith, lt))) (c.convex i place j h lt k)
+      | inr lt ↦ bend_from side (at L i) p (at L index) (at L j) (t.before i h) (c.rising i index h (omega (arith, lt))) (c.rising i j (omega arith) k)
+          (outside_left c t i h (omega (arith, lt))) (c.convex i index j h lt k)
     ]
 
 -- ---- the new chain
--- what stands at place m of the new chain: p, or the corner x of the old one
+-- what stands at index m of the new chain: p, or the corner x of the old one
 data Spot (L : List Position) (p : Position) (from to m : ℕ) : Type 0 where
   new : m ≡ from → at (replaced L p from to) m ≡ p → Spot L p from to m
   left : m < from → at (replaced L p from to) m ≡ at L m → Spot L p from to m
@@ -141,9 +141,9 @@ pub turns_so : (P : Position → Position → Position → Type 0) (a b c x y z 
 turns_so P a b c x y z e f g h =
     subst (λ (u : Position). P u b c) (sym e) (subst (λ (v : Position). P x v c) (sym f) (subst (λ (w : Position). P x y w) (sym g) h))
 
-replaced_rising : {side : Side} {L : List Position} {p : Position} {from place to : ℕ} → IsChain side L → IsPlaced side L p from place to → (i j : ℕ) → i < j
+replaced_rising : {side : Side} {L : List Position} {p : Position} {from index to : ℕ} → IsChain side L → ReplacesRun side L p from index to → (i j : ℕ) → i < j
     → j < length (replaced L p from to) → rank (at (replaced L p from to) i) <ℤ rank (at (replaced L p from to) j)
-replaced_rising {side} {L} {p} {from} {place} {to} c t i j h k =
+replaced_rising {side} {L} {p} {from} {index} {to} c t i j h k =
     let fits : from ≤ to = omega (arith, t.low, t.high) in
     let M = replaced L p from to in
     let P : Position → Position → Type 0 = λ x y. rank x <ℤ rank y in
@@ -165,9 +165,9 @@ replaced_rising {side} {L} {p} {from} {place} {to} c t i j h k =
       ]
     ]
 
-replaced_convex : {side : Side} {L : List Position} {p : Position} {from place to : ℕ} → IsChain side L → IsPlaced side L p from place to → (i j k : ℕ) → i < j
+replaced_convex : {side : Side} {L : List Position} {p : Position} {from index to : ℕ} → IsChain side L → ReplacesRun side L p from index to → (i j k : ℕ) → i < j
     → j < k → k < length (replaced L p from to) → pos 0 <ℤ bend side (at (replaced L p from to) i) (at (replaced L p from to) j) (at (replaced L p from to) k)
-replaced_convex {side} {L} {p} {from} {place} {to} c t i j k ij jk h =
+replaced_convex {side} {L} {p} {from} {index} {to} c t i j k ij jk h =
     let fits : from ≤ to = omega (arith, t.low, t.high) in
     let M = replaced L p from to in
     let P : Position → Position → Position → Type 0 = λ x y z. pos 0 <ℤ bend side x y z in
@@ -225,21 +225,21 @@ replaced_convex {side} {L} {p} {from} {place} {to} c t i j k ij jk h =
       ]
     ]
 
-replaced_is_chain : {side : Side} {L : List Position} {p : Position} {from place to : ℕ} → IsChain side L → IsPlaced side L p from place to
+replaced_is_chain : {side : Side} {L : List Position} {p : Position} {from index to : ℕ} → IsChain side L → ReplacesRun side L p from index to
     → IsChain side (replaced L p from to)
 replaced_is_chain c t = record { rising = replaced_rising c t; convex = replaced_convex c t }
 
 -- ---- no corner lies outside of the two new edges
-past_left : {side : Side} {L : List Position} {p : Position} {from place to : ℕ} → IsChain side L → IsPlaced side L p from place to → (m : ℕ) → 0 < from
+past_left : {side : Side} {L : List Position} {p : Position} {from index to : ℕ} → IsChain side L → ReplacesRun side L p from index to → (m : ℕ) → 0 < from
     → m < length L → pos 0 ≤ℤ bend side (at L (from - 1)) p (at L m)
-past_left {side} {L} {p} {from} {place} {to} c t m s k =
+past_left {side} {L} {p} {from} {index} {to} c t m s k =
     let w = at L (from - 1) in
     elim (cases_lt m from) [
       | inl l ↦ elim (eq-or-lt_of_le (let g : m + 1 ≤ from = omega (arith, l) in g)) [
         | inl e ↦ subst (λ (x : ℕ). pos 0 ≤ℤ bend side w p (at L x)) (let f : from - 1 ≡ m = omega (arith, e) in f) (omega (arith, linear, bend_back side w p))
         | inr lt ↦ omega (arith, linear, bend_rotate side (at L m) w p, near_before c t m lt)
       ]
-      | inr g ↦ elim (cases_lt m place) [
+      | inr g ↦ elim (cases_lt m index) [
         | inl l ↦ elim (eq-or-lt_of_le g) [
           | inl e ↦ subst (λ (x : ℕ). pos 0 ≤ℤ bend side w p (at L x)) e
               (omega (arith, linear, bend_flip side w p (at L from), t.dents_before (omega (arith, e, l))))
@@ -251,12 +251,12 @@ past_left {side} {L} {p} {from} {place} {to} c t m s k =
       ]
     ]
 
-past_right : {side : Side} {L : List Position} {p : Position} {from place to : ℕ} → IsChain side L → IsPlaced side L p from place to → (m : ℕ) → to < length L
+past_right : {side : Side} {L : List Position} {p : Position} {from index to : ℕ} → IsChain side L → ReplacesRun side L p from index to → (m : ℕ) → to < length L
     → m < length L → pos 0 ≤ℤ bend side p (at L to) (at L m)
-past_right {side} {L} {p} {from} {place} {to} c t m s k =
+past_right {side} {L} {p} {from} {index} {to} c t m s k =
     let z = at L to in
     elim (cases_lt m to) [
-      | inl l ↦ elim (cases_lt m place) [
+      | inl l ↦ elim (cases_lt m index) [
         | inl l' ↦ omega (arith, linear, bend_rotate side (at L m) p z, outside_chord c t m to l' t.high s)
         | inr g ↦ elim (eq-or-lt_of_le (let u : m + 1 ≤ to = omega (arith, l) in u)) [
           | inl e ↦ subst (λ (x : ℕ). pos 0 ≤ℤ bend side p z (at L x)) (let f : to - 1 ≡ m = omega (arith, e) in f)
@@ -273,15 +273,15 @@ past_right {side} {L} {p} {from} {place} {to} c t m s k =
     ]
 
 -- ---- all that was within the chain is within the new one
-kept_corner_left : {side : Side} {L : List Position} {p : Position} {from place to : ℕ} → IsPlaced side L p from place to → (q : Position) (i : ℕ) → i < from
+kept_corner_left : {side : Side} {L : List Position} {p : Position} {from index to : ℕ} → ReplacesRun side L p from index to → (q : Position) (i : ℕ) → i < from
     → q ≡ at L i → LiesWithin side (replaced L p from to) q
-kept_corner_left {side} {L} {p} {from} {place} {to} t q i h e =
+kept_corner_left {side} {L} {p} {from} {index} {to} t q i h e =
     let fits : from ≤ to = omega (arith, t.low, t.high) in
     on_corner i (omega (arith, replaced_length L p from to fits t.within, t.within)) (e ∙ sym (at_left L p from to i fits t.within h))
 
-kept_corner_right : {side : Side} {L : List Position} {p : Position} {from place to : ℕ} → IsPlaced side L p from place to → (q : Position) (i : ℕ) → to ≤ i
+kept_corner_right : {side : Side} {L : List Position} {p : Position} {from index to : ℕ} → ReplacesRun side L p from index to → (q : Position) (i : ℕ) → to ≤ i
     → i < length L → q ≡ at L i → LiesWithin side (replaced L p from to) q
-kept_corner_right {side} {L} {p} {from} {place} {to} t q i h k e =
+kept_corner_right {side} {L} {p} {from} {index} {to} t q i h k e =
     let fits : from ≤ to = omega (arith, t.low, t.high) in
     on_corner (i + from + 1 - to) (omega (arith, replaced_length L p from to fits t.within))
     (e ∙ sym (at_right L p from to (i + from + 1 - to) i fits t.within (omega arith) h))
@@ -294,30 +294,30 @@ chord {side} M q a b i j e f ij k aq qb h =
     (subst (λ (x : Position). pos 0 ≤ℤ bend side x (at M j) q) (sym e) (subst (λ (x : Position). pos 0 ≤ℤ bend side a x q) (sym f) h))
 
 -- q between the corner before p and p
-in_left : {side : Side} {L : List Position} {p : Position} {from place to : ℕ} → IsChain side L → IsPlaced side L p from place to → (q : Position) → 0 < from
+in_left : {side : Side} {L : List Position} {p : Position} {from index to : ℕ} → IsChain side L → ReplacesRun side L p from index to → (q : Position) → 0 < from
     → rank (at L (from - 1)) ≤ℤ rank q → rank q ≤ℤ rank p → pos 0 ≤ℤ bend side (at L (from - 1)) p q → LiesWithin side (replaced L p from to) q
-in_left {side} {L} {p} {from} {place} {to} c t q s wq qp h =
+in_left {side} {L} {p} {from} {index} {to} c t q s wq qp h =
     let fits : from ≤ to = omega (arith, t.low, t.high) in
     chord (replaced L p from to) q (at L (from - 1)) p (from - 1) from (at_left L p from to (from - 1) fits t.within (omega arith))
     (at_here L p from to fits t.within) (omega arith) (omega (arith, replaced_length L p from to fits t.within, t.within)) wq qp h
 
-in_right : {side : Side} {L : List Position} {p : Position} {from place to : ℕ} → IsChain side L → IsPlaced side L p from place to → (q : Position)
+in_right : {side : Side} {L : List Position} {p : Position} {from index to : ℕ} → IsChain side L → ReplacesRun side L p from index to → (q : Position)
     → to < length L → rank p ≤ℤ rank q → rank q ≤ℤ rank (at L to) → pos 0 ≤ℤ bend side p (at L to) q → LiesWithin side (replaced L p from to) q
-in_right {side} {L} {p} {from} {place} {to} c t q s pq qz h =
+in_right {side} {L} {p} {from} {index} {to} c t q s pq qz h =
     let fits : from ≤ to = omega (arith, t.low, t.high) in
     chord (replaced L p from to) q p (at L to) from (from + 1) (at_here L p from to fits t.within)
     (at_right L p from to (from + 1) to fits t.within (omega arith) (omega arith)) (omega arith)
     (omega (arith, replaced_length L p from to fits t.within)) pq qz h
 
 -- a corner, kept or not
-corner_stays : {side : Side} {L : List Position} {p : Position} {from place to : ℕ} → IsChain side L → IsPlaced side L p from place to → (q : Position) (i : ℕ)
+corner_stays : {side : Side} {L : List Position} {p : Position} {from index to : ℕ} → IsChain side L → ReplacesRun side L p from index to → (q : Position) (i : ℕ)
     → i < length L → q ≡ at L i → LiesWithin side (replaced L p from to) q
-corner_stays {side} {L} {p} {from} {place} {to} c t q i k e =
+corner_stays {side} {L} {p} {from} {index} {to} c t q i k e =
     elim (cases_lt i from) [
       | inl l ↦ kept_corner_left t q i l e
       | inr g ↦ elim (cases_lt i to) [
         | inr ge ↦ kept_corner_right t q i ge k e
-        | inl l ↦ subst (λ (x : Position). LiesWithin side (replaced L p from to) x) (sym e) (elim (cases_lt i place) [
+        | inl l ↦ subst (λ (x : Position). LiesWithin side (replaced L p from to) x) (sym e) (elim (cases_lt i index) [
           | inl b ↦ in_left c t (at L i) (t.starts (omega (arith, b)))
               (let s : 0 < from = t.starts (omega (arith, b)) in let u : rank (at L (from - 1)) <ℤ rank (at L i) = c.rising (from - 1) i (omega (arith, g)) k in
               omega (arith, linear)) (let u : rank (at L i) <ℤ rank p = t.before i b in omega (arith, linear)) (past_left c t i (t.starts (omega (arith, b))) k)
@@ -340,11 +340,11 @@ stands_before {side} {L} c i j k lt =
     ]
 
 -- q past the chord from i to j, before the corner before p
-chord_stays_left : {side : Side} {L : List Position} {p : Position} {from place to : ℕ} → IsChain side L → IsPlaced side L p from place to
+chord_stays_left : {side : Side} {L : List Position} {p : Position} {from index to : ℕ} → IsChain side L → ReplacesRun side L p from index to
     → (q : Position) (i j : ℕ)
     → i < j → j < length L → rank (at L i) ≤ℤ rank q → rank q ≤ℤ rank (at L j) → pos 0 ≤ℤ bend side (at L i) (at L j) q → 0 < from
     → rank q <ℤ rank (at L (from - 1)) → LiesWithin side (replaced L p from to) q
-chord_stays_left {side} {L} {p} {from} {place} {to} c t q i j ij k iq qj h s qw =
+chord_stays_left {side} {L} {p} {from} {index} {to} c t q i j ij k iq qj h s qw =
     let fits : from ≤ to = omega (arith, t.low, t.high) in
     let M = replaced L p from to in
     let n = replaced_length L p from to fits t.within in
@@ -358,11 +358,11 @@ chord_stays_left {side} {L} {p} {from} {place} {to} c t q i j ij k iq qj h s qw 
           (c.convex i (from - 1) j iw (omega (arith, g)) k) h)
     ]
 
-chord_stays_right : {side : Side} {L : List Position} {p : Position} {from place to : ℕ} → IsChain side L → IsPlaced side L p from place to
+chord_stays_right : {side : Side} {L : List Position} {p : Position} {from index to : ℕ} → IsChain side L → ReplacesRun side L p from index to
     → (q : Position) (i j : ℕ)
     → i < j → j < length L → rank (at L i) ≤ℤ rank q → rank q ≤ℤ rank (at L j) → pos 0 ≤ℤ bend side (at L i) (at L j) q → to < length L
     → rank (at L to) <ℤ rank q → LiesWithin side (replaced L p from to) q
-chord_stays_right {side} {L} {p} {from} {place} {to} c t q i j ij k iq qj h s zq =
+chord_stays_right {side} {L} {p} {from} {index} {to} c t q i j ij k iq qj h s zq =
     let fits : from ≤ to = omega (arith, t.low, t.high) in
     let M = replaced L p from to in
     let n = replaced_length L p from to fits t.within in
@@ -376,16 +376,16 @@ chord_stays_right {side} {L} {p} {from} {place} {to} c t q i j ij k iq qj h s zq
           (c.convex i to j l zj k) h)
     ]
 
-chord_stays : {side : Side} {L : List Position} {p : Position} {from place to : ℕ} → IsChain side L → IsPlaced side L p from place to → (q : Position) (i j : ℕ)
+chord_stays : {side : Side} {L : List Position} {p : Position} {from index to : ℕ} → IsChain side L → ReplacesRun side L p from index to → (q : Position) (i j : ℕ)
     → i < j → j < length L → rank (at L i) ≤ℤ rank q → rank q ≤ℤ rank (at L j) → pos 0 ≤ℤ bend side (at L i) (at L j) q
     → LiesWithin side (replaced L p from to) q
-chord_stays {side} {L} {p} {from} {place} {to} c t q i j ij k iq qj h =
+chord_stays {side} {L} {p} {from} {index} {to} c t q i j ij k iq qj h =
     by_lt_z (rank q) (rank p)
     (λ qp. elim (cases_lt 0 from) [
       | inl s ↦ by_lt_z (rank q) (rank (at L (from - 1))) (chord_stays_left c t q i j ij k iq qj h s)
           (λ wq. in_left c t q s wq (omega (arith, linear)) (lifted side (at L (from - 1)) p (at L i) (at L j) q (t.before (from - 1) (omega (arith, s, t.low)))
           (c.rising i j ij k) iq qj (past_left c t i s (omega arith)) (past_left c t j s k) h))
-      | inr g ↦ absurd (let u : rank p <ℤ rank (at L i) = elim (cases_lt 0 place) [
+      | inr g ↦ absurd (let u : rank p <ℤ rank (at L i) = elim (cases_lt 0 index) [
         | inl b ↦ absurd (omega (arith, t.starts b, g))
         | inr b ↦ t.after i (omega (arith, b)) (omega arith)
       ] in omega (arith, linear))
@@ -394,28 +394,28 @@ chord_stays {side} {L} {p} {from} {place} {to} c t q i j ij k iq qj h =
       | inl s ↦ by_lt_z (rank (at L to)) (rank q) (chord_stays_right c t q i j ij k iq qj h s)
           (λ qz. in_right c t q s pq qz (lifted side p (at L to) (at L i) (at L j) q (t.after to t.high s) (c.rising i j ij k) iq qj
           (past_right c t i s (omega arith)) (past_right c t j s k) h))
-      | inr g ↦ absurd (let u : rank (at L j) <ℤ rank p = elim (cases_lt place (length L)) [
+      | inr g ↦ absurd (let u : rank (at L j) <ℤ rank p = elim (cases_lt index (length L)) [
         | inl b ↦ absurd (omega (arith, t.stops b, g))
         | inr b ↦ t.before j (omega (arith, b))
       ] in omega (arith, linear))
     ])
 
-stays_within : {side : Side} {L : List Position} {p : Position} {from place to : ℕ} → IsChain side L → IsPlaced side L p from place to → (q : Position)
+stays_within : {side : Side} {L : List Position} {p : Position} {from index to : ℕ} → IsChain side L → ReplacesRun side L p from index to → (q : Position)
     → LiesWithin side L q → LiesWithin side (replaced L p from to) q
 stays_within c t q (on_corner i k e) = corner_stays c t q i k e
 stays_within c t q (on_chord i j ij k iq qj h) = chord_stays c t q i j ij k iq qj h
 
-new_within : {side : Side} {L : List Position} {p : Position} {from place to : ℕ} → IsPlaced side L p from place to → LiesWithin side (replaced L p from to) p
-new_within {side} {L} {p} {from} {place} {to} t =
+new_within : {side : Side} {L : List Position} {p : Position} {from index to : ℕ} → ReplacesRun side L p from index to → LiesWithin side (replaced L p from to) p
+new_within {side} {L} {p} {from} {index} {to} t =
     let fits : from ≤ to = omega (arith, t.low, t.high) in
     on_corner from (omega (arith, replaced_length L p from to fits t.within)) (sym (at_here L p from to fits t.within))
 
--- a point that does not lie outside of the chain at its place
-pub inside_within : {side : Side} {L : List Position} {p : Position} {place : ℕ} → 0 < place → place < length L → rank (at L (place - 1)) <ℤ rank p
-    → rank p <ℤ rank (at L place) → bend side (at L (place - 1)) p (at L place) ≤ℤ pos 0 → LiesWithin side L p
-inside_within {side} {L} {p} {place} h k b a n =
-    on_chord (place - 1) place (omega arith) k (omega (arith, linear)) (omega (arith, linear))
-    (omega (arith, linear, bend_flip side (at L (place - 1)) (at L place) p))
+-- a point that does not lie outside of the chain at its index
+pub inside_within : {side : Side} {L : List Position} {p : Position} {index : ℕ} → 0 < index → index < length L → rank (at L (index - 1)) <ℤ rank p
+    → rank p <ℤ rank (at L index) → bend side (at L (index - 1)) p (at L index) ≤ℤ pos 0 → LiesWithin side L p
+inside_within {side} {L} {p} {index} h k b a n =
+    on_chord (index - 1) index (omega arith) k (omega (arith, linear)) (omega (arith, linear))
+    (omega (arith, linear, bend_flip side (at L (index - 1)) (at L index) p))
 
 -- ---- ends and members
 pub not_before : {side : Side} {L : List Position} → IsChain side L → (i j : ℕ) → i ≤ j → j < length L → rank (at L i) ≤ℤ rank (at L j)
@@ -450,9 +450,9 @@ first_kept c p h = let b = within_between c p h in inr (refl, b.some, b.first)
 last_kept : {side : Side} {L : List Position} → IsChain side L → (p : Position) → LiesWithin side L p → EndsAs L p L
 last_kept c p h = let b = within_between c p h in inr (refl, b.some, b.last)
 
-first_replaced : {side : Side} {L : List Position} {p : Position} {from place to : ℕ} → IsChain side L → IsPlaced side L p from place to
+first_replaced : {side : Side} {L : List Position} {p : Position} {from index to : ℕ} → IsChain side L → ReplacesRun side L p from index to
     → BeginsAs L p (replaced L p from to)
-first_replaced {side} {L} {p} {from} {place} {to} c t =
+first_replaced {side} {L} {p} {from} {index} {to} c t =
     let fits : from ≤ to = omega (arith, t.low, t.high) in
     elim (cases_lt 0 from) [
       | inl l ↦ inr (
@@ -463,16 +463,16 @@ first_replaced {side} {L} {p} {from} {place} {to} c t =
       | inr g ↦ inl (
         ap (at (replaced L p from to)) (let e : 0 ≡ from = omega (arith, g) in e)
             ∙ at_here L p from to fits t.within,
-        λ s. elim (cases_lt 0 place) [
+        λ s. elim (cases_lt 0 index) [
           | inl b ↦ absurd (omega (arith, t.starts b, g))
           | inr b ↦ t.after 0 (omega (arith, b)) s
         ],
       )
     ]
 
-last_replaced : {side : Side} {L : List Position} {p : Position} {from place to : ℕ} → IsChain side L → IsPlaced side L p from place to
+last_replaced : {side : Side} {L : List Position} {p : Position} {from index to : ℕ} → IsChain side L → ReplacesRun side L p from index to
     → EndsAs L p (replaced L p from to)
-last_replaced {side} {L} {p} {from} {place} {to} c t =
+last_replaced {side} {L} {p} {from} {index} {to} c t =
     let fits : from ≤ to = omega (arith, t.low, t.high) in
     let n = replaced_length L p from to fits t.within in
     elim (cases_lt to (length L)) [
@@ -480,15 +480,15 @@ last_replaced {side} {L} {p} {from} {place} {to} c t =
         at_right L p from to (length (replaced L p from to) - 1) (length L - 1) fits t.within (omega (arith, l)) (omega (arith, l)),
         omega (arith, l),
         (let u : rank p <ℤ rank (at L (length L - 1)) =
-            elim (cases_lt (length L - 1) place) [
-              | inl b ↦ absurd (let v : place ≡ length L = omega (arith, b, t.high, t.within) in omega (arith, t.high, l))
+            elim (cases_lt (length L - 1) index) [
+              | inl b ↦ absurd (let v : index ≡ length L = omega (arith, b, t.high, t.within) in omega (arith, t.high, l))
               | inr b ↦ t.after (length L - 1) b (omega (arith, l))
             ] in omega (arith, linear)),
       )
       | inr g ↦ inl (
         ap (at (replaced L p from to)) (let e : length (replaced L p from to) - 1 ≡ from = omega (arith, g, t.within) in e)
             ∙ at_here L p from to fits t.within,
-        λ s. elim (cases_lt place (length L)) [
+        λ s. elim (cases_lt index (length L)) [
           | inl b ↦ absurd (omega (arith, t.stops b, g))
           | inr b ↦ t.before (length L - 1) (omega (arith, b, s))
         ],
@@ -514,9 +514,9 @@ pub within_extends : {side : Side} {L : List Position} → IsChain side L → (p
 within_extends c p h = record { chain = c; keeps = λ q w. w; takes = h; members = λ q m. inr m; first = first_kept c p h; last = last_kept c p h }
 
 -- p takes the place of the corners that it covers
-pub replaced_extends : {side : Side} {L : List Position} {p : Position} {from place to : ℕ} → IsChain side L → IsPlaced side L p from place to
+pub replaced_extends : {side : Side} {L : List Position} {p : Position} {from index to : ℕ} → IsChain side L → ReplacesRun side L p from index to
     → Extends side L p (replaced L p from to)
-replaced_extends {side} {L} {p} {from} {place} {to} c t = record {
+replaced_extends {side} {L} {p} {from} {index} {to} c t = record {
   chain = replaced_is_chain c t;
   keeps = stays_within c t;
   takes = new_within t;
@@ -526,12 +526,12 @@ replaced_extends {side} {L} {p} {from} {place} {to} c t = record {
 }
 
 -- ---- what the code reads
-pub after_place : (L : List Position) (p : Position) (place : ℕ) → IsRising L → (place < length L → rank p <ℤ rank (at L place)) → (i : ℕ) → place ≤ i
+pub after_index : (L : List Position) (p : Position) (index : ℕ) → IsRising L → (index < length L → rank p <ℤ rank (at L index)) → (i : ℕ) → index ≤ i
     → i < length L → rank p <ℤ rank (at L i)
-after_place L p place c h i g k =
+after_index L p index c h i g k =
     elim (eq-or-lt_of_le g) [
       | inl e ↦ subst (λ (x : ℕ). rank p <ℤ rank (at L x)) e (h (omega (arith, e)))
-      | inr l ↦ let u : rank (at L place) <ℤ rank (at L i) = c place i l k in let v : rank p <ℤ rank (at L place) = h (omega arith) in omega (arith, linear)
+      | inr l ↦ let u : rank (at L index) <ℤ rank (at L i) = c index i l k in let v : rank p <ℤ rank (at L index) = h (omega arith) in omega (arith, linear)
     ]
 
 -- the order of points within the limits is that of their ranks

@@ -112,7 +112,7 @@ corners_added L M {U} {V} c t =
           ]
     ]
 
--- what stands at place m of the corners: a corner of the lower chain, or one between the ends of the upper
+-- what stands at index m of the corners: a corner of the lower chain, or one between the ends of the upper
 data Corner (L U : List Position) (m : ℕ) : Type 0 where
   low : m < length L → at (corners_of L U) m ≡ at L m → Corner L U m
   high : (x : ℕ) → length L ≤ m → 0 < x → x + 1 < length U → m + x + 2 ≡ length L + length U → at (corners_of L U) m ≡ at U x → Corner L U m

@@ -28,7 +28,7 @@ swept side L = signed side (path L)
 abbrev pub swept_before : Side → List Position → Position → ℕ → ℤ
 swept_before side L p k = signed side (path (take k L) +ℤ wedge (at L (k - 1)) p)
 
--- the same of p with the corners from place k on after it
+-- the same of p with the corners from index k on after it
 abbrev pub swept_after : Side → List Position → Position → ℕ → ℤ
 swept_after side L p k = signed side (wedge p (at L k) +ℤ path (drop k L))
 

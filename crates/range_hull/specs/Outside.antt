@@ -8,7 +8,7 @@ use Rattle.range_hull.specs.declared.side.Side.{Side}
 use Rattle.range_hull.specs.Chain.{LiesWithin, bend}
 use Rattle.range_hull.specs.Tally.{Count}
 
--- the test of p, which falls at place i of the chain L: its answer, and what was counted before and after it
+-- the test of p, which falls at index i of the chain L: its answer, and what was counted before and after it
 pub record IsTested (side : Side) (L : List Position) (i : ℕ) (p : Position) (is_outside : Bool) (old new : Count) : Type 0 where
   -- outside, p is past the edge between its neighbours, and no corner itself
   pub outside : OnTrue is_outside (0 < i → i < length L → pos 0 <ℤ bend side (at L (i - 1)) p (at L i))

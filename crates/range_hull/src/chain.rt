@@ -5,7 +5,7 @@ ghost use Rattle.std.specs.Prelude.{◌≡◌, ◌+◌, ◌-◌, ◌<◌, ◌≤
 ghost use Rattle.range_plane.specs.Edges.{at};
 ghost use Rattle.range_plane.specs.Order.{rank};
 ghost use Rattle.range_plane.specs.Plane.{IsWithinLimits};
-ghost use Rattle.range_pieces.specs.PointList.{Stands, place, points_in};
+ghost use Rattle.range_pieces.specs.PointList.{Stands, index, points_in};
 ghost use Rattle.range_hull.specs.Area.{open_edge, signed, swept, swept_after, swept_before};
 ghost use Rattle.range_hull.specs.Chain.{Extends, IsBeyond, IsChain, LiesWithin, bend};
 ghost use Rattle.range_hull.specs.Hull.{inner};
@@ -55,7 +55,7 @@ fn lies_outside<A: Allocator>(
 ) -> bool
     requires spot { IsSpot chain.now.pieces p spot }
     requires few { tally.old.turns < most_turns }
-    ensures { IsTested side (points_in chain.now) (place chain.now.pieces spot.at) p result
+    ensures { IsTested side (points_in chain.now) (index chain.now.pieces spot.at) p result
         tally.old tally.new }
 {
     let _ = chain;
@@ -71,7 +71,7 @@ fn lies_outside<A: Allocator>(
     tally.bulges(side, before, p, after)
 }
 
-// The place after the corners before `c` that stay once `p` stands there.
+// The index after the corners before `c` that stay once `p` stands there.
 fn kept_before<A: Allocator>(
     side: Side,
     chain: &PointList<A>,
@@ -80,21 +80,21 @@ fn kept_before<A: Allocator>(
     tally: &mut Tally,
 ) -> Cursor
     requires stands { Stands chain.now.pieces c }
-    requires few { tally.old.turns + place chain.now.pieces c ≤ most_turns }
+    requires few { tally.old.turns + index chain.now.pieces c ≤ most_turns }
     ensures stands { Stands chain.now.pieces result }
-    ensures bound { place chain.now.pieces result ≤ place chain.now.pieces c }
-    ensures starts { 0 < place chain.now.pieces c → 0 < place chain.now.pieces result }
-    ensures bends { let L = points_in chain.now in let k = place chain.now.pieces result in
+    ensures bound { index chain.now.pieces result ≤ index chain.now.pieces c }
+    ensures starts { 0 < index chain.now.pieces c → 0 < index chain.now.pieces result }
+    ensures bends { let L = points_in chain.now in let k = index chain.now.pieces result in
         2 ≤ k → pos 0 <ℤ bend side (at L (k - 2)) (at L (k - 1)) p }
-    ensures dents { let L = points_in chain.now in let k = place chain.now.pieces result in
-        k < place chain.now.pieces c → bend side (at L (k - 1)) (at L k) p ≤ℤ pos 0 }
-    ensures turns { tally.new.turns + place chain.now.pieces result ≤ tally.old.turns
-        + place chain.now.pieces c + 1 }
+    ensures dents { let L = points_in chain.now in let k = index chain.now.pieces result in
+        k < index chain.now.pieces c → bend side (at L (k - 1)) (at L k) p ≤ℤ pos 0 }
+    ensures turns { tally.new.turns + index chain.now.pieces result ≤ tally.old.turns
+        + index chain.now.pieces c + 1 }
     ensures rises { tally.old.turns ≤ tally.new.turns }
-    ensures swept { let L = points_in chain.now in let i = place chain.now.pieces c in 0 < i
-        → pos tally.new.area -ℤ swept_before side L p (place chain.now.pieces result)
+    ensures swept { let L = points_in chain.now in let i = index chain.now.pieces c in 0 < i
+        → pos tally.new.area -ℤ swept_before side L p (index chain.now.pieces result)
         ≡ pos tally.old.area -ℤ swept_before side L p i }
-    ensures none { place chain.now.pieces c ≡ 0 → tally.new.area ≡ tally.old.area }
+    ensures none { index chain.now.pieces c ≡ 0 → tally.new.area ≡ tally.old.area }
 {
     let mut kept = c;
     while !chain.is_start(kept) {
@@ -111,7 +111,7 @@ fn kept_before<A: Allocator>(
     kept
 }
 
-// The place before the first corner from `c` on that stays once `p` stands before it.
+// The index before the first corner from `c` on that stays once `p` stands before it.
 fn kept_after<A: Allocator>(
     side: Side,
     chain: &PointList<A>,
@@ -121,24 +121,24 @@ fn kept_after<A: Allocator>(
 ) -> Cursor
     requires stands { Stands chain.now.pieces c }
     requires few { tally.old.turns + length (points_in chain.now) ≤ most_turns
-        + place chain.now.pieces c }
+        + index chain.now.pieces c }
     ensures stands { Stands chain.now.pieces result }
-    ensures bound { place chain.now.pieces c ≤ place chain.now.pieces result }
-    ensures within { place chain.now.pieces result ≤ length (points_in chain.now) }
-    ensures stops { let L = points_in chain.now in place chain.now.pieces c < length L
-        → place chain.now.pieces result < length L }
-    ensures bends { let L = points_in chain.now in let k = place chain.now.pieces result in
+    ensures bound { index chain.now.pieces c ≤ index chain.now.pieces result }
+    ensures within { index chain.now.pieces result ≤ length (points_in chain.now) }
+    ensures stops { let L = points_in chain.now in index chain.now.pieces c < length L
+        → index chain.now.pieces result < length L }
+    ensures bends { let L = points_in chain.now in let k = index chain.now.pieces result in
         k + 1 < length L → pos 0 <ℤ bend side p (at L k) (at L (k + 1)) }
-    ensures dents { let L = points_in chain.now in let k = place chain.now.pieces result in
-        place chain.now.pieces c < k → bend side p (at L (k - 1)) (at L k) ≤ℤ pos 0 }
-    ensures turns { tally.new.turns + place chain.now.pieces c ≤ tally.old.turns
-        + place chain.now.pieces result + 1 }
+    ensures dents { let L = points_in chain.now in let k = index chain.now.pieces result in
+        index chain.now.pieces c < k → bend side p (at L (k - 1)) (at L k) ≤ℤ pos 0 }
+    ensures turns { tally.new.turns + index chain.now.pieces c ≤ tally.old.turns
+        + index chain.now.pieces result + 1 }
     ensures rises { tally.old.turns ≤ tally.new.turns }
-    ensures swept { let L = points_in chain.now in let i = place chain.now.pieces c in
+    ensures swept { let L = points_in chain.now in let i = index chain.now.pieces c in
         i < length L
-        → pos tally.new.area -ℤ swept_after side L p (place chain.now.pieces result)
+        → pos tally.new.area -ℤ swept_after side L p (index chain.now.pieces result)
         ≡ pos tally.old.area -ℤ swept_after side L p i }
-    ensures none { place chain.now.pieces c ≡ length (points_in chain.now)
+    ensures none { index chain.now.pieces c ≡ length (points_in chain.now)
         → tally.new.area ≡ tally.old.area }
 {
     let mut kept = c;

@@ -5,7 +5,7 @@ ghost use Rattle.range_hull.specs.Hull.{AreChains};
 ghost use Rattle.range_hull.specs.Spot.{IsSpot};
 
 use crate::spot::{Spot, spot_at, spot_in};
-use range_pieces::{PointList, places_in_both};
+use range_pieces::{PointList, indices_in_both};
 use range_plane::Point;
 use std::alloc::Allocator;
 
@@ -23,6 +23,6 @@ pub(crate) fn spots_of<A: Allocator>(
     if lower.piece_count() != 1 || upper.piece_count() != 1 {
         return (spot_at(lower, lower.find(p)), spot_at(upper, upper.find(p)));
     }
-    let (in_lower, in_upper) = places_in_both(lower.piece(0), upper.piece(0), p);
+    let (in_lower, in_upper) = indices_in_both(lower.piece(0), upper.piece(0), p);
     (spot_in(lower, in_lower), spot_in(upper, in_upper))
 }

@@ -2,7 +2,7 @@
 
 ghost use Rattle.std.specs.Prelude.{◌≡◌, ◌≤◌, length};
 ghost use Rattle.range_pieces.specs.Pieces.{piece};
-ghost use Rattle.range_pieces.specs.PointList.{Stands, place, points_in};
+ghost use Rattle.range_pieces.specs.PointList.{Stands, index, points_in};
 ghost use Rattle.range_hull.specs.Spot.{IsBeside};
 
 use range_pieces::{Cursor, PointList};
@@ -18,13 +18,13 @@ pub(crate) struct Spot {
     pub(crate) after: Option<Point>,
 }
 
-// The spot at place `k` of the only piece.
+// The spot at index `k` of the only piece.
 #[inline(always)]
 pub(crate) fn spot_in<A: Allocator>(chain: &PointList<A>, k: usize) -> Spot
     requires one { length chain.now.pieces ≡ 1 }
     requires within { k ≤ length (piece chain.now.pieces 0) }
     ensures stands { Stands chain.now.pieces result.at }
-    ensures place { place chain.now.pieces result.at ≡ k }
+    ensures index { index chain.now.pieces result.at ≡ k }
     ensures beside { IsBeside (points_in chain.now) k result.before result.after }
 {
     let points = chain.piece(0);
@@ -44,7 +44,7 @@ pub(crate) fn spot_at<A: Allocator>(chain: &PointList<A>, c: Cursor) -> Spot
     requires { Stands chain.now.pieces c }
     ensures at { result.at ≡ c }
     ensures beside { IsBeside (points_in chain.now)
-        (place chain.now.pieces c) result.before result.after }
+        (index chain.now.pieces c) result.before result.after }
 {
     Spot {
         at: c,

@@ -1,4 +1,4 @@
--- What a test of a group says of the point at a place.
+-- What a test of a group says of the point at an index.
 use Rattle.std.proofs.Common.{◌≡◌, ℕ, ◌+◌, ◌<◌, ◌≤◌, ℤ, Bool, true, false, List, length, map, get_or, slice_get, Some, ap, ◌∙◌, sym, inl, inr, arith}
 use lib.Lanes.{chunk}
 use Rattle.std.proofs.lemmas.List.{get_or-map, length-map}

@@ -6,37 +6,37 @@ use Rattle.std.proofs.lemmas.Bool.{cases_eq}
 use Rattle.range_plane.specs.Laws.{CoveringMembersAreCorners, SetsCoverTheirMembers}
 use Rattle.range_plane.specs.Plane.{IsAtMost, Position}
 use Rattle.range_plane.specs.Polygon.{BeginsWithLeast, IsPolygon, TurnsLeft}
-use Rattle.range_lanes.specs.InnerPlaces.{place_of}
+use Rattle.range_lanes.specs.InnerIndices.{index_of}
 use Rattle.range_lanes.specs.declared.inner.TheConstants.{INNER_CORNERS}
 
-next_place : (n i : ℕ) → INNER_CORNERS ≤ n → place_of i n < place_of (suc i) n
-next_place n i many = omega (arith, suc-mul i n)
+next_index : (n i : ℕ) → INNER_CORNERS ≤ n → index_of i n < index_of (suc i) n
+next_index n i many = omega (arith, suc-mul i n)
 
-places_rise : (n i j : ℕ) → INNER_CORNERS ≤ n → i < j → place_of i n < place_of j n
-places_rise n i zero many less = absurd (omega (arith, less))
-places_rise n i (suc j) many less =
+indices_rise : (n i j : ℕ) → INNER_CORNERS ≤ n → i < j → index_of i n < index_of j n
+indices_rise n i zero many less = absurd (omega (arith, less))
+indices_rise n i (suc j) many less =
     elim (cases_eq i j) [
-      | inl same ↦ subst (λ k. place_of k n < place_of (suc j) n) (sym same) (next_place n j many)
-      | inr other ↦ omega (arith, places_rise n i j many (omega (arith, less, other)), next_place n j many)
+      | inl same ↦ subst (λ k. index_of k n < index_of (suc j) n) (sym same) (next_index n j many)
+      | inr other ↦ omega (arith, indices_rise n i j many (omega (arith, less, other)), next_index n j many)
     ]
 
-place_within : (n i : ℕ) → INNER_CORNERS ≤ n → i < INNER_CORNERS → place_of i n < n
-place_within n i many few =
+index_within : (n i : ℕ) → INNER_CORNERS ≤ n → i < INNER_CORNERS → index_of i n < n
+index_within n i many few =
     let first : suc i ≤ INNER_CORNERS = omega (arith, few) in
     omega (arith, suc-mul i n, mul-le-mul_right n first)
 
--- the corners at these places
+-- the corners at these indices
 pub record AreTaken (L inner : List Position) : Type 0 where
   pub many : INNER_CORNERS ≤ length L
   pub count : length inner ≡ INNER_CORNERS
-  pub each : (i : ℕ) (d : Position) → i < INNER_CORNERS → get_or inner i d ≡ get_or L (place_of i (length L)) d
+  pub each : (i : ℕ) (d : Position) → i < INNER_CORNERS → get_or inner i d ≡ get_or L (index_of i (length L)) d
 
 module _ (L inner : List Position) (taken : AreTaken L inner) where
-  abbrev place : ℕ → ℕ
-  place i = place_of i (length L)
+  abbrev index : ℕ → ℕ
+  index i = index_of i (length L)
 
-  rise : (i j : ℕ) → i < j → place i < place j
-  rise i j less = places_rise (length L) i j taken.many less
+  rise : (i j : ℕ) → i < j → index i < index j
+  rise i j less = indices_rise (length L) i j taken.many less
 
   inside : (i : ℕ) → i < length inner → i < INNER_CORNERS
   inside i within = omega (arith, taken.count, within)
@@ -44,25 +44,25 @@ module _ (L inner : List Position) (taken : AreTaken L inner) where
   pub taken_members : (x : Position) → Contains inner x → Contains L x
   taken_members x member =
       let few = inside member.0 member.1 in
-      (place member.0, place_within (length L) member.0 taken.many few, sym (taken.each member.0 x few) ∙ member.2)
+      (index member.0, index_within (length L) member.0 taken.many few, sym (taken.each member.0 x few) ∙ member.2)
 
   taken_distinct : AllPairs (λ a b. a ≢ b) L → AllPairs (λ a b. a ≢ b) inner
   taken_distinct distinct = λ i j d less within same.
       let few = inside j within in
-      distinct (place i) (place j) d (rise i j less) (place_within (length L) j taken.many few)
+      distinct (index i) (index j) d (rise i j less) (index_within (length L) j taken.many few)
       (sym (taken.each i d (omega (arith, less, few))) ∙ same ∙ taken.each j d few)
 
   taken_turns : TurnsLeft L → TurnsLeft inner
   taken_turns turns = λ i j k d first second within.
       let few = inside k within in
       rw (taken.each i d (omega (arith, first, second, few)), taken.each j d (omega (arith, second, few)), taken.each k d few)
-      (turns (place i) (place j) (place k) d (rise i j first) (rise j k second) (place_within (length L) k taken.many few))
+      (turns (index i) (index j) (index k) d (rise i j first) (rise j k second) (index_within (length L) k taken.many few))
 
 taken_least : (L inner : List Position) → AreTaken L inner → BeginsWithLeast L → BeginsWithLeast inner
 taken_least [] inner taken least = absurd (omega (arith, taken.many))
 taken_least (c ∷ L) [] taken least = tt
 taken_least (c ∷ L) (a ∷ inner) taken least = λ x member.
-    let start : place_of 0 (length (c ∷ L)) ≡ 0 = omega arith in
+    let start : index_of 0 (length (c ∷ L)) ≡ 0 = omega arith in
     let first : a ≡ c = taken.each 0 c (omega arith) ∙ (λ i. get_or (c ∷ L) (start i) c) in
     subst (λ y. IsAtMost y x) (sym first) (least x (taken_members (c ∷ L) (a ∷ inner) taken x member))
 

@@ -1,5 +1,5 @@
 pub mod EdgeLines
 pub mod Extent
-pub mod InnerPlaces
+pub mod InnerIndices
 pub mod Lanes
 pub mod Totals

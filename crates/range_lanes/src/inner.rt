@@ -1,7 +1,7 @@
 // Some corners of a polygon, which are a polygon within it.
 
 ghost use Rattle.std.specs.Prelude.{◌≡◌, ◌<◌, ◌≤◌, Contains, length};
-ghost use Rattle.range_lanes.specs.InnerPlaces.{place_of};
+ghost use Rattle.range_lanes.specs.InnerIndices.{index_of};
 ghost use Rattle.range_plane.specs.Plane.{Position};
 ghost use Rattle.range_plane.specs.Polygon.{IsPolygon};
 
@@ -11,10 +11,10 @@ use range_plane::{Point, covering_members_are_corners, sets_cover_their_members}
 // docs/PERFORMANCE.md has what they cost.
 pub(crate) const INNER_CORNERS: usize = 12;
 
-// The place of an inner corner among so many corners, without a product that could be too great.
-fn place_of(inner: usize, corners: usize) -> usize
+// The index of an inner corner among so many corners, without a product that could be too great.
+fn index_of(inner: usize, corners: usize) -> usize
     requires { inner < INNER_CORNERS }
-    ensures { result ≡ place_of inner corners }
+    ensures { result ≡ index_of inner corners }
 {
     inner * (corners / INNER_CORNERS) + inner * (corners % INNER_CORNERS) / INNER_CORNERS
 }
@@ -31,7 +31,7 @@ pub(crate) fn inner_of(corners: &[Point]) -> [Point; INNER_CORNERS]
     covering_members_are_corners();
     let mut inner = [corners[0]; INNER_CORNERS];
     for i in 0..INNER_CORNERS {
-        inner[i] = corners[place_of(i, corners.len())];
+        inner[i] = corners[index_of(i, corners.len())];
     }
     inner
 }

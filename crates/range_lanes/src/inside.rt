@@ -21,7 +21,7 @@ use std::alloc::Allocator;
 // How many groups of eight points the inner polygon may tell nothing of, one after the other, before it is not asked.
 const TRIES: u32 = 8;
 
-/// Marks at the place of each point whether the polygon covers it. Each edge costs a few steps for eight points.
+/// Marks at the index of each point whether the polygon covers it. Each edge costs a few steps for eight points.
 /// Where there are more than twelve corners, a polygon of twelve of them is tried, and each point that it does not
 /// cover costs a binary search. So does each of the up to seven points behind the last eight.
 pub fn mark_inside<A: Allocator, B: Allocator>(
@@ -74,7 +74,7 @@ fn mark_groups<A: Allocator, B: Allocator>(
 fn mark_by_edges<A: Allocator>(corners: &[Point], cols: &Columns<A>, out: &mut [bool]) -> usize
     requires polygon { IsPolygon corners.now corners.now }
     requires few { length corners.now ≤ LANE_CORNERS }
-    requires places { length out.old ≡ length cols.now.points }
+    requires indices { length out.old ≡ length cols.now.points }
     ensures within { result ≤ length cols.now.points }
     ensures marks { take result out.new
         ≡ map (is_covered corners.now) (take result cols.now.points) }
@@ -100,7 +100,7 @@ fn mark_by_inner<A: Allocator, B: Allocator>(
     out: &mut [bool],
 ) -> usize
     requires many { INNER_CORNERS ≤ length polygon.now }
-    requires places { length out.old ≡ length cols.now.points }
+    requires indices { length out.old ≡ length cols.now.points }
     ensures within { result ≤ length cols.now.points }
     ensures marks { take result out.new
         ≡ map (is_covered polygon.now) (take result cols.now.points) }
@@ -132,7 +132,7 @@ fn mark_group<A: Allocator, B: Allocator>(
 ) -> bool
     requires within { (p : Position) → Contains inner.now p → Contains polygon.now p }
     requires room { at + LANE_COUNT ≤ length cols.now.points }
-    requires places { length out.old ≡ length cols.now.points }
+    requires indices { length out.old ≡ length cols.now.points }
     ensures { take (at + LANE_COUNT) out.new
         ≡ take at out.old ++ map (is_covered polygon.now) (chunk at LANE_COUNT cols.now.points) }
 {
@@ -162,7 +162,7 @@ fn mark_each<A: Allocator, B: Allocator>(
         → slice_get cols.now.points (at + i) ≡ Some p
         → is_not_negative number ≡ true → is_covered polygon.now p ≡ true }
     requires room { at + LANE_COUNT ≤ length cols.now.points }
-    requires places { length out.old ≡ length cols.now.points }
+    requires indices { length out.old ≡ length cols.now.points }
     ensures { take (at + LANE_COUNT) out.new
         ≡ take at out.old ++ map (is_covered polygon.now) (chunk at LANE_COUNT cols.now.points) }
 {
@@ -312,9 +312,9 @@ fn count_each<A: Allocator, B: Allocator>(
     ensures { result ≡ count_by (is_covered polygon.now) (chunk at LANE_COUNT cols.now.points) }
 {
     let mut count = 0;
-    for place in 0..LANE_COUNT {
-        let p = cols.at(at + place);
-        count += u64::from(is_known_or_covered(polygon, numbers[place], p));
+    for index in 0..LANE_COUNT {
+        let p = cols.at(at + index);
+        count += u64::from(is_known_or_covered(polygon, numbers[index], p));
     }
     count
 }

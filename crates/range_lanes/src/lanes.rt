@@ -177,7 +177,7 @@ impl Lanes {
             .count_ones()
     }
 
-    // Says at the eight places from `at` on which of the numbers are at least 0.
+    // Says at the eight indices from `at` on which of the numbers are at least 0.
     #[inline(always)]
     pub(crate) fn mark(self, out: &mut [bool], at: usize)
         requires { at + LANE_COUNT ≤ length out.old }

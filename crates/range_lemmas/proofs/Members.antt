@@ -11,12 +11,12 @@ contains_later y xs x c = (suc c.0, suc-le-suc c.1, c.2)
 pub empty_contains_nothing : {X : Type 0} (x : X) → Contains [] x → ⊥
 empty_contains_nothing x c = not-suc-le-zero c.1
 
-at_place : {X : Type 0} (y : X) (xs : List X) (x : X) (k : ℕ) → k < suc (length xs) → get_or (y ∷ xs) k x ≡ x → (x ≡ y) ⊎ Contains xs x
-at_place y xs x zero h e = inl (sym e)
-at_place y xs x (suc k) h e = inr (k, le_of_suc-le-suc h, e)
+at_index : {X : Type 0} (y : X) (xs : List X) (x : X) (k : ℕ) → k < suc (length xs) → get_or (y ∷ xs) k x ≡ x → (x ≡ y) ⊎ Contains xs x
+at_index y xs x zero h e = inl (sym e)
+at_index y xs x (suc k) h e = inr (k, le_of_suc-le-suc h, e)
 
 pub contained : {X : Type 0} (y : X) (xs : List X) (x : X) → Contains (y ∷ xs) x → (x ≡ y) ⊎ Contains xs x
-contained y xs x c = at_place y xs x c.0 c.1 c.2
+contained y xs x c = at_index y xs x c.0 c.1 c.2
 
 -- each member of y ∷ S, from y and from each member of S
 pub each : {X : Type 0} (P : X → Type 0) (y : X) (S : List X) → P y → ((x : X) → Contains S x → P x) → (x : X) → Contains (y ∷ S) x → P x

@@ -3,8 +3,7 @@
 ghost use Rattle.std.specs.Prelude.{◌≡◌, false};
 ghost use Rattle.range_line.specs.Messages.{fixes_in, is_mark};
 
-use range_lists::List;
-use range_plane::Fix;
+use range_plane::{Fix, List};
 
 /// Fixes in the order of their file. Contracts see the list.
 pub type Block = List<Fix>;

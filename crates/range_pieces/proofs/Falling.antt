@@ -1,4 +1,4 @@
--- Places in pieces, and where a point falls among points that rise.
+-- Indices in pieces, and where a point falls among points that rise.
 use Rattle.std.proofs.Common.{◌≡◌, sym, ap, subst, ℕ, zero, suc, ◌+◌, ◌-◌, ◌*◌, ◌/◌, ◌<◌, ◌≤◌, ◌<ℤ◌, ◌≤ℤ◌, ◌⊎◌, inl, inr, List, [], ◌∷◌, length, get_or, arith}
 use Rattle.std.proofs.Common.{eq-or-lt_of_le}
 use Rattle.std.proofs.lemmas.Bool.{cases_lt}
@@ -9,7 +9,7 @@ use Rattle.range_plane.specs.Plane.{Position, origin}
 use Rattle.range_lemmas.proofs.Integers.{linear}
 use Rattle.range_pieces.specs.declared.cursor.Cursor.{Cursor}
 use Rattle.range_pieces.specs.Pieces.{IsCut, all_points, piece, offset}
-use Rattle.range_pieces.specs.PointList.{FallsAt, IsRising, Stands, place}
+use Rattle.range_pieces.specs.PointList.{FallsAt, IsRising, Stands, index}
 use Rattle.range_pieces.specs.Rising.{IsBetween, Rises, first_of}
 use Rattle.range_pieces.proofs.Joins.{get_or_joined, offset_more, offset_all, offset_within}
 
@@ -33,34 +33,34 @@ one_piece (b ∷ []) e = append-nil b
 one_piece (b ∷ c ∷ bs) e = absurd (omega (arith, e))
 
 -- ---- cursors
-pub place_at_end : (bs : List (List Position)) (c : Cursor) → Stands bs c → c.piece ≡ length bs → place bs c ≡ length (all_points bs)
-place_at_end bs c s e = omega (arith, offset_all bs c.piece (omega (arith, e)), s.at_end e)
+pub index_at_end : (bs : List (List Position)) (c : Cursor) → Stands bs c → c.piece ≡ length bs → index bs c ≡ length (all_points bs)
+index_at_end bs c s e = omega (arith, offset_all bs c.piece (omega (arith, e)), s.at_end e)
 
-pub place_before_end : (bs : List (List Position)) (c : Cursor) → Stands bs c → c.piece < length bs → place bs c < length (all_points bs)
-place_before_end bs c s h = omega (arith, s.before_point h, offset_more bs c.piece h, offset_within bs (c.piece + 1))
+pub index_before_end : (bs : List (List Position)) (c : Cursor) → Stands bs c → c.piece < length bs → index bs c < length (all_points bs)
+index_before_end bs c s h = omega (arith, s.before_point h, offset_more bs c.piece h, offset_within bs (c.piece + 1))
 
-pub place_within : (bs : List (List Position)) (c : Cursor) → Stands bs c → place bs c ≤ length (all_points bs)
-place_within bs c s =
+pub index_within : (bs : List (List Position)) (c : Cursor) → Stands bs c → index bs c ≤ length (all_points bs)
+index_within bs c s =
     elim (eq-or-lt_of_le s.bound) [
-      | inl e ↦ omega (arith, place_at_end bs c s e)
-      | inr l ↦ omega (arith, place_before_end bs c s l)
+      | inl e ↦ omega (arith, index_at_end bs c s e)
+      | inr l ↦ omega (arith, index_before_end bs c s l)
     ]
 
-pub is_in_piece : (bs : List (List Position)) (c : Cursor) → Stands bs c → place bs c < length (all_points bs) → c.piece < length bs
+pub is_in_piece : (bs : List (List Position)) (c : Cursor) → Stands bs c → index bs c < length (all_points bs) → c.piece < length bs
 is_in_piece bs c s h =
     elim (eq-or-lt_of_le s.bound) [
-      | inl e ↦ absurd (omega (arith, h, place_at_end bs c s e))
+      | inl e ↦ absurd (omega (arith, h, index_at_end bs c s e))
       | inr l ↦ l
     ]
 
-pub is_last : (bs : List (List Position)) (c : Cursor) → Stands bs c → place bs c ≡ length (all_points bs) → c.piece ≡ length bs
+pub is_last : (bs : List (List Position)) (c : Cursor) → Stands bs c → index bs c ≡ length (all_points bs) → c.piece ≡ length bs
 is_last bs c s h =
     elim (eq-or-lt_of_le s.bound) [
       | inl e ↦ e
-      | inr l ↦ absurd (omega (arith, h, place_before_end bs c s l))
+      | inr l ↦ absurd (omega (arith, h, index_before_end bs c s l))
     ]
 
-pub is_first : (bs : List (List Position)) (c : Cursor) → IsCut bs 0 0 → Stands bs c → place bs c ≡ 0 → c.piece ≡ 0
+pub is_first : (bs : List (List Position)) (c : Cursor) → IsCut bs 0 0 → Stands bs c → index bs c ≡ 0 → c.piece ≡ 0
 is_first bs c cut s h =
     elim (cases_lt 0 c.piece) [
       | inl l ↦
@@ -76,7 +76,7 @@ is_first bs c cut s h =
       | inr g ↦ omega (arith, g)
     ]
 
-pub stand_in_order : (bs : List (List Position)) (a b : Cursor) → Stands bs a → Stands bs b → place bs a ≤ place bs b → (a.piece < b.piece)
+pub stand_in_order : (bs : List (List Position)) (a b : Cursor) → Stands bs a → Stands bs b → index bs a ≤ index bs b → (a.piece < b.piece)
     ⊎ ((a.piece ≡ b.piece) × (a.within ≤ b.within))
 stand_in_order bs a b s t h =
     elim (cases_lt b.piece a.piece) [
@@ -128,7 +128,7 @@ later f n p m i c g k h =
 not_on_both_sides : (f : ℕ → Position) (n : ℕ) (p : Position) (m i : ℕ) → Rises f n → m ≤ i → i < n → rank p ≤ℤ rank (f m) → rank (f i) <ℤ rank p → ⊥
 not_on_both_sides f n p m i c g k h l = let u : rank p ≤ℤ rank (f i) = later f n p m i c g k h in let z : ⊥ = omega (arith, linear, u, l) in z
 
--- the step of a search that ends at place `next`, before a point that p does not come after
+-- the step of a search that ends at index `next`, before a point that p does not come after
 stepped : (f : ℕ → Position) (n : ℕ) (p : Position) (low size next left m : ℕ) → Rises f n → IsBetween f n p low size → 0 < left → next + left ≤ low + size
     → m ≤ next + left → (0 < next → rank (f next) <ℤ rank p) → (m < n → rank p ≤ℤ rank (f m)) → IsBetween f n p next left
 stepped f n p low size next left m c b some within le passed reached = record {

@@ -1,4 +1,4 @@
--- Pieces that are joined, and what of the joined list stands before and after a place in a piece.
+-- Pieces that are joined, and what of the joined list stands before and after an index in a piece.
 use Rattle.std.proofs.Common.{◌≡◌, sym, ap, ◌∙◌, ℕ, suc, ◌+◌, ◌<◌, ◌≤◌, List, [], ◌∷◌, ◌++◌, length, take, drop, get_or, set, arith, length-append}
 use Rattle.std.proofs.lemmas.List.{set_split, get_or_append_left, append-nil, append_assoc, drop_more, drop_all, take_all, take_more, take-append-drop}
 use Rattle.std.proofs.lemmas.List.{take-append-le, drop-append-le, get_or-append-add}
@@ -30,7 +30,7 @@ offset_all bs i h = ap (λ (xs : List (List Position)). length (all_points xs)) 
 pub offset_within : (bs : List (List Position)) (i : ℕ) → offset bs i ≤ length (all_points bs)
 offset_within bs i = omega (arith, ap length (joined_cut bs i), length-append (all_points (take i bs)) (all_points (drop i bs)))
 
--- ---- before and after a place
+-- ---- before and after an index
 pub take_joined : (bs : List (List Position)) (i a : ℕ) → i < length bs → a ≤ length (piece bs i)
     → take (offset bs i + a) (all_points bs) ≡ all_points (take i bs) ++ take a (piece bs i)
 take_joined bs i a h le =
@@ -59,7 +59,7 @@ drop_offset bs i =
     ∙ drop-append-le (offset bs i) (all_points (take i bs)) (all_points (drop i bs)) (omega arith)
     ∙ ap (λ (xs : List Position). xs ++ all_points (drop i bs)) (drop_all (offset bs i) (all_points (take i bs)) (omega arith))
 
--- the item at a place in a piece
+-- the item at an index in a piece
 pub get_or_joined : (bs : List (List Position)) (i a : ℕ) (d : Position) → i < length bs → a < length (piece bs i)
     → get_or (all_points bs) (offset bs i + a) d ≡ get_or (piece bs i) a d
 get_or_joined bs i a d h le =
@@ -68,7 +68,7 @@ get_or_joined bs i a d h le =
     ∙ ap (λ (xs : List Position). get_or xs a d) (joined_drop bs i h)
     ∙ get_or_append_left (piece bs i) (all_points (drop (i + 1) bs)) d a le
 
--- ---- pieces in the place of pieces
+-- ---- pieces in place of pieces
 -- p within piece i
 pub joined_put : (bs : List (List Position)) (i a b : ℕ) (p : Position) → i < length bs → a ≤ length (piece bs i) → b ≤ length (piece bs i)
     → all_points (set bs i (replaced (piece bs i) p a b)) ≡ replaced (all_points bs) p (offset bs i + a) (offset bs i + b)
@@ -111,7 +111,7 @@ joined_join bs i h =
     ∙ sym (joined_drop bs (i + 1) h)))
     ∙ sym (joined_cut bs i ∙ ap (λ (xs : List Position). all_points (take i bs) ++ xs) (joined_drop bs i (omega arith)))
 
--- p in the place of the end of piece i, all pieces up to k, and the start of piece k
+-- p in place of the end of piece i, all pieces up to k, and the start of piece k
 pub joined_across : (bs : List (List Position)) (i k a b : ℕ) (p : Position) → i < k → k < length bs → a ≤ length (piece bs i) → b ≤ length (piece bs k)
     → all_points (take i bs ++ (take a (piece bs i) ++ p ∷ []) ∷ drop b (piece bs k) ∷ drop (k + 1) bs) ≡ replaced (all_points bs) p (offset bs i + a)
     (offset bs k + b)

@@ -9,7 +9,7 @@ use Rattle.range_plane.specs.Plane.{Position}
 use Rattle.range_pieces.specs.Pieces.{IsCut, all_points, piece, piece_size, offset, capacity_of}
 use Rattle.range_pieces.proofs.Joins.{offset_more, offset_within}
 
--- M is bs with the pieces `mid` in the place of those from i up to k
+-- M is bs with the pieces `mid` in place of those from i up to k
 pub record IsSpliced (bs mid M : List (List Position)) (i k : ℕ) : Type 0 where
   pub len : length M + k ≡ i + length mid + length bs
   pub left : (m : ℕ) → m < i → piece M m ≡ piece bs m
@@ -32,7 +32,7 @@ spliced bs mid i k le within =
           ∙ get_or-drop k bs m [];
     }
 
--- where place m falls: before i, among the n from there on, or after them
+-- where index m falls: before i, among the n from there on, or after them
 pub data Spot (i n m : ℕ) : Type 0 where
   before : m < i → Spot i n m
   among : (x : ℕ) → x < n → i + x ≡ m → Spot i n m
@@ -260,7 +260,7 @@ cut_split bs i a h some less c =
     (spliced bs (take a b ∷ drop a b ∷ []) i (i + 1) (omega arith) (omega (arith, h)))
     (fair_two (take a b) (drop a b) (omega (arith, n, some)) (omega (arith, n, less, top)) (omega (arith, m, less)) (omega (arith, m, top))) c
 
--- the end of piece i, all pieces up to k and the start of piece k make place for one point
+-- the end of piece i, all pieces up to k and the start of piece k make room for one point
 pub cut_across : (bs : List (List Position)) (i k a b : ℕ) (p : Position) → i < k → k < length bs → a < length (piece bs i) → b < length (piece bs k)
     → IsCut bs 0 0 → IsCut (take i bs ++ (take a (piece bs i) ++ p ∷ []) ∷ drop b (piece bs k) ∷ drop (k + 1) bs) (i - 1) (i + 2)
 cut_across bs i k a b p ik h ha hb c =
@@ -338,17 +338,17 @@ free_between bs free i c h room below above =
     ]
 
 -- ---- halves of a full piece
--- place `at` of piece j of M is place `place` of piece i of bs, and piece j has room
-pub record IsHalf (bs M : List (List Position)) (i place j at : ℕ) : Type 0 where
+-- index `at` of piece j of M is index `index` of piece i of bs, and piece j has room
+pub record IsHalf (bs M : List (List Position)) (i index j at : ℕ) : Type 0 where
   pub piece_is : j < length M
   pub within : at ≤ length (piece M j)
   pub room : length (piece M j) < piece_size
-  pub same : offset M j + at ≡ offset bs i + place
+  pub same : offset M j + at ≡ offset bs i + index
 
-pub halved : (bs M : List (List Position)) (i place j at : ℕ) → i < length bs → length (piece bs i) ≡ piece_size → place ≤ piece_size
-    → M ≡ take i bs ++ take 128 (piece bs i) ∷ drop 128 (piece bs i) ∷ drop (i + 1) bs → ((j ≡ i) × (at ≡ place) × (place ≤ 128))
-    ⊎ ((j ≡ i + 1) × (at + 128 ≡ place)) → IsHalf bs M i place j at
-halved bs M i place j at h full le e o =
+pub halved : (bs M : List (List Position)) (i index j at : ℕ) → i < length bs → length (piece bs i) ≡ piece_size → index ≤ piece_size
+    → M ≡ take i bs ++ take 128 (piece bs i) ∷ drop 128 (piece bs i) ∷ drop (i + 1) bs → ((j ≡ i) × (at ≡ index) × (index ≤ 128))
+    ⊎ ((j ≡ i + 1) × (at + 128 ≡ index)) → IsHalf bs M i index j at
+halved bs M i index j at h full le e o =
     let b = piece bs i in
     let N = take i bs ++ take 128 b ∷ drop 128 b ∷ drop (i + 1) bs in
     let s = spliced bs (take 128 b ∷ drop 128 b ∷ []) i (i + 1) (omega arith) (omega (arith, h)) in

@@ -13,7 +13,7 @@ piece_size = PIECE_SIZE
 abbrev pub all_points : List (List Position) → List Position
 all_points bs = flat_map (λ (b : List Position). b) bs
 
--- the piece at place i
+-- the piece at index i
 abbrev pub piece : List (List Position) → ℕ → List Position
 piece bs i = slice_index_or bs i []
 
@@ -21,11 +21,11 @@ piece bs i = slice_index_or bs i []
 abbrev pub offset : List (List Position) → ℕ → ℕ
 offset bs i = length (all_points (take i bs))
 
--- L with p in the place of the points from `from` up to `to`
+-- L with p in place of the points from `from` up to `to`
 abbrev pub replaced : List Position → Position → ℕ → ℕ → List Position
 replaced L p from to = take from L ++ p ∷ drop to L
 
--- pieces hold at least one point, and at most piece_size; neighbours hold more than piece_size together, save for those at places from lo up to hi
+-- pieces hold at least one point, and at most piece_size; neighbours hold more than piece_size together, save for those at indices from lo up to hi
 pub record IsCut (bs : List (List Position)) (lo hi : ℕ) : Type 0 where
   pub filled : (i : ℕ) → i < length bs → 0 < length (piece bs i)
   pub bound : (i : ℕ) → i < length bs → length (piece bs i) ≤ piece_size

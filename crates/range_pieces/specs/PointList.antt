@@ -1,4 +1,4 @@
--- What contracts see of a list of points, and the places in it.
+-- What contracts see of a list of points, and the indices in it.
 use Rattle.std.specs.Prelude.{ℕ, ◌+◌, ◌<◌, ◌≤◌, ◌≤ℤ◌, ◌<ℤ◌, ◌≡◌, List, length}
 use Rattle.range_plane.specs.Edges.{at}
 use Rattle.range_plane.specs.Order.{rank}
@@ -18,8 +18,8 @@ abbrev pub points_in : Content → List Position
 points_in list = all_points list.pieces
 
 -- how many points stand before the cursor
-abbrev pub place : List (List Position) → Cursor → ℕ
-place bs c = offset bs c.piece + c.within
+abbrev pub index : List (List Position) → Cursor → ℕ
+index bs c = offset bs c.piece + c.within
 
 -- the cursor stands before a point, or after the last
 pub record Stands (bs : List (List Position)) (c : Cursor) : Type 0 where
@@ -39,8 +39,8 @@ pub record IsSoundList (shelf : Shelved) (len most : ℕ) : Type 0 where
 abbrev pub IsRising : List Position → Type 0
 IsRising L = (i j : ℕ) → i < j → j < length L → rank (at L i) <ℤ rank (at L j)
 
--- p falls at this place of L: the points before it come before p, and no others
-pub record FallsAt (L : List Position) (p : Position) (place : ℕ) : Type 0 where
-  pub bound : place ≤ length L
-  pub before : (i : ℕ) → i < place → rank (at L i) <ℤ rank p
-  pub after : (i : ℕ) → place ≤ i → i < length L → rank p ≤ℤ rank (at L i)
+-- p falls at this index of L: the points before it come before p, and no others
+pub record FallsAt (L : List Position) (p : Position) (index : ℕ) : Type 0 where
+  pub bound : index ≤ length L
+  pub before : (i : ℕ) → i < index → rank (at L i) <ℤ rank p
+  pub after : (i : ℕ) → index ≤ i → i < length L → rank p ≤ℤ rank (at L i)

@@ -1,4 +1,4 @@
--- Points that rise, by their places, and a search among them.
+-- Points that rise, by their indices, and a search among them.
 use Rattle.std.specs.Prelude.{ℕ, ◌+◌, ◌<◌, ◌≤◌, ◌<ℤ◌, ◌≤ℤ◌, List}
 use Rattle.range_plane.specs.Edges.{at}
 use Rattle.range_plane.specs.Order.{rank}
@@ -9,7 +9,7 @@ use Rattle.range_pieces.specs.Pieces.{piece}
 abbrev pub Rises : (ℕ → Position) → ℕ → Type 0
 Rises point n = (i j : ℕ) → i < j → j < n → rank (point i) <ℤ rank (point j)
 
--- p comes after point `low`, unless that is the first, and not after the one `size` places on, if there is one
+-- p comes after point `low`, unless that is the first, and not after the one `size` indices on, if there is one
 pub record IsBetween (point : ℕ → Position) (n : ℕ) (p : Position) (low size : ℕ) : Type 0 where
   pub some : 0 < size
   pub within : low + size ≤ n

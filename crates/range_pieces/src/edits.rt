@@ -2,7 +2,7 @@
 
 ghost use Rattle.std.specs.Prelude.{◌≡◌, ◌⊎◌, ◌+◌, ◌<◌, ◌≤◌, ◌∷◌, ◌++◌, length, take, drop};
 ghost use Rattle.range_pieces.specs.Pieces.{IsCut, piece, capacity_of, all_points, most_pieces, offset, replaced};
-ghost use Rattle.range_pieces.specs.PointList.{Stands, place};
+ghost use Rattle.range_pieces.specs.PointList.{Stands, index};
 
 use crate::cursor::Cursor;
 use crate::piece::PIECE_SIZE;
@@ -13,7 +13,7 @@ use std::alloc::Allocator;
 // Where a full piece is cut in two.
 const HALF: usize = PIECE_SIZE / 2;
 
-// Joins neighbours at places from `lo` up to `hi` that fit into one piece.
+// Joins neighbours at indices from `lo` up to `hi` that fit into one piece.
 pub(crate) fn join_small<A: Allocator>(shelf: &mut Shelf<A>, lo: usize, hi: usize)
     requires { IsCut shelf.old.pieces lo hi }
     ensures points { all_points shelf.new.pieces ≡ all_points shelf.old.pieces }
@@ -57,45 +57,45 @@ pub(crate) fn insert_between<A: Allocator>(shelf: &mut Shelf<A>, i: usize, p: Po
     shelf.open(i, p);
 }
 
-// Where place `place` of piece `i` is once that is cut in two.
-fn in_halves(i: usize, place: usize) -> (usize, usize)
+// Where index `index` of piece `i` is once that is cut in two.
+fn in_halves(i: usize, index: usize) -> (usize, usize)
     requires { i ≤ most_pieces }
-    ensures { ((result.0 ≡ i) × (result.1 ≡ place) × (place ≤ HALF))
-        ⊎ ((result.0 ≡ i + 1) × (result.1 + HALF ≡ place)) }
+    ensures { ((result.0 ≡ i) × (result.1 ≡ index) × (index ≤ HALF))
+        ⊎ ((result.0 ≡ i + 1) × (result.1 + HALF ≡ index)) }
 {
-    if place <= HALF {
-        (i, place)
+    if index <= HALF {
+        (i, index)
     } else {
-        (i + 1, place - HALF)
+        (i + 1, index - HALF)
     }
 }
 
-// Puts `p` into piece `i`, before the point at `place`, or into one of its halves.
-pub(crate) fn insert_within<A: Allocator>(shelf: &mut Shelf<A>, i: usize, place: usize, p: Point)
+// Puts `p` into piece `i`, before the point at `index`, or into one of its halves.
+pub(crate) fn insert_within<A: Allocator>(shelf: &mut Shelf<A>, i: usize, index: usize, p: Point)
     requires cut { IsCut shelf.old.pieces 0 0 }
     requires piece { i < length shelf.old.pieces }
-    requires within { place ≤ length (piece shelf.old.pieces i) }
+    requires within { index ≤ length (piece shelf.old.pieces i) }
     requires room { length (all_points shelf.old.pieces)
         < capacity_of (length shelf.old.pieces + shelf.old.free) }
     requires few { length shelf.old.pieces ≤ most_pieces }
     ensures points { all_points shelf.new.pieces
         ≡ replaced (all_points shelf.old.pieces) p (offset shelf.old.pieces i
-        + place) (offset shelf.old.pieces i + place) }
+        + index) (offset shelf.old.pieces i + index) }
     ensures cut { IsCut shelf.new.pieces 0 0 }
     ensures total { length shelf.new.pieces + shelf.new.free ≡ length shelf.old.pieces
         + shelf.old.free }
 {
     if shelf.len_of(i) < PIECE_SIZE {
-        shelf.insert(i, place, p);
+        shelf.insert(i, index, p);
         return;
     }
     shelf.split(i, HALF);
-    let (half, at) = in_halves(i, place);
+    let (half, at) = in_halves(i, index);
     shelf.insert(half, at, p);
     join_small(shelf, i.saturating_sub(1), i + 2);
 }
 
-// Puts `p` in the place of the points of piece `i` from `from` up to `to`.
+// Puts `p` in place of the points of piece `i` from `from` up to `to`.
 pub(crate) fn replace_within<A: Allocator>(
     shelf: &mut Shelf<A>,
     i: usize,
@@ -121,7 +121,7 @@ pub(crate) fn replace_within<A: Allocator>(
     }
 }
 
-// Puts `p` in the place of the points from place `from` of piece `i` up to place `to` of the later piece `k`.
+// Puts `p` in place of the points from index `from` of piece `i` up to index `to` of the later piece `k`.
 pub(crate) fn replace_across<A: Allocator>(
     shelf: &mut Shelf<A>,
     i: usize,
@@ -149,7 +149,7 @@ pub(crate) fn replace_across<A: Allocator>(
     join_small(shelf, i.saturating_sub(1), i + 2);
 }
 
-// Puts `p` in the place of all points from place `from` of piece `i` on.
+// Puts `p` in place of all points from index `from` of piece `i` on.
 pub(crate) fn replace_rest<A: Allocator>(shelf: &mut Shelf<A>, i: usize, from: usize, p: Point)
     requires cut { IsCut shelf.old.pieces 0 0 }
     requires piece { i < length shelf.old.pieces }
@@ -167,7 +167,7 @@ pub(crate) fn replace_rest<A: Allocator>(shelf: &mut Shelf<A>, i: usize, from: u
     join_small(shelf, i.saturating_sub(1), i + 2);
 }
 
-// Puts `p` in the place of the points between two places.
+// Puts `p` in place of the points between two indices.
 pub(crate) fn replace_between<A: Allocator>(
     shelf: &mut Shelf<A>,
     from: Cursor,
@@ -177,13 +177,13 @@ pub(crate) fn replace_between<A: Allocator>(
     requires cut { IsCut shelf.old.pieces 0 0 }
     requires from { Stands shelf.old.pieces from }
     requires to { Stands shelf.old.pieces to }
-    requires order { place shelf.old.pieces from ≤ place shelf.old.pieces to }
+    requires order { index shelf.old.pieces from ≤ index shelf.old.pieces to }
     requires room { length (all_points shelf.old.pieces)
         < capacity_of (length shelf.old.pieces + shelf.old.free) }
     requires few { length shelf.old.pieces ≤ most_pieces }
     ensures points { all_points shelf.new.pieces
-        ≡ replaced (all_points shelf.old.pieces) p (place shelf.old.pieces from)
-        (place shelf.old.pieces to) }
+        ≡ replaced (all_points shelf.old.pieces) p (index shelf.old.pieces from)
+        (index shelf.old.pieces to) }
     ensures cut { IsCut shelf.new.pieces 0 0 }
     ensures total { length shelf.new.pieces + shelf.new.free ≡ length shelf.old.pieces
         + shelf.old.free }

@@ -13,4 +13,4 @@ pub use cursor::Cursor;
 pub use laws::sizes_are_these;
 pub use piece::PIECE_SIZE;
 pub use point_list::PointList;
-pub use search::places_in_both;
+pub use search::indices_in_both;

@@ -67,19 +67,19 @@ impl<A: Allocator> Piece<A> {
         self.first
     }
 
-    // Puts `p` before the point at `place`.
-    pub(crate) fn insert(&mut self, place: usize, p: Point)
-        requires within { place ≤ length self.old }
+    // Puts `p` before the point at `index`.
+    pub(crate) fn insert(&mut self, index: usize, p: Point)
+        requires within { index ≤ length self.old }
         requires room { length self.old < PIECE_SIZE }
-        ensures { self.new ≡ take place self.old ++ p ∷ drop place self.old }
+        ensures { self.new ≡ take index self.old ++ p ∷ drop index self.old }
     {
-        let _ = self.points.insert(place, p);
-        if place == 0 {
+        let _ = self.points.insert(index, p);
+        if index == 0 {
             self.first = p;
         }
     }
 
-    // Puts `p` in the place of the points from `from` up to `to`.
+    // Puts `p` in place of the points from `from` up to `to`.
     pub(crate) fn replace(&mut self, from: usize, to: usize, p: Point)
         requires order { from < to }
         requires within { to ≤ length self.old }
@@ -94,7 +94,7 @@ impl<A: Allocator> Piece<A> {
         }
     }
 
-    // Puts `p` in the place of all points from `from` on.
+    // Puts `p` in place of all points from `from` on.
     pub(crate) fn end_with(&mut self, from: usize, p: Point)
         requires { from < length self.old }
         ensures { self.new ≡ take from self.old ++ p ∷ [] }

@@ -4,12 +4,12 @@ ghost use Rattle.std.specs.Bool.{OnFalse};
 ghost use Rattle.std.specs.Prelude.{◌≡◌, ◌↔◌, ◌+◌, ◌-◌, ◌*◌, ◌/◌, ◌<◌, ◌≤◌, [], length, max, IfOk, IsOk, IsTrue, OnOk};
 ghost use Rattle.range_plane.specs.Edges.{at};
 ghost use Rattle.range_pieces.specs.Pieces.{piece, all_points, offset, replaced};
-ghost use Rattle.range_pieces.specs.PointList.{FallsAt, IsRising, Stands, place, points_in};
+ghost use Rattle.range_pieces.specs.PointList.{FallsAt, IsRising, Stands, index, points_in};
 
 use crate::cursor::Cursor;
 use crate::edits::replace_between;
 use crate::piece::PIECE_SIZE;
-use crate::search::{piece_of, place_in};
+use crate::search::{index_in, piece_of};
 use crate::shelf::{MOST_PIECES, Shelf};
 use range_plane::{OutOfMemory, Point};
 use std::alloc::{Allocator, Global};
@@ -117,10 +117,10 @@ impl<A: Allocator> PointList<A> {
         self.shelf.points_of(i)
     }
 
-    /// The place before the first point.
+    /// The index before the first point.
     pub fn start(&self) -> Cursor
         ensures stands { Stands self.now.pieces result }
-        ensures place { place self.now.pieces result ≡ 0 }
+        ensures index { index self.now.pieces result ≡ 0 }
     {
         let _ = &self.shelf;
         Cursor {
@@ -129,10 +129,10 @@ impl<A: Allocator> PointList<A> {
         }
     }
 
-    /// The place after the last point.
+    /// The index after the last point.
     pub fn end(&self) -> Cursor
         ensures stands { Stands self.now.pieces result }
-        ensures place { place self.now.pieces result ≡ length (points_in self.now) }
+        ensures index { index self.now.pieces result ≡ length (points_in self.now) }
     {
         Cursor {
             piece: self.shelf.count(),
@@ -140,12 +140,12 @@ impl<A: Allocator> PointList<A> {
         }
     }
 
-    /// The place before place `within` of piece `i`.
+    /// The index before index `within` of piece `i`.
     pub fn cursor_in(&self, i: usize, within: usize) -> Cursor
         requires piece { i < length self.now.pieces }
         requires within { within ≤ length (piece self.now.pieces i) }
         ensures stands { Stands self.now.pieces result }
-        ensures place { place self.now.pieces result ≡ offset self.now.pieces i + within }
+        ensures index { index self.now.pieces result ≡ offset self.now.pieces i + within }
     {
         if within < self.shelf.len_of(i) {
             Cursor { piece: i, within }
@@ -170,7 +170,7 @@ impl<A: Allocator> PointList<A> {
 
     pub fn is_start(&self, c: Cursor) -> bool
         requires { Stands self.now.pieces c }
-        ensures { IsTrue result ↔ (place self.now.pieces c ≡ 0) }
+        ensures { IsTrue result ↔ (index self.now.pieces c ≡ 0) }
     {
         let _ = &self.shelf;
         c.piece == 0 && c.within == 0
@@ -179,8 +179,8 @@ impl<A: Allocator> PointList<A> {
     pub fn is_end(&self, c: Cursor) -> bool
         requires { Stands self.now.pieces c }
         ensures value { IsTrue result
-            ↔ (place self.now.pieces c ≡ length (points_in self.now)) }
-        ensures within { OnFalse result (place self.now.pieces c
+            ↔ (index self.now.pieces c ≡ length (points_in self.now)) }
+        ensures within { OnFalse result (index self.now.pieces c
             < length (points_in self.now)) }
     {
         c.piece == self.shelf.count()
@@ -189,18 +189,18 @@ impl<A: Allocator> PointList<A> {
     /// The point after `c`.
     pub fn get(&self, c: Cursor) -> Point
         requires stands { Stands self.now.pieces c }
-        requires within { place self.now.pieces c < length (points_in self.now) }
-        ensures { result ≡ at (points_in self.now) (place self.now.pieces c) }
+        requires within { index self.now.pieces c < length (points_in self.now) }
+        ensures { result ≡ at (points_in self.now) (index self.now.pieces c) }
     {
         self.shelf.points_of(c.piece)[c.within]
     }
 
-    /// The place one point on.
+    /// The index one point on.
     pub fn next(&self, c: Cursor) -> Cursor
         requires stands { Stands self.now.pieces c }
-        requires within { place self.now.pieces c < length (points_in self.now) }
+        requires within { index self.now.pieces c < length (points_in self.now) }
         ensures stands { Stands self.now.pieces result }
-        ensures place { place self.now.pieces result ≡ place self.now.pieces c + 1 }
+        ensures index { index self.now.pieces result ≡ index self.now.pieces c + 1 }
     {
         let last = self.shelf.len_of(c.piece) - 1;
         if c.within < last {
@@ -216,13 +216,13 @@ impl<A: Allocator> PointList<A> {
         }
     }
 
-    /// The place one point back.
+    /// The index one point back.
     pub fn previous(&self, c: Cursor) -> Cursor
         requires stands { Stands self.now.pieces c }
-        requires within { 0 < place self.now.pieces c }
+        requires within { 0 < index self.now.pieces c }
         ensures stands { Stands self.now.pieces result }
-        ensures place { place self.now.pieces result + 1 ≡ place self.now.pieces c }
-        ensures within { place self.now.pieces result < length (points_in self.now) }
+        ensures index { index self.now.pieces result + 1 ≡ index self.now.pieces c }
+        ensures within { index self.now.pieces result < length (points_in self.now) }
     {
         if c.within > 0 {
             Cursor {
@@ -238,29 +238,29 @@ impl<A: Allocator> PointList<A> {
         }
     }
 
-    /// The place at which `p` falls: the points before it come before `p`, and no others.
+    /// The index at which `p` falls: the points before it come before `p`, and no others.
     pub fn find(&self, p: Point) -> Cursor
         requires { IsRising (points_in self.now) }
         ensures stands { Stands self.now.pieces result }
-        ensures place { FallsAt (points_in self.now) p (place self.now.pieces result) }
+        ensures index { FallsAt (points_in self.now) p (index self.now.pieces result) }
     {
         if self.shelf.count() == 0 {
             return self.start();
         }
         let piece = piece_of(&self.shelf, p);
-        let within = place_in(self.shelf.points_of(piece), p);
+        let within = index_in(self.shelf.points_of(piece), p);
         self.cursor_in(piece, within)
     }
 
-    /// Puts `p` in the place of the points from `from` up to `to`. It takes no memory.
+    /// Puts `p` in place of the points from `from` up to `to`. It takes no memory.
     pub fn replace_run(&mut self, from: Cursor, to: Cursor, p: Point)
         requires from { Stands self.old.pieces from }
         requires to { Stands self.old.pieces to }
-        requires order { place self.old.pieces from ≤ place self.old.pieces to }
+        requires order { index self.old.pieces from ≤ index self.old.pieces to }
         requires room { 0 < self.old.spare }
         ensures points { points_in self.new
-            ≡ replaced (points_in self.old) p (place self.old.pieces from)
-            (place self.old.pieces to) }
+            ≡ replaced (points_in self.old) p (index self.old.pieces from)
+            (index self.old.pieces to) }
         ensures spare { self.old.spare ≤ self.new.spare + 1 }
         ensures memory { self.new.held ≡ self.old.held }
     {
@@ -270,13 +270,13 @@ impl<A: Allocator> PointList<A> {
     }
 }
 
-// How many points there are between two places.
+// How many points there are between two indices.
 fn run_len<A: Allocator>(shelf: &Shelf<A>, from: Cursor, to: Cursor) -> usize
     requires from { Stands shelf.now.pieces from }
     requires to { Stands shelf.now.pieces to }
-    requires order { place shelf.now.pieces from ≤ place shelf.now.pieces to }
+    requires order { index shelf.now.pieces from ≤ index shelf.now.pieces to }
     requires few { length (all_points shelf.now.pieces) < usize.MAX }
-    ensures { place shelf.now.pieces from + result ≡ place shelf.now.pieces to }
+    ensures { index shelf.now.pieces from + result ≡ index shelf.now.pieces to }
 {
     if from.piece == to.piece {
         return to.within - from.within;

@@ -23,13 +23,13 @@ fn count_before(count: usize, q: Point, p: Point) -> usize
     count * usize::from(rank(q) - rank(p) < 0)
 }
 
-// Points that rise, by their places.
+// Points that rise, by their indices.
 trait Rising {
     ghost count: { Self → ℕ };
 
     ghost point_at: { Self → ℕ → Position };
 
-    // The point at place `i`.
+    // The point at index `i`.
     fn point(&self, i: usize) -> Point
         requires { i < count self.now }
         ensures { result ≡ point_at self.now i };
@@ -76,7 +76,7 @@ impl<A: Allocator> Rising for Firsts<'_, A> {
     }
 }
 
-// The place of the last of so many points that comes before `p`, or of the first. Three probes at a time wait
+// The index of the last of so many points that comes before `p`, or of the first. Three probes at a time wait
 // for memory together, while there are many.
 #[inline(always)]
 fn last_before<L: Rising>(list: &L, count: usize, p: Point) -> usize
@@ -103,8 +103,8 @@ fn last_before<L: Rising>(list: &L, count: usize, p: Point) -> usize
     low
 }
 
-// The place at which `p` falls among points that rise.
-pub(crate) fn place_in(points: &[Point], p: Point) -> usize
+// The index at which `p` falls among points that rise.
+pub(crate) fn index_in(points: &[Point], p: Point) -> usize
     requires rising { IsRising points.now }
     requires some { 0 < length points.now }
     ensures { FallsAt points.now p result }
@@ -113,8 +113,8 @@ pub(crate) fn place_in(points: &[Point], p: Point) -> usize
     low + count_before(1, points[low], p)
 }
 
-/// The places at which `p` falls in two lists that rise. The searches take turns, so that neither waits for the other.
-pub fn places_in_both(first: &[Point], second: &[Point], p: Point) -> (usize, usize)
+/// The indices at which `p` falls in two lists that rise. The searches take turns, so that neither waits for the other.
+pub fn indices_in_both(first: &[Point], second: &[Point], p: Point) -> (usize, usize)
     requires rising { IsRising first.now × IsRising second.now }
     requires some { (0 < length first.now) × (0 < length second.now) }
     ensures first { FallsAt first.now p result.0 }

@@ -173,20 +173,20 @@ impl<A: Allocator> Shelf<A> {
         }
     }
 
-    // Puts `p` into piece `i`, before the point at `place`.
-    pub(crate) fn insert(&mut self, i: usize, place: usize, p: Point)
+    // Puts `p` into piece `i`, before the point at `index`.
+    pub(crate) fn insert(&mut self, i: usize, index: usize, p: Point)
         requires piece { i < length self.old.pieces }
-        requires within { place ≤ length (piece self.old.pieces i) }
+        requires within { index ≤ length (piece self.old.pieces i) }
         requires room { length (piece self.old.pieces i) < PIECE_SIZE }
         ensures { self.new ≡ record self.old {
           pieces = slice_set self.old.pieces i
-              (replaced (piece self.old.pieces i) p place place);
+              (replaced (piece self.old.pieces i) p index index);
         } }
     {
-        self.pieces[i].insert(place, p);
+        self.pieces[i].insert(index, p);
     }
 
-    // Puts `p` in the place of the points of piece `i` from `from` up to `to`.
+    // Puts `p` in place of the points of piece `i` from `from` up to `to`.
     pub(crate) fn replace(&mut self, i: usize, from: usize, to: usize, p: Point)
         requires piece { i < length self.old.pieces }
         requires order { from < to }
@@ -199,7 +199,7 @@ impl<A: Allocator> Shelf<A> {
         self.pieces[i].replace(from, to, p);
     }
 
-    // Puts `p` in the place of all points of piece `i` from `from` on.
+    // Puts `p` in place of all points of piece `i` from `from` on.
     pub(crate) fn end_with(&mut self, i: usize, from: usize, p: Point)
         requires piece { i < length self.old.pieces }
         requires within { from < length (piece self.old.pieces i) }

@@ -18,7 +18,7 @@ beyond : (L : List Position) (a b x : Position) → turn a b x <ℤ pos 0 → ((
     → ¬ (Covers (without x L) x)
 beyond L a b x h f c = omega (arith, linear, in_half_plane (without x L) a b x (λ y m. let w = without_has x L y m in f y w.0 w.1) c)
 
--- ---- the members by their places
+-- ---- the members by their indices
 abbrev pub at : List Position → Position → ℕ → Position
 at L d k = get_or L k d
 
@@ -53,7 +53,7 @@ between_is_left L d t i j m n a b (inr (inr h)) (inr (inl e)) = subst (λ z. pos
 between_is_left L d t i j m n a b (inr (inr h)) (inr (inr w)) = absurd (omega arith)
 
 -- ---- each corner is needed
--- the other members are at other places
+-- the other members are at other indices
 elsewhere : (L : List Position) (d : Position) (k : ℕ) (P : Position → Type 0) → ((m : ℕ) → m < length L → (m ≡ k → ⊥) → P (at L d m)) → (y : Position)
     → Contains L y → y ≢ at L d k → P y
 elsewhere L d k P f y m a =
@@ -85,13 +85,13 @@ last_needed L d t n l =
     (elsewhere L d (n + 2) (λ y. pos 0 ≤ℤ turn (at L d (n + 1)) (at L d 0) y)
     (λ m h a. between_is_left L d t 0 (n + 1) m (omega arith) (omega arith) (omega arith) (in_order m 0) (in_order m (n + 1))))
 
-place_needed : (L : List Position) (d : Position) → TurnsLeft L → (n : ℕ) → length L ≡ n + 3 → (k : ℕ) → k < length L → (k < n + 2)
+index_needed : (L : List Position) (d : Position) → TurnsLeft L → (n : ℕ) → length L ≡ n + 3 → (k : ℕ) → k < length L → (k < n + 2)
     ⊎ ((k ≡ n + 2) ⊎ (n + 2 < k)) → ¬ (Covers (without (at L d k) L) (at L d k))
-place_needed L d t n l zero h w = first_needed L d t n l
-place_needed L d t n l (suc k) h (inl w) = let e : k + 1 ≡ suc k = omega arith in
+index_needed L d t n l zero h w = first_needed L d t n l
+index_needed L d t n l (suc k) h (inl w) = let e : k + 1 ≡ suc k = omega arith in
     subst (λ z. ¬ (Covers (without (at L d z) L) (at L d z))) e (middle_needed L d t k (omega arith))
-place_needed L d t n l (suc k) h (inr (inl e)) = subst (λ z. ¬ (Covers (without (at L d z) L) (at L d z))) (sym e) (last_needed L d t n l)
-place_needed L d t n l (suc k) h (inr (inr w)) = absurd (omega arith)
+index_needed L d t n l (suc k) h (inr (inl e)) = subst (λ z. ¬ (Covers (without (at L d z) L) (at L d z))) (sym e) (last_needed L d t n l)
+index_needed L d t n l (suc k) h (inr (inr w)) = absurd (omega arith)
 
 -- one other member does not cover x
 one_other : (L : List Position) (x z : Position) → z ≢ x → ((y : Position) → Contains L y → y ≢ x → y ≡ z) → ¬ (Covers (without x L) x)
@@ -120,7 +120,7 @@ corner_needed (a ∷ b ∷ []) t p x m = go (contained a (b ∷ []) x m)
     go (inr l) = let e = second x l in one_other (a ∷ b ∷ []) x a (λ h. differ (h ∙ e))
         (λ y k n. elim (contained a (b ∷ []) y k) [ inl g ↦ g | inr j ↦ absurd (n (second y j ∙ sym e)) ])
 corner_needed (a ∷ b ∷ c ∷ L) t p x m =
-    subst (λ z. ¬ (Covers (without z (a ∷ b ∷ c ∷ L)) z)) m.2 (place_needed (a ∷ b ∷ c ∷ L) x t (length L) (omega arith) m.0 m.1 (in_order m.0 (length L + 2)))
+    subst (λ z. ¬ (Covers (without z (a ∷ b ∷ c ∷ L)) z)) m.2 (index_needed (a ∷ b ∷ c ∷ L) x t (length L) (omega arith) m.0 m.1 (in_order m.0 (length L + 2)))
 
 -- ---- the polygon of each set that such a list is a part of and covers
 pub polygon_by_covering : (S L : List Position) → ((x : Position) → Contains L x → Contains S x) → CoversEach L S → AllPairs (λ a b. a ≢ b) L

@@ -54,7 +54,7 @@ module _ (L : List Position) (f : IsFan L) where
       subst (λ (i : ℕ). pos 0 <ℤ turn (at L i) (at L (suc k)) (at L (suc (suc k)))) g
       (subst (λ (i : ℕ). pos 0 <ℤ turn (at L (suc (suc k) - 2)) (at L i) (at L (suc (suc k)))) e (f.left (suc (suc k)) (omega arith) l).1)
 
-  -- each point by each later one, the place of the last one at a time
+  -- each point by each later one, the index of the last one at a time
   round_first : (i k : ℕ) → 0 < i → i < k → k < length L → pos 0 <ℤ turn (at L 0) (at L i) (at L k)
   round_first i zero h g l = absurd (omega arith)
   round_first i (suc k) h g l =

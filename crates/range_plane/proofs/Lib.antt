@@ -7,6 +7,7 @@ pub mod Decided
 pub mod Ends
 pub mod Extremes
 pub mod Fan
+pub mod ForCallers
 pub mod HalfPlanes
 pub mod Least
 pub mod Others

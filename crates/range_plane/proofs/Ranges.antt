@@ -1,4 +1,4 @@
--- What `all` over a range of places answers.
+-- What `all` over a range of indices answers.
 use Rattle.std.proofs.Common.{◌≡◌, refl, sym, ◌∙◌, subst, ℕ, ◌+◌, ◌-◌, ◌<◌, ◌≤◌, ◌↔◌, Bool, true, false, IsTrue, length, arith}
 use Rattle.std.proofs.lemmas.List.FromFn.{get_or-range_with_len, length-range_with_len}
 use Rattle.std.specs.Bool.{MatchBool}
@@ -8,8 +8,8 @@ pub all_in_range : (a n : ℕ) (P : ℕ → Type 0) (r : Bool) → MatchBool r (
     ((k : ℕ) × (k < length (range_with_len a (n - a))) × HoldsAt (λ i. P i → ⊥) (range_with_len a (n - a)) k) → IsTrue r ↔ ((i : ℕ) → a ≤ i → i < n → P i)
 all_in_range a n P true m = (
   λ e i h k.
-      let place : a + (i - a) ≡ i = omega arith in
-      subst P (get_or-range_with_len a (n - a) (i - a) 0 (omega arith) ∙ place) (m (i - a) 0 (omega arith) (omega (arith, length-range_with_len a (n - a)))),
+      let index : a + (i - a) ≡ i = omega arith in
+      subst P (get_or-range_with_len a (n - a) (i - a) 0 (omega arith) ∙ index) (m (i - a) 0 (omega arith) (omega (arith, length-range_with_len a (n - a)))),
   λ f. refl,
 )
 all_in_range a n P false m = (

@@ -17,7 +17,7 @@ use Rattle.range_plane.proofs.Separation.{IsSeparated, covered_or_separated, not
 use Rattle.range_plane.proofs.Without.{equal_or_apart}
 use Rattle.range_plane.proofs.Unique.{from_head, in_rest}
 
--- a list with x put in at a place
+-- a list with x put in at an index
 abbrev pub put : List Position → ℕ → Position → List Position
 put R k x = take k R ++ x ∷ drop k R
 
@@ -106,7 +106,7 @@ module _ (S : List Position) (c : Position) (l : IsLeast S c) where
     pairs = r.pairs;
   }
 
-  -- the next point is a new corner, put at its place
+  -- the next point is a new corner, put at its index
   pub round_next : (n : ℕ) (R : List Position) (k : ℕ) (p : Position) → IsRound S c n (c ∷ R) → n < length S → p ≡ get_or S n p → IsOther S c p
       → ((y : Position) → Contains R y → p ≢ y)
       → ((j : ℕ) → j < k → j < length R → pos 0 <ℤ turn c (get_or R j origin) p) → (k < length R → turn c (get_or R k origin) p ≤ℤ pos 0)
@@ -134,10 +134,10 @@ module _ (S : List Position) (c : Position) (l : IsLeast S c) where
 
   -- ---- such a list for each set
   -- where x goes: behind those that come before it
-  place_for : (R : List Position) (x : Position) → (k : ℕ) × ((j : ℕ) → j < k → j < length R → InOrder (get_or R j origin) x)
+  index_for : (R : List Position) (x : Position) → (k : ℕ) × ((j : ℕ) → j < k → j < length R → InOrder (get_or R j origin) x)
       × (k < length R → turn c (get_or R k origin) x ≤ℤ pos 0)
-  place_for [] x = (0, λ j h w. absurd (omega arith), λ w. absurd (omega arith))
-  place_for (r ∷ R) x = by_lt_z (pos 0) (turn c r x) (λ h. behind h (place_for R x)) (λ h. (0, λ j g w. absurd (omega arith), λ w. h))
+  index_for [] x = (0, λ j h w. absurd (omega arith), λ w. absurd (omega arith))
+  index_for (r ∷ R) x = by_lt_z (pos 0) (turn c r x) (λ h. behind h (index_for R x)) (λ h. (0, λ j g w. absurd (omega arith), λ w. h))
     where
       behind : InOrder r x → ((k : ℕ) × ((j : ℕ) → j < k → j < length R → InOrder (get_or R j origin) x)
           × (k < length R → turn c (get_or R k origin) x ≤ℤ pos 0))
@@ -173,7 +173,7 @@ module _ (S : List Position) (c : Position) (l : IsLeast S c) where
       go (inr a) (inl h) m = (R, round_same n (c ∷ R) p r within is (λ o. absurd (o.0.needed h)))
       go (inr a) (inr s) (inl m) = (R, round_same n (c ∷ R) p r within is (λ o. m))
       go (inr a) (inr s) (inr new) =
-          let k = place_for R p in (
+          let k = index_for R p in (
             put R k.0 p,
             round_next n R k.0 p r within is (
               record {
@@ -243,12 +243,12 @@ goes_same S n (c ∷ R) p r within is old = record { least = r.least; round = ro
     by o (inl m) = elim (contained c R p m) [ inl e ↦ absurd (o.1 e) | inr n ↦ n ]
     by o (inr covered) = absurd (o.0.needed covered)
 
-pub goes_next : (S : List Position) (n : ℕ) (L : List Position) (place : ℕ) (p : Position) → GoesRound S n L → n < length S → p ≡ get_or S n p
+pub goes_next : (S : List Position) (n : ℕ) (L : List Position) (index : ℕ) (p : Position) → GoesRound S n L → n < length S → p ≡ get_or S n p
     → ¬ (Contains L p) → ¬ (Covers (without p S) p)
-    → 0 < place → ((k : ℕ) → 0 < k → k < place → pos 0 <ℤ turn (get_or L 0 origin) (get_or L k origin) p)
-    → (place < length L → turn (get_or L 0 origin) (get_or L place origin) p ≤ℤ pos 0)
-    → GoesRound S (n + 1) (put L place p)
-goes_next S n [] place p r within is new needed some before after = cc r.round.first
+    → 0 < index → ((k : ℕ) → 0 < k → k < index → pos 0 <ℤ turn (get_or L 0 origin) (get_or L k origin) p)
+    → (index < length L → turn (get_or L 0 origin) (get_or L index origin) p ≤ℤ pos 0)
+    → GoesRound S (n + 1) (put L index p)
+goes_next S n [] index p r within is new needed some before after = cc r.round.first
 goes_next S n (c ∷ R) zero p r within is new needed some before after = absurd (omega arith)
 goes_next S n (c ∷ R) (suc k) p r within is new needed some before after = record {
   least = r.least;

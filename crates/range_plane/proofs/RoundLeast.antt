@@ -132,8 +132,8 @@ module _ (S : List Position) (c : Position) (l : IsLeast S c) where
   polygon_round R corners pairs =
       record { corners = λ x. (extreme x, back x); distinct = distinct; least_first = λ x m. l.least x (extreme x m).member; convex = convex }
     where
-      place : (k : ℕ) (d : Position) → k < length R → IsExtreme S (get_or R k d) × (get_or R k d ≢ c)
-      place k d h = (corners (get_or R k d)).0 (Contains-get_or R k d h)
+      index : (k : ℕ) (d : Position) → k < length R → IsExtreme S (get_or R k d) × (get_or R k d ≢ c)
+      index k d h = (corners (get_or R k d)).0 (Contains-get_or R k d h)
 
       extreme : (x : Position) → Contains (c ∷ R) x → IsExtreme S x
       extreme = each (IsExtreme S) c R least_extreme (λ x m. ((corners x).0 m).0)
@@ -146,7 +146,7 @@ module _ (S : List Position) (c : Position) (l : IsLeast S c) where
 
       distinct : AllPairs (λ a b. a ≢ b) (c ∷ R)
       distinct zero zero d h k = absurd (omega arith)
-      distinct zero (suc j) d h k = λ e. (place j d (le_of_suc-le-suc k)).1 (sym e)
+      distinct zero (suc j) d h k = λ e. (index j d (le_of_suc-le-suc k)).1 (sym e)
       distinct (suc i) zero d h k = absurd (omega arith)
       distinct (suc i) (suc j) d h k = λ e. same (get_or R i d) (get_or R j d) e (pairs i j d (le_of_suc-le-suc h) (le_of_suc-le-suc k))
         where
@@ -160,7 +160,7 @@ module _ (S : List Position) (c : Position) (l : IsLeast S c) where
       convex (suc i) zero k d g h n = absurd (omega arith)
       convex (suc i) (suc j) zero d g h n = absurd (omega arith)
       convex (suc i) (suc j) (suc k) d g h n =
-          turns_left_round (get_or R i d) (get_or R j d) (get_or R k d) (place i d (omega arith)).0 (place j d (omega arith)).0
-          (place k d (le_of_suc-le-suc n)).0
+          turns_left_round (get_or R i d) (get_or R j d) (get_or R k d) (index i d (omega arith)).0 (index j d (omega arith)).0
+          (index k d (le_of_suc-le-suc n)).0
           (pairs i j d (le_of_suc-le-suc g) (omega arith)) (pairs j k d (le_of_suc-le-suc h) (le_of_suc-le-suc n))
           (pairs i k d (omega arith) (le_of_suc-le-suc n))

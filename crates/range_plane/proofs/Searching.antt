@@ -5,11 +5,11 @@ use Rattle.std.specs.Bool.{OnFalse, OnTrue}
 use Rattle.range_plane.specs.Edges.{at}
 use Rattle.range_plane.specs.Plane.{Position}
 
--- the corner at place i, the first after the last
+-- the corner at index i, the first after the last
 abbrev pub around : List Position → ℕ → Position
 around L i = slice_index_or L i (at L 0)
 
--- from `start` to `end`, the corner at `low` is passed, and the one `size` places on is the first reached or comes after it
+-- from `start` to `end`, the corner at `low` is passed, and the one `size` indices on is the first reached or comes after it
 pub record IsBetween (L : List Position) (start end : ℕ) (Passed Reached : Position → Type 0) (low size : ℕ) : Type 0 where
   pub some : 0 < size
   pub from : start ≤ low
@@ -25,7 +25,7 @@ module _ (L : List Position) (start end : ℕ) (Passed Reached : Position → Ty
   around_inner : (i : ℕ) → i < end → Reached (at L i) → Reached (around L i)
   around_inner i h r = subst Reached (get_or_default L i _ (at L 0) (omega arith)) r
 
-  -- the corner in the middle says which part to go on with; either has as many places, and one place is not halved
+  -- the corner in the middle says which part to go on with; either has as many indices, and one index is not halved
   pub halved : (low size step : ℕ) (b : Bool) → IsBetween L start end Passed Reached low size → step ≡ (if b then size / 2 else 0)
       → OnTrue b (Passed (at L (low + size / 2))) → OnFalse b (Reached (at L (low + size / 2)))
       → IsBetween L start end Passed Reached (low + step) (size - size / 2)
@@ -45,7 +45,7 @@ module _ (L : List Position) (start end : ℕ) (Passed Reached : Position → Ty
         (by_size (one_or_more size i.some));
   }
     where
-      -- one place, an even number of them, or a greater odd one
+      -- one index, an even number of them, or a greater odd one
       one_or_more : (m : ℕ) → 0 < m → (m ≡ m - m / 2) ⊎ ((m - m / 2 ≡ m / 2) ⊎ ((m - m / 2 ≡ m / 2 + 1) × (1 < m)))
       one_or_more m h = grind arith
 

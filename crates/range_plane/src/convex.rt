@@ -8,23 +8,23 @@ ghost use Rattle.range_plane.specs.Polygon.{IsPolygon};
 use crate::order::comes_before;
 use crate::point::{Point, turn};
 
-// Whether the point at `place` comes after the first.
-fn follows_first(points: &[Point], place: usize) -> bool
-    requires { place < length points.now }
-    ensures { IsTrue result ↔ IsBefore (at points.now 0) (at points.now place) }
+// Whether the point at `index` comes after the first.
+fn follows_first(points: &[Point], index: usize) -> bool
+    requires { index < length points.now }
+    ensures { IsTrue result ↔ IsBefore (at points.now 0) (at points.now index) }
 {
-    comes_before(points[0], points[place])
+    comes_before(points[0], points[index])
 }
 
-// Whether the points at `place - 1` and `place` turn left, after the first point and after the one at
-// `place - 2`.
-fn turns_left(points: &[Point], place: usize) -> bool
-    requires third { 1 < place }
-    requires within { place < length points.now }
-    ensures { IsTrue result ↔ TurnsLeftAt points.now place }
+// Whether the points at `index - 1` and `index` turn left, after the first point and after the one at
+// `index - 2`.
+fn turns_left(points: &[Point], index: usize) -> bool
+    requires third { 1 < index }
+    requires within { index < length points.now }
+    ensures { IsTrue result ↔ TurnsLeftAt points.now index }
 {
-    let (last, next) = (points[place - 1], points[place]);
-    turn(points[0], last, next) > 0 && turn(points[place - 2], last, next) > 0
+    let (last, next) = (points[index - 1], points[index]);
+    turn(points[0], last, next) > 0 && turn(points[index - 2], last, next) > 0
 }
 
 // Whether the first point comes before every other.

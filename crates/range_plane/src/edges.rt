@@ -18,7 +18,7 @@ fn count_if(wanted: bool, count: usize) -> usize
     count * usize::from(wanted)
 }
 
-// The places of the two edges that span `q`: one before `top`, and one from `top` on, which may be the
+// The indices of the two edges that span `q`: one before `top`, and one from `top` on, which may be the
 // closing edge. The searches for them take turns, so that neither waits for the other.
 fn spanning_edges(corners: &[Point], top: usize, q: Point) -> (usize, usize)
     requires polygon { IsPolygon corners.now corners.now }
@@ -45,7 +45,7 @@ fn spanning_edges(corners: &[Point], top: usize, q: Point) -> (usize, usize)
     (lower, upper)
 }
 
-// The place of the easternmost corner, of two such the northern.
+// The index of the easternmost corner, of two such the northern.
 pub(crate) fn easternmost(corners: &[Point]) -> usize
     requires { IsPolygon corners.now corners.now }
     ensures { IsTop corners.now result }
@@ -66,24 +66,24 @@ pub(crate) fn easternmost(corners: &[Point]) -> usize
     low
 }
 
-// The corner after the one at `place`, the first after the last.
-fn next(corners: &[Point], place: usize) -> Point
-    requires { place < length corners.now }
-    ensures { result ≡ next corners.now place }
+// The corner after the one at `index`, the first after the last.
+fn next(corners: &[Point], index: usize) -> Point
+    requires { index < length corners.now }
+    ensures { result ≡ next corners.now index }
 {
-    if place + 1 < corners.len() {
-        corners[place + 1]
+    if index + 1 < corners.len() {
+        corners[index + 1]
     } else {
         corners[0]
     }
 }
 
-// Whether `q` is on the left of the edge from the corner at `place` to the next, or on it.
-fn is_left_of_edge(corners: &[Point], place: usize, q: Point) -> bool
-    requires { place < length corners.now }
-    ensures { IsTrue result ↔ (pos 0 ≤ℤ turn (at corners.now place) (next corners.now place) q) }
+// Whether `q` is on the left of the edge from the corner at `index` to the next, or on it.
+fn is_left_of_edge(corners: &[Point], index: usize, q: Point) -> bool
+    requires { index < length corners.now }
+    ensures { IsTrue result ↔ (pos 0 ≤ℤ turn (at corners.now index) (next corners.now index) q) }
 {
-    turn(corners[place], next(corners, place), q) >= 0
+    turn(corners[index], next(corners, index), q) >= 0
 }
 
 // Whether the polygon covers `q`, which comes after its first corner and before the one at `top`.

@@ -1,5 +1,5 @@
 // Laws of what sets cover and of polygons, and the limits as numbers. Each is a function that does nothing and
-// promises the law, for the proofs of the crates above and for who reads what is promised.
+// promises the law; nobody calls it, since proofs of crates above cite `proofs/ForCallers.antt`.
 
 ghost use Rattle.std.specs.Prelude.{◌≡◌, pos};
 ghost use Rattle.range_plane.specs.Laws.{AreasAreNotNegative, BoxesHoldWhatIsCovered, CornersCoverTheSet, CornersStandForTheSet, CoveredIsDecided, CoveredPointsChangeNothing, CoveringIsReaching, CoveringIsTransitive, CoveringMembersAreCorners, EverySetHasAPolygon, LargerSetsCoverMore, ManyCoverTheLeftOfTheirEdges, NoneCoversNothing, OnSegmentIsDecided, OneCoversItself, OnePolygon, PolygonOfItsCorners, SetsCoverTheirMembers, TwoCoverTheirSegment};

@@ -1,5 +1,5 @@
-//! The plane: points and lists of them, minimum convex polygons, fixes and the answer that memory ran out, the words
-//! that every other crate speaks. Coordinates are whole numbers of one unit, the metre or the decimetre.
+//! The plane: points and lists of them, minimum convex polygons, fixes, lists, and the answer that memory ran out, the
+//! words that every other crate speaks. Coordinates are whole numbers of one unit, the metre or the decimetre.
 #![tactic(auto)]
 
 mod area;
@@ -8,6 +8,7 @@ mod convex;
 mod edges;
 mod fix;
 mod laws;
+mod list;
 mod memory;
 mod order;
 mod plain;
@@ -26,6 +27,7 @@ pub use laws::{
     many_cover_the_left_of_their_edges, one_polygon, polygon_of_its_corners,
     sets_cover_their_members,
 };
+pub use list::List;
 pub use memory::OutOfMemory;
 pub use order::rank;
 pub use point::{COORDINATE_LIMIT, Point, turn};

@@ -10,7 +10,7 @@ use crate::point::{COORDINATE_LIMIT, Point};
 // What one step of easting counts for in a rank: more than any northing.
 const RANK_BASE: i64 = 2 * COORDINATE_LIMIT;
 
-/// The place of `p` in the order by easting, then by northing, as a number: points in rising order of it
+/// The index of `p` in the order by easting, then by northing, as a number: points in rising order of it
 /// stand in that order, and no two points have one rank.
 pub fn rank(p: Point) -> i64
     ensures value { result ≡ rank p }

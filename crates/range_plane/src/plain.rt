@@ -106,8 +106,8 @@ fn least_of(points: &[Point]) -> Option<Point>
     Some(least)
 }
 
-// The place at which `p` goes into corners that go counterclockwise round the first of them.
-fn place_round(corners: &[Point], p: Point) -> usize
+// The index at which `p` goes into corners that go counterclockwise round the first of them.
+fn index_round(corners: &[Point], p: Point) -> usize
     requires { 0 < length corners.now }
     ensures within { (0 < result) × (result ≤ length corners.now) }
     ensures before { (k : ℕ) → 0 < k → k < result
@@ -115,11 +115,11 @@ fn place_round(corners: &[Point], p: Point) -> usize
     ensures here { result < length corners.now
         → turn (at corners.now 0) (at corners.now result) p ≤ℤ pos 0 }
 {
-    let mut place = 1;
-    while place < corners.len() && turn(corners[0], corners[place], p) > 0 {
-        place += 1;
+    let mut index = 1;
+    while index < corners.len() && turn(corners[0], corners[index], p) > 0 {
+        index += 1;
     }
-    place
+    index
 }
 
 // The corners of the polygon of the set of the points.
@@ -136,8 +136,8 @@ pub(crate) fn corners_of<A: Allocator>(
     corners.push(least)?;
     for p in points {
         if !corners.contains(p) && !is_covered_by_others(points, *p) {
-            let place = place_round(&corners, *p);
-            corners.insert(place, *p)?;
+            let index = index_round(&corners, *p);
+            corners.insert(index, *p)?;
         }
     }
     Ok(corners)

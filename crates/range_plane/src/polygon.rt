@@ -18,7 +18,7 @@ use std::marker::Model;
 #[derive(Drop)]
 pub struct Polygon<A: Allocator = Global> {
     corners: Vec<Point, A>,
-    // The place of the corner that comes last in order, by easting and then by northing.
+    // The index of the corner that comes last in order, by easting and then by northing.
     top: usize,
 }
 

@@ -17,7 +17,7 @@ use Rattle.range_stats.specs.Keys.{points_at}
 use Rattle.range_stats.specs.Percent.{AreNearestFirst, IsFirstRow, IsHullOf, IsPercentRow, IsRanking, kept_count, nearest, nearest_points}
 use Rattle.range_stats.specs.declared.percents.PercentRow.{PercentRow}
 use Rattle.range_stats.proofs.RankedMembers.{polygon_of_permutation}
-use Rattle.range_stats.proofs.RankPlaces.{kept_count_le}
+use Rattle.range_stats.proofs.RankIndices.{kept_count_le}
 
 zip_through : {A B : Type 0} (P : A → Type 0) (Q R : A → B → Type 0) → ((a : A) (b : B) → P a → Q a b → R a b) → (xs : List A) (ys : List B)
     → AllByRecursion P xs → AllZip Q xs ys → AllZip R xs ys
@@ -27,15 +27,15 @@ zip_through P Q R through (x ∷ xs) [] each zipped = absurd zipped
 zip_through P Q R through (x ∷ xs) (y ∷ ys) each zipped = (through x y each.0 zipped.0, zip_through P Q R through xs ys each.1 zipped.1)
 
 module _ (larger : LargerSetsCoverMore) (one : OneCoversItself) (corners : CornersCoverTheSet) (covering : CoveringMembersAreCorners) where
-  -- to a hull of the first so many points in places the next ones were added
-  pub more_first : (points : List Position) (places : List ℕ) (ranked : List Position) → points_at points places ≡ ranked → (done kept : ℕ) → done ≤ kept
-      → (hull : Hull) → IsHullOf (points_at points (take (kept - done) (drop done places)) ++ take done ranked) hull → IsHullOf (take kept ranked) hull
-  more_first points places ranked is done kept less hull added =
+  -- to a hull of the first so many points in indices the next ones were added
+  pub more_first : (points : List Position) (indices : List ℕ) (ranked : List Position) → points_at points indices ≡ ranked → (done kept : ℕ) → done ≤ kept
+      → (hull : Hull) → IsHullOf (points_at points (take (kept - done) (drop done indices)) ++ take done ranked) hull → IsHullOf (take kept ranked) hull
+  more_first points indices ranked is done kept less hull added =
       let point = at points in
-      let part = map point (take (kept - done) (drop done places)) in
+      let part = map point (take (kept - done) (drop done indices)) in
       let before = take done ranked in
-      let read : part ≡ take (kept - done) (drop done ranked) = sym (take-map point (kept - done) (drop done places))
-      ∙ ap (take (kept - done)) (sym (drop-map point done places) ∙ ap (drop done) is) in
+      let read : part ≡ take (kept - done) (drop done ranked) = sym (take-map point (kept - done) (drop done indices))
+      ∙ ap (take (kept - done)) (sym (drop-map point done indices) ∙ ap (drop done) is) in
       let total : done + (kept - done) ≡ kept = omega (arith, less) in
       let joined : before ++ part ≡ take kept ranked = ap (λ l. before ++ l) read ∙ sym (take-add done (kept - done) ranked)
       ∙ ap (λ n. take n ranked) total in

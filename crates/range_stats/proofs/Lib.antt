@@ -1,5 +1,5 @@
 pub mod Firsts
 pub mod RankedMembers
-pub mod RankPlaces
+pub mod RankIndices
 pub mod Rankings
 pub mod Selected

@@ -20,10 +20,10 @@ Entry = ℕ × ℕ
 before_itself : (a : Entry) → comes_before a a ≡ false
 before_itself a = grind (arith, nat_tests)
 
-abbrev pub same_place : Entry → Entry → Bool
-same_place a b = eqb a.1 b.1
+abbrev pub same_index : Entry → Entry → Bool
+same_index a b = eqb a.1 b.1
 
-before_other : (a b : Entry) → comes_before b a ≡ false → same_place a b ≡ false → comes_before a b ≡ true
+before_other : (a b : Entry) → comes_before b a ≡ false → same_index a b ≡ false → comes_before a b ≡ true
 before_other a b h k = grind (arith, nat_tests)
 
 -- ---- counts and filters
@@ -120,12 +120,12 @@ holds_after : {A : Type 0} (P : A → Type 0) (xs ys : List A) → AllByRecursio
 holds_after P [] ys h = h
 holds_after P (x ∷ xs) ys h = holds_after P xs ys h.1
 
-places_apart : (first last : List Entry) → IsDistinct same_place (first ++ last) → All (λ a. All (λ b. same_place a b ≡ false) last) first
+indices_apart : (first last : List Entry) → IsDistinct same_index (first ++ last) → All (λ a. All (λ b. same_index a b ≡ false) last) first
 unfolding IsDistinct
-places_apart [] last apart i d within = absurd (omega (arith, within))
-places_apart (a ∷ first) last apart zero d within = All-from_recursion (λ b. same_place a b ≡ false) last
-    (holds_after (λ b. same_place a b ≡ false) first last apart.0)
-places_apart (a ∷ first) last apart (suc i) d within = places_apart first last apart.1 i d (omega (arith, within))
+indices_apart [] last apart i d within = absurd (omega (arith, within))
+indices_apart (a ∷ first) last apart zero d within = All-from_recursion (λ b. same_index a b ≡ false) last
+    (holds_after (λ b. same_index a b ≡ false) first last apart.0)
+indices_apart (a ∷ first) last apart (suc i) d within = indices_apart first last apart.1 i d (omega (arith, within))
 
 module _ (first last : List Entry) (k : ℕ) (apart : IsApart first last) where
   rank_split : (a : Entry) → rank_in (first ++ last) a ≡ rank_in first a + rank_in last a
@@ -144,15 +144,15 @@ module _ (first last : List Entry) (k : ℕ) (apart : IsApart first last) where
       let before : rank_in first a < length first = one_missed (λ b. comes_before b a) first i d within (before_itself a) in
       is_less (rank_in (first ++ last) a) (omega (arith, rank_split a, after, before))
 
-  last_rank_high : (0 < length last → k ≤ length first) → IsDistinct same_place (first ++ last) → All (λ b. nat_lt (rank_in (first ++ last) b) k ≡ false) last
+  last_rank_high : (0 < length last → k ≤ length first) → IsDistinct same_index (first ++ last) → All (λ b. nat_lt (rank_in (first ++ last) b) k ≡ false) last
   last_rank_high many distinct j e inside =
       let b = get_or last j e in
       let before : rank_in first b ≡ length first =
       all_counted (λ a. comes_before a b) first (recursion_from_All (λ a. comes_before a b ≡ true) first
-      (λ i d within. before_other (get_or first i d) b (apart i d within j e inside) (places_apart first last distinct i d within j e inside))) in
+      (λ i d within. before_other (get_or first i d) b (apart i d within j e inside) (indices_apart first last distinct i d within j e inside))) in
       is_no_less (rank_in (first ++ last) b) (omega (arith, rank_split b, before, many (omega (arith, inside))))
 
-  first_pass : length first ≤ k → (0 < length last → k ≤ length first) → IsDistinct same_place (first ++ last)
+  first_pass : length first ≤ k → (0 < length last → k ≤ length first) → IsDistinct same_index (first ++ last)
       → filter (λ a. nat_lt (rank_in (first ++ last) a) k) (first ++ last) ≡ first
   first_pass few many distinct =
       let test = λ (a : Entry). nat_lt (rank_in (first ++ last) a) k in
@@ -162,12 +162,12 @@ module _ (first last : List Entry) (k : ℕ) (apart : IsApart first last) where
       ∙ append-nil first
 
 -- the entries before which fewer than k of all come are the first k of those that are cut there
-pub nearest_are_first : (all cut : List Entry) (k : ℕ) → IsPermutation all cut → IsApart (take k cut) (drop k cut) → IsDistinct same_place all
+pub nearest_are_first : (all cut : List Entry) (k : ℕ) → IsPermutation all cut → IsApart (take k cut) (drop k cut) → IsDistinct same_index all
     → IsPermutation (filter (λ a. nat_lt (rank_in all a) k) all) (take k cut)
 nearest_are_first all cut k moved apart distinct =
     let test = λ (a : Entry). nat_lt (rank_in all a) k in
     let whole = take-append-drop k cut in
-    let differ = subst (IsDistinct same_place) (sym whole) (IsDistinct-IsPermutation same_place (λ x y. grind (arith, nat_tests)) all cut moved distinct) in
+    let differ = subst (IsDistinct same_index) (sym whole) (IsDistinct-IsPermutation same_index (λ x y. grind (arith, nat_tests)) all cut moved distinct) in
     let passes = first_pass (take k cut) (drop k cut) k apart (omega (arith, length-take k cut))
     (λ some. omega (arith, length-take k cut, length-drop k cut, some)) differ in
     let same_rank = λ (a : Entry). ap (λ n. nat_lt n k) (sym (sum_by-IsPermutation (λ b. cond (comes_before b a) 1 0) all cut moved)) in

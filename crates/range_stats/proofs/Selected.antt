@@ -8,7 +8,7 @@ use Rattle.std.proofs.lemmas.Bool.Decides.{nat_tests}
 use Rattle.std.proofs.lemmas.List.{append_assoc, drop-append-le, drop_all, map-append, take-append-le}
 use Rattle.std.proofs.lemmas.List.Elements.{All-append, All-cons, All-nil, All-same, All-take}
 use Rattle.std.proofs.lemmas.List.Sorted.{All-permutation, IsPermutation-append_left, IsPermutation-trans, length_permutation}
-use Rattle.range_stats.specs.Keys.{IsCutAdded, IsCutAt, place_in}
+use Rattle.range_stats.specs.Keys.{IsCutAdded, IsCutAt, index_in}
 use Rattle.range_stats.specs.Percent.{kept_count}
 
 -- no key comes after the last
@@ -44,19 +44,19 @@ module _ (before nearest after : List ℕ) (key : ℕ) (moved : IsPermutation be
       go (inl less) = cut_before k (few less) cut
       go (inr more) = cut_at_end (nearest ++ key ∷ after) k (omega (arith, long, more))
 
--- the places in keys, where those before the selected one were put in another order
-places_joined : (nearest after : List ℕ) (key : ℕ) (old : List ℕ) (place : ℕ) → place ≡ place_in key
-    → ((old ++ map place_in nearest) ++ place ∷ []) ++ map place_in after ≡ old ++ map place_in (nearest ++ key ∷ after)
-places_joined nearest after key old place here =
-    append_assoc (old ++ map place_in nearest) (place ∷ []) (map place_in after) ∙ append_assoc old (map place_in nearest) (place ∷ map place_in after)
-    ∙ ap (λ q. old ++ (map place_in nearest ++ q ∷ map place_in after)) here ∙ ap (λ l. old ++ l) (sym (map-append place_in nearest (key ∷ after)))
+-- the indices in keys, where those before the selected one were put in another order
+indices_joined : (nearest after : List ℕ) (key : ℕ) (old : List ℕ) (index : ℕ) → index ≡ index_in key
+    → ((old ++ map index_in nearest) ++ index ∷ []) ++ map index_in after ≡ old ++ map index_in (nearest ++ key ∷ after)
+indices_joined nearest after key old index here =
+    append_assoc (old ++ map index_in nearest) (index ∷ []) (map index_in after) ∙ append_assoc old (map index_in nearest) (index ∷ map index_in after)
+    ∙ ap (λ q. old ++ (map index_in nearest ++ q ∷ map index_in after)) here ∙ ap (λ l. old ++ l) (sym (map-append index_in nearest (key ∷ after)))
 
-pub cut_more : (n : ℕ) (levels keys before after : List ℕ) (key kept : ℕ) (old then : List ℕ) (place : ℕ) (new : List ℕ)
+pub cut_more : (n : ℕ) (levels keys before after : List ℕ) (key kept : ℕ) (old then : List ℕ) (index : ℕ) (new : List ℕ)
     → IsPermutation keys (before ++ key ∷ after) → IsSplitAround nat_cmp before key after
     → length before ≡ kept → All (λ level. kept_count level n < length keys → kept_count level n ≤ kept) levels
-    → IsCutAdded levels n before old then → place ≡ place_in key
-    → new ≡ (then ++ place ∷ []) ++ map place_in after → IsCutAdded levels n keys old new
-cut_more n levels keys before after key kept old then place new moved split long greatest (nearest, turned, cut, joined) here is =
+    → IsCutAdded levels n before old then → index ≡ index_in key
+    → new ≡ (then ++ index ∷ []) ++ map index_in after → IsCutAdded levels n keys old new
+cut_more n levels keys before after key kept old then index new moved split long greatest (nearest, turned, cut, joined) here is =
     let whole = nearest ++ key ∷ after in
     let again : IsPermutation keys whole = IsPermutation-trans _ _ _ moved (IsPermutation-append_left (key ∷ after) before nearest turned) in
     let each : All (λ level. IsCutAt (kept_count level n) whole) levels =
@@ -64,4 +64,4 @@ cut_more n levels keys before after key kept old then place new moved split long
     let k = kept_count (get_or levels i d) n in
     cut_anywhere before nearest after key turned split k (length keys) (length_permutation keys whole again)
     (λ less. omega (arith, long, greatest i d within less)) (cut i d within) in
-    (whole, again, each, is ∙ ap (λ l. (l ++ place ∷ []) ++ map place_in after) joined ∙ places_joined nearest after key old place here)
+    (whole, again, each, is ∙ ap (λ l. (l ++ index ∷ []) ++ map index_in after) joined ∙ indices_joined nearest after key old index here)

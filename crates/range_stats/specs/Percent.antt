@@ -20,27 +20,27 @@ scaled_distance n eastings northings p = square (pos n *ℤ p.e -ℤ eastings) +
 unfoldable pub distance : List Position → Position → ℕ
 distance points p = scaled_distance (length points) (total (map (λ q. q.e) points)) (total (map (λ q. q.n) points)) p
 
--- the places of the points, counted from 0
-abbrev pub places : List Position → List ℕ
-places points = range_with_len 0 (length points)
+-- the indices of the points, counted from 0
+abbrev pub indices : List Position → List ℕ
+indices points = range_with_len 0 (length points)
 
--- the distance of the point at a place, and the place
+-- the distance of the point at an index, and the index
 abbrev pub entry : List Position → ℕ → ℕ × ℕ
 entry points i = (distance points (at points i), i)
 
--- by distance, and then by place
+-- by distance, and then by index
 abbrev pub comes_before : ℕ × ℕ → ℕ × ℕ → Bool
 comes_before a b = nat_lt a.0 b.0 || (a.0 == b.0 && nat_lt a.1 b.1)
 
--- how many places come before place j
+-- how many indices come before index j
 abbrev pub count_before : List Position → ℕ → ℕ
-count_before points j = count_by (λ i. comes_before (entry points i) (entry points j)) (places points)
+count_before points j = count_by (λ i. comes_before (entry points i) (entry points j)) (indices points)
 
--- the places before which fewer than k come
+-- the indices before which fewer than k come
 unfoldable pub nearest : List Position → ℕ → List ℕ
-nearest points k = filter (λ j. nat_lt (count_before points j) k) (places points)
+nearest points k = filter (λ j. nat_lt (count_before points j) k) (indices points)
 
--- the points at those places
+-- the points at those indices
 abbrev pub nearest_points : List Position → ℕ → List Position
 nearest_points points k = map (at points) (nearest points k)
 

@@ -5,7 +5,7 @@ ghost use Rattle.range_plane.specs.Covering.{is_covered};
 ghost use Rattle.range_plane.specs.Fix.{fix_limit};
 ghost use Rattle.range_plane.specs.Plane.{Position};
 ghost use Rattle.range_plane.specs.Polygon.{IsPolygon};
-ghost use Rattle.range_stats.specs.Keys.{ArePlaces, points_at};
+ghost use Rattle.range_stats.specs.Keys.{AreIndices, points_at};
 ghost use Rattle.range_stats.specs.Percent.{IsHullOf};
 
 use range_hull::OnlineHull;
@@ -20,64 +20,64 @@ const BATCH: usize = 512;
 // spare.
 const MARKED_CORNERS: u32 = 2048;
 
-// Adds the points at the places to a hull, in batches. The last come first, since they cover most of the others: the
+// Adds the points at the indices to a hull, in batches. The last come first, since they cover most of the others: the
 // farthest are among those that a level keeps and no lower one.
 pub(crate) fn add_points<A: Allocator + Copy, B: Allocator>(
     alloc: A,
     hull: &mut OnlineHull<A>,
     fixes: &Columns<B>,
-    places: &[u32],
+    indices: &[u32],
 ) -> Result<(), OutOfMemory>
-    requires places { ArePlaces fixes.now.points places.now }
+    requires indices { AreIndices fixes.now.points indices.now }
     requires polygon { IsPolygon hull.old.corners hull.old.corners }
-    requires few { hull.old.inserted + hull.old.skipped + length places.now ≤ fix_limit }
+    requires few { hull.old.inserted + hull.old.skipped + length indices.now ≤ fix_limit }
     ensures { (S : List Position) → IsHullOf S hull.old
-        → IfOk result (λ done. IsHullOf (points_at fixes.now.points places.now ++ S) hull.new) }
+        → IfOk result (λ done. IsHullOf (points_at fixes.now.points indices.now ++ S) hull.new) }
 {
     polygon_of_its_corners();
-    let mut left = places.len();
+    let mut left = indices.len();
     while left > 0 {
         let start = left.saturating_sub(BATCH);
-        add_batch(alloc, hull, fixes, &places[start..left])?;
+        add_batch(alloc, hull, fixes, &indices[start..left])?;
         left = start;
     }
     Ok(())
 }
 
-// The points at the places, in columns.
+// The points at the indices, in columns.
 fn columns_of<A: Allocator + Copy, B: Allocator>(
     alloc: A,
     fixes: &Columns<B>,
-    places: &[u32],
+    indices: &[u32],
 ) -> Result<Columns<A>, OutOfMemory>
-    requires { ArePlaces fixes.now.points places.now }
-    ensures { IfOk result (λ cols. cols.points ≡ points_at fixes.now.points places.now) }
+    requires { AreIndices fixes.now.points indices.now }
+    ensures { IfOk result (λ cols. cols.points ≡ points_at fixes.now.points indices.now) }
 {
     let mut cols = Columns::new(alloc);
-    cols.reserve(places.len())?;
-    for place in places {
-        cols.push_reserved(fixes.at(*place as usize));
+    cols.reserve(indices.len())?;
+    for index in indices {
+        cols.push_reserved(fixes.at(*index as usize));
     }
     Ok(cols)
 }
 
-// Adds a batch of points, those at the places. Where the polygon has few corners, those that it covers before the batch
+// Adds a batch of points, those at the indices. Where the polygon has few corners, those that it covers before the batch
 // are counted alone.
 fn add_batch<A: Allocator + Copy, B: Allocator>(
     alloc: A,
     hull: &mut OnlineHull<A>,
     fixes: &Columns<B>,
-    places: &[u32],
+    indices: &[u32],
 ) -> Result<(), OutOfMemory>
-    requires places { ArePlaces fixes.now.points places.now }
+    requires indices { AreIndices fixes.now.points indices.now }
     requires polygon { IsPolygon hull.old.corners hull.old.corners }
-    requires few { hull.old.inserted + hull.old.skipped + length places.now ≤ fix_limit }
+    requires few { hull.old.inserted + hull.old.skipped + length indices.now ≤ fix_limit }
     ensures counted { OnOk result (hull.new.inserted + hull.new.skipped
-        ≡ hull.old.inserted + hull.old.skipped + length places.now) }
+        ≡ hull.old.inserted + hull.old.skipped + length indices.now) }
     ensures set { OnOk result ((S : List Position) → IsPolygon S hull.old.corners
-        → IsPolygon (points_at fixes.now.points places.now ++ S) hull.new.corners) }
+        → IsPolygon (points_at fixes.now.points indices.now ++ S) hull.new.corners) }
 {
-    let batch = columns_of(alloc, fixes, places)?;
+    let batch = columns_of(alloc, fixes, indices)?;
     hull.reserve(batch.len())?;
     if hull.corner_count() > MARKED_CORNERS {
         add_marked(hull, &batch, &[]);

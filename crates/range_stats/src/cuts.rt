@@ -1,11 +1,11 @@
-// Places of points in an order in which those that a level keeps come before all others.
+// Indices of points in an order in which those that a level keeps come before all others.
 
 ghost use Rattle.std.specs.Prelude.{◌≡◌, ◌+◌, ◌++◌, ◌≤◌, length, map, vec_capacity, vec_len};
 ghost use Rattle.range_plane.specs.Fix.{fix_limit};
-ghost use Rattle.range_stats.specs.Keys.{IsCutAdded, IsGreatestCut, place_in};
+ghost use Rattle.range_stats.specs.Keys.{IsCutAdded, IsGreatestCut, index_in};
 ghost use Rattle.range_stats.specs.Percent.{kept_count};
 
-use crate::distances::place_in;
+use crate::distances::index_in;
 use std::alloc::Allocator;
 
 // How many of `count` points a level keeps.
@@ -31,38 +31,38 @@ fn greatest_cut(levels: &[u8], count: usize, limit: usize) -> Option<usize>
     greatest
 }
 
-// Adds the places in the keys.
-fn push_places<A: Allocator>(places: &mut Vec<u32, A>, keys: &[u128])
-    requires room { vec_len places.old + length keys.now ≤ vec_capacity places.old }
-    ensures items { places.new.items ≡ places.old.items ++ map place_in keys.now }
-    ensures len { vec_len places.new ≡ vec_len places.old + length keys.now }
-    ensures capacity { vec_capacity places.new ≡ vec_capacity places.old }
+// Adds the indices in the keys.
+fn push_indices<A: Allocator>(indices: &mut Vec<u32, A>, keys: &[u128])
+    requires room { vec_len indices.old + length keys.now ≤ vec_capacity indices.old }
+    ensures items { indices.new.items ≡ indices.old.items ++ map index_in keys.now }
+    ensures len { vec_len indices.new ≡ vec_len indices.old + length keys.now }
+    ensures capacity { vec_capacity indices.new ≡ vec_capacity indices.old }
 {
     for key in keys {
-        places.push_reserved(place_in(*key));
+        indices.push_reserved(index_in(*key));
     }
 }
 
-// Adds the places in the keys, cut at what each of the levels keeps of `count` points: the greatest level first, and
+// Adds the indices in the keys, cut at what each of the levels keeps of `count` points: the greatest level first, and
 // each lower one within the keys that the one before it keeps.
 pub(crate) fn push_cut<A: Allocator>(
-    places: &mut Vec<u32, A>,
+    indices: &mut Vec<u32, A>,
     keys: &mut [u128],
     levels: &[u8],
     count: usize,
 )
     requires few { count ≤ fix_limit }
-    requires room { vec_len places.old + length keys.old ≤ vec_capacity places.old }
-    ensures items { IsCutAdded levels.now count keys.old places.old.items places.new.items }
-    ensures len { vec_len places.new ≡ vec_len places.old + length keys.old }
-    ensures capacity { vec_capacity places.new ≡ vec_capacity places.old }
+    requires room { vec_len indices.old + length keys.old ≤ vec_capacity indices.old }
+    ensures items { IsCutAdded levels.now count keys.old indices.old.items indices.new.items }
+    ensures len { vec_len indices.new ≡ vec_len indices.old + length keys.old }
+    ensures capacity { vec_capacity indices.new ≡ vec_capacity indices.old }
 {
     let Some(kept) = greatest_cut(levels, count, keys.len()) else {
-        push_places(places, keys);
+        push_indices(indices, keys);
         return;
     };
     let (nearest, key, others) = keys.select_nth_unstable(kept);
-    push_cut(places, nearest, levels, count);
-    places.push_reserved(place_in(*key));
-    push_places(places, others);
+    push_cut(indices, nearest, levels, count);
+    indices.push_reserved(index_in(*key));
+    push_indices(indices, others);
 }

@@ -3,14 +3,14 @@
 ghost use Rattle.std.specs.Prelude.{◌≡◌, ◌*◌, ◌<◌, ◌≤◌, ◌-ℤ◌, ◌*ℤ◌, pos, unsigned_abs, IfOk, length, map};
 ghost use Rattle.range_plane.specs.Fix.{fix_limit};
 ghost use Rattle.range_plane.specs.Plane.{IsCoordinate, coordinate_limit};
-ghost use Rattle.range_stats.specs.Keys.{distance_limit, key, place_in};
-ghost use Rattle.range_stats.specs.Percent.{entry, places, scaled_distance, square};
+ghost use Rattle.range_stats.specs.Keys.{distance_limit, key, index_in};
+ghost use Rattle.range_stats.specs.Percent.{entry, indices, scaled_distance, square};
 
 use range_lanes::sums;
 use range_plane::{Columns, FIX_LIMIT, OutOfMemory, Point};
 use std::alloc::Allocator;
 
-// How many places there are, beside each distance.
+// How many indices there are, beside each distance.
 const PLACES: u128 = FIX_LIMIT as u128;
 
 // How far a coordinate lies from the mean of points, times their number. `sum` is the sum of their coordinates.
@@ -44,42 +44,42 @@ fn scaled_distance(count: u64, eastings: u64, northings: u64, p: Point) -> u128
     square(offset(count, p.e, eastings)) + square(offset(count, p.n, northings))
 }
 
-// A distance and a place as one number.
-fn key(distance: u128, place: usize) -> u128
+// A distance and an index as one number.
+fn key(distance: u128, index: usize) -> u128
     requires distance { distance ≤ distance_limit }
-    requires place { place < fix_limit }
-    ensures { result ≡ key (distance, place) }
+    requires index { index < fix_limit }
+    ensures { result ≡ key (distance, index) }
 {
-    distance * PLACES + place as u128
+    distance * PLACES + index as u128
 }
 
-// The place in a key.
-pub(crate) fn place_in(key: u128) -> u32
-    ensures { result ≡ place_in key }
+// The index in a key.
+pub(crate) fn index_in(key: u128) -> u32
+    ensures { result ≡ index_in key }
 {
     (key % PLACES) as u32
 }
 
-// The key of each point: its distance from the mean of all, scaled as above, and its place.
+// The key of each point: its distance from the mean of all, scaled as above, and its index.
 pub(crate) fn keys<A: Allocator, B: Allocator>(
     alloc: A,
     fixes: &Columns<B>,
 ) -> Result<Vec<u128, A>, OutOfMemory>
     requires { length fixes.now.points ≤ fix_limit }
     ensures { IfOk result (λ keys. keys.items
-        ≡ map (λ i. key (entry fixes.now.points i)) (places fixes.now.points)) }
+        ≡ map (λ i. key (entry fixes.now.points i)) (indices fixes.now.points)) }
 {
     let (easting_sum, northing_sum) = sums(fixes);
     let (eastings, northings) = (fixes.eastings(), fixes.northings());
     let count = fixes.len();
     let mut keys = Vec::with_capacity(alloc, count)?;
-    for place in 0..count {
+    for index in 0..count {
         let point = Point {
-            e: eastings[place],
-            n: northings[place],
+            e: eastings[index],
+            n: northings[index],
         };
         let distance = scaled_distance(count as u64, easting_sum, northing_sum, point);
-        keys.push_reserved(key(distance, place));
+        keys.push_reserved(key(distance, index));
     }
     Ok(keys)
 }

@@ -23,27 +23,27 @@ use std::marker::Model;
 #[derive(Drop)]
 pub struct Ranking<'a, A: Allocator = Global, B: Allocator = Global> {
     fixes: &'a Columns<B>,
-    // The places of the points, in the order in which they are ranked.
-    places: Vec<u32, A>,
+    // The indices of the points, in the order in which they are ranked.
+    indices: Vec<u32, A>,
 }
 
 impl<'a, A: Allocator, B: Allocator> Model for Ranking<'a, A, B> {
     ghost use Rattle.std.specs.Prelude.{◌≤◌, List, length};
     ghost use Rattle.range_plane.specs.Fix.{fix_limit};
     ghost use Rattle.range_plane.specs.Plane.{Position};
-    ghost use Rattle.range_stats.specs.Keys.{ArePlaces, points_at};
+    ghost use Rattle.range_stats.specs.Keys.{AreIndices, points_at};
 
     ghost Value = { List Position };
 
-    ghost view = { λ r. points_at r.fixes.now.points r.places.items };
+    ghost view = { λ r. points_at r.fixes.now.points r.indices.items };
 
-    ghost invariant = { λ r. ArePlaces r.fixes.now.points r.places.items
-        × (length r.places.items ≤ fix_limit) };
+    ghost invariant = { λ r. AreIndices r.fixes.now.points r.indices.items
+        × (length r.indices.items ≤ fix_limit) };
 }
 
 impl<'a, A: Allocator, B: Allocator> Ranking<'a, A, B> {
     /// Ranks the points for the levels by their distance from their mean, and points as near as each other by
-    /// their places. The levels stand in any order.
+    /// their indices. The levels stand in any order.
     pub fn new(
         alloc: A,
         fixes: &'a Columns<B>,
@@ -55,9 +55,9 @@ impl<'a, A: Allocator, B: Allocator> Ranking<'a, A, B> {
         ensures { IfOk result (IsRanking fixes.now.points levels.now) }
     {
         let mut keys = keys(alloc, fixes)?;
-        let mut places = Vec::with_capacity(alloc, keys.len())?;
-        push_cut(&mut places, &mut keys, levels, fixes.len());
-        Ok(Ranking { fixes, places })
+        let mut indices = Vec::with_capacity(alloc, keys.len())?;
+        push_cut(&mut indices, &mut keys, levels, fixes.len());
+        Ok(Ranking { fixes, indices })
     }
 
     /// The percent polygon at a level, which is one of those that the points were ranked for. The hull that it
@@ -100,7 +100,7 @@ impl<'a, A: Allocator, B: Allocator> Ranking<'a, A, B> {
         let mut hull = OnlineHull::new(alloc);
         let mut done = 0;
         for level in levels {
-            let kept = kept_count(*level, self.places.len());
+            let kept = kept_count(*level, self.indices.len());
             if kept < done {
                 hull = OnlineHull::new(alloc);
                 done = 0;
@@ -135,8 +135,8 @@ impl<'a, A: Allocator, B: Allocator> Ranking<'a, A, B> {
         corners_cover_the_set();
         covering_members_are_corners();
         polygon_of_its_corners();
-        let kept = kept_count(level, self.places.len());
-        add_points(alloc, hull, self.fixes, &self.places[done..kept])?;
+        let kept = kept_count(level, self.indices.len());
+        add_points(alloc, hull, self.fixes, &self.indices[done..kept])?;
         Ok(PercentRow {
             level,
             kept: kept as u32,

@@ -1,6 +1,6 @@
 // Where points fall in lists.
 
-use range_pieces::places_in_both;
+use range_pieces::indices_in_both;
 use range_plane::Point;
 
 #[test]
@@ -15,6 +15,6 @@ fn a_point_falls_before_those_that_do_not_come_before_it(rt: HostRuntime) {
         (6, 0, (1, 1)),
     ] {
         let p = Point { e, n };
-        assert!(rt; places_in_both(&first, &second, p) == expected, "{e},{n}");
+        assert!(rt; indices_in_both(&first, &second, p) == expected, "{e},{n}");
     }
 }

@@ -3,7 +3,7 @@ use Rattle.std.proofs.lemmas.List.{append-nil, nil_from_length}
 use Rattle.std.proofs.lemmas.List.Elements.{All-push}
 use Rattle.std.specs.Vec.Iter.{into_iter_items}
 use Rattle.range_collect.specs.LineFiles.{IsSeen}
-use Rattle.range_lemmas.proofs.Places.{moved}
+use Rattle.range_lemmas.proofs.Indices.{moved}
 use Rattle.range_collect.proofs.file_results.pair.Goals as goal
 
 pub loop-read-init : goal.loop-read-init

@@ -2,7 +2,7 @@ use Rattle.std.proofs.Common.{◌≡◌, ◌+◌, ◌≤◌, ◌++◌, All, map,
 use Rattle.std.specs.Vec.Iter.{into_iter_items}
 use Rattle.range_collect.specs.Follow.{IsResult}
 use Rattle.range_collect.specs.LineFiles.{IsSeen}
-use Rattle.range_lemmas.proofs.Places.{Threes}
+use Rattle.range_lemmas.proofs.Indices.{Threes}
 use Rattle.range_collect.proofs.file_results.pair.Given as goal
 
 abbrev pub invariant-loop-read : goal.invariant-loop-read

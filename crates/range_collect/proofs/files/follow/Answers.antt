@@ -6,7 +6,7 @@ use Rattle.range_collect.specs.Results.{IsFollowed}
 use Rattle.range_collect.specs.Shares.{AreDealt, AreSharesOf}
 use Rattle.range_collect.specs.declared.followed.Followed.{Followed}
 use Rattle.range_collect.proofs.Deals.{dealt_map, dealt_sizes, share_sizes, sizes_alike}
-use Rattle.range_lemmas.proofs.Places.{all_of, map_length, map_map, mapped, paired_at}
+use Rattle.range_lemmas.proofs.Indices.{all_of, map_length, map_map, mapped, paired_at}
 use Rattle.range_collect.proofs.Results.{file_followed, shares_alike, same_line, same_over, same_place, same_under}
 use Rattle.range_collect.proofs.files.follow.Given as given
 use Rattle.range_collect.proofs.files.follow.Goals as goal

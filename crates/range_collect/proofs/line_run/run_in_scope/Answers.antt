@@ -5,7 +5,7 @@ use Rattle.range_fixes.specs.Reading.{reading_from, readings}
 use Rattle.range_line.specs.Lines.{files_from, first_file, new_feeder, Line, TakerView}
 use Rattle.range_collect.specs.Fresh.{IsNew}
 use Rattle.range_collect.proofs.LineResults.{pumped_at}
-use Rattle.range_lemmas.proofs.Places.{map_length}
+use Rattle.range_lemmas.proofs.Indices.{map_length}
 use Rattle.range_collect.proofs.line_run.run_in_scope.Goals as goal
 
 pub start_pumps-started-requires-clause-feeders : goal.start_pumps-started-requires-clause-feeders

@@ -3,7 +3,7 @@ use Rattle.range_fixes.specs.Reading.{readings}
 use Rattle.range_line.specs.Lines.{ended_feeder}
 use Rattle.range_collect.specs.declared.followed.Followed.{Followed}
 use Rattle.range_collect.proofs.LineResults.{files_of_line, line_followed, line_of_feeders, all_of_line, results_of_line}
-use Rattle.range_lemmas.proofs.Places.{map_length}
+use Rattle.range_lemmas.proofs.Indices.{map_length}
 use Rattle.range_collect.proofs.lines.follow_line.Goals as goal
 
 pub drain-feeders-requires-clause-line : goal.drain-feeders-requires-clause-line

@@ -3,7 +3,7 @@ use Rattle.std.proofs.lemmas.List.{append-nil, length_push, nil_from_length}
 use Rattle.std.specs.Vec.Iter.{into_iter_items}
 use Rattle.range_fixes.specs.Reading.{readings}
 use Rattle.range_collect.specs.LineFiles.{IsLineFollowed}
-use Rattle.range_lemmas.proofs.Places.{twos_pushed}
+use Rattle.range_lemmas.proofs.Indices.{twos_pushed}
 use Rattle.range_collect.proofs.lines.join_lines.Goals as goal
 
 pub loop-handle-preserved-in-Ok : goal.loop-handle-preserved-in-Ok

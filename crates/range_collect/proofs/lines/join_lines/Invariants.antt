@@ -2,7 +2,7 @@ use Rattle.std.proofs.Common.{◌≡◌, ◌+◌, ◌≤◌, ◌++◌, List, fal
 use Rattle.std.specs.Vec.Iter.{into_iter_items}
 use Rattle.range_fixes.specs.Reading.{readings}
 use Rattle.range_collect.specs.LineFiles.{IsLineFollowed}
-use Rattle.range_lemmas.proofs.Places.{Twos}
+use Rattle.range_lemmas.proofs.Indices.{Twos}
 use Rattle.range_collect.proofs.lines.join_lines.Given as goal
 
 abbrev pub invariant-loop-handle : goal.invariant-loop-handle

@@ -1,7 +1,7 @@
 use Rattle.std.proofs.Common.{◌≡◌, refl, Vec, length, ap, sym, ◌∙◌, subst, arith, slice_get, Some}
 use Rattle.std.proofs.lemmas.Option.{same_Some, slice_get_within}
 use Rattle.range_fixes.specs.Reading.{readings}
-use Rattle.range_lemmas.proofs.Places.{map_length, mapped, mapped_from, there_is}
+use Rattle.range_lemmas.proofs.Indices.{map_length, mapped, mapped_from, there_is}
 use Rattle.range_collect.proofs.Results.{same_line_followed}
 use Rattle.range_collect.proofs.lines.run_lines.Goals as goal
 

@@ -3,7 +3,7 @@ use Rattle.std.proofs.lemmas.List.Elements.{All-head, All-rest}
 use Rattle.std.proofs.lemmas.Option.{slice_get_within}
 use Rattle.range_options.specs.Limits.{file_limit}
 use Rattle.range_collect.specs.declared.stride.Stride.{Stride}
-use Rattle.range_lemmas.proofs.Places.{before_or_last, moved}
+use Rattle.range_lemmas.proofs.Indices.{before_or_last, moved}
 use Rattle.range_collect.proofs.lines.start_lines.Goals as goal
 
 pub loop-sources-init : goal.loop-sources-init

@@ -4,7 +4,7 @@ use Rattle.std.specs.Vec.Iter.{into_iter_items}
 use Rattle.std.proofs.lemmas.List.{length_push}
 use Rattle.range_fixes.specs.Reading.{reading_from}
 use Rattle.range_pump.specs.Pump.{IsPumped}
-use Rattle.range_lemmas.proofs.Places.{threes_pushed}
+use Rattle.range_lemmas.proofs.Indices.{threes_pushed}
 use Rattle.range_collect.proofs.pumps.join_pumps.Goals as goal
 
 pub loop-handle-preserved : goal.loop-handle-preserved

@@ -1,7 +1,7 @@
 use Rattle.std.proofs.Common.{◌≡◌, All, length, arith, ap, subst}
 use Rattle.std.proofs.lemmas.List.Elements.{All-head, All-push, All-rest}
 use Rattle.range_collect.specs.Fresh.{IsNew}
-use Rattle.range_lemmas.proofs.Places.{moved}
+use Rattle.range_lemmas.proofs.Indices.{moved}
 use Rattle.range_collect.proofs.pumps.start_pumps.Goals as goal
 
 pub start_pump-requires-clause-fresh : goal.start_pump-requires-clause-fresh

@@ -4,7 +4,7 @@ use Rattle.std.proofs.lemmas.List.{append-nil, length_push, nil_from_length}
 use Rattle.std.proofs.lemmas.Option.{slice_get_read}
 use Rattle.range_collect.specs.Shares.{AreDealt}
 use Rattle.range_collect.proofs.Deals.{dealt_more, map_set, none_dealt}
-use Rattle.range_lemmas.proofs.Places.{map_length, mapped}
+use Rattle.range_lemmas.proofs.Indices.{map_length, mapped}
 use Rattle.range_collect.proofs.shares.deal.Goals as goal
 
 pub loop-i-init : goal.loop-i-init

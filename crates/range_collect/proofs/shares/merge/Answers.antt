@@ -3,7 +3,7 @@ use Rattle.std.proofs.Math.Nat.{mod-lt}
 use Rattle.std.proofs.lemmas.Option.{slice_get_read}
 use Rattle.std.specs.Vec.Iter.{into_iter_items}
 use Rattle.range_collect.proofs.Deals.{AreTaken, all_left, all_taken, left_more, map_set, next_member, some_left, taken_more}
-use Rattle.range_lemmas.proofs.Places.{map_length, mapped, there_is}
+use Rattle.range_lemmas.proofs.Indices.{map_length, mapped, there_is}
 use Rattle.range_collect.proofs.shares.merge.Given as given
 use Rattle.range_collect.proofs.shares.merge.Goals as goal
 use Rattle.range_collect.proofs.shares.merge.Goals.{After-next}

@@ -1,13 +1,13 @@
 use Rattle.std.proofs.Common.{ℕ, List, subst, sym, length, ap, ◌∙◌, ◌-◌, pos, ◌+ℤ◌, arith}
 use Rattle.range_plane.specs.Edges.{at}
 use Rattle.range_plane.specs.Plane.{Position}
-use Rattle.range_lemmas.proofs.Places.{replaced_length}
+use Rattle.range_lemmas.proofs.Indices.{replaced_length}
 use Rattle.range_pieces.specs.Pieces.{all_points}
-use Rattle.range_pieces.specs.PointList.{place}
+use Rattle.range_pieces.specs.PointList.{index}
 use Rattle.range_hull.specs.Area.{swept, signed, open_edge}
 use Rattle.range_hull.specs.Chain.{Extends}
 use Rattle.range_hull.proofs.Area.{Grows, grown, not_grown}
-use Rattle.range_hull.proofs.Chains.{IsPlaced, after_place, replaced_extends, within_extends}
+use Rattle.range_hull.proofs.Chains.{ReplacesRun, after_index, replaced_extends, within_extends}
 use Rattle.range_hull.proofs.chain.extend.Given as given
 use Rattle.range_hull.proofs.chain.extend.Goals as goal
 
@@ -20,9 +20,9 @@ returns-then-not-lies_outside-clause-swept g c =
     ap (λ (n : ℕ). pos n +ℤ swept c.args.side L +ℤ signed c.args.side (open_edge (at L 0) (at L (length L - 1)) c.args.p)) c.if-not-lies_outside.ensures.none
     ∙ not_grown c.requires.chain c.args.p (pos c.args.tally.now.area) c.if-not-lies_outside.ensures.inside
 
-placed : (g : given.Over) (c : goal.After-replace_run g) → IsPlaced c.args.side (all_points c.args.chain.now.pieces) c.args.p
-    (place c.args.chain.now.pieces c.kept_before-from.result) (place c.args.chain.now.pieces c.args.spot.at)
-    (place c.args.chain.now.pieces c.kept_after-to.result)
+placed : (g : given.Over) (c : goal.After-replace_run g) → ReplacesRun c.args.side (all_points c.args.chain.now.pieces) c.args.p
+    (index c.args.chain.now.pieces c.kept_before-from.result) (index c.args.chain.now.pieces c.args.spot.at)
+    (index c.args.chain.now.pieces c.kept_after-to.result)
 placed g c =
     let bs = c.args.chain.now.pieces in record {
       low = c.kept_before-from.ensures.bound;
@@ -31,7 +31,7 @@ placed g c =
       starts = c.kept_before-from.ensures.starts;
       stops = c.kept_after-to.ensures.stops;
       before = c.requires.spot.falls.before;
-      after = after_place (all_points bs) c.args.p (place bs c.args.spot.at) c.requires.chain.rising c.if-not-lies_outside.ensures.apart;
+      after = after_index (all_points bs) c.args.p (index bs c.args.spot.at) c.requires.chain.rising c.if-not-lies_outside.ensures.apart;
       outside = c.if-not-lies_outside.ensures.outside;
       bends_before = c.kept_before-from.ensures.bends;
       dents_before = c.kept_before-from.ensures.dents;
@@ -46,7 +46,7 @@ returns-clause-chain g c = subst (λ (M : List Position). Extends c.args.side (a
 pub returns-clause-turns : goal.returns-clause-turns
 returns-clause-turns g c =
     let bs = c.args.chain.now.pieces in
-    let size = replaced_length (all_points bs) c.args.p (place bs c.kept_before-from.result) (place bs c.kept_after-to.result)
+    let size = replaced_length (all_points bs) c.args.p (index bs c.kept_before-from.result) (index bs c.kept_after-to.result)
     (omega (arith, c.kept_before-from.ensures.bound, c.kept_after-to.ensures.bound)) c.kept_after-to.ensures.within in
     omega (
       arith,
@@ -61,9 +61,9 @@ pub returns-clause-swept : goal.returns-clause-swept
 returns-clause-swept g c =
     let bs = c.args.chain.now.pieces in
     let L = all_points bs in
-    let from : ℕ = place bs c.kept_before-from.result in
-    let here : ℕ = place bs c.args.spot.at in
-    let to : ℕ = place bs c.kept_after-to.result in
+    let from : ℕ = index bs c.kept_before-from.result in
+    let here : ℕ = index bs c.args.spot.at in
+    let to : ℕ = index bs c.kept_after-to.result in
     let grows : Grows c.args.side L c.args.p from here to (pos c.args.tally.now.area) (pos c.lies_outside.new.tally.area)
     (pos c.kept_before-from.new.tally.area) (pos c.kept_after-to.new.tally.area) = record {
       outside = c.if-not-lies_outside.ensures.gained;

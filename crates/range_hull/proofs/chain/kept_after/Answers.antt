@@ -3,7 +3,7 @@ use Rattle.range_plane.specs.Edges.{at}
 use Rattle.range_plane.specs.Plane.{Position}
 use Rattle.range_lemmas.proofs.Integers.{linear}
 use Rattle.range_pieces.specs.Pieces.{all_points}
-use Rattle.range_pieces.specs.PointList.{place}
+use Rattle.range_pieces.specs.PointList.{index}
 use Rattle.range_hull.specs.Area.{swept_after}
 use Rattle.range_hull.specs.Chain.{bend}
 use Rattle.range_hull.proofs.Area.{after_step}
@@ -27,10 +27,10 @@ loop-side-preserved g c =
     let L = all_points bs in
     let side = c.args.side in
     let p = c.args.p in
-    let k : ℕ = place bs c.loop-side.kept in
-    let m : ℕ = place bs c.next-next.result in
+    let k : ℕ = index bs c.loop-side.kept in
+    let m : ℕ = index bs c.next-next.result in
     let i = c.loop-side.invariant in
-    let more : k + 1 ≡ m = sym c.next-next.ensures.place in
+    let more : k + 1 ≡ m = sym c.next-next.ensures.index in
     let within : m < length L = c.if-is_end.ensures.within in
     let here = c.get.ensures in
     let after = c.get-in-loop-side.ensures ∙ ap (at L) (sym more) in

@@ -1,7 +1,7 @@
 use Rattle.std.proofs.Common.{◌+◌, ◌-◌, ◌<◌, ◌≤◌, length, pos, ◌≤ℤ◌, ◌≡◌, ◌-ℤ◌}
 use Rattle.range_plane.specs.Edges.{at}
 use Rattle.range_pieces.specs.Pieces.{all_points}
-use Rattle.range_pieces.specs.PointList.{Stands, place}
+use Rattle.range_pieces.specs.PointList.{Stands, index}
 use Rattle.range_hull.specs.Area.{swept_after}
 use Rattle.range_hull.specs.Chain.{bend}
 use Rattle.range_hull.proofs.chain.kept_after.Given as goal
@@ -9,8 +9,8 @@ use Rattle.range_hull.proofs.chain.kept_after.Given as goal
 abbrev pub invariant-loop-side : goal.invariant-loop-side
 invariant-loop-side g l =
     let L = all_points l.chain.pieces in
-    let i = place l.chain.pieces l.fn.c in
-    let k = place l.chain.pieces l.kept in
+    let i = index l.chain.pieces l.fn.c in
+    let k = index l.chain.pieces l.kept in
     Stands l.chain.pieces l.kept
     × (i ≤ k)
     × (i < length L → k < length L)
@@ -21,4 +21,4 @@ invariant-loop-side g l =
     × (l.initial.tally.turns ≤ l.tally.turns)
 
 abbrev pub decreases-loop-side : goal.decreases-loop-side
-decreases-loop-side g l = length (all_points l.chain.pieces) - place l.chain.pieces l.kept
+decreases-loop-side g l = length (all_points l.chain.pieces) - index l.chain.pieces l.kept

@@ -3,7 +3,7 @@ use Rattle.range_plane.specs.Edges.{at}
 use Rattle.range_plane.specs.Plane.{Position}
 use Rattle.range_lemmas.proofs.Integers.{linear}
 use Rattle.range_pieces.specs.Pieces.{all_points}
-use Rattle.range_pieces.specs.PointList.{place}
+use Rattle.range_pieces.specs.PointList.{index}
 use Rattle.range_hull.specs.Area.{swept_before}
 use Rattle.range_hull.specs.Chain.{bend}
 use Rattle.range_hull.proofs.Area.{before_step}
@@ -15,13 +15,13 @@ loop-side-preserved g c =
     let L = all_points bs in
     let side = c.args.side in
     let p = c.args.p in
-    let k : ℕ = place bs c.loop-side.kept in
-    let m : ℕ = place bs c.previous-last.result in
+    let k : ℕ = index bs c.loop-side.kept in
+    let m : ℕ = index bs c.previous-last.result in
     let i = c.loop-side.invariant in
-    let last : m + 1 ≡ k = c.previous-last.ensures.place in
-    let first : place bs c.previous.result + 1 ≡ m = c.previous.ensures.place in
+    let last : m + 1 ≡ k = c.previous-last.ensures.index in
+    let first : index bs c.previous.result + 1 ≡ m = c.previous.ensures.index in
     let within : k ≤ length L = omega (arith, last, c.previous-last.ensures.within) in
-    let before = c.get-before.ensures ∙ ap (at L) (let e : place bs c.previous.result ≡ k - 2 = omega (arith, last, first) in e) in
+    let before = c.get-before.ensures ∙ ap (at L) (let e : index bs c.previous.result ≡ k - 2 = omega (arith, last, first) in e) in
     let here = c.get.ensures ∙ ap (at L) (let e : m ≡ k - 1 = omega (arith, last) in e) in
     let value : bend side c.get-before.result c.get.result p ≡ bend side (at L (k - 2)) (at L (k - 1)) p =
     ap (λ (x : Position). bend side x c.get.result p) before ∙ ap (λ (x : Position). bend side (at L (k - 2)) x p) here in

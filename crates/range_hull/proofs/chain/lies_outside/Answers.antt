@@ -5,7 +5,7 @@ use Rattle.range_plane.specs.Edges.{at}
 use Rattle.range_plane.specs.Order.{rank}
 use Rattle.range_plane.specs.Plane.{Position}
 use Rattle.range_pieces.specs.Pieces.{all_points}
-use Rattle.range_pieces.specs.PointList.{place}
+use Rattle.range_pieces.specs.PointList.{index}
 use Rattle.range_hull.specs.Chain.{bend, on_corner}
 use Rattle.range_hull.proofs.Chains.{rank_injective}
 use Rattle.range_hull.proofs.Spots.{after_at, before_at, bend_at, between_within, not_after}
@@ -21,7 +21,7 @@ returns-then-rank g c =
     record {
       outside = tt;
       apart = tt;
-      inside = on_corner (place c.args.chain.now.pieces c.args.spot.at) here.0
+      inside = on_corner (index c.args.chain.now.pieces c.args.spot.at) here.0
           (rank_injective c.args.p c.in-Some.after c.rank-2.ensures.within c.rank.ensures.within same ∙ here.1);
       turns = omega arith;
       rises = omega arith;
@@ -31,8 +31,8 @@ returns-then-rank g c =
       none = refl;
     }
 
-falls_before_next : (g : given.Over) (c : After-bulges g) → (place c.args.chain.now.pieces c.args.spot.at < length (all_points c.args.chain.now.pieces))
-    × (rank c.args.p <ℤ rank (at (all_points c.args.chain.now.pieces) (place c.args.chain.now.pieces c.args.spot.at)))
+falls_before_next : (g : given.Over) (c : After-bulges g) → (index c.args.chain.now.pieces c.args.spot.at < length (all_points c.args.chain.now.pieces))
+    × (rank c.args.p <ℤ rank (at (all_points c.args.chain.now.pieces) (index c.args.chain.now.pieces c.args.spot.at)))
 falls_before_next g c =
     let spot = c.requires.spot in
     let here = after_at _ _ c.args.spot.before c.args.spot.after c.in-Some.after spot.beside spot.falls.bound c.in-Some.is in
@@ -41,18 +41,18 @@ falls_before_next g c =
     (here.0, subst (λ (x : Position). rank c.args.p <ℤ rank x) here.1 lt)
 
 value : (g : given.Over) (c : After-bulges g) → bend c.args.side c.in-Some-before.before c.args.p c.in-Some.after ≡ bend c.args.side
-    (at (all_points c.args.chain.now.pieces) (place c.args.chain.now.pieces c.args.spot.at - 1)) c.args.p
-    (at (all_points c.args.chain.now.pieces) (place c.args.chain.now.pieces c.args.spot.at))
+    (at (all_points c.args.chain.now.pieces) (index c.args.chain.now.pieces c.args.spot.at - 1)) c.args.p
+    (at (all_points c.args.chain.now.pieces) (index c.args.chain.now.pieces c.args.spot.at))
 value g c =
     let spot = c.requires.spot in
-    bend_at c.args.side (all_points c.args.chain.now.pieces) (place c.args.chain.now.pieces c.args.spot.at) c.in-Some-before.before c.args.p c.in-Some.after
+    bend_at c.args.side (all_points c.args.chain.now.pieces) (index c.args.chain.now.pieces c.args.spot.at) c.in-Some-before.before c.args.p c.in-Some.after
     (before_at _ _ c.args.spot.before c.args.spot.after c.in-Some-before.before spot.beside c.in-Some-before.is).1
     (after_at _ _ c.args.spot.before c.args.spot.after c.in-Some.after spot.beside spot.falls.bound c.in-Some.is).1
 
 pub returns : goal.returns
 returns g c =
     let L = all_points c.args.chain.now.pieces in
-    let k : ℕ = place c.args.chain.now.pieces c.args.spot.at in
+    let k : ℕ = index c.args.chain.now.pieces c.args.spot.at in
     let spot = c.requires.spot in
     let some = (before_at _ _ c.args.spot.before c.args.spot.after c.in-Some-before.before spot.beside c.in-Some-before.is).0 in
     record {

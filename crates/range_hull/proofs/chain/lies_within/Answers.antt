@@ -5,7 +5,7 @@ use Rattle.range_plane.specs.Edges.{at}
 use Rattle.range_plane.specs.Order.{rank}
 use Rattle.range_plane.specs.Plane.{Position}
 use Rattle.range_pieces.specs.Pieces.{all_points}
-use Rattle.range_pieces.specs.PointList.{place}
+use Rattle.range_pieces.specs.PointList.{index}
 use Rattle.range_hull.specs.Chain.{before_first, past_edge, bend, on_corner}
 use Rattle.range_hull.proofs.Chains.{rank_injective}
 use Rattle.range_hull.proofs.Spots.{after_at, before_at, bend_at, between_within, none_before, not_after}
@@ -17,14 +17,14 @@ returns-then-rank-clause-within g c =
     let spot = c.requires in
     let here = after_at _ _ c.args.spot.before c.args.spot.after c.in-Some.next spot.beside spot.falls.bound c.in-Some.is in
     let same : rank c.args.p ≡ rank c.in-Some.next = omega (arith, ints) in
-    on_corner (place c.args.chain.now.pieces c.args.spot.at) here.0
+    on_corner (index c.args.chain.now.pieces c.args.spot.at) here.0
     (rank_injective c.args.p c.in-Some.next c.rank-2.ensures.within c.rank.ensures.within same ∙ here.1)
 
 pub returns-in_default-before-clause-beyond : goal.returns-in_default-before-clause-beyond
 returns-in_default-before-clause-beyond g c =
     let spot = c.requires in
     let L = all_points c.args.chain.now.pieces in
-    let k : ℕ = place c.args.chain.now.pieces c.args.spot.at in
+    let k : ℕ = index c.args.chain.now.pieces c.args.spot.at in
     let here = after_at _ _ c.args.spot.before c.args.spot.after c.in-Some.next spot.beside spot.falls.bound c.in-Some.is in
     let after : rank c.args.p ≤ℤ rank c.in-Some.next = not_after _ _ c.args.p c.in-Some.next spot.falls here.0 here.1 in
     let lt : rank c.args.p <ℤ rank c.in-Some.next = grind (arith, ints) in
@@ -32,11 +32,11 @@ returns-in_default-before-clause-beyond g c =
     before_first (subst (λ (n : ℕ). rank c.args.p <ℤ rank (at L n)) first (subst (λ (x : Position). rank c.args.p <ℤ rank x) here.1 lt))
 
 value : (g : given.Over) (c : goal.After-has_within g) → bend c.args.side c.in-Some-before.before c.args.p c.in-Some.next ≡ bend c.args.side
-    (at (all_points c.args.chain.now.pieces) (place c.args.chain.now.pieces c.args.spot.at - 1)) c.args.p
-    (at (all_points c.args.chain.now.pieces) (place c.args.chain.now.pieces c.args.spot.at))
+    (at (all_points c.args.chain.now.pieces) (index c.args.chain.now.pieces c.args.spot.at - 1)) c.args.p
+    (at (all_points c.args.chain.now.pieces) (index c.args.chain.now.pieces c.args.spot.at))
 value g c =
     let spot = c.requires in
-    bend_at c.args.side (all_points c.args.chain.now.pieces) (place c.args.chain.now.pieces c.args.spot.at) c.in-Some-before.before c.args.p c.in-Some.next
+    bend_at c.args.side (all_points c.args.chain.now.pieces) (index c.args.chain.now.pieces c.args.spot.at) c.in-Some-before.before c.args.p c.in-Some.next
     (before_at _ _ c.args.spot.before c.args.spot.after c.in-Some-before.before spot.beside c.in-Some-before.is).1
     (after_at _ _ c.args.spot.before c.args.spot.after c.in-Some.next spot.beside spot.falls.bound c.in-Some.is).1
 
@@ -54,7 +54,7 @@ pub returns-clause-beyond : goal.returns-clause-beyond
 returns-clause-beyond g c = OnFalse_from _ _ (λ h.
     let spot = c.requires in
     let L = all_points c.args.chain.now.pieces in
-    let k : ℕ = place c.args.chain.now.pieces c.args.spot.at in
+    let k : ℕ = index c.args.chain.now.pieces c.args.spot.at in
     let here = after_at _ _ c.args.spot.before c.args.spot.after c.in-Some.next spot.beside spot.falls.bound c.in-Some.is in
     let some = (before_at _ _ c.args.spot.before c.args.spot.after c.in-Some-before.before spot.beside c.in-Some-before.is).0 in
     let last : k - 1 + 1 ≡ k = omega (arith, some) in

@@ -3,5 +3,5 @@ use lib.Lanes.{chunk}
 use Rattle.range_plane.specs.Covering.{is_covered}
 use Rattle.range_lanes.proofs.inside.count_each.Given as goal
 
-abbrev pub invariant-loop-place : goal.invariant-loop-place
-invariant-loop-place g l = l.count ≡ count_by (is_covered l.polygon) (chunk l.at l.place l.cols.points)
+abbrev pub invariant-loop-index : goal.invariant-loop-index
+invariant-loop-index g l = l.count ≡ count_by (is_covered l.polygon) (chunk l.at l.index l.cols.points)

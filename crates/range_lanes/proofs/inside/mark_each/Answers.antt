@@ -13,12 +13,12 @@ loop-i-preserved g c =
     let test = is_covered c.args.polygon.now in
     let before = take at c.args.out.now in
     let inv = c.loop-i.invariant in
-    let place : at + i < length ps = omega (arith, c.loop-i-test.true, c.requires.room) in
+    let index : at + i < length ps = omega (arith, c.loop-i-test.true, c.requires.room) in
     let next : at + (i + 1) ≡ (at + i) + 1 = omega arith in
     let mark = c.is_known_or_covered.result in
-    let more = ap (λ b. map test (chunk at i ps) ++ b ∷ []) c.is_known_or_covered.ensures ∙ sym (group_more test ps at i c.at.result place c.at.ensures) in
+    let more = ap (λ b. map test (chunk at i ps) ++ b ∷ []) c.is_known_or_covered.ensures ∙ sym (group_more test ps at i c.at.result index c.at.ensures) in
     record {
       length = length-set c.loop-i.out (at + i) mark ∙ inv.length;
-      marks = ap (λ k. take k (set c.loop-i.out (at + i) mark)) next ∙ take_more_set c.loop-i.out (at + i) mark (omega (arith, place, inv.length))
+      marks = ap (λ k. take k (set c.loop-i.out (at + i) mark)) next ∙ take_more_set c.loop-i.out (at + i) mark (omega (arith, index, inv.length))
           ∙ ap (λ l. l ++ mark ∷ []) inv.marks ∙ append_assoc before (map test (chunk at i ps)) (mark ∷ []) ∙ ap (λ l. before ++ l) more;
     }

@@ -16,7 +16,7 @@ returns-then-end-lt-PIECE_SIZE-clause-points g c =
     let end = c.len_of-end.result in
     let value = c.len_of-end.ensures.value in
     let within : i - 1 < length bs = omega arith in
-    let place : offset bs (i - 1) + end ≡ offset bs i = omega (
+    let index : offset bs (i - 1) + end ≡ offset bs i = omega (
       arith,
       offset_more bs (i - 1) within,
       value,
@@ -24,7 +24,7 @@ returns-then-end-lt-PIECE_SIZE-clause-points g c =
     ) in
     ap (λ (v : Shelved). all_points v.pieces) c.insert.ensures
     ∙ joined_put bs (i - 1) end end p within (omega (arith, value)) (omega (arith, value))
-    ∙ ap (λ (k : ℕ). replaced (all_points bs) p k k) place
+    ∙ ap (λ (k : ℕ). replaced (all_points bs) p k k) index
 
 pub returns-then-len_of-lt-PIECE_SIZE-clause-points : goal.returns-then-len_of-lt-PIECE_SIZE-clause-points
 returns-then-len_of-lt-PIECE_SIZE-clause-points g c =

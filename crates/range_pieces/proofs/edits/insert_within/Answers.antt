@@ -1,6 +1,6 @@
 use Rattle.std.proofs.Common.{◌≡◌, ◌∙◌, sym, ap, subst, ℕ, ◌+◌, ◌-◌, ◌≤◌, length, set, List, arith}
 use Rattle.range_plane.specs.Plane.{Position}
-use Rattle.range_lemmas.proofs.Places.{replaced_length}
+use Rattle.range_lemmas.proofs.Indices.{replaced_length}
 use Rattle.range_pieces.specs.Pieces.{IsCut, piece, piece_size, all_points, offset, replaced}
 use Rattle.range_pieces.specs.Shelf.{Shelved}
 use Rattle.range_pieces.proofs.PieceCuts.{IsHalf, cut_grow, cut_split, free_left, halved}
@@ -10,15 +10,15 @@ use Rattle.range_pieces.proofs.edits.insert_within.Goals as goal
 pub returns-then-len_of-lt-PIECE_SIZE-clause-points : goal.returns-then-len_of-lt-PIECE_SIZE-clause-points
 returns-then-len_of-lt-PIECE_SIZE-clause-points g c =
     ap (λ (v : Shelved). all_points v.pieces) c.insert.ensures
-    ∙ joined_put c.args.shelf.now.pieces c.args.i c.args.place c.args.place c.args.p c.requires.piece c.requires.within c.requires.within
+    ∙ joined_put c.args.shelf.now.pieces c.args.i c.args.index c.args.index c.args.p c.requires.piece c.requires.within c.requires.within
 
 pub returns-then-len_of-lt-PIECE_SIZE-clause-cut : goal.returns-then-len_of-lt-PIECE_SIZE-clause-cut
 returns-then-len_of-lt-PIECE_SIZE-clause-cut g c =
     let bs = c.args.shelf.now.pieces in
     let i = c.args.i in
-    let size = replaced_length (piece bs i) c.args.p c.args.place c.args.place (omega arith) c.requires.within in
+    let size = replaced_length (piece bs i) c.args.p c.args.index c.args.index (omega arith) c.requires.within in
     subst (λ (v : Shelved). IsCut v.pieces 0 0) (sym c.insert.ensures)
-    (cut_grow bs i (replaced (piece bs i) c.args.p c.args.place c.args.place) 0 0 c.requires.piece (omega (arith, size))
+    (cut_grow bs i (replaced (piece bs i) c.args.p c.args.index c.args.index) 0 0 c.requires.piece (omega (arith, size))
     (omega (arith, size, c.len_of.ensures.value)) c.requires.cut)
 
 pub split-requires-clause-room : goal.split-requires-clause-room
@@ -36,7 +36,7 @@ insert-requires-2-clause-within g c =
     let at = c.in_halves-half.result.1 in
     let top : length (piece bs i) ≤ piece_size = c.requires.cut.bound i c.requires.piece in
     let full : length (piece bs i) ≡ piece_size = omega (arith, c.len_of.ensures.value, c.if-len_of-lt-PIECE_SIZE.false) in
-    let in_half : IsHalf bs M i c.args.place j at = halved bs M i c.args.place j at c.requires.piece full
+    let in_half : IsHalf bs M i c.args.index j at = halved bs M i c.args.index j at c.requires.piece full
     (omega (arith, c.requires.within)) c.split.ensures.pieces c.in_halves-half.ensures in
     in_half.within
 
@@ -49,7 +49,7 @@ insert-requires-2-clause-room g c =
     let at = c.in_halves-half.result.1 in
     let top : length (piece bs i) ≤ piece_size = c.requires.cut.bound i c.requires.piece in
     let full : length (piece bs i) ≡ piece_size = omega (arith, c.len_of.ensures.value, c.if-len_of-lt-PIECE_SIZE.false) in
-    let in_half : IsHalf bs M i c.args.place j at = halved bs M i c.args.place j at c.requires.piece full
+    let in_half : IsHalf bs M i c.args.index j at = halved bs M i c.args.index j at c.requires.piece full
     (omega (arith, c.requires.within)) c.split.ensures.pieces c.in_halves-half.ensures in
     in_half.room
 
@@ -62,7 +62,7 @@ join_small-requires g c =
     let at = c.in_halves-half.result.1 in
     let top : length (piece bs i) ≤ piece_size = c.requires.cut.bound i c.requires.piece in
     let full : length (piece bs i) ≡ piece_size = omega (arith, c.len_of.ensures.value, c.if-len_of-lt-PIECE_SIZE.false) in
-    let in_half : IsHalf bs M i c.args.place j at = halved bs M i c.args.place j at c.requires.piece full
+    let in_half : IsHalf bs M i c.args.index j at = halved bs M i c.args.index j at c.requires.piece full
     (omega (arith, c.requires.within)) c.split.ensures.pieces c.in_halves-half.ensures in
     let b = replaced (piece M j) c.args.p at at in
     let size = replaced_length (piece M j) c.args.p at at (omega arith) in_half.within in
@@ -81,11 +81,11 @@ returns-clause-points g c =
     let at = c.in_halves-half.result.1 in
     let top : length (piece bs i) ≤ piece_size = c.requires.cut.bound i c.requires.piece in
     let full : length (piece bs i) ≡ piece_size = omega (arith, c.len_of.ensures.value, c.if-len_of-lt-PIECE_SIZE.false) in
-    let in_half : IsHalf bs M i c.args.place j at = halved bs M i c.args.place j at c.requires.piece full
+    let in_half : IsHalf bs M i c.args.index j at = halved bs M i c.args.index j at c.requires.piece full
     (omega (arith, c.requires.within)) c.split.ensures.pieces c.in_halves-half.ensures in
     c.join_small.ensures.points
     ∙ ap (λ (v : Shelved). all_points v.pieces) c.insert-2.ensures
     ∙ joined_put M j at at c.args.p in_half.piece_is in_half.within in_half.within
     ∙ ap (λ (k : ℕ). replaced (all_points M) c.args.p k k) in_half.same
-    ∙ ap (λ (L : List Position). replaced L c.args.p (offset bs i + c.args.place) (offset bs i + c.args.place))
+    ∙ ap (λ (L : List Position). replaced L c.args.p (offset bs i + c.args.index) (offset bs i + c.args.index))
     (ap all_points c.split.ensures.pieces ∙ joined_split bs i 128 c.requires.piece)

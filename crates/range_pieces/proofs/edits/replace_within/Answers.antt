@@ -1,5 +1,5 @@
 use Rattle.std.proofs.Common.{◌∙◌, sym, ap, subst, ℕ, ◌+◌, set, arith}
-use Rattle.range_lemmas.proofs.Places.{replaced_length}
+use Rattle.range_lemmas.proofs.Indices.{replaced_length}
 use Rattle.range_pieces.specs.Pieces.{IsCut, piece, all_points, replaced}
 use Rattle.range_pieces.specs.Shelf.{Shelved}
 use Rattle.range_pieces.proofs.PieceCuts.{cut_grow, cut_set}

@@ -1,8 +1,8 @@
 use Rattle.std.proofs.Common.{◌≡◌, ap, ◌+◌, ◌<◌, ◌≤◌, inl, inr, length, arith}
 use Rattle.range_pieces.specs.Pieces.{all_points, offset}
-use Rattle.range_pieces.specs.PointList.{place}
+use Rattle.range_pieces.specs.PointList.{index}
 use Rattle.range_pieces.proofs.Joins.{offset_more, offset_within}
-use Rattle.range_pieces.proofs.Falling.{place_within, stand_in_order}
+use Rattle.range_pieces.proofs.Falling.{index_within, stand_in_order}
 use Rattle.range_pieces.proofs.point_list.run_len.Goals as goal
 
 pub len_of-requires : goal.len_of-requires
@@ -53,7 +53,7 @@ overflow_add-result g c =
     let ordered : from.piece < to.piece =
     elim (stand_in_order bs from to c.requires.from c.requires.to c.requires.order) [ inl l ↦ l | inr e ↦ absurd (c.if-from-to.false e.0) ] in
     let last : c.loop-i.i ≡ to.piece = omega (arith, ordered, c.loop-i-test.false, c.loop-i.auto.i-end) in
-    let top : place bs to ≤ length (all_points bs) = place_within bs to c.requires.to in
+    let top : index bs to ≤ length (all_points bs) = index_within bs to c.requires.to in
     omega (arith, c.loop-i.invariant, top, ap (offset bs) last, c.requires.few)
 
 pub returns : goal.returns

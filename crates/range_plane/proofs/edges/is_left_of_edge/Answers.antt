@@ -8,7 +8,7 @@ use Rattle.range_plane.proofs.edges.is_left_of_edge.Goals as goal
 pub returns : goal.returns
 returns c =
     let L = c.args.corners.now in
-    let e = get_or_read L c.args.place c.index-corners-place.result c.requires c.index-corners-place.is origin in
+    let e = get_or_read L c.args.index c.index-corners-index.result c.requires c.index-corners-index.is origin in
     let t = c.turn.ensures.value ∙ ap (λ (x : Position). turn x c.next.result c.args.q) e
-    ∙ ap (λ (x : Position). turn (at L c.args.place) x c.args.q) c.next.ensures in
+    ∙ ap (λ (x : Position). turn (at L c.args.index) x c.args.q) c.next.ensures in
     (λ h. grind (arith, ints), λ h. grind (arith, ints))

@@ -12,8 +12,8 @@ use Rattle.range_plane.proofs.plain.corners_of.Goals.{else-not-contains-via-else
 pub loop-p-init : goal.loop-p-init
 loop-p-init g c = rw (c.in_ok-push.ensures.items, c.new-corners.ensures.items) (goes_start c.args.points.now c.in-Some.least c.in-Some.ensures.least)
 
-pub place_round-place-requires : goal.place_round-place-requires
-place_round-place-requires g c = rw c.deref-then-not-is_covered_by_others.ensures.value
+pub index_round-index-requires : goal.index_round-index-requires
+index_round-index-requires g c = rw c.deref-then-not-is_covered_by_others.ensures.value
     (goes_some c.args.points.now c.loop-p.p-index c.loop-p.corners.items c.loop-p.invariant)
 
 pub loop-p-preserved : goal.loop-p-preserved
@@ -25,8 +25,8 @@ loop-p-preserved g c =
     let found = rw c.deref.ensures.value at c.contains.ensures.value in
     elim c.if-not-contains.branch [
       | then-not-contains+then-not-is_covered_by_others+in_ok-insert w ↦
-          let placed = rw w.deref-then-not-is_covered_by_others.ensures.value at w.place_round-place.ensures in
-          rw (w.corners-is, w.in_ok-insert.ensures.items) (goes_next S n L w.place_round-place.result p c.loop-p.invariant c.loop-p-test.true c.p-item.is
+          let placed = rw w.deref-then-not-is_covered_by_others.ensures.value at w.index_round-index.ensures in
+          rw (w.corners-is, w.in_ok-insert.ensures.items) (goes_next S n L w.index_round-index.result p c.loop-p.invariant c.loop-p-test.true c.p-item.is
           (λ m. false≢true (sym w.if-not-contains.true ∙ found ∙ (member_decided L p).1 m))
           (λ h. false≢true (sym w.if-not-is_covered_by_others.true ∙ w.is_covered_by_others.ensures ∙ (covered_decided _ p).1 h))
           placed.within.0 placed.before placed.here)

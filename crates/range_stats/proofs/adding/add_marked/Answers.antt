@@ -12,15 +12,15 @@ add_point-requires-clause-covered g c = λ marked.
     let points = c.args.batch.now.points in
     let corners = c.args.hull.now.corners in
     let p = c.at.result in
-    let place = c.loop-left.left - 1 in
+    let index = c.loop-left.left - 1 in
     let taken = drop c.loop-left.left points in
-    let mark : get_or c.args.marks.now place false ≡ true = elim c.if-left-marks.branch [
+    let mark : get_or c.args.marks.now index false ≡ true = elim c.if-left-marks.branch [
       | then-left-marks w ↦ sym w.known-is ∙ marked
       | else-left-marks w ↦ absurd (grind (arith, tests, sym w.known-is ∙ marked, w.if-left-marks.false))
     ] in
     c.covered_points_stay_covered.ensures corners (taken ++ corners) corners c.loop-left.hull.corners p c.requires.polygon
     (c.loop-left.invariant.set corners c.requires.polygon) (λ s. Contains-append_right taken corners s)
-    (c.requires.marks place p mark c.at.ensures)
+    (c.requires.marks index p mark c.at.ensures)
 
 pub loop-left-preserved : goal.loop-left-preserved
 loop-left-preserved g c =

@@ -5,15 +5,15 @@ use Rattle.range_plane.specs.Edges.{at}
 use Rattle.range_plane.specs.Plane.{origin}
 use Rattle.range_stats.proofs.adding.columns_of.Goals as goal
 
-pub loop-place-preserved : goal.loop-place-preserved
-loop-place-preserved g c =
+pub loop-index-preserved : goal.loop-index-preserved
+loop-index-preserved g c =
     let points = c.args.fixes.now.points in
-    let places = c.args.places.now in
-    let i = c.loop-place.place-index in
-    let place = get_or places i 0 in
-    let here : at points place ≡ c.at.result = get_or_from_slice_get points place c.at.result origin c.at.ensures in
+    let indices = c.args.indices.now in
+    let i = c.loop-index.index-index in
+    let index = get_or indices i 0 in
+    let here : at points index ≡ c.at.result = get_or_from_slice_get points index c.at.result origin c.at.ensures in
     record {
-      points = c.push_reserved.ensures.points ∙ ap₂ (λ l x. l ++ x ∷ []) c.loop-place.invariant.points (sym here)
-          ∙ sym (map_more (at points) places i 0 (omega arith));
-      room = omega (arith, c.push_reserved.ensures.spare, c.loop-place.invariant.room);
+      points = c.push_reserved.ensures.points ∙ ap₂ (λ l x. l ++ x ∷ []) c.loop-index.invariant.points (sym here)
+          ∙ sym (map_more (at points) indices i 0 (omega arith));
+      room = omega (arith, c.push_reserved.ensures.spare, c.loop-index.invariant.room);
     }

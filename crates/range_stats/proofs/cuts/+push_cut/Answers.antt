@@ -2,7 +2,7 @@ use Rattle.std.proofs.Common.{◌≡◌, ◌+◌, ◌++◌, ◌∷◌, ℕ, List
 use Rattle.std.specs.List.Sorted.{IsPermutation}
 use Rattle.std.proofs.lemmas.List.{length-append}
 use Rattle.std.proofs.lemmas.List.Sorted.{length_permutation}
-use Rattle.range_stats.specs.Keys.{place_in}
+use Rattle.range_stats.specs.Keys.{index_in}
 use Rattle.range_stats.proofs.Selected.{cut_more}
 use Rattle.range_stats.proofs.cuts.+push_cut.Goals as goal
 
@@ -16,8 +16,8 @@ push_cut-requires g t c κs within =
     let size = size_of_parts c.args.keys.now parts.0.now parts.2.now parts.1.now c.select_nth_unstable-nearest.ensures.permutation in
     (omega (arith, size), (within, (c.requires.few, omega (arith, size, c.requires.room))))
 
-pub push_places-requires-2 : goal.push_places-requires-2
-push_places-requires-2 g t c =
+pub push_indices-requires-2 : goal.push_indices-requires-2
+push_indices-requires-2 g t c =
     let parts = c.select_nth_unstable-nearest.result in
     let size = size_of_parts c.args.keys.now parts.0.now parts.2.now parts.1.now c.select_nth_unstable-nearest.ensures.permutation in
     omega (arith, size, c.requires.room, c.push_cut.ensures.len, c.push_cut.ensures.capacity, c.push_reserved.ensures.len, c.push_reserved.ensures.capacity)
@@ -26,12 +26,12 @@ pub returns : goal.returns
 returns g t c =
     let parts = c.select_nth_unstable-nearest.result in
     let size = size_of_parts c.args.keys.now parts.0.now parts.2.now parts.1.now c.select_nth_unstable-nearest.ensures.permutation in
-    let new = c.push_places-2.new.places.items in
+    let new = c.push_indices-2.new.indices.items in
     record {
-      items = cut_more c.args.count c.args.levels.now c.args.keys.now parts.0.now parts.2.now parts.1.now c.in-Some.kept c.args.places.now.items
-          c.push_cut.new.places.items c.place_in.result new c.select_nth_unstable-nearest.ensures.permutation
+      items = cut_more c.args.count c.args.levels.now c.args.keys.now parts.0.now parts.2.now parts.1.now c.in-Some.kept c.args.indices.now.items
+          c.push_cut.new.indices.items c.index_in.result new c.select_nth_unstable-nearest.ensures.permutation
           c.select_nth_unstable-nearest.ensures.partitioned c.select_nth_unstable-nearest.ensures.front_len c.in-Some.ensures.1 c.push_cut.ensures.items
-          c.place_in.ensures (c.push_places-2.ensures.items ∙ ap (λ l. l ++ map place_in parts.2.now) c.push_reserved.ensures.items);
-      len = omega (arith, size, c.push_cut.ensures.len, c.push_reserved.ensures.len, c.push_places-2.ensures.len);
-      capacity = omega (arith, c.push_cut.ensures.capacity, c.push_reserved.ensures.capacity, c.push_places-2.ensures.capacity);
+          c.index_in.ensures (c.push_indices-2.ensures.items ∙ ap (λ l. l ++ map index_in parts.2.now) c.push_reserved.ensures.items);
+      len = omega (arith, size, c.push_cut.ensures.len, c.push_reserved.ensures.len, c.push_indices-2.ensures.len);
+      capacity = omega (arith, c.push_cut.ensures.capacity, c.push_reserved.ensures.capacity, c.push_indices-2.ensures.capacity);
     }

@@ -28,20 +28,20 @@ entry_is points i p here count eastings northings d number es ns far =
     ap (λ x. (x, i)) (is ∙ ap (distance points) here)
 
 pub push_reserved-requires : goal.push_reserved-requires
-push_reserved-requires g c = omega (arith, c.loop-place.invariant.count, c.loop-place.invariant.room, c.loop-place-test.true, c.len-count.ensures)
+push_reserved-requires g c = omega (arith, c.loop-index.invariant.count, c.loop-index.invariant.room, c.loop-index-test.true, c.len-count.ensures)
 
-pub loop-place-preserved : goal.loop-place-preserved
-loop-place-preserved g c =
+pub loop-index-preserved : goal.loop-index-preserved
+loop-index-preserved g c =
     let points = c.args.fixes.now.points in
-    let i = c.loop-place.place in
-    let within : i < length points = omega (arith, c.loop-place-test.true, c.len-count.ensures) in
+    let i = c.loop-index.index in
+    let within : i < length points = omega (arith, c.loop-index-test.true, c.len-count.ensures) in
     let here = ap₂ position (coordinate_at points (λ p. p.e) c.eastings-eastings.result.now i within c.eastings-eastings.ensures.value c.eastings-eastings.ensures.limits)
     (coordinate_at points (λ p. p.n) c.northings-northings.result.now i within c.northings-northings.ensures.value c.northings-northings.ensures.limits) in
     let item = entry_is points i _ here _ _ _ _ c.len-count.ensures c.sums-easting_sum.ensures.eastings c.sums-easting_sum.ensures.northings
     c.scaled_distance-distance.ensures.value in
     record {
-      keys = c.push_reserved.ensures.items ∙ ap₂ (λ l x. l ++ x ∷ []) c.loop-place.invariant.keys (c.key.ensures ∙ ap key item)
+      keys = c.push_reserved.ensures.items ∙ ap₂ (λ l x. l ++ x ∷ []) c.loop-index.invariant.keys (c.key.ensures ∙ ap key item)
           ∙ sym (map-range_with_len_more (λ i. key (entry points i)) 0 i i (omega arith));
-      count = omega (arith, c.push_reserved.ensures.len, c.loop-place.invariant.count);
-      room = omega (arith, c.push_reserved.ensures.capacity, c.loop-place.invariant.room);
+      count = omega (arith, c.push_reserved.ensures.len, c.loop-index.invariant.count);
+      room = omega (arith, c.push_reserved.ensures.capacity, c.loop-index.invariant.room);
     }

@@ -4,9 +4,9 @@ use Rattle.range_stats.specs.Keys.{key}
 use Rattle.range_stats.specs.Percent.{entry}
 use Rattle.range_stats.proofs.distances.keys.Given as goal
 
-abbrev pub invariant-loop-place : goal.invariant-loop-place
-invariant-loop-place g l = record {
-  keys : l.keys.items ≡ map (λ i. key (entry l.fixes.points i)) (range_with_len 0 l.place);
-  count : vec_len l.keys ≡ l.place;
+abbrev pub invariant-loop-index : goal.invariant-loop-index
+invariant-loop-index g l = record {
+  keys : l.keys.items ≡ map (λ i. key (entry l.fixes.points i)) (range_with_len 0 l.index);
+  count : vec_len l.keys ≡ l.index;
   room : length l.fixes.points ≤ vec_capacity l.keys;
 }

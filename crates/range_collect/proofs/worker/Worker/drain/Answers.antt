@@ -7,7 +7,7 @@ use Rattle.range_line.specs.Lines.{ended_feeder, ended_taker, files_from, AreOfL
 use Rattle.range_line.specs.Messages.{of_file, IsLawful}
 use Rattle.range_collect.specs.Work.{EachHolds}
 use Rattle.range_collect.proofs.Holding.{ended_files, ended_twice, holds_sent}
-use Rattle.range_lemmas.proofs.Places.{map_length, of_all}
+use Rattle.range_lemmas.proofs.Indices.{map_length, of_all}
 use Rattle.range_collect.proofs.worker.Worker.drain.Goals as goal
 
 pub loop-init : goal.loop-init

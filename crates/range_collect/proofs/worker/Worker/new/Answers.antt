@@ -5,7 +5,7 @@ use Rattle.range_line.specs.Lines.{files_from}
 use Rattle.range_estimator.specs.Estimation.{Estimation}
 use Rattle.range_collect.specs.Follow.{Holds}
 use Rattle.range_collect.specs.Work.{EachHolds}
-use Rattle.range_lemmas.proofs.Places.{of_all}
+use Rattle.range_lemmas.proofs.Indices.{of_all}
 use Rattle.range_collect.proofs.worker.Worker.new.Goals as goal
 
 pub loop-made-preserved : goal.loop-made-preserved

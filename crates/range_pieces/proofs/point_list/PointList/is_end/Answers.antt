@@ -1,7 +1,7 @@
 use Rattle.std.proofs.Common.{◌≡◌, ◌∙◌, sym, ap, inl, inr, eq-or-lt_of_le, length}
 use Rattle.range_pieces.specs.PointList.{Content}
 use Rattle.std.proofs.lemmas.Bool.{OnFalse_from, eq-eqb, eqb-false, eqb-true}
-use Rattle.range_pieces.proofs.Falling.{is_last, place_at_end, place_before_end}
+use Rattle.range_pieces.proofs.Falling.{is_last, index_at_end, index_before_end}
 use Rattle.range_pieces.proofs.point_list.PointList.is_end.Goals as goal
 
 pub returns-clause-value : goal.returns-clause-value
@@ -9,7 +9,7 @@ returns-clause-value g c =
     let bs = c.self.inside.shelf.pieces in
     let same : bs ≡ c.args.self.now.pieces = ap (λ (v : Content). v.pieces) c.self.view_is in
     let n : c.count.result ≡ length c.args.self.now.pieces = c.count.ensures ∙ ap length same in (
-      (λ t. place_at_end c.args.self.now.pieces c.args.c c.requires (eqb-true c.args.c.piece c.count.result t ∙ n)),
+      (λ t. index_at_end c.args.self.now.pieces c.args.c c.requires (eqb-true c.args.c.piece c.count.result t ∙ n)),
       (λ e. eq-eqb c.args.c.piece c.count.result (is_last c.args.self.now.pieces c.args.c c.requires e ∙ sym n)),
     )
 
@@ -20,5 +20,5 @@ returns-clause-within g c = OnFalse_from _ _ (λ h.
     let n : c.count.result ≡ length c.args.self.now.pieces = c.count.ensures ∙ ap length same in
     elim (eq-or-lt_of_le c.requires.bound) [
       | inl e ↦ absurd (eqb-false c.args.c.piece c.count.result h (e ∙ sym n))
-      | inr l ↦ place_before_end c.args.self.now.pieces c.args.c c.requires l
+      | inr l ↦ index_before_end c.args.self.now.pieces c.args.c c.requires l
     ])

@@ -4,11 +4,11 @@ use Rattle.range_pieces.specs.Pieces.{IsCut, piece, offset}
 use Rattle.range_pieces.specs.PointList.{Content}
 use Rattle.std.proofs.lemmas.Bool.{cases_lt}
 use Rattle.range_pieces.proofs.Joins.{offset_more}
-use Rattle.range_pieces.proofs.Falling.{place_within}
+use Rattle.range_pieces.proofs.Falling.{index_within}
 use Rattle.range_pieces.proofs.point_list.PointList.previous.Goals as goal
 
-pub returns-else-c-gt0-clause-place : goal.returns-else-c-gt0-clause-place
-returns-else-c-gt0-clause-place g c =
+pub returns-else-c-gt0-clause-index : goal.returns-else-c-gt0-clause-index
+returns-else-c-gt0-clause-index g c =
     let bs = c.self.inside.shelf.pieces in
     let same : bs ≡ c.args.self.now.pieces = ap (λ (v : Content). v.pieces) c.self.view_is in
     let now = c.args.self.now.pieces in
@@ -25,7 +25,7 @@ returns-else-c-gt0-clause-place g c =
     omega (arith, offset_more now (k - 1) within, size, some, c.if-c-gt0.false, ap (offset now) (let e : k - 1 + 1 ≡ k = omega (arith, positive) in e))
 
 pub returns-then-c-gt0-clause-within : goal.returns-then-c-gt0-clause-within
-returns-then-c-gt0-clause-within g c = omega (arith, place_within c.args.self.now.pieces c.args.c c.requires.stands, c.if-c-gt0.true)
+returns-then-c-gt0-clause-within g c = omega (arith, index_within c.args.self.now.pieces c.args.c c.requires.stands, c.if-c-gt0.true)
 
 pub returns-else-c-gt0-clause-within : goal.returns-else-c-gt0-clause-within
-returns-else-c-gt0-clause-within g c = omega (arith, place_within c.args.self.now.pieces c.args.c c.requires.stands, returns-else-c-gt0-clause-place g c)
+returns-else-c-gt0-clause-within g c = omega (arith, index_within c.args.self.now.pieces c.args.c c.requires.stands, returns-else-c-gt0-clause-index g c)

@@ -1,9 +1,9 @@
 use Rattle.std.proofs.Common.{◌≡◌, ◌∙◌, sym, ap, subst, ◌≤◌, length, List, arith}
 use Rattle.range_plane.specs.Plane.{Position}
-use Rattle.range_lemmas.proofs.Places.{replaced_length}
+use Rattle.range_lemmas.proofs.Indices.{replaced_length}
 use Rattle.range_pieces.specs.Pieces.{capacity_of, all_points}
-use Rattle.range_pieces.specs.PointList.{Content, Stands, place}
-use Rattle.range_pieces.proofs.Falling.{place_within}
+use Rattle.range_pieces.specs.PointList.{Content, Stands, index}
+use Rattle.range_pieces.proofs.Falling.{index_within}
 use Rattle.range_pieces.proofs.point_list.PointList.replace_run.Goals as goal
 
 pub overflow_sub-self : goal.overflow_sub-self
@@ -13,7 +13,7 @@ overflow_sub-self g c =
     let from = c.args.from in
     let to = c.args.to in
     let stands : Stands bs to = subst (λ (xs : List (List Position)). Stands xs to) (sym same) c.requires.to in
-    let within : place bs to ≤ length (all_points bs) = place_within bs to stands in
+    let within : index bs to ≤ length (all_points bs) = index_within bs to stands in
     let counted = c.self.invariant.counted in
     omega (arith, within, counted, c.run_len-removed.ensures)
 
@@ -24,10 +24,10 @@ invariant_of-self g c =
     let from = c.args.from in
     let to = c.args.to in
     let stands : Stands bs to = subst (λ (xs : List (List Position)). Stands xs to) (sym same) c.requires.to in
-    let within : place bs to ≤ length (all_points bs) = place_within bs to stands in
+    let within : index bs to ≤ length (all_points bs) = index_within bs to stands in
     let counted = c.self.invariant.counted in
     let e = c.replace_between.ensures in
-    let size = replaced_length (all_points bs) c.args.p (place bs from) (place bs to) (omega (arith, c.run_len-removed.ensures)) within in
+    let size = replaced_length (all_points bs) c.args.p (index bs from) (index bs to) (omega (arith, c.run_len-removed.ensures)) within in
     record {
       cut = e.cut;
       counted = omega (arith, ap length e.points, size, counted, within, c.run_len-removed.ensures);

@@ -1,5 +1,5 @@
 use Rattle.std.proofs.Common.{refl}
 use Rattle.range_pieces.proofs.point_list.PointList.start.Goals as goal
 
-pub returns-clause-place : goal.returns-clause-place
-returns-clause-place g c = refl
+pub returns-clause-index : goal.returns-clause-index
+returns-clause-index g c = refl

@@ -1,9 +1,9 @@
 use Rattle.std.proofs.Common.{◌≡◌, List, ℕ, [], length, subst, ◌∙◌}
 use Rattle.range_stats.specs.Keys.{IsCutAdded}
-use Rattle.range_stats.proofs.RankPlaces.{keys, places_of_cut, ranking_of_cut}
+use Rattle.range_stats.proofs.RankIndices.{keys, indices_of_cut, ranking_of_cut}
 use Rattle.range_stats.proofs.ranking.Ranking.new.Goals as goal
 
--- what was added to no places
+-- what was added to no indices
 added_to_none : (levels : List ℕ) (n count : ℕ) (keys made old new : List ℕ) → old ≡ [] → made ≡ keys → count ≡ n → IsCutAdded levels count made old new
     → IsCutAdded levels n keys [] new
 added_to_none levels n count keys made old new none same number added =
@@ -13,15 +13,15 @@ added_to_none levels n count keys made old new none same number added =
 pub invariant_of-result : goal.invariant_of-result
 invariant_of-result g c =
     let points = c.args.fixes.now.points in
-    let new = c.push_cut.new.places.items in
-    places_of_cut points c.args.levels.now new c.requires
-    (added_to_none c.args.levels.now (length points) c.len-2.result (keys points) c.deref_mut.result.now _ new c.in_ok-places.ensures.items
+    let new = c.push_cut.new.indices.items in
+    indices_of_cut points c.args.levels.now new c.requires
+    (added_to_none c.args.levels.now (length points) c.len-2.result (keys points) c.deref_mut.result.now _ new c.in_ok-indices.ensures.items
     (c.deref_mut.ensures.value ∙ c.in_ok-keys.ensures) c.len-2.ensures c.push_cut.ensures.items)
 
 pub returns : goal.returns
 returns g c =
     let points = c.args.fixes.now.points in
-    let new = c.push_cut.new.places.items in
+    let new = c.push_cut.new.indices.items in
     ranking_of_cut points c.args.levels.now new c.requires
-    (added_to_none c.args.levels.now (length points) c.len-2.result (keys points) c.deref_mut.result.now _ new c.in_ok-places.ensures.items
+    (added_to_none c.args.levels.now (length points) c.len-2.result (keys points) c.deref_mut.result.now _ new c.in_ok-indices.ensures.items
     (c.deref_mut.ensures.value ∙ c.in_ok-keys.ensures) c.len-2.ensures c.push_cut.ensures.items)

@@ -13,13 +13,13 @@ pub returns : goal.returns
 returns g c =
     let ranked = c.args.self.now in
     let points = c.self.inside.fixes.now.points in
-    let places = c.deref.result.now in
-    let is : points_at points places ≡ ranked = ap (points_at points) c.deref.ensures.value ∙ c.self.view_is in
-    let size : c.len.result ≡ length ranked = omega (arith, c.len.ensures, c.deref.ensures.len, length-map places (at points), ap length is) in
+    let indices = c.deref.result.now in
+    let is : points_at points indices ≡ ranked = ap (points_at points) c.deref.ensures.value ∙ c.self.view_is in
+    let size : c.len.result ≡ length ranked = omega (arith, c.len.ensures, c.deref.ensures.len, length-map indices (at points), ap length is) in
     let count : c.kept_count-kept.result ≡ kept_count c.args.level (length ranked) = c.kept_count-kept.ensures ∙ ap (kept_count c.args.level) size in
     let hull = c.add_points.new.hull in
     let first = more_first c.larger_sets_cover_more.ensures c.few_cover_little.ensures.one c.corners_cover_the_set.ensures
-    c.covering_members_are_corners.ensures points places ranked is c.args.done c.kept_count-kept.result (omega (arith, count, c.requires.done)) hull
+    c.covering_members_are_corners.ensures points indices ranked is c.args.done c.kept_count-kept.result (omega (arith, count, c.requires.done)) hull
     (c.in_ok-add_points.ensures (take c.args.done ranked) c.requires.hull) in
     let kept = subst (λ n. IsHullOf (take n ranked) hull) count first in
     record {

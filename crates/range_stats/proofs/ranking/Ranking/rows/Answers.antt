@@ -29,8 +29,8 @@ loop-level-preserved g c =
     let size : c.len.result ≡ length ranked = omega (
       arith,
       c.len.ensures,
-      c.self.inside.places.ok,
-      length-map c.self.inside.places.items (at c.self.inside.fixes.now.points),
+      c.self.inside.indices.ok,
+      length-map c.self.inside.indices.items (at c.self.inside.fixes.now.points),
       ap length c.self.view_is,
     ) in
     let count : c.kept_count-kept.result ≡ kept_count (get_or levels i 0) (length ranked) = c.kept_count-kept.ensures

@@ -1,7 +1,7 @@
 use Rattle.std.proofs.Common.{◌+◌, length}
 use Rattle.range_plane.specs.Edges.{at}
 use Rattle.range_pieces.specs.Rising.{IsBetween}
-use Rattle.range_pieces.proofs.search.places_in_both.Given as goal
+use Rattle.range_pieces.proofs.search.indices_in_both.Given as goal
 
 abbrev pub invariant-loop-first_size : goal.invariant-loop-first_size
 invariant-loop-first_size l = IsBetween (at l.first) (length l.first) l.p l.in_first l.first_size

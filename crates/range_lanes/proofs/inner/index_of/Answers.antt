@@ -1,7 +1,7 @@
 use Rattle.std.proofs.Common.{◌≡◌, ℕ, ◌+◌, ◌*◌, ◌/◌, ◌%◌, ap, sym, ◌∙◌, arith}
 use Rattle.std.proofs.Math.Nat.{mul-add, mul_assoc}
 use Rattle.range_lanes.specs.declared.inner.TheConstants.{INNER_CORNERS}
-use Rattle.range_lanes.proofs.inner.place_of.Goals as goal
+use Rattle.range_lanes.proofs.inner.index_of.Goals as goal
 
 -- a product with n, by whole parts of it and the rest
 parts_and_rest : (i n : ℕ) → i * n ≡ i * (n / INNER_CORNERS) * INNER_CORNERS + i * (n % INNER_CORNERS)

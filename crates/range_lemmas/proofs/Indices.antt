@@ -1,4 +1,4 @@
--- Members of lists by their places.
+-- Members of lists by their indices.
 use Rattle.std.proofs.Common.{◌≡◌, ◌≢◌, refl, sym, ap, subst, ◌∙◌, ℕ, zero, suc, ◌+◌, ◌<◌, ◌≤◌, List, [], ◌∷◌, ◌++◌, length, take, drop, map, set, slice_get}
 use Rattle.std.proofs.Common.{Some, option_map, All, ◌⊎◌, inl, inr, arith, get_or, length-append}
 use Rattle.std.proofs.lemmas.List.{length-drop, length-take-le}
@@ -23,26 +23,26 @@ before_or_last [] x y (suc i) e = absurd (none-some x e)
 before_or_last (z ∷ xs) x y zero e = inl e
 before_or_last (z ∷ xs) x y (suc i) e = elim (before_or_last xs x y i e) [ inl k ↦ inl k | inr l ↦ inr (ap suc l.0, l.1) ]
 
-pub there_is : {X : Type 0} (xs : List X) (place : ℕ) → place < length xs → (x : X) × (slice_get xs place ≡ Some x)
-there_is [] place below = absurd (omega arith)
+pub there_is : {X : Type 0} (xs : List X) (index : ℕ) → index < length xs → (x : X) × (slice_get xs index ≡ Some x)
+there_is [] index below = absurd (omega arith)
 there_is (x ∷ xs) zero below = (x, refl)
-there_is (x ∷ xs) (suc place) below = there_is xs place (omega arith)
+there_is (x ∷ xs) (suc index) below = there_is xs index (omega arith)
 
-pub of_all : {X : Type 0} (P : X → Type 0) (xs : List X) (place : ℕ) (x : X) → All P xs → slice_get xs place ≡ Some x → P x
-of_all P xs place x all is = subst P (get_or_from_slice_get xs place x x is) (all place x (slice_get_within xs place x is))
+pub of_all : {X : Type 0} (P : X → Type 0) (xs : List X) (index : ℕ) (x : X) → All P xs → slice_get xs index ≡ Some x → P x
+of_all P xs index x all is = subst P (get_or_from_slice_get xs index x x is) (all index x (slice_get_within xs index x is))
 
-pub all_of : {X : Type 0} (P : X → Type 0) (xs : List X) → ((place : ℕ) (x : X) → slice_get xs place ≡ Some x → P x) → All P xs
-all_of P xs each = λ place d below. each place (get_or xs place d) (slice_get-get_or xs place d below)
+pub all_of : {X : Type 0} (P : X → Type 0) (xs : List X) → ((index : ℕ) (x : X) → slice_get xs index ≡ Some x → P x) → All P xs
+all_of P xs each = λ index d below. each index (get_or xs index d) (slice_get-get_or xs index d below)
 
 -- ---- mapped lists
-pub mapped : {X Y : Type 0} (f : X → Y) (xs : List X) (place : ℕ) (x : X) → slice_get xs place ≡ Some x → slice_get (map f xs) place ≡ Some (f x)
-mapped f xs place x is = slice_get-map f xs place ∙ ap (option_map f) is
+pub mapped : {X Y : Type 0} (f : X → Y) (xs : List X) (index : ℕ) (x : X) → slice_get xs index ≡ Some x → slice_get (map f xs) index ≡ Some (f x)
+mapped f xs index x is = slice_get-map f xs index ∙ ap (option_map f) is
 
-pub mapped_from : {X Y : Type 0} (f : X → Y) (xs : List X) (place : ℕ) (y : Y) → slice_get (map f xs) place ≡ Some y → (x : X) × (slice_get xs place ≡ Some x)
+pub mapped_from : {X Y : Type 0} (f : X → Y) (xs : List X) (index : ℕ) (y : Y) → slice_get (map f xs) index ≡ Some y → (x : X) × (slice_get xs index ≡ Some x)
     × (f x ≡ y)
-mapped_from f [] place y is = absurd (none-some y is)
+mapped_from f [] index y is = absurd (none-some y is)
 mapped_from f (x ∷ xs) zero y is = (x, refl, same_Some (f x) y is)
-mapped_from f (x ∷ xs) (suc place) y is = mapped_from f xs place y is
+mapped_from f (x ∷ xs) (suc index) y is = mapped_from f xs index y is
 
 pub map_pushed : {X Y : Type 0} (f : X → Y) (xs : List X) (x : X) → map f (xs ++ x ∷ []) ≡ map f xs ++ f x ∷ []
 map_pushed f [] x = refl
@@ -56,22 +56,22 @@ pub map_map : {X Y Z : Type 0} (f : Y → Z) (g : X → Y) (xs : List X) → map
 map_map f g [] = refl
 map_map f g (x ∷ xs) = ap (λ l. f (g x) ∷ l) (map_map f g xs)
 
-pub range_at : {X : Type 0} (f : ℕ → X) (n place : ℕ) (x : X) → slice_get (map f (range_with_len 0 n)) place ≡ Some x → (place < n) × (x ≡ f place)
-range_at f n place x is =
+pub range_at : {X : Type 0} (f : ℕ → X) (n index : ℕ) (x : X) → slice_get (map f (range_with_len 0 n)) index ≡ Some x → (index < n) × (x ≡ f index)
+range_at f n index x is =
     let len = length-map-range_with_len f 0 n in
-    let within = slice_get_within _ place x is in
-    let below : place < n = omega (arith, len, within) in
-    (below, sym (get_or_from_slice_get _ place x x is) ∙ get_or-map-range_with_len f 0 n place place x below (omega arith))
+    let within = slice_get_within _ index x is in
+    let below : index < n = omega (arith, len, within) in
+    (below, sym (get_or_from_slice_get _ index x x is) ∙ get_or-map-range_with_len f 0 n index index x below (omega arith))
 
 -- ---- a list in which one member was set
-pub set_or_kept : {X : Type 0} (xs : List X) (i : ℕ) (y : X) (place : ℕ) (x : X) → slice_get (set xs i y) place ≡ Some x
-    → ((place ≡ i) × (y ≡ x)) ⊎ ((place ≢ i) × (slice_get xs place ≡ Some x))
-set_or_kept [] i y place x is = absurd (none-some x is)
+pub set_or_kept : {X : Type 0} (xs : List X) (i : ℕ) (y : X) (index : ℕ) (x : X) → slice_get (set xs i y) index ≡ Some x
+    → ((index ≡ i) × (y ≡ x)) ⊎ ((index ≢ i) × (slice_get xs index ≡ Some x))
+set_or_kept [] i y index x is = absurd (none-some x is)
 set_or_kept (z ∷ xs) zero y zero x is = inl (refl, same_Some y x is)
-set_or_kept (z ∷ xs) zero y (suc place) x is = inr (λ e. absurd (omega (arith, e)), is)
+set_or_kept (z ∷ xs) zero y (suc index) x is = inr (λ e. absurd (omega (arith, e)), is)
 set_or_kept (z ∷ xs) (suc i) y zero x is = inr (λ e. absurd (omega (arith, e)), is)
-set_or_kept (z ∷ xs) (suc i) y (suc place) x is =
-    elim (set_or_kept xs i y place x is) [ inl k ↦ inl (ap suc k.0, k.1) | inr k ↦ inr (λ e. k.0 (omega (arith, e)), k.1) ]
+set_or_kept (z ∷ xs) (suc i) y (suc index) x is =
+    elim (set_or_kept xs i y index x is) [ inl k ↦ inl (ap suc k.0, k.1) | inr k ↦ inr (λ e. k.0 (omega (arith, e)), k.1) ]
 
 -- ---- a list in which one member took the place of a run of them
 pub replaced_length : {X : Type 0} (xs : List X) (x : X) (from to : ℕ) → from ≤ to → to ≤ length xs
@@ -79,27 +79,27 @@ pub replaced_length : {X : Type 0} (xs : List X) (x : X) (from to : ℕ) → fro
 replaced_length xs x from to order within =
     omega (arith, length-append (take from xs) (x ∷ drop to xs), length-take-le from xs (omega arith), length-drop to xs)
 
--- ---- two lists, place by place
-pub same_places : {X : Type 0} (xs ys : List X) → length xs ≡ length ys
-    → ((place : ℕ) (x y : X) → slice_get xs place ≡ Some x → slice_get ys place ≡ Some y → x ≡ y) → xs ≡ ys
-same_places [] [] same each = refl
-same_places [] (y ∷ ys) same each = absurd (omega (arith, same))
-same_places (x ∷ xs) [] same each = absurd (omega (arith, same))
-same_places (x ∷ xs) (y ∷ ys) same each =
+-- ---- two lists, index by index
+pub same_indices : {X : Type 0} (xs ys : List X) → length xs ≡ length ys
+    → ((index : ℕ) (x y : X) → slice_get xs index ≡ Some x → slice_get ys index ≡ Some y → x ≡ y) → xs ≡ ys
+same_indices [] [] same each = refl
+same_indices [] (y ∷ ys) same each = absurd (omega (arith, same))
+same_indices (x ∷ xs) [] same each = absurd (omega (arith, same))
+same_indices (x ∷ xs) (y ∷ ys) same each =
     let head = each 0 x y refl refl in
-    let rest = same_places xs ys (omega (arith, same)) (λ place. each (suc place)) in cc
+    let rest = same_indices xs ys (omega (arith, same)) (λ index. each (suc index)) in cc
 
 pub paired_at : {X Y : Type 0} (R : ℕ → X → Y → Type 0) (n : ℕ) (xs : List X) (ys : List Y) → length xs ≡ length ys
-    → ((place : ℕ) (x : X) (y : Y) → slice_get xs place ≡ Some x → slice_get ys place ≡ Some y → R (n + place) x y) → PairedFrom R n xs ys
+    → ((index : ℕ) (x : X) (y : Y) → slice_get xs index ≡ Some x → slice_get ys index ≡ Some y → R (n + index) x y) → PairedFrom R n xs ys
 paired_at R n [] [] same each = tt
 paired_at R n [] (y ∷ ys) same each = absurd (omega (arith, same))
 paired_at R n (x ∷ xs) [] same each = absurd (omega (arith, same))
 paired_at R n (x ∷ xs) (y ∷ ys) same each =
     let first : n + 0 ≡ n = omega arith in (
       subst (λ (k : ℕ). R k x y) first (each 0 x y refl refl),
-      paired_at R (n + 1) xs ys (omega (arith, same)) (λ place v w in_xs in_ys.
-          let next : n + suc place ≡ (n + 1) + place = omega arith in
-          subst (λ (k : ℕ). R k v w) next (each (suc place) v w in_xs in_ys)),
+      paired_at R (n + 1) xs ys (omega (arith, same)) (λ index v w in_xs in_ys.
+          let next : n + suc index ≡ (n + 1) + index = omega arith in
+          subst (λ (k : ℕ). R k v w) next (each (suc index) v w in_xs in_ys)),
     )
 
 -- ---- a list that is gone through
@@ -111,20 +111,20 @@ moved f (w ∷ xs) x y rest rest' [] was step is = cc
 moved f (w ∷ xs) x y rest rest' (v ∷ all) was step is =
     let tail = moved f xs x y rest rest' all (cc) step is in cc
 
--- ---- three lists, place by place
+-- ---- three lists, index by index
 abbrev pub Threes : {X Y Z : Type 0} → (X → Y → Z → Type 0) → List X → List Y → List Z → Type 0
-Threes {X} {Y} {Z} R xs ys zs = (place : ℕ) (x : X) (y : Y) (z : Z) → slice_get xs place ≡ Some x → slice_get ys place ≡ Some y → slice_get zs place ≡ Some z
+Threes {X} {Y} {Z} R xs ys zs = (index : ℕ) (x : X) (y : Y) (z : Z) → slice_get xs index ≡ Some x → slice_get ys index ≡ Some y → slice_get zs index ≡ Some z
     → R x y z
 
 pub threes_pushed : {X Y Z : Type 0} (R : X → Y → Z → Type 0) (xs : List X) (ys : List Y) (zs : List Z) (x : X) (y : Y) (z : Z)
     → length xs ≡ length ys → length xs ≡ length zs → Threes R xs ys zs → R x y z → Threes R (xs ++ x ∷ []) (ys ++ y ∷ []) (zs ++ z ∷ [])
-threes_pushed R xs ys zs x y z in_ys in_zs each last place u v w is_u is_v is_w =
-    elim (before_or_last xs u x place is_u) as (λ _. R u v w) [
+threes_pushed R xs ys zs x y z in_ys in_zs each last index u v w is_u is_v is_w =
+    elim (before_or_last xs u x index is_u) as (λ _. R u v w) [
       | inl before ↦
-          (let below = slice_get_within xs place u before in
-          each place u v w before
-          (sym (slice_get_before ys y place (omega (arith, below, in_ys))) ∙ is_v)
-          (sym (slice_get_before zs z place (omega (arith, below, in_zs))) ∙ is_w))
+          (let below = slice_get_within xs index u before in
+          each index u v w before
+          (sym (slice_get_before ys y index (omega (arith, below, in_ys))) ∙ is_v)
+          (sym (slice_get_before zs z index (omega (arith, below, in_zs))) ∙ is_w))
       | inr at ↦
           (let v_is : y ≡ v = same_Some y v (sym (slice_get_last ys y) ∙ (ap (slice_get (ys ++ y ∷ [])) (sym (at.0 ∙ in_ys)) ∙ is_v)) in
           let w_is : z ≡ w = same_Some z w (sym (slice_get_last zs z) ∙ (ap (slice_get (zs ++ z ∷ [])) (sym (at.0 ∙ in_zs)) ∙ is_w)) in
@@ -132,9 +132,9 @@ threes_pushed R xs ys zs x y z in_ys in_zs each last place u v w is_u is_v is_w 
     ]
 
 abbrev pub Twos : {X Y : Type 0} → (X → Y → Type 0) → List X → List Y → Type 0
-Twos {X} {Y} R xs ys = (place : ℕ) (x : X) (y : Y) → slice_get xs place ≡ Some x → slice_get ys place ≡ Some y → R x y
+Twos {X} {Y} R xs ys = (index : ℕ) (x : X) (y : Y) → slice_get xs index ≡ Some x → slice_get ys index ≡ Some y → R x y
 
 pub twos_pushed : {X Y : Type 0} (R : X → Y → Type 0) (xs : List X) (ys : List Y) (x : X) (y : Y) → length xs ≡ length ys → Twos R xs ys → R x y
     → Twos R (xs ++ x ∷ []) (ys ++ y ∷ [])
-twos_pushed R xs ys x y same each last place u v is_u is_v =
-    threes_pushed (λ u v _. R u v) xs ys ys x y y same same (λ place u v w is_u is_v is_w. each place u v is_u is_v) last place u v v is_u is_v is_v
+twos_pushed R xs ys x y same each last index u v is_u is_v =
+    threes_pushed (λ u v _. R u v) xs ys ys x y y same same (λ index u v w is_u is_v is_w. each index u v is_u is_v) last index u v v is_u is_v is_v

@@ -1,4 +1,4 @@
--- Places of points with their distances, as keys.
+-- Indices of points with their distances, as keys.
 use Rattle.std.proofs.Common.{◌≡◌, ℕ, zero, suc, ◌+◌, ◌*◌, ◌/◌, ◌%◌, ◌<◌, ◌≤◌, cond, nat_lt, false, List, [], ◌∷◌, length, get_or, map, take, drop, filter}
 use Rattle.std.proofs.Common.{refl, sym, ap, ap₂, subst, ◌∙◌, arith}
 use Rattle.std.specs.List.{All, AllByRecursion, IsDistinct, range_with_len}
@@ -14,37 +14,37 @@ use Rattle.std.proofs.Math.Nat.{mul-le-mul_right}
 use Rattle.range_plane.specs.Edges.{at}
 use Rattle.range_plane.specs.Plane.{Position}
 use Rattle.range_plane.specs.Fix.{fix_limit}
-use Rattle.range_stats.specs.Keys.{ArePlaces, IsCutAdded, IsCutAt, entry_in, key, place_in, points_at}
-use Rattle.range_stats.specs.Percent.{AreNearestFirst, IsRanking, comes_before, distance, entry, kept_count, nearest, nearest_points, places}
-use Rattle.range_stats.proofs.Rankings.{Entry, IsApart, filter_map, nearest_are_first, rank_in, same_place}
+use Rattle.range_stats.specs.Keys.{AreIndices, IsCutAdded, IsCutAt, entry_in, key, index_in, points_at}
+use Rattle.range_stats.specs.Percent.{AreNearestFirst, IsRanking, comes_before, distance, entry, kept_count, nearest, nearest_points, indices}
+use Rattle.range_stats.proofs.Rankings.{Entry, IsApart, filter_map, nearest_are_first, rank_in, same_index}
 
 abbrev pub entries : List Position → List Entry
-entries points = map (entry points) (places points)
+entries points = map (entry points) (indices points)
 
--- no two entries have one place
-places_from : (f : ℕ → ℕ) (d m a n : ℕ) → m < a → AllByRecursion (λ (x : Entry). same_place (d, m) x ≡ false) (map (λ i. (f i, i)) (range_with_len a n))
-places_from f d m a zero lt = tt
-places_from f d m a (suc n) lt = (grind (arith, nat_tests), places_from f d m (a + 1) n (omega arith))
+-- no two entries have one index
+indices_from : (f : ℕ → ℕ) (d m a n : ℕ) → m < a → AllByRecursion (λ (x : Entry). same_index (d, m) x ≡ false) (map (λ i. (f i, i)) (range_with_len a n))
+indices_from f d m a zero lt = tt
+indices_from f d m a (suc n) lt = (grind (arith, nat_tests), indices_from f d m (a + 1) n (omega arith))
 
-apart_from : (f : ℕ → ℕ) (a n : ℕ) → IsDistinct same_place (map (λ i. (f i, i)) (range_with_len a n))
+apart_from : (f : ℕ → ℕ) (a n : ℕ) → IsDistinct same_index (map (λ i. (f i, i)) (range_with_len a n))
 unfolding IsDistinct
 apart_from f a zero = tt
-apart_from f a (suc n) = (places_from f (f a) a (a + 1) n (omega arith), apart_from f (a + 1) n)
+apart_from f a (suc n) = (indices_from f (f a) a (a + 1) n (omega arith), apart_from f (a + 1) n)
 
--- the places of the entries are places of points
+-- the indices of the entries are indices of points
 within_from : (f : ℕ → ℕ) (a n m : ℕ) → a + n ≤ m → AllByRecursion (λ (x : Entry). x.1 < m) (map (λ i. (f i, i)) (range_with_len a n))
 within_from f a zero m le = tt
 within_from f a (suc n) m le = (omega arith, within_from f (a + 1) n m (omega arith))
 
 -- ---- keys
 abbrev pub keys : List Position → List ℕ
-keys points = map (λ i. key (entry points i)) (places points)
+keys points = map (λ i. key (entry points i)) (indices points)
 
 entry_in_key : (a : Entry) → a.1 < fix_limit → entry_in (key a) ≡ a
 entry_in_key a within =
     let far : (a.0 * fix_limit + a.1) / fix_limit ≡ a.0 = omega arith in
     let near : (a.0 * fix_limit + a.1) % fix_limit ≡ a.1 = omega arith in
-    ap₂ (λ distance place. (distance, place)) far near
+    ap₂ (λ distance index. (distance, index)) far near
 
 entries_in_keys : (all : List Entry) → AllByRecursion (λ (a : Entry). a.1 < fix_limit) all → map entry_in (map key all) ≡ all
 entries_in_keys [] within = refl
@@ -55,7 +55,7 @@ keys_moved : (points : List Position) (moved_keys : List ℕ) → length points 
     → IsPermutation (entries points) (map entry_in moved_keys)
 keys_moved points moved_keys few moved =
     let all : map entry_in (keys points) ≡ entries points =
-    ap (map entry_in) (sym (map-map key (entry points) (places points)))
+    ap (map entry_in) (sym (map-map key (entry points) (indices points)))
     ∙ entries_in_keys (entries points) (within_from (λ i. distance points (at points i)) 0 (length points) fix_limit (omega arith)) in
     subst (λ (l : List Entry). IsPermutation l (map entry_in moved_keys)) all (IsPermutation-map entry_in (keys points) moved_keys moved)
 
@@ -74,36 +74,36 @@ entries_apart cut k apart =
     subst (λ (l : List Entry). IsApart l (drop k (map entry_in cut))) (sym (take-map entry_in k cut))
     (subst (IsApart (map entry_in (take k cut))) (sym (drop-map entry_in k cut)) before)
 
--- the entries of the k nearest places
+-- the entries of the k nearest indices
 entries_of_nearest : (points : List Position) (k : ℕ) → filter (λ a. nat_lt (rank_in (entries points) a) k) (entries points) ≡ map (entry points)
     (nearest points k)
 unfolding nearest
 entries_of_nearest points k =
-    let same = λ (j : ℕ). ap (λ n. nat_lt n k) (fold-map (λ n b. n + cond (comes_before b (entry points j)) 1 0) (entry points) 0 (places points)) in
-    filter_map (λ a. nat_lt (rank_in (entries points) a) k) (entry points) (places points)
-    ∙ ap (map (entry points)) (λ i. filter (λ j. same j i) (places points))
+    let same = λ (j : ℕ). ap (λ n. nat_lt n k) (fold-map (λ n b. n + cond (comes_before b (entry points j)) 1 0) (entry points) 0 (indices points)) in
+    filter_map (λ a. nat_lt (rank_in (entries points) a) k) (entry points) (indices points)
+    ∙ ap (map (entry points)) (λ i. filter (λ j. same j i) (indices points))
 
 -- ---- keys in another order
 length_moved : (points : List Position) (cut : List ℕ) → IsPermutation (keys points) cut → length cut ≡ length points
-length_moved points cut moved = length_permutation (keys points) cut moved ∙ length-map (places points) (λ i. key (entry points i))
+length_moved points cut moved = length_permutation (keys points) cut moved ∙ length-map (indices points) (λ i. key (entry points i))
     ∙ length-range_with_len 0 (length points)
 
-place_in_key : (distance place n : ℕ) → place < n → n ≤ fix_limit → key (distance, place) % fix_limit < n
-place_in_key distance place n within few = omega arith
+index_in_key : (distance index n : ℕ) → index < n → n ≤ fix_limit → key (distance, index) % fix_limit < n
+index_in_key distance index n within few = omega arith
 
-keys_within : (points : List Position) → length points ≤ fix_limit → All (λ key. place_in key < length points) (keys points)
+keys_within : (points : List Position) → length points ≤ fix_limit → All (λ key. index_in key < length points) (keys points)
 keys_within points few =
     let n = length points in
-    All-map (λ key. place_in key < n) (λ i. key (entry points i)) (places points)
+    All-map (λ key. index_in key < n) (λ i. key (entry points i)) (indices points)
     (λ k d within.
-    let place = get_or (places points) k d in
+    let index = get_or (indices points) k d in
     let long = length-range_with_len 0 n in
     let is = get_or-range_with_len 0 n k d (omega (arith, within, long)) in
-    place_in_key (distance points (at points place)) place n (omega (arith, is, within, long)) few)
+    index_in_key (distance points (at points index)) index n (omega (arith, is, within, long)) few)
 
--- the points at the places in keys that are cut at k: the first k are the nearest
+-- the points at the indices in keys that are cut at k: the first k are the nearest
 nearest_of_keys : (points : List Position) (cut : List ℕ) (k : ℕ) → length points ≤ fix_limit → IsPermutation (keys points) cut → IsCutAt k cut
-    → AreNearestFirst points (points_at points (map place_in cut)) k
+    → AreNearestFirst points (points_at points (map index_in cut)) k
 nearest_of_keys points cut k few moved apart =
     let point = λ (a : Entry). at points a.1 in
     let ranked = map entry_in cut in
@@ -111,8 +111,8 @@ nearest_of_keys points cut k few moved apart =
     (nearest_are_first (entries points) ranked k (keys_moved points cut few moved) (entries_apart cut k apart)
     (apart_from (λ i. distance points (at points i)) 0 (length points))) in
     let read : map point (map (entry points) (nearest points k)) ≡ nearest_points points k = map-map point (entry points) (nearest points k) in
-    let here : map point (take k ranked) ≡ take k (points_at points (map place_in cut)) =
-    sym (take-map point k ranked) ∙ ap (take k) (map-map point entry_in cut ∙ sym (map-map (at points) place_in cut)) in
+    let here : map point (take k ranked) ≡ take k (points_at points (map index_in cut)) =
+    sym (take-map point k ranked) ∙ ap (take k) (map-map point entry_in cut ∙ sym (map-map (at points) index_in cut)) in
     subst (IsPermutation (nearest_points points k)) here (subst (λ (l : List Position). IsPermutation l (map point (take k ranked))) read
     (IsPermutation-map point _ _ first))
 
@@ -120,21 +120,21 @@ nearest_of_keys points cut k few moved apart =
 pub kept_count_le : (level n : ℕ) → level ≤ 100 → kept_count level n ≤ n
 kept_count_le level n few = omega (arith, mul-le-mul_right n few)
 
--- the points at places that are cut at what each of the levels keeps
+-- the points at indices that are cut at what each of the levels keeps
 pub ranking_of_cut : (points : List Position) (levels ranked : List ℕ) → length points ≤ fix_limit → IsCutAdded levels (length points) (keys points) [] ranked
     → IsRanking points levels (points_at points ranked)
 ranking_of_cut points levels ranked few (cut, moved, each, read) =
     subst (λ l. IsRanking points levels (points_at points l)) (sym read)
     record {
-      same_length = length-map (map place_in cut) (at points) ∙ length-map cut place_in ∙ length_moved points cut moved;
+      same_length = length-map (map index_in cut) (at points) ∙ length-map cut index_in ∙ length_moved points cut moved;
       nearest_first = λ i d within. nearest_of_keys points cut (kept_count (get_or levels i d) (length points)) few moved (each i d within);
     }
 
-pub places_of_cut : (points : List Position) (levels ranked : List ℕ) → length points ≤ fix_limit → IsCutAdded levels (length points) (keys points) [] ranked
-    → ArePlaces points ranked × (length ranked ≤ fix_limit)
-places_of_cut points levels ranked few (cut, moved, each, read) =
+pub indices_of_cut : (points : List Position) (levels ranked : List ℕ) → length points ≤ fix_limit → IsCutAdded levels (length points) (keys points) [] ranked
+    → AreIndices points ranked × (length ranked ≤ fix_limit)
+indices_of_cut points levels ranked few (cut, moved, each, read) =
     let n = length points in
-    let within = All-permutation (λ key. place_in key < n) (keys points) cut moved (keys_within points few) in (
-      subst (All (λ place. place < n)) (sym read) (All-map (λ place. place < n) place_in cut within),
-      omega (arith, ap length read, length-map cut place_in, length_moved points cut moved, few),
+    let within = All-permutation (λ key. index_in key < n) (keys points) cut moved (keys_within points few) in (
+      subst (All (λ index. index < n)) (sym read) (All-map (λ index. index < n) index_in cut within),
+      omega (arith, ap length read, length-map cut index_in, length_moved points cut moved, few),
     )
