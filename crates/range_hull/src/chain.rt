@@ -31,7 +31,6 @@ pub(crate) fn lies_within<A: Allocator>(
     ensures within { OnTrue result (LiesWithin side (points_in chain.now) p) }
     ensures beyond { OnFalse result (IsBeyond side (points_in chain.now) p) }
 {
-    let _ = chain;
     let Some(next) = spot.after else {
         return false;
     };
@@ -58,7 +57,6 @@ fn lies_outside<A: Allocator>(
     ensures { IsTested side (points_in chain.now) (index chain.now.pieces spot.at) p result
         tally.old tally.new }
 {
-    let _ = chain;
     let Some(after) = spot.after else {
         return true;
     };
