@@ -9,10 +9,7 @@ ghost use Rattle.range_estimator.specs.Estimation.{IsEstimate};
 use crate::row::Row;
 use range_hull::OnlineHull;
 use range_marker::{Marker, add_point, covered_points_stay_covered};
-use range_plane::{
-    Columns, Fix, OutOfMemory, Polygon, corners_cover_the_set, covering_members_are_corners,
-    sets_cover_their_members,
-};
+use range_plane::{Columns, Fix, OutOfMemory, Polygon};
 use std::alloc::Allocator;
 use std::marker::Model;
 
@@ -53,7 +50,6 @@ impl<A: Allocator> Table<A> {
         ensures tested { result.tested ≡ 0 }
         ensures estimate { IsEstimate result.fixes result.rows result.corners }
     {
-        covering_members_are_corners();
         Table {
             columns: Columns::new(alloc),
             rows: Vec::new(alloc),
@@ -84,9 +80,6 @@ impl<A: Allocator> Table<A> {
         ensures covered { covered ≡ true → self.new.corners ≡ self.old.corners }
         ensures spare { self.old.spare ≤ self.new.spare + 1 }
     {
-        sets_cover_their_members();
-        covering_members_are_corners();
-        corners_cover_the_set();
         self.columns.push_reserved(fix.at);
         add_point(&mut self.hull, fix.at, covered);
         let corners = self.hull.corner_count();

@@ -10,7 +10,7 @@ ghost use Rattle.range_stats.specs.Percent.{IsHullOf};
 
 use range_hull::OnlineHull;
 use range_marker::{Marker, add_point, covered_points_stay_covered};
-use range_plane::{Columns, OutOfMemory, polygon_of_its_corners};
+use range_plane::{Columns, OutOfMemory};
 use std::alloc::Allocator;
 
 // How many points are marked at once. docs/PERFORMANCE.md has what other numbers cost.
@@ -34,7 +34,6 @@ pub(crate) fn add_points<A: Allocator + Copy, B: Allocator>(
     ensures { (S : List Position) → IsHullOf S hull.old
         → IfOk result (λ done. IsHullOf (points_at fixes.now.points indices.now ++ S) hull.new) }
 {
-    polygon_of_its_corners();
     let mut left = indices.len();
     while left > 0 {
         let start = left.saturating_sub(BATCH);

@@ -11,10 +11,7 @@ use crate::cuts::{kept_count, push_cut};
 use crate::distances::keys;
 use crate::percents::PercentRow;
 use range_hull::OnlineHull;
-use range_plane::{
-    Columns, OutOfMemory, corners_cover_the_set, covering_members_are_corners, few_cover_little,
-    larger_sets_cover_more, polygon_of_its_corners,
-};
+use range_plane::{Columns, OutOfMemory};
 use std::alloc::{Allocator, Global};
 use std::marker::Model;
 
@@ -70,10 +67,6 @@ impl<'a, A: Allocator, B: Allocator> Ranking<'a, A, B> {
         ensures row { (points : List Position) (levels : List ℕ) → IsRanking points levels self.now
             → Contains levels level → IfOk result (IsPercentRow points level) }
     {
-        larger_sets_cover_more();
-        few_cover_little();
-        corners_cover_the_set();
-        covering_members_are_corners();
         let mut hull = OnlineHull::new(alloc);
         self.read(alloc, &mut hull, 0, level)
     }
@@ -92,10 +85,6 @@ impl<'a, A: Allocator, B: Allocator> Ranking<'a, A, B> {
         ensures { (points : List Position) → IsRanking points levels.now self.now
             → IfOk result (λ rows. AllZip (IsPercentRow points) levels.now rows.items) }
     {
-        larger_sets_cover_more();
-        few_cover_little();
-        corners_cover_the_set();
-        covering_members_are_corners();
         let mut rows = Vec::with_capacity(alloc, levels.len())?;
         let mut hull = OnlineHull::new(alloc);
         let mut done = 0;
@@ -130,11 +119,6 @@ impl<'a, A: Allocator, B: Allocator> Ranking<'a, A, B> {
         ensures hull { IfOk result
             (λ row. IsHullOf (take (kept_count level (length self.now)) self.now) hull.new) }
     {
-        larger_sets_cover_more();
-        few_cover_little();
-        corners_cover_the_set();
-        covering_members_are_corners();
-        polygon_of_its_corners();
         let kept = kept_count(level, self.indices.len());
         add_points(alloc, hull, self.fixes, &self.indices[done..kept])?;
         Ok(PercentRow {

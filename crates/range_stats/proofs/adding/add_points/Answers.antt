@@ -4,6 +4,7 @@ use Rattle.std.proofs.lemmas.Simd.{chunk-drop}
 use Rattle.range_plane.specs.Edges.{at}
 use Rattle.range_plane.specs.Plane.{Position}
 use Rattle.range_plane.specs.Polygon.{IsPolygon}
+use Rattle.range_plane.proofs.ForCallers.{polygon_of_its_corners}
 use Rattle.range_stats.specs.Keys.{points_at}
 use Rattle.range_stats.proofs.adding.add_points.Goals as goal
 
@@ -19,7 +20,7 @@ batch_more points indices start left less =
 pub add_batch-requires-clause-polygon : goal.add_batch-requires-clause-polygon
 add_batch-requires-clause-polygon g c =
     let done = points_at c.args.fixes.now.points (drop c.loop-left.left c.args.indices.now) in
-    c.polygon_of_its_corners.ensures (done ++ c.args.hull.now.corners) c.loop-left.hull.corners
+    polygon_of_its_corners (done ++ c.args.hull.now.corners) c.loop-left.hull.corners
     (c.loop-left.invariant.set c.args.hull.now.corners c.requires.polygon)
 
 pub loop-left-preserved : goal.loop-left-preserved

@@ -1,5 +1,6 @@
 use Rattle.std.proofs.Common.{◌++◌, ◌∷◌, [], ap, sym, ◌∙◌, arith}
 use Rattle.std.proofs.lemmas.List.{length_push}
+use Rattle.range_plane.proofs.ForCallers.{corners_cover_the_set, covering_members_are_corners, sets_cover_their_members}
 use Rattle.range_estimator.specs.declared.row.Row.{Row}
 use Rattle.range_estimator.specs.Estimation.{IsEstimate}
 use Rattle.range_estimator.specs.Table.{TableView, fixes_of}
@@ -17,7 +18,7 @@ estimate : (g : given.Over) (c : goal.After-push_reserved-2 g) → IsEstimate
     (fixes_of c.push_reserved-2.new.self.items c.push_reserved.new.self.points) c.push_reserved-2.new.self.items c.add_point.new.hull.corners
 estimate g c =
     rw (c.push_reserved-2.ensures.items, c.push_reserved.ensures.points)
-    (estimate_pushed c.sets_cover_their_members.ensures c.covering_members_are_corners.ensures c.corners_cover_the_set.ensures c.self.inside.rows.items
+    (estimate_pushed sets_cover_their_members covering_members_are_corners corners_cover_the_set c.self.inside.rows.items
     c.self.inside.columns.points _ c.args.fix.at c.self.inside.hull.corners c.add_point.new.hull.corners
     c.self.invariant.count c.self.invariant.estimate c.add_point.ensures.set (sym c.corner_count-corners.ensures) (sym c.area2.ensures))
 

@@ -1,4 +1,5 @@
 use Rattle.std.proofs.lemmas.Result.{IfOk-weaker}
+use Rattle.range_plane.proofs.ForCallers.{corners_cover_the_set, covering_members_are_corners, larger_sets_cover_more, one_covers_itself}
 use Rattle.range_stats.specs.Percent.{IsFirstRow, IsPercentRow}
 use Rattle.range_stats.proofs.Firsts.{percent_row}
 use Rattle.range_stats.proofs.ranking.Ranking.row.Goals as goal
@@ -7,6 +8,6 @@ pub returns-clause-row : goal.returns-clause-row
 returns-clause-row g c = λ points levels ranking asked.
     let ranked = c.args.self.now in
     IfOk-weaker c.read.result (IsFirstRow ranked c.args.level) (IsPercentRow points c.args.level)
-    (λ row first. percent_row c.larger_sets_cover_more.ensures c.few_cover_little.ensures.one c.corners_cover_the_set.ensures
-    c.covering_members_are_corners.ensures points levels ranked ranking c.args.level c.requires asked row first)
+    (λ row first. percent_row larger_sets_cover_more one_covers_itself corners_cover_the_set
+    covering_members_are_corners points levels ranked ranking c.args.level c.requires asked row first)
     c.read.ensures.row

@@ -2,6 +2,7 @@ use Rattle.std.proofs.Common.{◌≡◌, ◌∙◌, ℕ, List, length, get_or, t
 use Rattle.std.specs.List.{AllZip}
 use Rattle.std.proofs.lemmas.List.{length-map, take_all}
 use Rattle.range_plane.specs.Edges.{at}
+use Rattle.range_plane.proofs.ForCallers.{corners_cover_the_set, covering_members_are_corners, larger_sets_cover_more, one_covers_itself}
 use Rattle.range_stats.specs.Percent.{IsFirstRow, IsHullOf, kept_count}
 use Rattle.range_stats.proofs.Firsts.{none_first, percent_rows, row_more}
 use Rattle.range_stats.proofs.ranking.Ranking.rows.Goals as goal
@@ -47,5 +48,5 @@ returns g c = λ points ranking.
     let levels = c.args.levels.now in
     let all : take c.loop-level.level-index levels ≡ levels = take_all c.loop-level.level-index levels (omega arith) in
     let rows = subst (λ (l : List ℕ). AllZip (IsFirstRow ranked) l c.loop-level.rows.items) all c.loop-level.invariant.rows in
-    percent_rows c.larger_sets_cover_more.ensures c.few_cover_little.ensures.one c.corners_cover_the_set.ensures c.covering_members_are_corners.ensures points
+    percent_rows larger_sets_cover_more one_covers_itself corners_cover_the_set covering_members_are_corners points
     levels ranked ranking c.requires c.loop-level.rows.items rows
