@@ -65,6 +65,7 @@ path_drop L k h =
     let f = drop_more L (k + 1) origin h in
     ap path (e ∙ ap (λ (M : List Position). at L k ∷ M) f) ∙ ap (λ (M : List Position). wedge (at L k) (at L (k + 1)) +ℤ path M) (sym f)
 
+-- where the last corner before p goes, the sweep up to p loses the bend at that corner
 pub before_step : (side : Side) (L : List Position) (p : Position) (k : ℕ) → 2 ≤ k → k ≤ length L
     → sweep_before side L p (k - 1) ≡ sweep_before side L p k -ℤ bend side (at L (k - 2)) (at L (k - 1)) p
 before_step Lower L p k h l =
@@ -84,6 +85,7 @@ before_step Upper L p k h l =
       ap (λ (n : ℕ). wedge (at L n) p) (let e : k - 1 - 1 ≡ k - 2 = omega arith in e),
     )
 
+-- where the first corner after p goes, the sweep from p on loses the bend at that corner
 pub after_step : (side : Side) (L : List Position) (p : Position) (k : ℕ) → k + 1 < length L
     → sweep_after side L p (k + 1) ≡ sweep_after side L p k -ℤ bend side p (at L k) (at L (k + 1))
 after_step Lower L p k h = omega (arith, linear, path_drop L k h, turn_wedges p (at L k) (at L (k + 1)))
@@ -244,9 +246,9 @@ grown_last Upper L p from index to a b c d t g h e =
       ap (λ (n : ℕ). wedge (at L (n - 1)) p) e,
     )
 
-signed_naught : (side : Side) → with_sign side (pos 0) ≡ pos 0
-signed_naught Lower = refl
-signed_naught Upper = refl
+with_sign_naught : (side : Side) → with_sign side (pos 0) ≡ pos 0
+with_sign_naught Lower = refl
+with_sign_naught Upper = refl
 
 grown_so : (x y : ℤ) (side : Side) (e f : ℤ) → e ≡ f → x +ℤ with_sign side f ≡ y → x +ℤ with_sign side e ≡ y
 grown_so x y side e f h g = ap (λ (z : ℤ). x +ℤ with_sign side z) h ∙ g
@@ -262,7 +264,7 @@ grown_from side L p from index to a b c d t g k =
         | inl l ↦ grown_so (d +ℤ sweep_of side L) (a +ℤ sweep_of side (replaced L p from to)) side _ _
             (edge_none (at L 0) (at L (length L - 1)) p (let u : rank (at L 0) <ℤ rank p = t.before 0 s in omega (arith, linear))
             (let u : rank p <ℤ rank (at L (length L - 1)) = t.after (length L - 1) (omega (arith, l)) (omega arith) in omega (arith, linear)))
-            (omega (arith, linear, signed_naught side, grown_between side L p from index to a b c d t g s l))
+            (omega (arith, linear, with_sign_naught side, grown_between side L p from index to a b c d t g s l))
         | inr m ↦
             let e : index ≡ length L = omega (arith, m, t.high, t.within) in
             grown_so (d +ℤ sweep_of side L) (a +ℤ sweep_of side (replaced L p from to)) side _ _
@@ -272,13 +274,14 @@ grown_from side L p from index to a b c d t g k =
       ]
     ]
 
+-- with p in place of a run the sweep gains what the area gained on the way, and the open edge to p where p is a new end
 pub grown : (side : Side) (L : List Position) (p : Position) (from index to : ℕ) (a b c d : ℤ) → ReplacesRun side L p from index to
     → Grows side L p from index to a b c d → d +ℤ sweep_of side L +ℤ with_sign side (open_edge (at L 0) (at L (length L - 1)) p) ≡ a +ℤ sweep_of side
     (replaced L p from to)
 grown side [] p from index to a b c d t g =
     let z : index ≡ 0 = omega (arith, t.high, t.within) in
     grown_so (d +ℤ sweep_of side []) (a +ℤ sweep_of side (replaced [] p from to)) side _ _ (edge_origin p)
-    (omega (arith, linear, signed_naught side, grown_empty side p from to, g.at_first z, g.none_before z, g.none_after z))
+    (omega (arith, linear, with_sign_naught side, grown_empty side p from to, g.at_first z, g.none_before z, g.none_after z))
 grown side (x ∷ L) p from index to a b c d t g = grown_from side (x ∷ L) p from index to a b c d t g (omega arith)
 
 -- a point within the chain adds nothing
@@ -287,7 +290,7 @@ pub not_grown : {side : Side} {L : List Position} → IsChain side L → (p : Po
 not_grown {side} {L} c p a h =
     let b = within_between c p h in
     grown_so (a +ℤ sweep_of side L) (a +ℤ sweep_of side L) side _ _ (edge_none (at L 0) (at L (length L - 1)) p b.first b.last)
-    (omega (arith, linear, signed_naught side))
+    (omega (arith, linear, with_sign_naught side))
 
 -- ---- the doubled area of the corners
 abbrev last_of : Position → List Position → Position
@@ -380,6 +383,7 @@ lower_short {L} {U} h k =
           omega (arith, linear))
     ]
 
+-- the doubled area of a polygon is what its two chains sweep
 pub hull_area : {L U : List Position} → AreChains L U → area2 (corners_of L U) ≡ sweep_of Lower L +ℤ sweep_of Upper U
 hull_area {L} {U} h =
     area2_closed (corners_of L U) (at L 0) begins

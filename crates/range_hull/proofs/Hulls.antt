@@ -59,6 +59,7 @@ plane_kept L M p hp members h i k =
       | inr m ↦ subst IsWithinLimits (get_or_default L m.0 origin (at M i) m.1 ∙ m.2) (h m.0 m.1)
     ]
 
+-- with the same point added to both, the chains of one polygon are again those of one
 pub chains_extended : (L U M V : List Position) (p : Position) → IsWithinLimits p → AreChains L U → Extends Lower L p M → Extends Upper U p V → AreChains M V
 chains_extended L U M V p hp h a b =
     let m = within_between a.chain p a.takes in
@@ -82,6 +83,7 @@ length_inner U =
       | inr g ↦ length-take-le (length U - 2) (drop 1 U) (omega (arith, g, length-drop 1 U))
     ]
 
+-- the upper chain adds its corners between the ends
 pub length_corners : (L U : List Position) → length (corners_of L U) ≡ length L + (length U - 2)
 length_corners L U = omega (arith, length-append L (reverse (inner_corners U)), length-reverse (inner_corners U), length_inner U)
 
@@ -353,6 +355,7 @@ corner_in_lower {L} {U} h q m =
           (omega (arith, linear, bend_flip Lower (at L 0) (at L (length L - 1)) (at U x))))
     ]
 
+-- each corner of the polygon lies within the upper chain
 pub corner_in_upper : {L U : List Position} → AreChains L U → (q : Position) → Contains (corners_of L U) q → LiesWithin Upper U q
 corner_in_upper {L} {U} h q m =
     elim (source L U q m) [
@@ -448,6 +451,7 @@ reach_self R d q m = (q, m, omega (arith, linear, nothing d.e (q.e -ℤ q.e) (om
     nothing : (x y : ℤ) → y ≡ pos 0 → x *ℤ y ≡ pos 0
     nothing x y e = ap (λ (z : ℤ). x *ℤ z) e ∙ omega (arith, ints)
 
+-- in each direction a corner goes as far as what lies within both chains
 pub reaches : {L U : List Position} → AreChains L U → (q : Position) → LiesWithin Lower L q → LiesWithin Upper U q → ReachesEveryWay (corners_of L U) q
 reaches {L} {U} h q (on_corner i k e) u d = reach_self (corners_of L U) d q (subst (λ (p : Position). Contains (corners_of L U) p) (sym e) (in_lower L U i k))
 reaches {L} {U} h q (on_chord i j ij k iq qj t) (on_corner x kx e) d =
