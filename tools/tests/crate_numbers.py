@@ -42,11 +42,11 @@ TESTS = {
     "scattered_fixes_have_the_polygons_of_another_program": [FAR],
     "levels_may_come_in_any_order_and_twice": [FAR],
     "fixes_with_many_ties_have_the_polygons_of_another_program": [scattered(250, 0xF)],
-    "more_fixes_than_are_marked_at_once_have_the_polygons_of_another_program": [
+    "more_fixes_than_are_flagged_at_once_have_the_polygons_of_another_program": [
         scattered(1300, 0xFF_FFFF),
         scattered(1300, 0x3F),
     ],
-    "a_hull_of_too_many_corners_for_marks_has_these_percent_polygons": [
+    "a_hull_of_too_many_corners_for_flags_has_these_percent_polygons": [
         [(i, i * i) for i in range(3000)] + [(1500, 3_000_000 + i) for i in range(600)]
     ],
     "the_farthest_of_the_most_fixes_is_kept_last": [[(LIMIT, LIMIT)] + [(0, 0)] * (FIXES - 1)],

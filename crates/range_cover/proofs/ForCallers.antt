@@ -2,6 +2,7 @@
 use Rattle.range_plane.proofs.ForCallers.{corners_cover_the_set, covered_is_decided, larger_sets_cover_more}
 use Rattle.range_cover.specs.Laws.{CoveredPointsStayCovered}
 
+-- the polygon of a larger set covers what that of a smaller one covers
 pub covered_points_stay_covered : CoveredPointsStayCovered
 covered_points_stay_covered S T L M p before after more covered =
     let first = (corners_cover_the_set S L before p).0 ((covered_is_decided L p).0 covered) in

@@ -17,6 +17,7 @@ flag_at L block flags i fix all within read =
     ∙ ap (is_covered L) (get_or-map (λ (f : Fix). f.at) block i fix fix.at within)
     ∙ ap (λ (f : Fix). is_covered L f.at) (sym read)
 
+-- the first fixes of a block and the next one
 pub taken_more : (block : List Fix) (i : ℕ) (fix : Fix) → i < length block → fix ≡ get_or block i fix → take (i + 1) block ≡ take i block ++ fix ∷ []
 taken_more block i fix within read = take_more block i fix within ∙ ap (λ f. take i block ++ f ∷ []) (sym read)
 

@@ -22,6 +22,7 @@ points_of_fixes [] (p ∷ points) h = cc
 points_of_fixes (r ∷ rows) [] h = cc
 points_of_fixes (r ∷ rows) (p ∷ points) h = ap (λ l. p ∷ l) (points_of_fixes rows points (suc_inj h))
 
+-- a row and a point more are a fix more
 pub fixes_pushed : (rows : List Row) (points : List Position) (r : Row) (p : Position) → length rows ≡ length points
     → fixes_of (rows ++ r ∷ []) (points ++ p ∷ []) ≡ fixes_of rows points ++ fix_at r p ∷ []
 fixes_pushed [] [] r p h = refl

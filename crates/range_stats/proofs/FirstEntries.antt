@@ -13,6 +13,7 @@ use Rattle.std.proofs.lemmas.List.Sums.{count_by-le-length, sum_by-append, sum_b
 use Rattle.std.proofs.lemmas.Map.Keys.{IsDistinct-IsPermutation}
 use Rattle.range_stats.specs.Percent.{comes_before}
 
+-- a distance and an index
 abbrev pub Entry : Type 0
 Entry = ℕ × ℕ
 
@@ -56,6 +57,7 @@ module _ {A : Type 0} (p : A → Bool) where
   none_passes [] h = refl
   none_passes (x ∷ xs) h = ap (λ b. cond b (x ∷ filter p xs) (filter p xs)) h.0 ∙ none_passes xs h.1
 
+-- to filter what f makes is to make it of what passes the test
 pub filter_map : {A B : Type 0} (p : B → Bool) (f : A → B) (xs : List A) → filter p (map f xs) ≡ map f (filter (λ a. p (f a)) xs)
 filter_map p f [] = refl
 filter_map p f (x ∷ xs) = ap (λ l. cond (p (f x)) (f x ∷ l) l) (filter_map p f xs) ∙ kept (p (f x))

@@ -18,6 +18,7 @@ use Rattle.range_stats.specs.Keys.{AreIndices, IsCutAdded, IsCutAt, entry_in, in
 use Rattle.range_stats.specs.Percent.{AreNearestFirst, IsRanking, comes_before, distance, entry, kept_count, nearest, nearest_points, indices}
 use Rattle.range_stats.proofs.FirstEntries.{Entry, IsApart, filter_map, nearest_are_first, rank_in, same_index}
 
+-- the entry of each point
 abbrev pub entries : List Position → List Entry
 entries points = map (entry points) (indices points)
 
@@ -130,6 +131,7 @@ ranking_of_cut points levels ranked few (cut, moved, each, read) =
       nearest_first = λ i d within. nearest_of_keys points cut (kept_count (get_or levels i d) (length points)) few moved (each i d within);
     }
 
+-- what a cut of all keys adds to no indices is an index of each point
 pub indices_of_cut : (points : List Position) (levels ranked : List ℕ) → length points ≤ fix_limit → IsCutAdded levels (length points) (keys points) [] ranked
     → AreIndices points ranked × (length ranked ≤ fix_limit)
 indices_of_cut points levels ranked few (cut, moved, each, read) =

@@ -51,6 +51,7 @@ indices_joined nearest after key old index here =
     append_assoc (old ++ map index_in nearest) (index ∷ []) (map index_in after) ∙ append_assoc old (map index_in nearest) (index ∷ map index_in after)
     ∙ ap (λ q. old ++ (map index_in nearest ++ q ∷ map index_in after)) here ∙ ap (λ l. old ++ l) (sym (map-append index_in nearest (key ∷ after)))
 
+-- with the selected key and those after it, the indices of a part that was cut at each level are cut at each level again
 pub cut_more : (n : ℕ) (levels keys before after : List ℕ) (key kept : ℕ) (old then : List ℕ) (index : ℕ) (new : List ℕ)
     → IsPermutation keys (before ++ key ∷ after) → IsSplitAround nat_cmp before key after
     → length before ≡ kept → All (λ level. kept_count level n < length keys → kept_count level n ≤ kept) levels
