@@ -123,8 +123,8 @@ fn start_lines<
     requires room { (handles.old.items ≡ []) × (vec_len shares ≤ vec_capacity handles.old) }
     ensures sources { OnOk result (map (λ h. h.promise.sources.value) handles.new.items
         ≡ shares.items) }
-    ensures stride { (place : ℕ) (h : _) → slice_get handles.new.items place ≡ Some h
-        → (h.promise.stride.first ≡ place) × (h.promise.stride.step ≡ vec_len shares)
+    ensures stride { (index : ℕ) (h : _) → slice_get handles.new.items index ≡ Some h
+        → (h.promise.stride.first ≡ index) × (h.promise.stride.step ≡ vec_len shares)
         × (h.promise.plan ≡ context.now.plan) }
     ensures few { vec_len handles.new ≤ vec_len shares }
 {
@@ -147,8 +147,8 @@ fn join_lines<R: Threads, S: Read + Drop, A: Allocator + Clone + Copy>(
 ) -> Result<Vec<Vec<Followed<A>, A>, A>, OutOfMemory>
     requires room { (all.items ≡ []) × (vec_len handles ≤ vec_capacity all) }
     ensures count { IfOk result (λ all. vec_len all ≡ vec_len handles) }
-    ensures followed { IfOk result (λ all. (place : ℕ) (h r : _)
-        → slice_get handles.items place ≡ Some h → slice_get all.items place ≡ Some r
+    ensures followed { IfOk result (λ all. (index : ℕ) (h r : _)
+        → slice_get handles.items index ≡ Some h → slice_get all.items index ≡ Some r
         → IsLineFollowed h.promise.stride.first h.promise.stride.step h.promise.plan.block
         (readings S.remaining h.promise.plan.unit h.promise.sources.value.items) r.items) }
 {

@@ -5,7 +5,7 @@ ghost use Rattle.range_fixes.specs.Reading.{reading_from};
 ghost use Rattle.range_options.specs.Limits.{block_limit};
 ghost use Rattle.range_line.specs.Lines.{FeederView};
 ghost use Rattle.range_collect.specs.Fresh.{IsNew};
-ghost use Rattle.range_pump.specs.Pump.{IsPumped, Read as ReadView};
+ghost use Rattle.range_pump.specs.Pump.{IsPumped, ReadResult};
 
 use crate::context::Context;
 use crate::stack::small_stack;
@@ -133,9 +133,9 @@ pub(crate) fn join_pumps<R: Threads, S: Read + Drop, A: Allocator + Clone>(
     requires reads { (reads.old.items ≡ []) × (vec_len handles ≤ vec_capacity reads.old) }
     ensures counts { (vec_len feeders.new ≡ vec_len handles)
         × (vec_len reads.new ≡ vec_len handles) }
-    ensures pumped { (place : ℕ) (h : _) (f : FeederView) (r : ReadView)
-        → slice_get handles.items place ≡ Some h
-        → slice_get feeders.new.items place ≡ Some f → slice_get reads.new.items place ≡ Some r
+    ensures pumped { (index : ℕ) (h : _) (f : FeederView) (r : ReadResult)
+        → slice_get handles.items index ≡ Some h
+        → slice_get feeders.new.items index ≡ Some f → slice_get reads.new.items index ≡ Some r
         → IsPumped (reading_from S.remaining h.promise.plan.unit h.promise.source.value)
         h.promise.plan.block h.promise.feeder.value f r }
 {

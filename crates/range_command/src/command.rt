@@ -50,7 +50,7 @@ pub fn obey<
         Err(WordFault::Help(text)) => write_reply(alloc, text.as_str(), out),
         Err(WordFault::Version(text)) => write_reply(alloc, text.as_str(), out),
         Err(WordFault::BadWords(text)) => Err(bad_words(alloc, words, text.as_str())),
-        Err(fault) => Err(Refusal::Words(fault)),
+        Err(fault) => Err(Refusal::CommandLine(fault)),
     }
 }
 
