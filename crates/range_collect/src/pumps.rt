@@ -13,11 +13,10 @@ use range_fixes::{Name, ReadFault};
 use range_line::Feeder;
 use range_options::Plan;
 use range_plane::OutOfMemory;
-use range_pump::{Gate, Pumped, pump};
+use range_pump::{FileSource, Gate, Pumped, ThreadAllocator, ThreadRuntime, pump};
 use std::alloc::Allocator;
 use std::io::Read;
 use std::snapshot::Snapshot;
-use std::sync::Wait;
 use std::thread::{Promise, PromisedHandle, Scope, Threads};
 
 // What the thread of a pump promises of what it gives back: it is of this source and this feeder, by this plan.
@@ -41,14 +40,7 @@ impl<S: Read + Drop, A: Allocator + Clone> Promise<Pumped<A>> for PumpOf<S, A> {
 pub(crate) type PumpHandle<S, A> = PromisedHandle<Pumped<A>, PumpOf<S, A>>;
 
 // Starts a pump in a thread of the scope.
-fn start_pump<
-    's,
-    E,
-    R: Wait + Threads + Sync,
-    S: Read + Send + Drop + 's,
-    A: Allocator + Clone + Send + Sync + 's,
-    G: Gate,
->(
+fn start_pump<'s, E, R: ThreadRuntime, S: FileSource + 's, A: ThreadAllocator + 's, G: Gate>(
     context: &'s Context<'s, R, A, G>,
     scope: &'s Scope<'s, E>,
     source: S,
@@ -90,9 +82,9 @@ fn start_pump<
 pub(crate) fn start_pumps<
     's,
     E,
-    R: Wait + Threads + Sync,
-    S: Read + Send + Drop + 's,
-    A: Allocator + Clone + Send + Sync + 's,
+    R: ThreadRuntime,
+    S: FileSource + 's,
+    A: ThreadAllocator + 's,
     G: Gate,
 >(
     context: &'s Context<'s, R, A, G>,
