@@ -88,7 +88,8 @@ pub fn judge<R: Threads + Sync>(
     unit: Scale,
 ) -> Result<Analysis, AnalyseFault>
     requires files { (1 ≤ vec_len followed) × (vec_len followed ≤ file_limit) }
-    ensures lost { (fault : AnalyseFault) → loss_of followed.items ≡ Some fault → result ≡ Err fault }
+    ensures lost { (fault : AnalyseFault) → loss_of followed.items ≡ Some fault
+        → result ≡ Err fault }
     ensures judged { loss_of followed.items ≡ None → MatchResult result
         (IsAnalysis (entries_of followed.items) levels.now unit)
         (HasNoAnalysis (entries_of followed.items)) }
