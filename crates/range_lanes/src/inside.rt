@@ -13,9 +13,7 @@ use crate::eight::Eight;
 use crate::inner::{INNER_CORNERS, inner_of};
 use crate::lanes::LANE_COUNT;
 use crate::marking::Edges;
-use range_plane::{
-    Columns, Point, Polygon, boxes_hold_what_is_covered, covered_is_decided, larger_sets_cover_more,
-};
+use range_plane::{Columns, Point, Polygon};
 use std::alloc::Allocator;
 
 // How many groups of eight points the inner polygon may tell nothing of, one after the other, before it is not asked.
@@ -136,8 +134,6 @@ fn mark_group<A: Allocator, B: Allocator>(
     ensures { take (at + LANE_COUNT) out.new
         ≡ take at out.old ++ map (is_covered polygon.now) (chunk at LANE_COUNT cols.now.points) }
 {
-    covered_is_decided();
-    larger_sets_cover_more();
     let group = Eight::load(cols, at);
     let quick = inner.margins(&group);
     let told = quick.count_not_negative() as usize;
@@ -217,8 +213,6 @@ fn count_in_box(edges: &Edges, around: &CornerBox, group: &Eight) -> u64
     requires { (p : Position) → Contains edges.now p → IsInBox around.now.low around.now.high p }
     ensures { result ≡ count_by (is_covered edges.now) group.now }
 {
-    covered_is_decided();
-    boxes_hold_what_is_covered();
     if around.margins(group).count_not_negative() == 0 {
         return 0;
     }
@@ -279,9 +273,6 @@ fn count_group<A: Allocator, B: Allocator>(
     requires fits { at + LANE_COUNT < 2 ^ 64 }
     ensures { result ≡ count_by (is_covered polygon.now) (chunk at LANE_COUNT cols.now.points) }
 {
-    covered_is_decided();
-    boxes_hold_what_is_covered();
-    larger_sets_cover_more();
     let group = Eight::load(cols, at);
     if around.margins(&group).count_not_negative() == 0 {
         return 0;

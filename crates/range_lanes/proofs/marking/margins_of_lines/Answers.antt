@@ -27,4 +27,4 @@ returns c =
     let ended : c.loop-i.i ≡ length L = omega arith in
     c.loop-i.invariant ∙ ap (λ n. map (is_left_of_first L n) vs) ended
     ∙ map_same (is_left_of_first L (length L)) (is_covered L)
-    (λ q. many_cover c.covered_is_decided.ensures.set c.many_cover_the_left_of_their_edges.ensures L q c.requires.polygon c.requires.many) vs
+    (λ q. many_cover L q c.requires.polygon c.requires.many) vs
