@@ -83,8 +83,8 @@ fn margins_of_lines(corners: &[Point], lines: &[EdgeLine], group: &Eight) -> Lan
     requires lines { AreLinesOf corners.now lines.now }
     ensures { map is_not_negative result ≡ map (is_covered corners.now) group.now }
 {
-    let mut margins = group.zeros();
-    for i in 0..corners.len() {
+    let mut margins = lines[0].sides(group);
+    for i in 1..corners.len() {
         margins = margins.negative_in_either(lines[i].sides(group));
     }
     margins
