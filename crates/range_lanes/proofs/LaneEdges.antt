@@ -11,7 +11,7 @@ use Rattle.range_plane.specs.Edges.{at}
 use Rattle.range_plane.specs.Plane.{Position, origin, turn}
 use Rattle.range_plane.specs.Polygon.{IsPolygon}
 use Rattle.range_plane.proofs.ForCallers.{covered_is_decided, larger_sets_cover_more, many_cover_the_left_of_their_edges, on_segment_is_decided, two_cover_their_segment}
-use Rattle.range_lanes.specs.EdgeLines.{before}
+use Rattle.range_lanes.specs.EdgeLines.{corner_before}
 use Rattle.range_lanes.specs.Lanes.{is_not_negative}
 
 not_negative_decided : (x : ℤ) → Decides (is_not_negative x) (pos 0 ≤ℤ x)
@@ -23,17 +23,17 @@ is_left a b q = is_not_negative (turn a b q)
 -- q is on the left of the edges that end at the first k corners, or on them
 abbrev pub is_left_of_first : List Position → ℕ → Position → Bool
 is_left_of_first L zero q = true
-is_left_of_first L (suc k) q = is_left_of_first L k q && is_left (before L k) (at L k) q
+is_left_of_first L (suc k) q = is_left_of_first L k q && is_left (corner_before L k) (at L k) q
 
 abbrev IsLeftOfFirst : List Position → ℕ → Position → Type 0
-IsLeftOfFirst L n q = (k : ℕ) → k < n → pos 0 ≤ℤ turn (before L k) (at L k) q
+IsLeftOfFirst L n q = (k : ℕ) → k < n → pos 0 ≤ℤ turn (corner_before L k) (at L k) q
 
 first_decided : (L : List Position) (n : ℕ) (q : Position) → Decides (is_left_of_first L n q) (IsLeftOfFirst L n q)
 first_decided L zero q = (λ e k l. absurd (omega arith), λ h. refl)
 first_decided L (suc n) q =
-    Decides-like _ (λ h k l. below_more (λ k. pos 0 ≤ℤ turn (before L k) (at L k) q) n h.0 h.1 k (omega arith))
+    Decides-like _ (λ h k l. below_more (λ k. pos 0 ≤ℤ turn (corner_before L k) (at L k) q) n h.0 h.1 k (omega arith))
     (λ f. (λ k l. f k (omega arith), f n (omega arith)))
-    (Decides-and _ _ (first_decided L n q) (not_negative_decided (turn (before L n) (at L n) q)))
+    (Decides-and _ _ (first_decided L n q) (not_negative_decided (turn (corner_before L n) (at L n) q)))
 
 left_of_all : (L : List Position) (q : Position) → IsLeftOfFirst L (length L) q → IsLeftOfEdges L q
 left_of_all L q h =

@@ -5,7 +5,7 @@ use Rattle.range_plane.specs.Covering.{is_covered}
 use Rattle.range_lanes.specs.Lanes.{is_not_negative}
 use Rattle.range_lanes.proofs.Counting.{all_pass, count_signs}
 use Rattle.range_lanes.proofs.Known.{passes_where_not_negative, within_covered}
-use Rattle.range_lanes.proofs.inside.mark_group.Goals as goal
+use Rattle.range_lanes.proofs.inside.flag_group.Goals as goal
 
 pub returns-then-told-eq-LANE_COUNT : goal.returns-then-told-eq-LANE_COUNT
 returns-then-told-eq-LANE_COUNT g c =
@@ -17,11 +17,11 @@ returns-then-told-eq-LANE_COUNT g c =
     let counted = sym (c.count_not_negative-told.ensures ∙ count_signs (is_covered inner) group c.margins-quick.result c.margins-quick.ensures) ∙ all in
     let covered = all_pass (is_covered inner) (is_covered polygon)
     (within_covered inner polygon c.requires.within) group counted in
-    c.mark.ensures
-    ∙ ap (λ marks. take c.args.at c.args.out.now ++ marks) (c.margins-quick.ensures ∙ covered ∙ ap (map (is_covered polygon)) c.load-group.ensures)
+    c.flag_not_negative.ensures
+    ∙ ap (λ flags. take c.args.at c.args.flags.now ++ flags) (c.margins-quick.ensures ∙ covered ∙ ap (map (is_covered polygon)) c.load-group.ensures)
 
-pub mark_each-requires-clause-known : goal.mark_each-requires-clause-known
-mark_each-requires-clause-known g c = λ i number p here there known.
+pub flag_each-requires-clause-known : goal.flag_each-requires-clause-known
+flag_each-requires-clause-known g c = λ i number p here there known.
     let inner = c.args.inner.now in
     let polygon = c.args.polygon.now in
     let numbers = c.to_array.result in
