@@ -1,7 +1,6 @@
 -- Groups of eight points.
 use Rattle.std.proofs.Common.{◌≡◌, ℕ, ◌+◌, ◌%◌, ℤ, pos, ◌-ℤ◌, Bool, cond, List, [], ◌∷◌, length, map, replicate, take, drop, count_by, fold, refl, ap, ◌∙◌, sym}
-use Rattle.std.proofs.Math.Nat.{suc_inj}
-use Rattle.std.proofs.Common.{zero, suc, true, ◌<◌, ◌++◌, Some, get_or, slice_get, arith, length-drop, FitsSigned, to_z, of_z, w64}
+use Rattle.std.proofs.Common.{◌<◌, ◌++◌, Some, get_or, slice_get, arith, length-drop, FitsSigned, to_z, of_z, w64}
 use lib.Lanes.{zip2, chunk, Each1, mask_l, top}
 use lib.Count.{ones}
 use lib.Signed.{le_z}

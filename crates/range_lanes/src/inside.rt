@@ -84,7 +84,9 @@ fn flag_by_edges<A: Allocator>(corners: &[Point], cols: &Columns<A>, flags: &mut
     let groups = cols.len() / LANE_COUNT;
     for group in 0..groups {
         let at = LANE_COUNT * group;
-        edges.margins(&Eight::load(cols, at)).flag_not_negative(flags, at);
+        edges
+            .margins(&Eight::load(cols, at))
+            .flag_not_negative(flags, at);
     }
     LANE_COUNT * groups
 }
