@@ -5,7 +5,7 @@ use Rattle.range_plane.specs.Edges.{at}
 use Rattle.range_plane.specs.Plane.{origin}
 use Rattle.range_lanes.proofs.LaneEdges.{few_cover}
 use Rattle.range_lanes.proofs.Turning.{map_same}
-use Rattle.range_lanes.proofs.marking.Edges.margins.Goals as goal
+use Rattle.range_lanes.proofs.margins.Edges.margins.Goals as goal
 
 pub returns-then-corners-le2 : goal.returns-then-corners-le2
 returns-then-corners-le2 c =
@@ -17,6 +17,5 @@ returns-then-corners-le2 c =
     let first : a ≡ at L 0 = get_or_read L 0 a some c.index-corners-0.is origin in
     let last : b ≡ at L (length L - 1) = get_or_read L (length L - 1) b (omega (arith, some)) c.index-corners-corners.is origin in
     c.margins_of_segment.ensures
-    ∙ map_same (λ q. is_on_segment q a b) (is_covered L) (λ q. few_cover c.covered_is_decided.ensures.set c.covered_is_decided.ensures.segment
-    c.larger_sets_cover_more.ensures c.few_cover_little.ensures.two L a b q some c.if-corners-le2.true first last) vs
+    ∙ map_same (λ q. is_on_segment q a b) (is_covered L) (λ q. few_cover L a b q some c.if-corners-le2.true first last) vs
     ∙ ap (λ M. map (is_covered M) vs) c.self.view_is

@@ -11,10 +11,7 @@ ghost use Rattle.range_lanes.specs.Lanes.{IsBounded, is_not_negative};
 use crate::edge_lines::{EdgeLine, LANE_CORNERS, lines_of};
 use crate::eight::Eight;
 use crate::lanes::Lanes;
-use range_plane::{
-    Point, covered_is_decided, few_cover_little, larger_sets_cover_more,
-    many_cover_the_left_of_their_edges,
-};
+use range_plane::Point;
 use std::marker::Model;
 
 // The edges of a polygon of a few corners. Contracts see the corners.
@@ -58,9 +55,6 @@ impl<'a> Edges<'a> {
     {
         let corners = self.corners;
         if corners.len() <= 2 {
-            covered_is_decided();
-            larger_sets_cover_more();
-            few_cover_little();
             margins_of_segment(corners[0], corners[corners.len() - 1], group)
         } else {
             margins_of_lines(corners, &self.lines, group)
@@ -89,10 +83,8 @@ fn margins_of_lines(corners: &[Point], lines: &[EdgeLine], group: &Eight) -> Lan
     requires lines { AreLinesOf corners.now lines.now }
     ensures { map is_not_negative result ≡ map (is_covered corners.now) group.now }
 {
-    covered_is_decided();
-    many_cover_the_left_of_their_edges();
-    let mut margins = group.zeros();
-    for i in 0..corners.len() {
+    let mut margins = lines[0].sides(group);
+    for i in 1..corners.len() {
         margins = margins.negative_in_either(lines[i].sides(group));
     }
     margins

@@ -3,7 +3,7 @@ use Rattle.range_plane.specs.Covering.{scalar_product}
 use Rattle.range_plane.specs.Plane.{coordinate_limit, Position, position}
 use Rattle.range_lemmas.proofs.Sizes.{kept}
 use Rattle.range_lanes.proofs.Turning.{scalar_products_value, product_to_turn, sum_small, times_small}
-use Rattle.range_lanes.proofs.marking.scalar_products.Goals as goal
+use Rattle.range_lanes.proofs.margins.scalar_products.Goals as goal
 
 pub plus-requires-clause-left : goal.plus-requires-clause-left
 plus-requires-clause-left c =

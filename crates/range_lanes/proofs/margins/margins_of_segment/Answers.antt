@@ -1,5 +1,5 @@
 use Rattle.range_lanes.proofs.Turning.{segment_signs}
-use Rattle.range_lanes.proofs.marking.margins_of_segment.Goals as goal
+use Rattle.range_lanes.proofs.margins.margins_of_segment.Goals as goal
 
 pub returns : goal.returns
 returns c =
