@@ -9,7 +9,7 @@ ghost use Rattle.range_analysis.specs.Animals.{other_animals, pairs};
 use crate::animal::{OverlapRow, Overlaps};
 use crate::measured::Measured;
 use range_lanes::Extent;
-use range_plane::{OutOfMemory, boxes_hold_what_is_covered, covered_is_decided};
+use range_plane::OutOfMemory;
 use range_stats::overlap;
 use rayon::prelude::*;
 use std::alloc::Global;
@@ -35,8 +35,6 @@ fn count_in(animal: &Measured, range: &Measured) -> u64
     requires range { IsKnown range.now }
     ensures { result ≡ overlap animal.now.fixes.points range.now.fixes.points }
 {
-    boxes_hold_what_is_covered();
-    covered_is_decided();
     let (a, b) = (animal.animal.extent, range.animal.extent);
     if are_apart_by_easting(a, b) || are_apart_by_northing(a, b) {
         0

@@ -1,20 +1,24 @@
 -- The table of no fixes.
-use Rattle.std.proofs.Common.{◌≡◌, List, [], refl, rules}
-use Rattle.range_plane.specs.Laws.{CoveringMembersAreCorners}
+use Rattle.std.proofs.Common.{◌≡◌, List, [], refl, rules, ◌∙◌, sym, ap}
 use Rattle.range_plane.specs.Plane.{Position}
+use Rattle.range_plane.proofs.ForCallers.{covering_members_are_corners}
 use Rattle.range_hull.specs.Hull.{Hull}
 use Rattle.range_estimator.specs.declared.row.Row.{Row}
+use Rattle.range_estimator.specs.declared.table.Table.{Table}
 use Rattle.range_estimator.specs.Estimation.{IsEstimate}
 use Rattle.range_estimator.specs.Table.{IsSoundTable, fixes_of}
 
-none : CoveringMembersAreCorners → IsEstimate [] [] []
-none law = search rules
+none : IsEstimate [] [] []
+none = let law = covering_members_are_corners in search rules
 
-pub none_is_estimate : (rows : List Row) (points : List Position) (corners : List Position) → rows ≡ [] → corners ≡ [] → CoveringMembersAreCorners
-    → IsEstimate (fixes_of rows points) rows corners
-none_is_estimate rows points corners p r law = rw (p, r) (none law)
+none_is_estimate : (rows : List Row) (points corners : List Position) → rows ≡ [] → corners ≡ [] → IsEstimate (fixes_of rows points) rows corners
+none_is_estimate rows points corners p r = rw (p, r) none
 
-pub none_is_kept : (rows : List Row) (points : List Position) (hull : Hull) → rows ≡ [] → points ≡ []
-    → hull ≡ record { corners = []; inserted = 0; skipped = 0; turns = 0; spare = 0 } → CoveringMembersAreCorners
-    → IsSoundTable rows points hull
-none_is_kept rows points hull p q r law = rw (p, q, r) (record { count = refl; counted = refl; estimate = none law })
+-- a table of no rows, no points and the hull of none is sound
+pub none_is_sound : {A : Type 0} (table : Table A) → table.rows.items ≡ [] → table.columns.points ≡ []
+    → table.hull ≡ record { corners = []; inserted = 0; skipped = 0; turns = 0; spare = 0 } → IsSoundTable table
+none_is_sound table p q r = record {
+  count = rw (p, q) refl;
+  counted = rw (p, r) refl;
+  estimate = none_is_estimate table.rows.items table.columns.points table.hull.corners p (ap (λ (h : Hull). h.corners) r);
+}

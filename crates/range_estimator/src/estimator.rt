@@ -10,7 +10,8 @@ ghost use Rattle.range_estimator.specs.Estimation.{IsEstimate};
 use crate::block::load;
 use crate::row::Row;
 use crate::table::Table;
-use range_marker::Marker;
+use range_cover::CoverCache;
+use range_hull::OnlineHull;
 use range_plane::{Columns, Fix, OutOfMemory, Polygon};
 use std::alloc::{Allocator, Global};
 use std::marker::Model;
@@ -24,29 +25,30 @@ pub struct Estimator<A: Allocator + Copy = Global> {
     table: Table<A>,
     // The points of the last block.
     points: Columns<A>,
-    marker: Marker<A>,
+    cache: CoverCache<A>,
     stopped: bool,
 }
 
 impl<A: Allocator + Copy> Model for Estimator<A> {
     ghost use Rattle.std.specs.Prelude.{◌≡◌, ◌≤◌, IfSome, length};
     ghost use Rattle.range_plane.specs.Fix.{fix_limit};
-    ghost use Rattle.range_estimator.specs.Estimation.{Estimation, IsEstimate};
+    ghost use Rattle.range_estimator.specs.Estimation.{Estimation};
+    ghost use Rattle.range_estimator.specs.Table.{IsSoundTable, fixes_in};
 
     ghost Value = { Estimation };
 
     ghost view = { λ e. record {
-      fixes = e.table.fixes;
-      rows = e.table.rows;
-      corners = e.table.corners;
-      tested = e.table.tested;
+      fixes = fixes_in e.table;
+      rows = e.table.rows.items;
+      corners = e.table.hull.corners;
+      tested = e.table.hull.inserted;
       stopped = e.stopped;
     } };
 
     ghost invariant = { λ e.
-        IsEstimate e.table.fixes e.table.rows e.table.corners
-        × IfSome e.marker.copy (λ corners. corners ≡ e.table.corners)
-        × (length e.table.fixes ≤ fix_limit) };
+        IsSoundTable e.table
+        × IfSome e.cache.copy (λ corners. corners ≡ e.table.hull.corners)
+        × (length (fixes_in e.table) ≤ fix_limit) };
 }
 
 impl<A: Allocator + Copy> Estimator<A> {
@@ -57,9 +59,13 @@ impl<A: Allocator + Copy> Estimator<A> {
         ensures estimate { IsEstimate result.fixes result.rows result.corners }
     {
         Estimator {
-            table: Table::new(alloc),
+            table: Table {
+                columns: Columns::new(alloc),
+                rows: Vec::new(alloc),
+                hull: OnlineHull::new(alloc),
+            },
             points: Columns::new(alloc),
-            marker: Marker::new(alloc),
+            cache: CoverCache::new(alloc),
             stopped: false,
         }
     }
@@ -79,15 +85,15 @@ impl<A: Allocator + Copy> Estimator<A> {
     {
         if self.table.reserve(block.len()).is_err()
             || load(&mut self.points, block).is_err()
-            || self.table.mark(&mut self.marker, &self.points).is_err()
+            || self.cache.flag(&self.table.hull, &self.points).is_err()
         {
             self.stopped = true;
             return Err(OutOfMemory);
         }
-        let tested = self.table.tested();
-        self.table.take_marked(block, self.marker.marks());
-        if self.table.tested() != tested {
-            self.marker.forget();
+        let tested = self.table.hull.inserted();
+        self.table.take_flagged(block, self.cache.flags());
+        if self.table.hull.inserted() != tested {
+            self.cache.forget();
         }
         Ok(())
     }
@@ -97,7 +103,7 @@ impl<A: Allocator + Copy> Estimator<A> {
         ensures value { result.now ≡ self.now.rows }
         ensures estimate { IsEstimate self.now.fixes self.now.rows self.now.corners }
     {
-        self.table.rows()
+        self.table.rows.as_slice()
     }
 
     /// The minimum convex polygon of all fixes, in a list of its own.
@@ -105,14 +111,14 @@ impl<A: Allocator + Copy> Estimator<A> {
         ensures value { IfOk result (λ polygon. polygon ≡ self.now.corners) }
         ensures polygon { IfOk result (λ polygon. IsPolygon (points_of self.now.fixes) polygon) }
     {
-        self.table.polygon(alloc)
+        self.table.hull.polygon(alloc)
     }
 
     /// The point of each fix, in order.
     pub fn columns(&self) -> &Columns<A>
         ensures { result.now.points ≡ points_of self.now.fixes }
     {
-        self.table.columns()
+        &self.table.columns
     }
 
     /// The row of each fix and the point of each, without a copy.
@@ -122,7 +128,7 @@ impl<A: Allocator + Copy> Estimator<A> {
         ensures estimate { IsEstimate self.fixes self.rows self.corners }
         ensures few { length self.fixes ≤ fix_limit }
     {
-        self.table.into_parts()
+        (self.table.rows, self.table.columns)
     }
 
     /// Whether memory ran out for a block. A stopped estimator takes no more.
@@ -137,6 +143,6 @@ impl<A: Allocator + Copy> Estimator<A> {
     pub fn tested(&self) -> u32
         ensures { result ≡ self.now.tested }
     {
-        self.table.tested()
+        self.table.hull.inserted()
     }
 }

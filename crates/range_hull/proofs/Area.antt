@@ -14,9 +14,9 @@ use Rattle.range_lemmas.proofs.Ring.{Expr, var, num, ◌⊕◌, ◌⊖◌, ◌�
 use Rattle.range_pieces.specs.Pieces.{exchange}
 use Rattle.range_hull.specs.declared.side.Side.{Side}
 use Rattle.range_hull.specs.declared.side.Side.TheVariants.{Lower, Upper}
-use Rattle.range_hull.specs.Area.{wedge, path, signed, swept, swept_before, swept_after, open_edge}
+use Rattle.range_hull.specs.Area.{wedge, path, with_sign, sweep_of, sweep_before, sweep_after, open_edge}
 use Rattle.range_hull.specs.Chain.{bend, IsChain, LiesWithin}
-use Rattle.range_hull.specs.Hull.{inner, corners_of, AreChains}
+use Rattle.range_hull.specs.Hull.{inner_corners, corners_of, AreChains}
 use Rattle.range_hull.proofs.Bends.{turn_of}
 use Rattle.range_hull.proofs.Chains.{ReplacesRun, within_between}
 use Rattle.range_hull.proofs.Hulls.{length_corners}
@@ -65,8 +65,9 @@ path_drop L k h =
     let f = drop_more L (k + 1) origin h in
     ap path (e ∙ ap (λ (M : List Position). at L k ∷ M) f) ∙ ap (λ (M : List Position). wedge (at L k) (at L (k + 1)) +ℤ path M) (sym f)
 
+-- where the last corner before p goes, the sweep up to p loses the bend at that corner
 pub before_step : (side : Side) (L : List Position) (p : Position) (k : ℕ) → 2 ≤ k → k ≤ length L
-    → swept_before side L p (k - 1) ≡ swept_before side L p k -ℤ bend side (at L (k - 2)) (at L (k - 1)) p
+    → sweep_before side L p (k - 1) ≡ sweep_before side L p k -ℤ bend side (at L (k - 2)) (at L (k - 1)) p
 before_step Lower L p k h l =
     omega (
       arith,
@@ -84,8 +85,9 @@ before_step Upper L p k h l =
       ap (λ (n : ℕ). wedge (at L n) p) (let e : k - 1 - 1 ≡ k - 2 = omega arith in e),
     )
 
+-- where the first corner after p goes, the sweep from p on loses the bend at that corner
 pub after_step : (side : Side) (L : List Position) (p : Position) (k : ℕ) → k + 1 < length L
-    → swept_after side L p (k + 1) ≡ swept_after side L p k -ℤ bend side p (at L k) (at L (k + 1))
+    → sweep_after side L p (k + 1) ≡ sweep_after side L p k -ℤ bend side p (at L k) (at L (k + 1))
 after_step Lower L p k h = omega (arith, linear, path_drop L k h, turn_wedges p (at L k) (at L (k + 1)))
 after_step Upper L p k h = omega (arith, linear, path_drop L k h, turn_wedges p (at L k) (at L (k + 1)))
 
@@ -142,13 +144,13 @@ pub record Grows (side : Side) (L : List Position) (p : Position) (from index to
   pub outside : 0 < index → index < length L → b ≡ a +ℤ bend side (at L (index - 1)) p (at L index)
   pub at_first : index ≡ 0 → b ≡ a
   pub at_last : index ≡ length L → b ≡ a
-  pub before : 0 < index → c -ℤ swept_before side L p from ≡ b -ℤ swept_before side L p index
+  pub before : 0 < index → c -ℤ sweep_before side L p from ≡ b -ℤ sweep_before side L p index
   pub none_before : index ≡ 0 → c ≡ b
-  pub after : index < length L → d -ℤ swept_after side L p to ≡ c -ℤ swept_after side L p index
+  pub after : index < length L → d -ℤ sweep_after side L p to ≡ c -ℤ sweep_after side L p index
   pub none_after : index ≡ length L → d ≡ c
 
 grown_between : (side : Side) (L : List Position) (p : Position) (from index to : ℕ) (a b c d : ℤ) → ReplacesRun side L p from index to
-    → Grows side L p from index to a b c d → 0 < index → index < length L → d +ℤ swept side L ≡ a +ℤ swept side (exchange L p from to)
+    → Grows side L p from index to a b c d → 0 < index → index < length L → d +ℤ sweep_of side L ≡ a +ℤ sweep_of side (exchange L p from to)
 grown_between Lower L p from index to a b c d t g h k =
     omega (
       arith,
@@ -176,7 +178,7 @@ grown_between Upper L p from index to a b c d t g h k =
 
 grown_first : (side : Side) (L : List Position) (p : Position) (from index to : ℕ) (a b c d : ℤ) → ReplacesRun side L p from index to
     → Grows side L p from index to a b c d → index ≡ 0 → 0 < length L
-    → d +ℤ swept side L +ℤ signed side (wedge p (at L 0)) ≡ a +ℤ swept side (exchange L p from to)
+    → d +ℤ sweep_of side L +ℤ with_sign side (wedge p (at L 0)) ≡ a +ℤ sweep_of side (exchange L p from to)
 grown_first Lower L p from index to a b c d t g z k =
     let f : from ≡ 0 = omega (arith, t.low, z) in
     omega (
@@ -202,7 +204,7 @@ grown_first Upper L p from index to a b c d t g z k =
       ap (λ (n : ℕ). wedge p (at L n) +ℤ path (drop n L)) z,
     )
 
-grown_empty : (side : Side) (p : Position) (from to : ℕ) → swept side [] ≡ swept side (exchange [] p from to)
+grown_empty : (side : Side) (p : Position) (from to : ℕ) → sweep_of side [] ≡ sweep_of side (exchange [] p from to)
 grown_empty Lower p from to = omega (
   arith,
   linear,
@@ -218,7 +220,7 @@ grown_empty Upper p from to = omega (
 
 grown_last : (side : Side) (L : List Position) (p : Position) (from index to : ℕ) (a b c d : ℤ) → ReplacesRun side L p from index to
     → Grows side L p from index to a b c d → 0 < index → index ≡ length L
-    → d +ℤ swept side L +ℤ signed side (wedge (at L (length L - 1)) p) ≡ a +ℤ swept side (exchange L p from to)
+    → d +ℤ sweep_of side L +ℤ with_sign side (wedge (at L (length L - 1)) p) ≡ a +ℤ sweep_of side (exchange L p from to)
 grown_last Lower L p from index to a b c d t g h e =
     omega (
       arith,
@@ -244,50 +246,51 @@ grown_last Upper L p from index to a b c d t g h e =
       ap (λ (n : ℕ). wedge (at L (n - 1)) p) e,
     )
 
-signed_naught : (side : Side) → signed side (pos 0) ≡ pos 0
-signed_naught Lower = refl
-signed_naught Upper = refl
+with_sign_naught : (side : Side) → with_sign side (pos 0) ≡ pos 0
+with_sign_naught Lower = refl
+with_sign_naught Upper = refl
 
-grown_so : (x y : ℤ) (side : Side) (e f : ℤ) → e ≡ f → x +ℤ signed side f ≡ y → x +ℤ signed side e ≡ y
-grown_so x y side e f h g = ap (λ (z : ℤ). x +ℤ signed side z) h ∙ g
+grown_so : (x y : ℤ) (side : Side) (e f : ℤ) → e ≡ f → x +ℤ with_sign side f ≡ y → x +ℤ with_sign side e ≡ y
+grown_so x y side e f h g = ap (λ (z : ℤ). x +ℤ with_sign side z) h ∙ g
 
 grown_from : (side : Side) (L : List Position) (p : Position) (from index to : ℕ) (a b c d : ℤ) → ReplacesRun side L p from index to
-    → Grows side L p from index to a b c d → 0 < length L → d +ℤ swept side L +ℤ signed side (open_edge (at L 0) (at L (length L - 1)) p) ≡ a +ℤ swept side
+    → Grows side L p from index to a b c d → 0 < length L → d +ℤ sweep_of side L +ℤ with_sign side (open_edge (at L 0) (at L (length L - 1)) p) ≡ a +ℤ sweep_of side
     (exchange L p from to)
 grown_from side L p from index to a b c d t g k =
     elim (cases_lt 0 index) [
-      | inr z ↦ grown_so (d +ℤ swept side L) (a +ℤ swept side (exchange L p from to)) side _ _ (edge_first (at L 0) (at L (length L - 1)) p (t.after 0 z k))
+      | inr z ↦ grown_so (d +ℤ sweep_of side L) (a +ℤ sweep_of side (exchange L p from to)) side _ _ (edge_first (at L 0) (at L (length L - 1)) p (t.after 0 z k))
           (grown_first side L p from index to a b c d t g (omega (arith, z)) k)
       | inl s ↦ elim (cases_lt index (length L)) [
-        | inl l ↦ grown_so (d +ℤ swept side L) (a +ℤ swept side (exchange L p from to)) side _ _
+        | inl l ↦ grown_so (d +ℤ sweep_of side L) (a +ℤ sweep_of side (exchange L p from to)) side _ _
             (edge_none (at L 0) (at L (length L - 1)) p (let u : rank (at L 0) <ℤ rank p = t.before 0 s in omega (arith, linear))
             (let u : rank p <ℤ rank (at L (length L - 1)) = t.after (length L - 1) (omega (arith, l)) (omega arith) in omega (arith, linear)))
-            (omega (arith, linear, signed_naught side, grown_between side L p from index to a b c d t g s l))
+            (omega (arith, linear, with_sign_naught side, grown_between side L p from index to a b c d t g s l))
         | inr m ↦
             let e : index ≡ length L = omega (arith, m, t.high, t.within) in
-            grown_so (d +ℤ swept side L) (a +ℤ swept side (exchange L p from to)) side _ _
+            grown_so (d +ℤ sweep_of side L) (a +ℤ sweep_of side (exchange L p from to)) side _ _
             (edge_last (at L 0) (at L (length L - 1)) p (let u : rank (at L 0) <ℤ rank p = t.before 0 s in omega (arith, linear))
             (t.before (length L - 1) (omega (arith, e, k))))
             (grown_last side L p from index to a b c d t g s e)
       ]
     ]
 
+-- with p in place of a run the sweep gains what the area gained on the way, and the open edge to p where p is a new end
 pub grown : (side : Side) (L : List Position) (p : Position) (from index to : ℕ) (a b c d : ℤ) → ReplacesRun side L p from index to
-    → Grows side L p from index to a b c d → d +ℤ swept side L +ℤ signed side (open_edge (at L 0) (at L (length L - 1)) p) ≡ a +ℤ swept side
+    → Grows side L p from index to a b c d → d +ℤ sweep_of side L +ℤ with_sign side (open_edge (at L 0) (at L (length L - 1)) p) ≡ a +ℤ sweep_of side
     (exchange L p from to)
 grown side [] p from index to a b c d t g =
     let z : index ≡ 0 = omega (arith, t.high, t.within) in
-    grown_so (d +ℤ swept side []) (a +ℤ swept side (exchange [] p from to)) side _ _ (edge_origin p)
-    (omega (arith, linear, signed_naught side, grown_empty side p from to, g.at_first z, g.none_before z, g.none_after z))
+    grown_so (d +ℤ sweep_of side []) (a +ℤ sweep_of side (exchange [] p from to)) side _ _ (edge_origin p)
+    (omega (arith, linear, with_sign_naught side, grown_empty side p from to, g.at_first z, g.none_before z, g.none_after z))
 grown side (x ∷ L) p from index to a b c d t g = grown_from side (x ∷ L) p from index to a b c d t g (omega arith)
 
 -- a point within the chain adds nothing
 pub not_grown : {side : Side} {L : List Position} → IsChain side L → (p : Position) (a : ℤ) → LiesWithin side L p
-    → a +ℤ swept side L +ℤ signed side (open_edge (at L 0) (at L (length L - 1)) p) ≡ a +ℤ swept side L
+    → a +ℤ sweep_of side L +ℤ with_sign side (open_edge (at L 0) (at L (length L - 1)) p) ≡ a +ℤ sweep_of side L
 not_grown {side} {L} c p a h =
     let b = within_between c p h in
-    grown_so (a +ℤ swept side L) (a +ℤ swept side L) side _ _ (edge_none (at L 0) (at L (length L - 1)) p b.first b.last)
-    (omega (arith, linear, signed_naught side))
+    grown_so (a +ℤ sweep_of side L) (a +ℤ sweep_of side L) side _ _ (edge_none (at L 0) (at L (length L - 1)) p b.first b.last)
+    (omega (arith, linear, with_sign_naught side))
 
 -- ---- the doubled area of the corners
 abbrev last_of : Position → List Position → Position
@@ -329,7 +332,7 @@ whole_last : (L : List Position) → 0 < length L → L ≡ take (length L - 1) 
 whole_last L h = sym (take_all (length L) L (omega arith)) ∙ take_last L (length L) h (omega arith)
 
 -- a chain by its ends and what is between them
-by_ends : (U : List Position) → 2 ≤ length U → U ≡ at U 0 ∷ (inner U ++ at U (length U - 1) ∷ [])
+by_ends : (U : List Position) → 2 ≤ length U → U ≡ at U 0 ∷ (inner_corners U ++ at U (length U - 1) ∷ [])
 by_ends [] h = absurd (omega arith)
 by_ends (u ∷ V) h =
     ap (λ (M : List Position). u ∷ M)
@@ -337,9 +340,9 @@ by_ends (u ∷ V) h =
     ∙ ap (λ (n : ℕ). take n V ++ at V (length V - 1) ∷ []) (let e : length V - 1 ≡ length (u ∷ V) - 2 = omega arith in e)
     ∙ ap (λ (n : ℕ). take (length (u ∷ V) - 2) V ++ get_or (u ∷ V) n origin ∷ []) (let e : suc (length V - 1) ≡ length (u ∷ V) - 1 = omega arith in e))
 
-back : (U : List Position) → 2 ≤ length U → reverse U ≡ at U (length U - 1) ∷ (reverse (inner U) ++ at U 0 ∷ [])
+back : (U : List Position) → 2 ≤ length U → reverse U ≡ at U (length U - 1) ∷ (reverse (inner_corners U) ++ at U 0 ∷ [])
 back U h =
-    let I = inner U in let a = at U 0 in let z = at U (length U - 1) in
+    let I = inner_corners U in let a = at U 0 in let z = at U (length U - 1) in
     ap reverse (by_ends U h) ∙ reverse-append (a ∷ []) (I ++ z ∷ []) ∙ ap (λ (M : List Position). M ++ a ∷ []) (reverse-append I (z ∷ []))
 
 -- along the lower chain and back along the upper one
@@ -348,14 +351,14 @@ round {L} {U} h k =
     let l = at L (length L - 1) in
     let some : 0 < length L = elim (cases_lt 0 (length L)) [ inl s ↦ s | inr z ↦ absurd (omega (arith, k, h.upper_empty (omega (arith, z)))) ] in
     let whole = whole_last L some in
-    let rest : l ∷ (reverse (inner U) ++ at L 0 ∷ []) ≡ reverse U =
-    ap (λ (x : Position). x ∷ (reverse (inner U) ++ at L 0 ∷ [])) h.last ∙ ap (λ (x : Position). at U (length U - 1) ∷ (reverse (inner U) ++ x ∷ [])) h.first
+    let rest : l ∷ (reverse (inner_corners U) ++ at L 0 ∷ []) ≡ reverse U =
+    ap (λ (x : Position). x ∷ (reverse (inner_corners U) ++ at L 0 ∷ [])) h.last ∙ ap (λ (x : Position). at U (length U - 1) ∷ (reverse (inner_corners U) ++ x ∷ [])) h.first
     ∙ sym (back U k) in
     let e : path (corners_of L U ++ at L 0 ∷ []) ≡ path (take (length L - 1) L ++ l ∷ []) +ℤ path (reverse U) =
-    ap path (append_assoc L (reverse (inner U)) (at L 0 ∷ [])
-    ∙ ap (λ (M : List Position). M ++ (reverse (inner U) ++ at L 0 ∷ [])) whole
-    ∙ append_assoc (take (length L - 1) L) (l ∷ []) (reverse (inner U) ++ at L 0 ∷ []))
-    ∙ path_join (take (length L - 1) L) l (reverse (inner U) ++ at L 0 ∷ [])
+    ap path (append_assoc L (reverse (inner_corners U)) (at L 0 ∷ [])
+    ∙ ap (λ (M : List Position). M ++ (reverse (inner_corners U) ++ at L 0 ∷ [])) whole
+    ∙ append_assoc (take (length L - 1) L) (l ∷ []) (reverse (inner_corners U) ++ at L 0 ∷ []))
+    ∙ path_join (take (length L - 1) L) l (reverse (inner_corners U) ++ at L 0 ∷ [])
     ∙ ap (λ (M : List Position). path (take (length L - 1) L ++ l ∷ []) +ℤ path M) rest in
     omega (arith, linear, ap path whole, path_reverse U)
 
@@ -380,7 +383,8 @@ lower_short {L} {U} h k =
           omega (arith, linear))
     ]
 
-pub hull_area : {L U : List Position} → AreChains L U → area2 (corners_of L U) ≡ swept Lower L +ℤ swept Upper U
+-- the doubled area of a polygon is what its two chains sweep
+pub hull_area : {L U : List Position} → AreChains L U → area2 (corners_of L U) ≡ sweep_of Lower L +ℤ sweep_of Upper U
 hull_area {L} {U} h =
     area2_closed (corners_of L U) (at L 0) begins
     ∙ elim (cases_lt (length U) 2) [
@@ -393,14 +397,14 @@ hull_area {L} {U} h =
   where
     begins : 0 < length (corners_of L U) → at (corners_of L U) 0 ≡ at L 0
     begins s = elim (cases_lt 0 (length L)) [
-      | inl l ↦ get_or_append_left L (reverse (inner U)) origin 0 l
+      | inl l ↦ get_or_append_left L (reverse (inner_corners U)) origin 0 l
       | inr z ↦ absurd (omega (arith, s, z, length_corners L U, h.upper_empty (omega (arith, z))))
     ]
 
 -- what both chains add, where each adds the edge to p as often as the other takes it off
-pub area_extended : (L U M V : List Position) (a b c : ℤ) → AreChains L U → (p : Position) → a ≡ swept Lower L +ℤ swept Upper U
-    → b +ℤ swept Lower L +ℤ signed Lower (open_edge (at L 0) (at L (length L - 1)) p) ≡ a +ℤ swept Lower M
-    → c +ℤ swept Upper U +ℤ signed Upper (open_edge (at U 0) (at U (length U - 1)) p) ≡ b +ℤ swept Upper V → c ≡ swept Lower M +ℤ swept Upper V
+pub area_extended : (L U M V : List Position) (a b c : ℤ) → AreChains L U → (p : Position) → a ≡ sweep_of Lower L +ℤ sweep_of Upper U
+    → b +ℤ sweep_of Lower L +ℤ with_sign Lower (open_edge (at L 0) (at L (length L - 1)) p) ≡ a +ℤ sweep_of Lower M
+    → c +ℤ sweep_of Upper U +ℤ with_sign Upper (open_edge (at U 0) (at U (length U - 1)) p) ≡ b +ℤ sweep_of Upper V → c ≡ sweep_of Lower M +ℤ sweep_of Upper V
 area_extended L U M V a b c h p e f g =
     let same : open_edge (at L 0) (at L (length L - 1)) p ≡ open_edge (at U 0) (at U (length U - 1)) p =
     ap (λ (x : Position). open_edge x (at L (length L - 1)) p) h.first ∙ ap (λ (x : Position). open_edge (at U 0) x p) h.last in

@@ -9,6 +9,7 @@ use Rattle.range_hull.specs.declared.side.Side.{Side}
 use Rattle.range_hull.specs.declared.side.Side.TheVariants.{Lower, Upper}
 use Rattle.range_hull.specs.Chain.{bend}
 
+-- the turn of three positions and the rank of one, as polynomials in their coordinates
 unfoldable pub turn_of : Expr → Expr → Expr → Expr → Expr → Expr → Expr
 turn_of a a' b b' c c' = (b ⊖ a) ⊗ (c' ⊖ a') ⊖ (b' ⊖ a') ⊗ (c ⊖ a)
 
@@ -50,6 +51,7 @@ bend_three Upper a b c d =
       neg_times (turn a c d) (rank b -ℤ rank a),
     )
 
+-- how far w, p bend at q, by how far they bend at a and at b, and a, b at q
 pub bend_lift : (side : Side) (w p a b q : Position) → bend side w p q *ℤ (rank b -ℤ rank a) ≡ bend side w p a *ℤ (rank b -ℤ rank q) +ℤ bend side w p b *ℤ
     (rank q -ℤ rank a) +ℤ bend side a b q *ℤ (rank p -ℤ rank w)
 bend_lift Lower w p a b q = turn_lift w p a b q
@@ -87,6 +89,7 @@ pub bend_flip : (side : Side) (a b c : Position) → bend side a b c ≡ pos 0 -
 bend_flip Lower a b c = turn_flip a b c
 bend_flip Upper a b c = omega (arith, linear, turn_flip a b c)
 
+-- the way to b and back to a does not bend
 pub bend_back : (side : Side) (a b : Position) → bend side a b a ≡ pos 0
 bend_back Lower a b = turn_back a b
 bend_back Upper a b = ap neg_ℤ (turn_back a b)
@@ -98,6 +101,7 @@ nonneg_factor x m hm h =
     (λ lt. absurd (omega (arith, linear, positive_product (neg_ℤ x) m (omega (arith, linear)) hm, neg_times x m)))
     (λ le. le)
 
+-- where a product and its right factor are positive, so is the left one
 pub positive_left : (x m : ℤ) → pos 0 <ℤ m → pos 0 <ℤ (x *ℤ m) → pos 0 <ℤ x
 positive_left x m hm h = positive_factor m x (omega (arith, linear)) (omega (arith, linear, product_comm x m))
 
@@ -151,6 +155,7 @@ bend_outer side a b c d ab bc cd h k =
     (omega (arith, linear, bend_rotate side b c d)) (omega (arith, linear)) (omega (arith, linear, bend_rotate side c a b)) (omega (arith, linear)) in
     omega (arith, linear, bend_rotate side a c d)
 
+-- the same of the first two points and the last
 pub bend_inner : (side : Side) (a b c d : Position) → rank a <ℤ rank b → rank b <ℤ rank c → rank c <ℤ rank d → pos 0 <ℤ bend side a b c
     → pos 0 <ℤ bend side b c d → pos 0 <ℤ bend side a b d
 bend_inner side a b c d ab bc cd h k =

@@ -137,6 +137,7 @@ spot L p from to m h k lt =
 by_equal_ends : (P : Position → Position → Type 0) (a b x y : Position) → a ≡ x → b ≡ y → P x y → P a b
 by_equal_ends P a b x y e f h = subst (λ (u : Position). P u b) (sym e) (subst (λ (v : Position). P x v) (sym f) h)
 
+-- what holds of three positions holds of equal ones
 pub turns_so : (P : Position → Position → Position → Type 0) (a b c x y z : Position) → a ≡ x → b ≡ y → c ≡ z → P x y z → P a b c
 turns_so P a b c x y z e f g h =
     subst (λ (u : Position). P u b c) (sym e) (subst (λ (v : Position). P x v c) (sym f) (subst (λ (w : Position). P x y w) (sym g) h))
@@ -425,6 +426,7 @@ not_before {side} {L} c i j h k =
       | inr l ↦ let u : rank (at L i) <ℤ rank (at L j) = c.rising i j l k in omega (arith, linear)
     ]
 
+-- q comes neither before the first corner nor after the last
 pub record IsBetween (L : List Position) (q : Position) : Type 0 where
   pub some : 0 < length L
   pub first : rank (at L 0) ≤ℤ rank q
@@ -495,6 +497,7 @@ last_replaced {side} {L} {p} {from} {index} {to} c t =
       )
     ]
 
+-- the corner at an index is a member
 pub contains_at : (L : List Position) (q : Position) (x : ℕ) → x < length L → q ≡ at L x → Contains L q
 contains_at L q x k e = (x, k, sym (e ∙ get_or_default L x origin q k))
 

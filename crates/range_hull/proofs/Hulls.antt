@@ -18,7 +18,7 @@ use Rattle.range_lemmas.proofs.Members.{contained, contains_later}
 use Rattle.range_hull.specs.declared.side.Side.{Side}
 use Rattle.range_hull.specs.declared.side.Side.TheVariants.{Lower, Upper}
 use Rattle.range_hull.specs.Chain.{bend, IsChain, LiesWithin, on_corner, on_chord, BeginsAs, EndsAs, Extends}
-use Rattle.range_hull.specs.Hull.{inner, corners_of, AreChains}
+use Rattle.range_hull.specs.Hull.{inner_corners, corners_of, AreChains}
 use Rattle.range_hull.proofs.Bends.{bend_rotate, bend_flip, bend_back, bend_lift, positive_left, turn_of, rank_of}
 use Rattle.range_hull.proofs.Chains.{IsBetween, at_most_by_rank, turns_so, contains_at, within_between}
 
@@ -59,6 +59,7 @@ plane_kept L M p hp members h i k =
       | inr m ↦ subst IsWithinLimits (get_or_default L m.0 origin (at M i) m.1 ∙ m.2) (h m.0 m.1)
     ]
 
+-- with the same point added to both, the chains of one polygon are again those of one
 pub chains_extended : (L U M V : List Position) (p : Position) → IsWithinLimits p → AreChains L U → Extends Lower L p M → Extends Upper U p V → AreChains M V
 chains_extended L U M V p hp h a b =
     let m = within_between a.chain p a.takes in
@@ -75,15 +76,16 @@ chains_extended L U M V p hp h a b =
     }
 
 -- ---- the corners of both chains
-length_inner : (U : List Position) → length (inner U) ≡ length U - 2
+length_inner : (U : List Position) → length (inner_corners U) ≡ length U - 2
 length_inner U =
     elim (cases_lt (length U) 2) [
       | inl l ↦ (let e : length U - 2 ≡ 0 = omega (arith, l) in ap (λ (n : ℕ). length (take n (drop 1 U))) e ∙ sym e)
       | inr g ↦ length-take-le (length U - 2) (drop 1 U) (omega (arith, g, length-drop 1 U))
     ]
 
+-- the upper chain adds its corners between the ends
 pub length_corners : (L U : List Position) → length (corners_of L U) ≡ length L + (length U - 2)
-length_corners L U = omega (arith, length-append L (reverse (inner U)), length-reverse (inner U), length_inner U)
+length_corners L U = omega (arith, length-append L (reverse (inner_corners U)), length-reverse (inner_corners U), length_inner U)
 
 -- a chain that goes on to a second point has two corners
 two_corners : {L : List Position} {q r : Position} → IsBetween L q → IsBetween L r → rank q <ℤ rank r → 1 < length L
@@ -121,16 +123,16 @@ corner : (L U : List Position) (m : ℕ) → m < length (corners_of L U) → Cor
 corner L U m h =
     let n = length_corners L U in
     elim (cases_lt m (length L)) [
-      | inl l ↦ low l (get_or_append_left L (reverse (inner U)) origin m l)
+      | inl l ↦ low l (get_or_append_left L (reverse (inner_corners U)) origin m l)
       | inr g ↦
           let x : ℕ = length L + length U - 2 - m in
-          let k : length (inner U) ≡ length U - 2 = omega (arith, n, length-append L (reverse (inner U)), length-reverse (inner U)) in
+          let k : length (inner_corners U) ≡ length U - 2 = omega (arith, n, length-append L (reverse (inner_corners U)), length-reverse (inner_corners U)) in
           high x g (omega (arith, g)) (omega (arith, g)) (omega (arith, g))
-          (get_or-append_right L (reverse (inner U)) (length L) m origin refl g
-          ∙ get_or-reverse (inner U) (m - length L) origin (omega (arith, g))
-          ∙ get_or-take (length U - 2) (drop 1 U) (length (inner U) - 1 - (m - length L)) origin (omega (arith, g))
-          ∙ get_or-drop 1 U (length (inner U) - 1 - (m - length L)) origin
-          ∙ ap (λ (y : ℕ). get_or U y origin) (let e : 1 + (length (inner U) - 1 - (m - length L)) ≡ x = omega (arith, g) in e))
+          (get_or-append_right L (reverse (inner_corners U)) (length L) m origin refl g
+          ∙ get_or-reverse (inner_corners U) (m - length L) origin (omega (arith, g))
+          ∙ get_or-take (length U - 2) (drop 1 U) (length (inner_corners U) - 1 - (m - length L)) origin (omega (arith, g))
+          ∙ get_or-drop 1 U (length (inner_corners U) - 1 - (m - length L)) origin
+          ∙ ap (λ (y : ℕ). get_or U y origin) (let e : 1 + (length (inner_corners U) - 1 - (m - length L)) ≡ x = omega (arith, g) in e))
     ]
 
 -- ---- turns between the chains
@@ -294,7 +296,7 @@ all_distinct {L} {U} h i j d ij l e =
 -- ---- members
 in_lower : (L U : List Position) (i : ℕ) → i < length L → Contains (corners_of L U) (at L i)
 in_lower L U i k =
-    subst (λ (q : Position). Contains (corners_of L U) q) (get_or_append_left L (reverse (inner U)) origin i k)
+    subst (λ (q : Position). Contains (corners_of L U) q) (get_or_append_left L (reverse (inner_corners U)) origin i k)
     (contained_at (corners_of L U) i (omega (arith, length_corners L U)))
 
 in_upper : {L U : List Position} → AreChains L U → (x : ℕ) → x < length U → Contains (corners_of L U) (at U x)
@@ -353,6 +355,7 @@ corner_in_lower {L} {U} h q m =
           (omega (arith, linear, bend_flip Lower (at L 0) (at L (length L - 1)) (at U x))))
     ]
 
+-- each corner of the polygon lies within the upper chain
 pub corner_in_upper : {L U : List Position} → AreChains L U → (q : Position) → Contains (corners_of L U) q → LiesWithin Upper U q
 corner_in_upper {L} {U} h q m =
     elim (source L U q m) [
@@ -395,7 +398,7 @@ least_first {L} {U} h = begins (corners_of L U) least
     least : (x : Position) → Contains (corners_of L U) x → IsAtMost (at (corners_of L U) 0) x
     least x m =
         let b = within_between h.lower x (corner_in_lower h x m) in
-        let e : at (corners_of L U) 0 ≡ at L 0 = get_or_append_left L (reverse (inner U)) origin 0 b.some in
+        let e : at (corners_of L U) 0 ≡ at L 0 = get_or_append_left L (reverse (inner_corners U)) origin 0 b.some in
         subst (λ (p : Position). IsAtMost p x) (sym e) (at_most_by_rank (at L 0) x (h.lower_limits 0 b.some) (in_plane x (source L U x m)) b.first)
       where
         in_plane : (q : Position) → Source L U q → IsWithinLimits q
@@ -448,6 +451,7 @@ reach_self R d q m = (q, m, omega (arith, linear, nothing d.e (q.e -ℤ q.e) (om
     nothing : (x y : ℤ) → y ≡ pos 0 → x *ℤ y ≡ pos 0
     nothing x y e = ap (λ (z : ℤ). x *ℤ z) e ∙ omega (arith, ints)
 
+-- in each direction a corner goes as far as what lies within both chains
 pub reaches : {L U : List Position} → AreChains L U → (q : Position) → LiesWithin Lower L q → LiesWithin Upper U q → ReachesEveryWay (corners_of L U) q
 reaches {L} {U} h q (on_corner i k e) u d = reach_self (corners_of L U) d q (subst (λ (p : Position). Contains (corners_of L U) p) (sym e) (in_lower L U i k))
 reaches {L} {U} h q (on_chord i j ij k iq qj t) (on_corner x kx e) d =
@@ -507,17 +511,17 @@ own_polygon {L} {U} reaching corners h = hull_polygon reaching corners h (corner
 
 -- ---- the corners of the upper chain, one after another
 pub next_corner : (L U corners : List Position) (k : ℕ) (x : Position) → 2 ≤ k → k < length U → x ≡ at U (length U - k)
-    → corners ≡ L ++ take (k - 2) (reverse (inner U)) → corners ++ x ∷ [] ≡ L ++ take (k + 1 - 2) (reverse (inner U))
+    → corners ≡ L ++ take (k - 2) (reverse (inner_corners U)) → corners ++ x ∷ [] ≡ L ++ take (k + 1 - 2) (reverse (inner_corners U))
 next_corner L U corners k x least most r e =
     let i : ℕ = k - 2 in
-    let n : length (inner U) ≡ length U - 2 = length_inner U in
-    let y : at (reverse (inner U)) i ≡ x =
-    get_or-reverse (inner U) i origin (omega arith)
-    ∙ get_or-take (length U - 2) (drop 1 U) (length (inner U) - 1 - i) origin (omega arith)
-    ∙ get_or-drop 1 U (length (inner U) - 1 - i) origin
-    ∙ ap (at U) (let f : 1 + (length (inner U) - 1 - i) ≡ length U - k = omega arith in f)
+    let n : length (inner_corners U) ≡ length U - 2 = length_inner U in
+    let y : at (reverse (inner_corners U)) i ≡ x =
+    get_or-reverse (inner_corners U) i origin (omega arith)
+    ∙ get_or-take (length U - 2) (drop 1 U) (length (inner_corners U) - 1 - i) origin (omega arith)
+    ∙ get_or-drop 1 U (length (inner_corners U) - 1 - i) origin
+    ∙ ap (at U) (let f : 1 + (length (inner_corners U) - 1 - i) ≡ length U - k = omega arith in f)
     ∙ sym r in
-    ap (λ (c : List Position). c ++ x ∷ []) e ∙ append_assoc L (take i (reverse (inner U))) (x ∷ [])
-    ∙ ap (λ (c : List Position). L ++ c) (sym (take_more (reverse (inner U)) i origin (omega (arith, length-reverse (inner U)))
-    ∙ ap (λ (z : Position). take i (reverse (inner U)) ++ z ∷ []) y))
-    ∙ ap (λ (m : ℕ). L ++ take m (reverse (inner U))) (let f : i + 1 ≡ k + 1 - 2 = omega arith in f)
+    ap (λ (c : List Position). c ++ x ∷ []) e ∙ append_assoc L (take i (reverse (inner_corners U))) (x ∷ [])
+    ∙ ap (λ (c : List Position). L ++ c) (sym (take_more (reverse (inner_corners U)) i origin (omega (arith, length-reverse (inner_corners U)))
+    ∙ ap (λ (z : Position). take i (reverse (inner_corners U)) ++ z ∷ []) y))
+    ∙ ap (λ (m : ℕ). L ++ take m (reverse (inner_corners U))) (let f : i + 1 ≡ k + 1 - 2 = omega arith in f)

@@ -11,6 +11,7 @@ use Rattle.range_hull.specs.Chain.{bend, LiesWithin}
 use Rattle.range_hull.specs.Spot.{IsBeside}
 use Rattle.range_hull.proofs.Chains.{inside_within}
 
+-- the corner after a spot is the one at its index
 pub after_at : (L : List Position) (k : ℕ) (before after : Option Position) (x : Position) → IsBeside L k before after → k ≤ length L → after ≡ Some x
     → (k < length L) × (x ≡ at L k)
 after_at L k before after x b h e =
@@ -19,6 +20,7 @@ after_at L k before after x b h e =
       | inr less ↦ (less, same_Some x (at L k) (sym e ∙ b.after_is less))
     ]
 
+-- the corner before a spot is the one at the index before it
 pub before_at : (L : List Position) (k : ℕ) (before after : Option Position) (x : Position) → IsBeside L k before after → before ≡ Some x → (0 < k)
     × (x ≡ at L (k - 1))
 before_at L k before after x b e =
@@ -27,6 +29,7 @@ before_at L k before after x b e =
       | inr none ↦ absurd (none-some x (sym (b.first (omega (arith, none))) ∙ e))
     ]
 
+-- a spot with no corner before it is the first
 pub none_before : (L : List Position) (k : ℕ) (before after : Option Position) → IsBeside L k before after → before ≡ None → k ≡ 0
 none_before L k before after b e =
     elim (cases_lt 0 k) [

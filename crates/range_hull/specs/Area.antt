@@ -17,20 +17,20 @@ path (a ∷ []) = pos 0
 path (a ∷ b ∷ L) = wedge a b +ℤ path (b ∷ L)
 
 -- the lower chain goes along with the polygon, the upper one against it
-abbrev pub signed : Side → ℤ → ℤ
-signed Lower z = z
-signed Upper z = neg_ℤ z
+abbrev pub with_sign : Side → ℤ → ℤ
+with_sign Lower z = z
+with_sign Upper z = neg_ℤ z
 
-abbrev pub swept : Side → List Position → ℤ
-swept side L = signed side (path L)
+abbrev pub sweep_of : Side → List Position → ℤ
+sweep_of side L = with_sign side (path L)
 
 -- the same of the first k corners with p after them
-abbrev pub swept_before : Side → List Position → Position → ℕ → ℤ
-swept_before side L p k = signed side (path (take k L) +ℤ wedge (at L (k - 1)) p)
+abbrev pub sweep_before : Side → List Position → Position → ℕ → ℤ
+sweep_before side L p k = with_sign side (path (take k L) +ℤ wedge (at L (k - 1)) p)
 
 -- the same of p with the corners from index k on after it
-abbrev pub swept_after : Side → List Position → Position → ℕ → ℤ
-swept_after side L p k = signed side (wedge p (at L k) +ℤ path (drop k L))
+abbrev pub sweep_after : Side → List Position → Position → ℕ → ℤ
+sweep_after side L p k = with_sign side (wedge p (at L k) +ℤ path (drop k L))
 
 -- the edge between p and the first or the last corner, where p is beyond it: what one chain adds of it, the other takes off
 abbrev pub open_edge : Position → Position → Position → ℤ

@@ -4,7 +4,7 @@ use Rattle.range_plane.specs.Edges.{at}
 use Rattle.range_plane.specs.Fix.{fix_limit}
 use Rattle.range_plane.specs.Plane.{Position, IsWithinLimits}
 use Rattle.range_hull.specs.declared.side.Side.TheVariants.{Lower, Upper}
-use Rattle.range_hull.specs.Area.{swept}
+use Rattle.range_hull.specs.Area.{sweep_of}
 use Rattle.range_hull.specs.Chain.{IsChain}
 use Rattle.range_hull.specs.Tally.{Count}
 
@@ -18,12 +18,12 @@ pub record Hull : Type 0 where
   pub spare : ℕ
 
 -- the corners between the first and the last
-abbrev pub inner : List Position → List Position
-inner U = take (length U - 2) (drop 1 U)
+abbrev pub inner_corners : List Position → List Position
+inner_corners U = take (length U - 2) (drop 1 U)
 
 -- the corners counterclockwise from the least: along the lower chain, and back along the upper one
 abbrev pub corners_of : List Position → List Position → List Position
-corners_of L U = L ++ reverse (inner U)
+corners_of L U = L ++ reverse (inner_corners U)
 
 -- L and U are the lower and the upper chain of one polygon
 pub record AreChains (L U : List Position) : Type 0 where
@@ -41,4 +41,4 @@ pub record IsSoundHull (L U : List Position) (inserted skipped : ℕ) (count : C
   pub chains : AreChains L U
   pub few : inserted + skipped ≤ fix_limit
   pub paid : count.turns + length L + length U ≤ 8 * inserted
-  pub area : pos count.area ≡ swept Lower L +ℤ swept Upper U
+  pub area : pos count.area ≡ sweep_of Lower L +ℤ sweep_of Upper U

@@ -6,9 +6,9 @@ ghost use Rattle.range_plane.specs.Edges.{at};
 ghost use Rattle.range_plane.specs.Order.{rank};
 ghost use Rattle.range_plane.specs.Plane.{IsWithinLimits};
 ghost use Rattle.range_pieces.specs.PointList.{Stands, index, points_in};
-ghost use Rattle.range_hull.specs.Area.{open_edge, signed, swept, swept_after, swept_before};
+ghost use Rattle.range_hull.specs.Area.{open_edge, with_sign, sweep_of, sweep_after, sweep_before};
 ghost use Rattle.range_hull.specs.Chain.{Extends, IsBeyond, IsChain, LiesWithin, bend};
-ghost use Rattle.range_hull.specs.Hull.{inner};
+ghost use Rattle.range_hull.specs.Hull.{inner_corners};
 ghost use Rattle.range_hull.specs.Outside.{IsTested};
 ghost use Rattle.range_hull.specs.Spot.{IsSpot};
 ghost use Rattle.range_hull.specs.Tally.{most_turns};
@@ -31,7 +31,6 @@ pub(crate) fn lies_within<A: Allocator>(
     ensures within { OnTrue result (LiesWithin side (points_in chain.now) p) }
     ensures beyond { OnFalse result (IsBeyond side (points_in chain.now) p) }
 {
-    let _ = chain;
     let Some(next) = spot.after else {
         return false;
     };
@@ -58,7 +57,6 @@ fn lies_outside<A: Allocator>(
     ensures { IsTested side (points_in chain.now) (index chain.now.pieces spot.at) p result
         tally.old tally.new }
 {
-    let _ = chain;
     let Some(after) = spot.after else {
         return true;
     };
@@ -92,8 +90,8 @@ fn kept_before<A: Allocator>(
         + index chain.now.pieces c + 1 }
     ensures rises { tally.old.turns ≤ tally.new.turns }
     ensures swept { let L = points_in chain.now in let i = index chain.now.pieces c in 0 < i
-        → pos tally.new.area -ℤ swept_before side L p (index chain.now.pieces result)
-        ≡ pos tally.old.area -ℤ swept_before side L p i }
+        → pos tally.new.area -ℤ sweep_before side L p (index chain.now.pieces result)
+        ≡ pos tally.old.area -ℤ sweep_before side L p i }
     ensures none { index chain.now.pieces c ≡ 0 → tally.new.area ≡ tally.old.area }
 {
     let mut kept = c;
@@ -136,8 +134,8 @@ fn kept_after<A: Allocator>(
     ensures rises { tally.old.turns ≤ tally.new.turns }
     ensures swept { let L = points_in chain.now in let i = index chain.now.pieces c in
         i < length L
-        → pos tally.new.area -ℤ swept_after side L p (index chain.now.pieces result)
-        ≡ pos tally.old.area -ℤ swept_after side L p i }
+        → pos tally.new.area -ℤ sweep_after side L p (index chain.now.pieces result)
+        ≡ pos tally.old.area -ℤ sweep_after side L p i }
     ensures none { index chain.now.pieces c ≡ length (points_in chain.now)
         → tally.new.area ≡ tally.old.area }
 {
@@ -175,9 +173,9 @@ pub(crate) fn extend<A: Allocator>(
         + length (points_in chain.old) + 4 }
     ensures rises { tally.old.turns ≤ tally.new.turns }
     ensures swept { let L = points_in chain.old in
-        pos tally.new.area +ℤ swept side L
-        +ℤ signed side (open_edge (at L 0) (at L (length L - 1)) p) ≡ pos tally.old.area
-        +ℤ swept side (points_in chain.new) }
+        pos tally.new.area +ℤ sweep_of side L
+        +ℤ with_sign side (open_edge (at L 0) (at L (length L - 1)) p) ≡ pos tally.old.area
+        +ℤ sweep_of side (points_in chain.new) }
 {
     let c = spot.at;
     if !lies_outside(side, chain, spot, p, tally) {
@@ -194,7 +192,7 @@ pub(crate) fn push_back<A: Allocator, B: Allocator>(
     chain: &PointList<A>,
 ) -> Result<(), OutOfMemory>
     ensures { OnOk result (corners.new.items ≡ corners.old.items
-        ++ reverse (inner (points_in chain.now))) }
+        ++ reverse (inner_corners (points_in chain.now))) }
 {
     if chain.len() < 2 {
         return Ok(());

@@ -11,11 +11,7 @@ use crate::search::spots_of;
 use crate::side::Side;
 use crate::tally::Tally;
 use range_pieces::PointList;
-use range_plane::{
-    OutOfMemory, Point, Polygon, corners_cover_the_set, corners_stand_for_the_set,
-    covered_is_decided, covered_points_change_nothing, covering_is_reaching,
-    covering_members_are_corners,
-};
+use range_plane::{OutOfMemory, Point, Polygon};
 use std::alloc::{Allocator, Global};
 use std::marker::Model;
 
@@ -112,9 +108,6 @@ impl<A: Allocator> OnlineHull<A> {
         ensures turns { self.new.turns + length self.new.corners ≤ self.old.turns
             + length self.old.corners + 8 }
     {
-        covering_is_reaching();
-        covering_members_are_corners();
-        corners_stand_for_the_set();
         let (in_lower, in_upper) = spots_of(&self.lower, &self.upper, p);
         extend(Side::Lower, &mut self.lower, in_lower, p, &mut self.tally);
         extend(Side::Upper, &mut self.upper, in_upper, p, &mut self.tally);
@@ -129,10 +122,6 @@ impl<A: Allocator> OnlineHull<A> {
         ensures set { (S : List Position) → IsPolygon S self.old.corners
             → IsPolygon (p ∷ S) self.new.corners }
     {
-        covered_is_decided();
-        corners_cover_the_set();
-        covered_points_change_nothing();
-        let _ = p;
         self.skipped += 1;
     }
 
@@ -141,8 +130,6 @@ impl<A: Allocator> OnlineHull<A> {
     pub fn covers(&self, p: Point) -> bool
         ensures { result ≡ is_covered self.now.corners p }
     {
-        covered_is_decided();
-        covering_is_reaching();
         let (in_lower, in_upper) = spots_of(&self.lower, &self.upper, p);
         lies_within(Side::Lower, &self.lower, in_lower, p)
             && lies_within(Side::Upper, &self.upper, in_upper, p)
@@ -197,8 +184,6 @@ impl<A: Allocator> OnlineHull<A> {
         ensures value { IfOk result (λ corners. corners.items ≡ self.now.corners) }
         ensures polygon { IfOk result (λ corners. IsPolygon corners.items corners.items) }
     {
-        covering_is_reaching();
-        covering_members_are_corners();
         let mut corners = self.lower.to_vec(alloc)?;
         push_back(&mut corners, &self.upper)?;
         Ok(corners)

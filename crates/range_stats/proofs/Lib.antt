@@ -1,5 +1,5 @@
+pub mod FirstEntries
 pub mod Firsts
-pub mod RankedMembers
 pub mod RankIndices
-pub mod Rankings
+pub mod RankedMembers
 pub mod Selected

@@ -14,9 +14,9 @@ use Rattle.std.proofs.Math.Nat.{mul-le-mul_right}
 use Rattle.range_plane.specs.Edges.{at}
 use Rattle.range_plane.specs.Plane.{Position}
 use Rattle.range_plane.specs.Fix.{fix_limit}
-use Rattle.range_stats.specs.Keys.{AreIndices, IsCutAdded, IsCutAt, entry_in, key, index_in, points_at}
+use Rattle.range_stats.specs.Keys.{AreIndices, IsCutAdded, IsCutAt, entry_in, index_in, key_of, points_at}
 use Rattle.range_stats.specs.Percent.{AreNearestFirst, IsRanking, comes_before, distance, entry, kept_count, nearest, nearest_points, indices}
-use Rattle.range_stats.proofs.Rankings.{Entry, IsApart, filter_map, nearest_are_first, rank_in, same_index}
+use Rattle.range_stats.proofs.FirstEntries.{Entry, IsApart, filter_map, nearest_are_first, rank_in, same_index}
 
 abbrev pub entries : List Position → List Entry
 entries points = map (entry points) (indices points)
@@ -38,15 +38,15 @@ within_from f a (suc n) m le = (omega arith, within_from f (a + 1) n m (omega ar
 
 -- ---- keys
 abbrev pub keys : List Position → List ℕ
-keys points = map (λ i. key (entry points i)) (indices points)
+keys points = map (λ i. key_of (entry points i)) (indices points)
 
-entry_in_key : (a : Entry) → a.1 < fix_limit → entry_in (key a) ≡ a
+entry_in_key : (a : Entry) → a.1 < fix_limit → entry_in (key_of a) ≡ a
 entry_in_key a within =
     let far : (a.0 * fix_limit + a.1) / fix_limit ≡ a.0 = omega arith in
     let near : (a.0 * fix_limit + a.1) % fix_limit ≡ a.1 = omega arith in
     ap₂ (λ distance index. (distance, index)) far near
 
-entries_in_keys : (all : List Entry) → AllByRecursion (λ (a : Entry). a.1 < fix_limit) all → map entry_in (map key all) ≡ all
+entries_in_keys : (all : List Entry) → AllByRecursion (λ (a : Entry). a.1 < fix_limit) all → map entry_in (map key_of all) ≡ all
 entries_in_keys [] within = refl
 entries_in_keys (a ∷ all) within = ap₂ (λ x l. x ∷ l) (entry_in_key a within.0) (entries_in_keys all within.1)
 
@@ -55,7 +55,7 @@ keys_moved : (points : List Position) (moved_keys : List ℕ) → length points 
     → IsPermutation (entries points) (map entry_in moved_keys)
 keys_moved points moved_keys few moved =
     let all : map entry_in (keys points) ≡ entries points =
-    ap (map entry_in) (sym (map-map key (entry points) (indices points)))
+    ap (map entry_in) (sym (map-map key_of (entry points) (indices points)))
     ∙ entries_in_keys (entries points) (within_from (λ i. distance points (at points i)) 0 (length points) fix_limit (omega arith)) in
     subst (λ (l : List Entry). IsPermutation l (map entry_in moved_keys)) all (IsPermutation-map entry_in (keys points) moved_keys moved)
 
@@ -85,16 +85,16 @@ entries_of_nearest points k =
 
 -- ---- keys in another order
 length_moved : (points : List Position) (cut : List ℕ) → IsPermutation (keys points) cut → length cut ≡ length points
-length_moved points cut moved = length_permutation (keys points) cut moved ∙ length-map (indices points) (λ i. key (entry points i))
+length_moved points cut moved = length_permutation (keys points) cut moved ∙ length-map (indices points) (λ i. key_of (entry points i))
     ∙ length-range_with_len 0 (length points)
 
-index_in_key : (distance index n : ℕ) → index < n → n ≤ fix_limit → key (distance, index) % fix_limit < n
+index_in_key : (distance index n : ℕ) → index < n → n ≤ fix_limit → key_of (distance, index) % fix_limit < n
 index_in_key distance index n within few = omega arith
 
 keys_within : (points : List Position) → length points ≤ fix_limit → All (λ key. index_in key < length points) (keys points)
 keys_within points few =
     let n = length points in
-    All-map (λ key. index_in key < n) (λ i. key (entry points i)) (indices points)
+    All-map (λ key. index_in key < n) (λ i. key_of (entry points i)) (indices points)
     (λ k d within.
     let index = get_or (indices points) k d in
     let long = length-range_with_len 0 n in

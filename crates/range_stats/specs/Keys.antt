@@ -11,8 +11,8 @@ abbrev pub distance_limit : ℕ
 distance_limit = 2 * (fix_limit * coordinate_limit * (fix_limit * coordinate_limit))
 
 -- keys rise by distance, and then by index
-abbrev pub key : ℕ × ℕ → ℕ
-key entry = entry.0 * fix_limit + entry.1
+abbrev pub key_of : ℕ × ℕ → ℕ
+key_of entry = entry.0 * fix_limit + entry.1
 
 -- the index in a key
 abbrev pub index_in : ℕ → ℕ

@@ -3,15 +3,15 @@
 ghost use Rattle.std.specs.Prelude.{◌≡◌, ◌*◌, ◌<◌, ◌≤◌, ◌-ℤ◌, ◌*ℤ◌, pos, unsigned_abs, IfOk, length, map};
 ghost use Rattle.range_plane.specs.Fix.{fix_limit};
 ghost use Rattle.range_plane.specs.Plane.{IsCoordinate, coordinate_limit};
-ghost use Rattle.range_stats.specs.Keys.{distance_limit, key, index_in};
+ghost use Rattle.range_stats.specs.Keys.{distance_limit, index_in, key_of};
 ghost use Rattle.range_stats.specs.Percent.{entry, indices, scaled_distance, square};
 
 use range_lanes::sums;
 use range_plane::{Columns, FIX_LIMIT, OutOfMemory, Point};
 use std::alloc::Allocator;
 
-// How many indices there are, beside each distance.
-const PLACES: u128 = FIX_LIMIT as u128;
+// How many indices there are beside each distance.
+const INDEX_COUNT: u128 = FIX_LIMIT as u128;
 
 // How far a coordinate lies from the mean of points, times their number. `sum` is the sum of their coordinates.
 fn offset(count: u64, coordinate: i64, sum: u64) -> i64
@@ -45,29 +45,29 @@ fn scaled_distance(count: u64, eastings: u64, northings: u64, p: Point) -> u128
 }
 
 // A distance and an index as one number.
-fn key(distance: u128, index: usize) -> u128
+fn key_of(distance: u128, index: usize) -> u128
     requires distance { distance ≤ distance_limit }
     requires index { index < fix_limit }
-    ensures { result ≡ key (distance, index) }
+    ensures { result ≡ key_of (distance, index) }
 {
-    distance * PLACES + index as u128
+    distance * INDEX_COUNT + index as u128
 }
 
 // The index in a key.
 pub(crate) fn index_in(key: u128) -> u32
     ensures { result ≡ index_in key }
 {
-    (key % PLACES) as u32
+    (key % INDEX_COUNT) as u32
 }
 
 // The key of each point: its distance from the mean of all, scaled as above, and its index.
-pub(crate) fn keys<A: Allocator, B: Allocator>(
+pub(crate) fn distance_keys<A: Allocator, B: Allocator>(
     alloc: A,
     fixes: &Columns<B>,
 ) -> Result<Vec<u128, A>, OutOfMemory>
     requires { length fixes.now.points ≤ fix_limit }
     ensures { IfOk result (λ keys. keys.items
-        ≡ map (λ i. key (entry fixes.now.points i)) (indices fixes.now.points)) }
+        ≡ map (λ i. key_of (entry fixes.now.points i)) (indices fixes.now.points)) }
 {
     let (easting_sum, northing_sum) = sums(fixes);
     let (eastings, northings) = (fixes.eastings(), fixes.northings());
@@ -79,7 +79,7 @@ pub(crate) fn keys<A: Allocator, B: Allocator>(
             n: northings[index],
         };
         let distance = scaled_distance(count as u64, easting_sum, northing_sum, point);
-        keys.push_reserved(key(distance, index));
+        keys.push_reserved(key_of(distance, index));
     }
     Ok(keys)
 }

@@ -1,13 +1,13 @@
 //! Percent polygons, and the overlap of one animal's fixes with the range of another.
 #![tactic(auto)]
 
-mod adding;
+mod batches;
 mod cuts;
 mod distances;
 mod overlaps;
 mod percents;
-mod ranking;
+mod rankings;
 
 pub use overlaps::overlap;
 pub use percents::{PercentRow, percent};
-pub use ranking::Ranking;
+pub use rankings::Ranking;

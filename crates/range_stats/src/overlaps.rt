@@ -6,7 +6,7 @@ ghost use Rattle.range_plane.specs.Polygon.{IsPolygon};
 ghost use Rattle.range_stats.specs.Overlap.{overlap};
 
 use range_lanes::count_inside;
-use range_plane::{Columns, Polygon, corners_cover_the_set, covered_is_decided};
+use range_plane::{Columns, Polygon};
 use std::alloc::Allocator;
 
 /// How many of the fixes the range covers, repeats counted. A fix on an edge or at a corner is covered.
@@ -15,7 +15,5 @@ pub fn overlap<A: Allocator, B: Allocator>(fixes: &Columns<A>, range: &Polygon<B
     ensures set { (S : List Position) → IsPolygon S range.now
         → result ≡ overlap fixes.now.points S }
 {
-    covered_is_decided();
-    corners_cover_the_set();
     count_inside(range, fixes)
 }

@@ -4,7 +4,7 @@ ghost use Rattle.std.specs.Prelude.{◌≡◌, ◌≤◌, IfOk, length};
 ghost use Rattle.range_plane.specs.Fix.{fix_limit};
 ghost use Rattle.range_stats.specs.Percent.{IsPercentRow, kept_count};
 
-use crate::ranking::Ranking;
+use crate::rankings::Ranking;
 use range_plane::{Columns, OutOfMemory};
 use std::alloc::Allocator;
 

@@ -8,7 +8,7 @@ use std::process::Abort;
 use std::test::Fail;
 use test_doubles::{MANY_ALLOCATIONS, Refusing, SQUARE};
 
-// The columns of the fixes, those of the block, both chains of the hull, the rows and the marks.
+// The columns of the fixes, those of the block, both chains of the hull, the rows and the cover flags.
 const LEAST_ALLOCATIONS: u32 = 8;
 
 // Whether a block was taken while one allocation failed, or that allocation was one before the block.

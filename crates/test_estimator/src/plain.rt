@@ -71,7 +71,7 @@ fn the_rows_of_random_fixes_are_those_by_definition(rt: HostRuntime) -> Result<(
     Ok(())
 }
 
-// Fixes that all stay corners, more than blocks of up to five fixes are marked by a copy of, and then others.
+// Fixes that all stay corners, more than blocks of up to five fixes are flagged by a copy of, and then others.
 fn curve(alloc: Global) -> Result<Vec<Fix>, Fail> {
     let mut places = Vec::new(alloc);
     for i in 0..28_u8 {

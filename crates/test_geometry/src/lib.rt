@@ -10,6 +10,8 @@ mod columns;
 #[cfg(test)]
 mod corners;
 #[cfg(test)]
+mod cover_flags;
+#[cfg(test)]
 mod covering;
 #[cfg(test)]
 mod hull_allocations;
@@ -29,8 +31,6 @@ mod list_allocations;
 mod list_edits;
 #[cfg(test)]
 mod list_searches;
-#[cfg(test)]
-mod marks;
 #[cfg(test)]
 mod overlaps;
 #[cfg(test)]

@@ -174,7 +174,7 @@ fn fixes_with_many_ties_have_the_polygons_of_another_program(rt: HostRuntime) ->
 }
 
 #[test]
-fn more_fixes_than_are_marked_at_once_have_the_polygons_of_another_program(
+fn more_fixes_than_are_flagged_at_once_have_the_polygons_of_another_program(
     rt: HostRuntime,
 ) -> Result<(), Fail> {
     let far = scattered(rt.alloc(), 1300, 0xFF_FFFF)?;
@@ -203,9 +203,9 @@ fn more_fixes_than_are_marked_at_once_have_the_polygons_of_another_program(
     )
 }
 
-// More corners than those of a hull for which points are marked, and points that it covers.
+// More corners than those of a hull for which points are flagged, and points that it covers.
 #[test]
-fn a_hull_of_too_many_corners_for_marks_has_these_percent_polygons(
+fn a_hull_of_too_many_corners_for_flags_has_these_percent_polygons(
     rt: HostRuntime,
 ) -> Result<(), Fail> {
     let mut fixes = Columns::new(rt.alloc());

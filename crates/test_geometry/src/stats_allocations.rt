@@ -9,8 +9,8 @@ use std::process::Abort;
 use std::test::Fail;
 use test_doubles::{MANY_ALLOCATIONS, Refusing};
 
-// A ranking takes memory twice, rows once, a hull for each of its chains, and the points that are marked at once for
-// both columns and for the marks.
+// A ranking takes memory twice, rows once, a hull for each of its chains, and the points that are flagged at once for
+// both columns and for their cover flags.
 const RANKING_ALLOCATIONS: u32 = 2;
 
 const HULL_ALLOCATIONS: u32 = 2 + 3;

@@ -1,6 +1,7 @@
 use Rattle.std.proofs.Common.{◌≡◌, sym, ◌∙◌, true}
 use Rattle.std.proofs.lemmas.Bool.{or_left, or_right}
 use Rattle.std.specs.Prelude.{◌||◌}
+use Rattle.range_plane.proofs.ForCallers.{boxes_hold_what_is_covered, covered_is_decided}
 use Rattle.range_analysis.specs.Overlaps.{are_apart_by_easting, are_apart_by_northing}
 use Rattle.range_analysis.proofs.Boxes.{apart_overlap_is_none}
 use Rattle.range_analysis.proofs.overlaps.count_in.Goals as goal
@@ -18,5 +19,5 @@ returns-then-are_apart_by_northing c =
       | else-are_apart_by_easting w ↦ or_right (are_apart_by_easting a b) (are_apart_by_northing a b)
           (sym w.are_apart_by_northing.ensures ∙ (sym w.value-is ∙ c.if-are_apart_by_northing.true))
     ] in
-    sym (apart_overlap_is_none c.boxes_hold_what_is_covered.ensures c.covered_is_decided.ensures.set animal.fixes.points range.fixes.points a b
+    sym (apart_overlap_is_none boxes_hold_what_is_covered covered_is_decided animal.fixes.points range.fixes.points a b
     c.requires.animal.extent c.requires.range.extent apart)

@@ -4,7 +4,7 @@ use Rattle.range_plane.specs.Plane.{Position}
 use Rattle.range_lemmas.proofs.Indices.{replaced_length}
 use Rattle.range_pieces.specs.Pieces.{all_points}
 use Rattle.range_pieces.specs.PointList.{index}
-use Rattle.range_hull.specs.Area.{swept, signed, open_edge}
+use Rattle.range_hull.specs.Area.{sweep_of, with_sign, open_edge}
 use Rattle.range_hull.specs.Chain.{Extends}
 use Rattle.range_hull.proofs.Area.{Grows, grown, not_grown}
 use Rattle.range_hull.proofs.Chains.{ReplacesRun, after_index, replaced_extends, within_extends}
@@ -17,7 +17,7 @@ returns-then-not-lies_outside-clause-chain g c = within_extends c.requires.chain
 pub returns-then-not-lies_outside-clause-swept : goal.returns-then-not-lies_outside-clause-swept
 returns-then-not-lies_outside-clause-swept g c =
     let L = all_points c.args.chain.now.pieces in
-    ap (λ (n : ℕ). pos n +ℤ swept c.args.side L +ℤ signed c.args.side (open_edge (at L 0) (at L (length L - 1)) c.args.p)) c.if-not-lies_outside.ensures.none
+    ap (λ (n : ℕ). pos n +ℤ sweep_of c.args.side L +ℤ with_sign c.args.side (open_edge (at L 0) (at L (length L - 1)) c.args.p)) c.if-not-lies_outside.ensures.none
     ∙ not_grown c.requires.chain c.args.p (pos c.args.tally.now.area) c.if-not-lies_outside.ensures.inside
 
 placed : (g : given.Over) (c : goal.After-replace_run g) → ReplacesRun c.args.side (all_points c.args.chain.now.pieces) c.args.p
@@ -75,4 +75,4 @@ returns-clause-swept g c =
       none_after = λ z. ap pos (c.kept_after-to.ensures.none z);
     } in
     grown c.args.side L c.args.p from here to _ _ _ _ (placed g c) grows
-    ∙ ap (λ (M : List Position). pos c.args.tally.now.area +ℤ swept c.args.side M) (sym {A = List Position} c.replace_run.ensures.points)
+    ∙ ap (λ (M : List Position). pos c.args.tally.now.area +ℤ sweep_of c.args.side M) (sym {A = List Position} c.replace_run.ensures.points)

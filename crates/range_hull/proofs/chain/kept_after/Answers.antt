@@ -4,7 +4,7 @@ use Rattle.range_plane.specs.Plane.{Position}
 use Rattle.range_lemmas.proofs.Integers.{linear}
 use Rattle.range_pieces.specs.Pieces.{all_points}
 use Rattle.range_pieces.specs.PointList.{index}
-use Rattle.range_hull.specs.Area.{swept_after}
+use Rattle.range_hull.specs.Area.{sweep_after}
 use Rattle.range_hull.specs.Chain.{bend}
 use Rattle.range_hull.proofs.Area.{after_step}
 use Rattle.range_hull.proofs.chain.kept_after.Goals as goal
@@ -45,7 +45,7 @@ loop-side-preserved g c =
           subst (λ (n : ℕ). bend side p (at L (n - 1)) (at L n) ≤ℤ pos 0) more
           (subst (λ (n : ℕ). bend side p (at L n) (at L (k + 1)) ≤ℤ pos 0) (let e : k ≡ k + 1 - 1 = omega arith in e) dent)),
       omega (arith, more, i.4, c.if-not-dents.ensures.turns),
-      (λ h. omega (arith, linear, gained, value, after_step side L p k (omega (arith, more, within)), i.5 h, ap (swept_after side L p) more)),
+      (λ h. omega (arith, linear, gained, value, after_step side L p k (omega (arith, more, within)), i.5 h, ap (sweep_after side L p) more)),
       (λ z. absurd (omega (arith, z, i.1, more, within))),
       omega (arith, i.7, c.if-not-dents.ensures.turns),
     )

@@ -2,7 +2,7 @@ use Rattle.std.proofs.Common.{◌+◌, ◌-◌, ◌<◌, ◌≤◌, length, pos,
 use Rattle.range_plane.specs.Edges.{at}
 use Rattle.range_pieces.specs.Pieces.{all_points}
 use Rattle.range_pieces.specs.PointList.{Stands, index}
-use Rattle.range_hull.specs.Area.{swept_after}
+use Rattle.range_hull.specs.Area.{sweep_after}
 use Rattle.range_hull.specs.Chain.{bend}
 use Rattle.range_hull.proofs.chain.kept_after.Given as goal
 
@@ -16,7 +16,7 @@ invariant-loop-side g l =
     × (i < length L → k < length L)
     × (i < k → bend l.side l.p (at L (k - 1)) (at L k) ≤ℤ pos 0)
     × (l.tally.turns + i ≤ l.initial.tally.turns + k)
-    × (i < length L → pos l.tally.area -ℤ swept_after l.side L l.p k ≡ pos l.initial.tally.area -ℤ swept_after l.side L l.p i)
+    × (i < length L → pos l.tally.area -ℤ sweep_after l.side L l.p k ≡ pos l.initial.tally.area -ℤ sweep_after l.side L l.p i)
     × (i ≡ length L → l.tally.area ≡ l.initial.tally.area)
     × (l.initial.tally.turns ≤ l.tally.turns)
 

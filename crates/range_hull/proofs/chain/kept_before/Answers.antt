@@ -4,7 +4,7 @@ use Rattle.range_plane.specs.Plane.{Position}
 use Rattle.range_lemmas.proofs.Integers.{linear}
 use Rattle.range_pieces.specs.Pieces.{all_points}
 use Rattle.range_pieces.specs.PointList.{index}
-use Rattle.range_hull.specs.Area.{swept_before}
+use Rattle.range_hull.specs.Area.{sweep_before}
 use Rattle.range_hull.specs.Chain.{bend}
 use Rattle.range_hull.proofs.Area.{before_step}
 use Rattle.range_hull.proofs.chain.kept_before.Goals as goal
@@ -35,7 +35,7 @@ loop-side-preserved g c =
           subst (λ (n : ℕ). bend side (at L (n - 1)) (at L n) p ≤ℤ pos 0) less
           (subst (λ (n : ℕ). bend side (at L n) (at L (k - 1)) p ≤ℤ pos 0) (let e : k - 2 ≡ k - 1 - 1 = omega arith in e) dent)),
       omega (arith, last, i.4, c.if-not-dents.ensures.turns),
-      (λ h. omega (arith, linear, gained, value, before_step side L p k (omega (arith, last, first)) within, i.5 h, ap (swept_before side L p) less)),
+      (λ h. omega (arith, linear, gained, value, before_step side L p k (omega (arith, last, first)) within, i.5 h, ap (sweep_before side L p) less)),
       (λ z. absurd (omega (arith, z, i.1, last))),
       omega (arith, i.7, c.if-not-dents.ensures.turns),
     )

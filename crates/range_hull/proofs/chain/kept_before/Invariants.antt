@@ -2,7 +2,7 @@ use Rattle.std.proofs.Common.{◌+◌, ◌-◌, ◌<◌, ◌≤◌, pos, ◌≤�
 use Rattle.range_plane.specs.Edges.{at}
 use Rattle.range_pieces.specs.Pieces.{all_points}
 use Rattle.range_pieces.specs.PointList.{Stands, index}
-use Rattle.range_hull.specs.Area.{swept_before}
+use Rattle.range_hull.specs.Area.{sweep_before}
 use Rattle.range_hull.specs.Chain.{bend}
 use Rattle.range_hull.proofs.chain.kept_before.Given as goal
 
@@ -16,7 +16,7 @@ invariant-loop-side g l =
     × (0 < i → 0 < k)
     × (k < i → bend l.side (at L (k - 1)) (at L k) l.p ≤ℤ pos 0)
     × (l.tally.turns + k ≤ l.initial.tally.turns + i)
-    × (0 < i → pos l.tally.area -ℤ swept_before l.side L l.p k ≡ pos l.initial.tally.area -ℤ swept_before l.side L l.p i)
+    × (0 < i → pos l.tally.area -ℤ sweep_before l.side L l.p k ≡ pos l.initial.tally.area -ℤ sweep_before l.side L l.p i)
     × (i ≡ 0 → l.tally.area ≡ l.initial.tally.area)
     × (l.initial.tally.turns ≤ l.tally.turns)
 

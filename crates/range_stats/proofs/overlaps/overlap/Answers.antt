@@ -2,6 +2,7 @@ use Rattle.std.proofs.Common.{◌≡◌, Bool, true, false, count_by, refl, rule
 use Rattle.std.specs.Prelude.{IsTrue, ◌↔◌}
 use Rattle.range_plane.specs.Covering.{is_covered}
 use Rattle.range_plane.specs.Plane.{Position}
+use Rattle.range_plane.proofs.ForCallers.{corners_cover_the_set, covered_is_decided}
 use Rattle.range_stats.proofs.overlaps.overlap.Goals as goal
 
 same_test : (a b : Bool) (P : Type 0) → IsTrue a ↔ P → IsTrue b ↔ P → a ≡ b
@@ -16,7 +17,7 @@ returns-clause-corners g c = search rules
 pub returns-clause-set : goal.returns-clause-set
 returns-clause-set g c = λ S polygon.
     let L = c.args.range.now in
-    let decided = c.covered_is_decided.ensures.set in
-    let same = λ (q : Position). let cover = c.corners_cover_the_set.ensures S L polygon q in
+    let decided = covered_is_decided in
+    let same = λ (q : Position). let cover = corners_cover_the_set S L polygon q in
     same_test (is_covered L q) (is_covered S q) _ (decided L q) ((λ t. cover.1 ((decided S q).0 t)), (λ h. (decided S q).1 (cover.0 h))) in
     c.count_inside.ensures ∙ (λ i. count_by (λ q. same q i) c.args.fixes.now.points)

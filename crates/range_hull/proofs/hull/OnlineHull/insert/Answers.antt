@@ -1,5 +1,6 @@
 use Rattle.std.proofs.Common.{arith, ◌∷◌, ◌+◌, length, subst, ap, pos}
 use Rattle.range_plane.specs.Polygon.{IsPolygon}
+use Rattle.range_plane.proofs.ForCallers.{corners_stand_for_the_set, covering_is_reaching, covering_members_are_corners}
 use Rattle.range_pieces.specs.Pieces.{all_points}
 use Rattle.range_hull.specs.Hull.{Hull, corners_of}
 use Rattle.range_hull.proofs.Area.{area_extended}
@@ -23,14 +24,14 @@ polygon : (g : given.Over) (c : goal.After-self-1 g) → IsPolygon (c.args.p ∷
 polygon g c =
     subst (λ (h : Hull). IsPolygon (c.args.p ∷ h.corners) (corners_of (all_points c.extend.new.chain.pieces)
     (all_points c.extend-2.new.chain.pieces))) c.self.view_is
-    (polygon_extended c.covering_is_reaching.ensures c.covering_members_are_corners.ensures _ _ _ _ c.args.p c.extend.ensures.limits c.self.invariant.chains
+    (polygon_extended covering_is_reaching covering_members_are_corners _ _ _ _ c.args.p c.extend.ensures.limits c.self.invariant.chains
     c.extend.ensures.chain c.extend-2.ensures.chain)
 
 pub returns-clause-corners : goal.returns-clause-corners
 returns-clause-corners g c = polygon g c
 
 pub returns-clause-set : goal.returns-clause-set
-returns-clause-set g c = λ S old. (c.corners_stand_for_the_set.ensures S _ _ c.args.p old).0 (polygon g c)
+returns-clause-set g c = λ S old. (corners_stand_for_the_set S _ _ c.args.p old).0 (polygon g c)
 
 pub returns-clause-turns : goal.returns-clause-turns
 returns-clause-turns g c =

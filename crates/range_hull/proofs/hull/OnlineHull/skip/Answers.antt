@@ -1,5 +1,6 @@
 use Rattle.std.proofs.Common.{◌∷◌, ◌+◌, ap, subst, sym}
 use Rattle.range_plane.specs.Polygon.{IsPolygon}
+use Rattle.range_plane.proofs.ForCallers.{corners_cover_the_set, covered_is_decided, covered_points_change_nothing}
 use Rattle.range_hull.specs.Hull.{Hull}
 use Rattle.range_hull.proofs.hull.OnlineHull.skip.Goals as goal
 
@@ -9,5 +10,5 @@ returns-clause-counted g c = ap (λ (h : Hull). record h { skipped = h.skipped +
 pub returns-clause-set : goal.returns-clause-set
 returns-clause-set g c = λ S polygon.
     let L = c.args.self.now.corners in
-    let covered = (c.corners_cover_the_set.ensures S L polygon c.args.p).0 ((c.covered_is_decided.ensures.set L c.args.p).0 c.requires.covered) in
-    subst (λ (h : Hull). IsPolygon (c.args.p ∷ S) h.corners) (sym c.self.view_is) ((c.covered_points_change_nothing.ensures S L c.args.p covered).0 polygon)
+    let covered = (corners_cover_the_set S L polygon c.args.p).0 ((covered_is_decided L c.args.p).0 c.requires.covered) in
+    subst (λ (h : Hull). IsPolygon (c.args.p ∷ S) h.corners) (sym c.self.view_is) ((covered_points_change_nothing S L c.args.p covered).0 polygon)

@@ -1,0 +1,2 @@
+pub mod CoverCache
+pub mod Laws
