@@ -17,14 +17,14 @@ use Rattle.range_estimator.specs.Estimation.{Estimation}
 use Rattle.range_collect.specs.Follow.{IsFollowedAs, IsResult}
 use Rattle.range_collect.specs.Results.{IsFollowed}
 use Rattle.range_lemmas.specs.Pairs.{PairedFrom}
-use Rattle.range_pump.specs.Pump.{IsReadAs, IsSent, Read}
+use Rattle.range_pump.specs.Pump.{IsReadAs, IsSent, ReadResult}
 use Rattle.range_collect.specs.declared.followed.Followed.{Followed}
 use Rattle.range_analysis.specs.Entries.{entries_of, entry_of, loss_of, wants_memory}
 use Rattle.range_analysis.specs.Sources.{Gives, IsWhole}
 use Rattle.range_analysis.proofs.Kept.{first_kept}
 
 -- what was sent with its mark joins to the fixes that were read
-sent_whole : (feeder : FeederView) (all : List Fix) (size : ℕ) (read : Read) → 1 ≤ size → size ≤ block_limit
+sent_whole : (feeder : FeederView) (all : List Fix) (size : ℕ) (read : ReadResult) → 1 ≤ size → size ≤ block_limit
     → IsSent feeder all size read → feeder.closed ≡ true → IsLawful feeder.sent feeder.file → fixes feeder.sent feeder.file ≡ all
 sent_whole feeder all size read some small sent closed lawful =
     let whole : feeder.sent ≡ stream feeder.file all size = (sent.closed closed).0 in
@@ -51,7 +51,7 @@ other_fault fault none = λ e. cc (none, e)
 
 module _ (size : ℕ) (some : 1 ≤ size) (small : size ≤ block_limit) where
   -- one file
-  file_given : (source : Option Reading) (number : ℕ) (feeder : FeederView) (read : Read) (e : Estimation) (mark : Bool)
+  file_given : (source : Option Reading) (number : ℕ) (feeder : FeederView) (read : ReadResult) (e : Estimation) (mark : Bool)
       → IsFollowedAs source number size feeder read e mark
       → IsResult feeder read e mark → mark ≡ true → e.stopped ≡ false → wants_memory read ≡ false → Gives source (entry_of read e.fixes)
   file_given source number feeder (Ok name) e mark f result marked running fed =

@@ -10,7 +10,7 @@ use Rattle.range_collect.specs.declared.followed.Followed.{Followed}
 use Rattle.range_plane.specs.declared.scale.Scale.{Scale}
 use Rattle.range_fixes.specs.Reading.{Reading}
 use Rattle.range_analysis.specs.declared.analysis.Analysis.{Analysis}
-use Rattle.range_analysis.proofs.Positions.{place_within}
+use Rattle.range_analysis.proofs.Positions.{index_within}
 use Rattle.range_analysis.specs.Analysis.{HasNoAnalysis, IsAnalysis}
 use Rattle.range_analysis.specs.Entries.{entries_of, is_cut, lacks_memory, loss_of}
 use Rattle.range_analysis.specs.Sources.{Gives, HasNoAnalysisOf, IsAnalysisOf}
@@ -34,7 +34,7 @@ module _ {A : Type 0} {clone : Ghosts A} (sources : List (Option Reading)) (foll
   lost_is_none : (fault : AnalyseFault) → loss_of followed ≡ Some fault → HasNoAnalysisOf sources fault
   lost_is_none fault is =
       lost_by sources (list_any lacks_memory followed) (position is_cut followed) fault
-      (λ file at. let within = place_within is_cut followed file at in omega (arith, count, within)) is
+      (λ file at. let within = index_within is_cut followed file at in omega (arith, count, within)) is
 
   none_of_entries : (fault : AnalyseFault) → AllZip Gives sources (entries_of followed) → HasNoAnalysis (entries_of followed) fault
       → HasNoAnalysisOf sources fault

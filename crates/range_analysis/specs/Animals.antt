@@ -21,12 +21,12 @@ pub record IsAnimal (levels : List ℕ) (name : List ℕ) (fixes : List Fix) (an
   pub percents : AllZip (IsPercentRow (points_of fixes)) levels animal.percents
 
 -- the indexes below n but index i
-abbrev pub others : ℕ → ℕ → List ℕ
-others n i = filter (λ j. not (i == j)) (range_with_len 0 n)
+abbrev pub other_animals : ℕ → ℕ → List ℕ
+other_animals n i = filter (λ j. not (i == j)) (range_with_len 0 n)
 
 -- the ordered pairs of different indexes below n, by the first and then by the second
 abbrev pub pairs : ℕ → List (ℕ × ℕ)
-pairs n = flat_map (λ i. map (λ j. (i, j)) (others n i)) (range_with_len 0 n)
+pairs n = flat_map (λ i. map (λ j. (i, j)) (other_animals n i)) (range_with_len 0 n)
 
 -- the points of the animal at an index
 abbrev pub points_at : List (List Position) → ℕ → List Position

@@ -7,7 +7,7 @@ use Rattle.range_plane.specs.Row.{points_of}
 use Rattle.range_plane.specs.declared.fix.Fix.{Fix}
 use Rattle.range_fixes.specs.declared.fault.ReadFault.{ReadFault}
 use Rattle.range_fixes.specs.declared.fault.ReadFault.TheVariants as reads
-use Rattle.range_pump.specs.Pump.{Read}
+use Rattle.range_pump.specs.Pump.{ReadResult}
 use Rattle.range_collect.specs.declared.followed.Followed.{Followed}
 use Rattle.range_analysis.specs.declared.fault.AnalyseFault.{AnalyseFault}
 use Rattle.range_analysis.specs.declared.fault.AnalyseFault.TheVariants.{OutOfMemory, LineCut, File}
@@ -17,7 +17,7 @@ pub data Entry : Type 0 where
   of_fault : ReadFault → Entry
 
 -- the entry of a file of which the reader says this, and whose estimator took these fixes
-abbrev pub entry_of : Read → List Fix → Entry
+abbrev pub entry_of : ReadResult → List Fix → Entry
 entry_of (Ok name) fixes = of_animal name fixes
 entry_of (Err fault) fixes = of_fault fault
 
@@ -45,7 +45,7 @@ points_in (of_animal name fixes) = points_of fixes
 points_in (of_fault fault) = []
 
 -- the reader ran out of memory
-abbrev pub wants_memory : Read → Bool
+abbrev pub wants_memory : ReadResult → Bool
 wants_memory (Err reads.OutOfMemory) = true
 wants_memory read = false
 

@@ -9,7 +9,7 @@ ghost use Rattle.range_analysis.specs.Tracks.{IsAnimalOn, IsMeasuredOf, points_o
 use crate::animal::{Animals, Overlaps};
 use crate::measured::Measured;
 use crate::measurement::measure;
-use crate::overlaps::overlaps;
+use crate::overlaps::count_overlaps;
 use crate::track::Track;
 use range_options::Levels;
 use range_plane::{OutOfMemory, Scale};
@@ -53,7 +53,7 @@ fn measure_all<R: Threads + Sync>(
 }
 
 // The animals, without their points.
-fn animals(alloc: Global, measured: Vec<Measured>) -> Result<Animals, OutOfMemory>
+fn into_animals(alloc: Global, measured: Vec<Measured>) -> Result<Animals, OutOfMemory>
     ensures { IfOk result (λ animals. animals ≡ map (λ m. m.animal) measured.items) }
 {
     let mut animals = Vec::with_capacity(alloc, measured.len())?;
@@ -84,8 +84,8 @@ pub fn analysis_of<R: Threads + Sync>(
     ensures unit { IfOk result (λ a. a.unit ≡ unit) }
 {
     let measured = measure_all(rt, alloc, tracks, levels)?;
-    let overlaps = overlaps(rt, alloc, &measured)?;
-    let animals = animals(alloc, measured)?;
+    let overlaps = count_overlaps(rt, alloc, &measured)?;
+    let animals = into_animals(alloc, measured)?;
     Ok(Analysis {
         animals,
         overlaps,

@@ -37,7 +37,7 @@ fn track(followed: Followed) -> Result<Track, ReadFault>
 }
 
 // The tracks of files that were handed on whole, or the fault of the first that has one.
-fn tracks(alloc: Global, followed: Vec<Followed>) -> Result<Vec<Track>, AnalyseFault>
+fn tracks_of(alloc: Global, followed: Vec<Followed>) -> Result<Vec<Track>, AnalyseFault>
     requires files { vec_len followed ≤ file_limit }
     requires whole { loss_of followed.items ≡ None }
     ensures tracks { IfOk result (λ tracks. entries_in tracks.items ≡ entries_of followed.items) }
@@ -88,7 +88,8 @@ pub fn judge<R: Threads + Sync>(
     unit: Scale,
 ) -> Result<Analysis, AnalyseFault>
     requires files { (1 ≤ vec_len followed) × (vec_len followed ≤ file_limit) }
-    ensures lost { (fault : AnalyseFault) → loss_of followed.items ≡ Some fault → result ≡ Err fault }
+    ensures lost { (fault : AnalyseFault) → loss_of followed.items ≡ Some fault
+        → result ≡ Err fault }
     ensures judged { loss_of followed.items ≡ None → MatchResult result
         (IsAnalysis (entries_of followed.items) levels.now unit)
         (HasNoAnalysis (entries_of followed.items)) }
@@ -96,7 +97,7 @@ pub fn judge<R: Threads + Sync>(
     if let Some(fault) = loss_of(&followed) {
         return Err(fault);
     }
-    let tracks = tracks(alloc, followed)?;
+    let tracks = tracks_of(alloc, followed)?;
     if let Some((first, second)) = first_repeat(alloc, &tracks)? {
         return Err(same_animal(tracks, first, second));
     }

@@ -17,7 +17,7 @@ use range_stats::Ranking;
 use std::alloc::Global;
 
 // The percent polygons of the fixes, in the order of the levels.
-fn percents(alloc: Global, fixes: &Columns, levels: &Levels) -> Result<Percents, OutOfMemory>
+fn percent_rows(alloc: Global, fixes: &Columns, levels: &Levels) -> Result<Percents, OutOfMemory>
     requires few { length fixes.now.points ≤ fix_limit }
     ensures { IfOk result (AllZip (IsPercentRow fixes.now.points) levels.now) }
 {
@@ -35,7 +35,7 @@ pub(crate) fn measure(alloc: Global, track: Track, levels: &Levels) -> Result<Me
     let polygon = estimator.polygon(alloc)?;
     let (rows, fixes) = estimator.into_parts();
     let extent = extremes(&fixes).unwrap();
-    let percents = percents(alloc, &fixes, levels)?;
+    let percents = percent_rows(alloc, &fixes, levels)?;
     let rows = Rows::new(rows);
     let animal = Animal {
         name,

@@ -4,7 +4,7 @@ ghost use Rattle.std.specs.Prelude.{◌≡◌, ◌++◌, ◌<◌, ◌≤◌, All
 ghost use Rattle.range_options.specs.Limits.{file_limit};
 ghost use Rattle.range_stats.specs.Overlap.{overlap};
 ghost use Rattle.range_analysis.specs.Overlaps.{IsKnown, are_apart_by_easting, are_apart_by_northing, points_of_each, row_of};
-ghost use Rattle.range_analysis.specs.Animals.{others, pairs};
+ghost use Rattle.range_analysis.specs.Animals.{other_animals, pairs};
 
 use crate::animal::{OverlapRow, Overlaps};
 use crate::measured::Measured;
@@ -50,7 +50,7 @@ fn push_pairs(
     animal: usize,
 ) -> Result<(), OutOfMemory>
     ensures { OnOk result (pairs.new.items ≡ pairs.old.items
-        ++ map (λ range. (animal, range)) (others count animal)) }
+        ++ map (λ range. (animal, range)) (other_animals count animal)) }
 {
     for range in 0..count {
         if range != animal {
@@ -61,7 +61,7 @@ fn push_pairs(
 }
 
 // The ordered pairs of different animals, by their indexes.
-fn pairs(alloc: Global, count: usize) -> Result<Vec<(usize, usize)>, OutOfMemory>
+fn ordered_pairs(alloc: Global, count: usize) -> Result<Vec<(usize, usize)>, OutOfMemory>
     ensures { IfOk result (λ all. all.items ≡ pairs count) }
 {
     let mut all = Vec::new(alloc);
@@ -89,7 +89,7 @@ fn row(measured: &[Measured], pair: (usize, usize)) -> OverlapRow
 }
 
 // The rows of each ordered pair of different animals. Several are counted at once.
-pub(crate) fn overlaps<R: Threads + Sync>(
+pub(crate) fn count_overlaps<R: Threads + Sync>(
     rt: &R,
     alloc: Global,
     measured: &[Measured],
@@ -99,7 +99,7 @@ pub(crate) fn overlaps<R: Threads + Sync>(
     ensures { IfOk result (λ rows. rows
         ≡ map (row_of (points_of_each measured.now)) (pairs (length measured.now))) }
 {
-    let pairs = pairs(alloc, measured.len())?;
+    let pairs = ordered_pairs(alloc, measured.len())?;
     let rows = pairs
         .par_iter()
         .with_min_len(1)

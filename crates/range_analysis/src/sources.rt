@@ -10,11 +10,8 @@ use crate::fault::AnalyseFault;
 use crate::judgement::judge;
 use range_collect::follow;
 use range_options::{Levels, Plan};
-use range_pump::Gate;
+use range_pump::{FileSource, Gate, ThreadRuntime};
 use std::alloc::Global;
-use std::io::Read;
-use std::sync::Wait;
-use std::thread::Threads;
 
 /// The analysis of 1 to [`FILE_LIMIT`](range_options::FILE_LIMIT) files, which are followed side by side as
 /// [`follow`] says, with a percent polygon of each animal at each of the levels.
@@ -23,7 +20,7 @@ use std::thread::Threads;
 ///
 /// As [`judge`] says; `OutOfMemory` also where the files could not be followed since memory ran out or a
 /// thread could not be started.
-pub fn analyse<R: Wait + Threads + Sync, S: Read + Send + Drop, G: Gate>(
+pub fn analyse<R: ThreadRuntime, S: FileSource, G: Gate>(
     rt: &R,
     alloc: Global,
     sources: Vec<S>,

@@ -38,35 +38,35 @@ same_under i j n workers w is below_i below_j same =
     ]
 
 -- ---- one line's results, by other words
-pub same_line_followed : {A : Type 0} {clone : Ghosts A} (first step block place w size : ℕ) (told sources : List (Option Reading))
+pub same_line_followed : {A : Type 0} {clone : Ghosts A} (first step block index w size : ℕ) (told sources : List (Option Reading))
     (results followed : List (Followed A clone))
-    → first ≡ place → step ≡ w → block ≡ size → told ≡ sources → results ≡ followed → IsLineFollowed first step block told results
-    → IsLineFollowed place w size sources followed
-same_line_followed first step block place w size told sources results followed e1 e2 e3 e4 e5 is = rw (← e1, ← e2, ← e3, ← e4, ← e5) is
+    → first ≡ index → step ≡ w → block ≡ size → told ≡ sources → results ≡ followed → IsLineFollowed first step block told results
+    → IsLineFollowed index w size sources followed
+same_line_followed first step block index w size told sources results followed e1 e2 e3 e4 e5 is = rw (← e1, ← e2, ← e3, ← e4, ← e5) is
 
 -- ---- the results of all lines
 module _ {A : Type 0} {clone : Ghosts A} (size : ℕ) (sources : List (Option Reading)) (shares : List (List (Option Reading)))
     (results : List (List (Followed A clone))) where
   pub shares_alike : AreLinesFollowed size shares results → map length results ≡ map length shares
   shares_alike are = same_indices (map length results) (map length shares) (map_length length results ∙ (are.count ∙ sym (map_length length shares)))
-      (λ place x y in_results in_shares.
-      let r = mapped_from length results place x in_results in
-      let l = mapped_from length shares place y in_shares in
-      sym r.2 ∙ ((are.each place l.0 r.0 l.1 r.1).count ∙ l.2))
+      (λ index x y in_results in_shares.
+      let r = mapped_from length results index x in_results in
+      let l = mapped_from length shares index y in_shares in
+      sym r.2 ∙ ((are.each index l.0 r.0 l.1 r.1).count ∙ l.2))
 
   pub file_followed : (all : List (Followed A clone)) → AreDealt sources shares → AreDealt all results → AreLinesFollowed size shares results → 0 < length shares
-      → (place : ℕ) (source : Option Reading) (f : Followed A clone) → slice_get sources place ≡ Some source → slice_get all place ≡ Some f
-      → IsFollowed source place size f
-  file_followed all dealt merged are some place source f in_sources in_all =
+      → (index : ℕ) (source : Option Reading) (f : Followed A clone) → slice_get sources index ≡ Some source → slice_get all index ≡ Some f
+      → IsFollowed source index size f
+  file_followed all dealt merged are some index source f in_sources in_all =
       let w : ℕ = length shares in
-      let share = share_of sources shares place source dealt some in_sources in
+      let share = share_of sources shares index source dealt some in_sources in
       let some_results : 0 < length results = (let count = are.count in omega (arith, count, some)) in
       let count : length results ≡ w = are.count in
-      let result = share_of all results place f merged some_results in_all in
-      let in_results : slice_get results (place % w) ≡ Some result.0 = subst (λ (n : ℕ). slice_get results (place % n) ≡ Some result.0) count result.1 in
-      let in_result : slice_get result.0 (place / w) ≡ Some f = subst (λ (n : ℕ). slice_get result.0 (place / n) ≡ Some f) count result.2 in
-      let followed = (are.each (place % w) share.0 result.0 share.1 in_results).followed (place / w) source f share.2 in_result in
-      subst (λ (n : ℕ). IsFollowed source n size f) (mod-add-div' place w) followed
+      let result = share_of all results index f merged some_results in_all in
+      let in_results : slice_get results (index % w) ≡ Some result.0 = subst (λ (n : ℕ). slice_get results (index % n) ≡ Some result.0) count result.1 in
+      let in_result : slice_get result.0 (index / w) ≡ Some f = subst (λ (n : ℕ). slice_get result.0 (index / n) ≡ Some f) count result.2 in
+      let followed = (are.each (index % w) share.0 result.0 share.1 in_results).followed (index / w) source f share.2 in_result in
+      subst (λ (n : ℕ). IsFollowed source n size f) (mod-add-div' index w) followed
 
   pub same_line : (all : List (Followed A clone)) → AreDealt all results → AreLinesFollowed size shares results → 0 < length shares
       → (i j : ℕ) (f g : Followed A clone) → slice_get all i ≡ Some f → slice_get all j ≡ Some g → i % length shares ≡ j % length shares
@@ -86,7 +86,7 @@ module _ {A : Type 0} {clone : Ghosts A} (size : ℕ) (sources : List (Option Re
       let P : Followed A clone → Type 0 = λ x. x.feeder.line ≡ share.line in
       of_all P a.0 (i / length results) f share.of_line a.2 ∙ sym (of_all P a.0 (j / length results) g share.of_line in_a)
 
-  -- the line of a file begins with the number that its place leaves over
+  -- the line of a file begins with the number that its index leaves over
   line_begins : (all : List (Followed A clone)) → AreDealt all results → AreLinesFollowed size shares results → 0 < length shares
       → (i : ℕ) (f : Followed A clone) → slice_get all i ≡ Some f → first_file f.feeder.line ≡ i % length shares
   line_begins all merged are some i f in_i =
@@ -99,8 +99,8 @@ module _ {A : Type 0} {clone : Ghosts A} (size : ℕ) (sources : List (Option Re
       let of_line = of_all (λ (x : Followed A clone). x.feeder.line ≡ share.line) a.0 (i / length results) f share.of_line a.2 in
       ap first_file of_line ∙ (share.begins ∙ ap (λ (n : ℕ). i % n) count)
 
-  pub same_place : (all : List (Followed A clone)) → AreDealt all results → AreLinesFollowed size shares results → 0 < length shares
+  pub same_share : (all : List (Followed A clone)) → AreDealt all results → AreLinesFollowed size shares results → 0 < length shares
       → (i j : ℕ) (f g : Followed A clone) → slice_get all i ≡ Some f → slice_get all j ≡ Some g → f.feeder.line ≡ g.feeder.line
       → i % length shares ≡ j % length shares
-  same_place all merged are some i j f g in_i in_j same =
+  same_share all merged are some i j f g in_i in_j same =
       sym (line_begins all merged are some i f in_i) ∙ (ap first_file same ∙ line_begins all merged are some j g in_j)

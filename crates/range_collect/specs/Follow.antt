@@ -7,7 +7,7 @@ use Rattle.range_fixes.specs.Reading.{Reading}
 use Rattle.range_line.specs.Lines.{FeederView}
 use Rattle.range_line.specs.Messages.{IsLawful, fixes}
 use Rattle.range_estimator.specs.Estimation.{Estimation, IsEstimate}
-use Rattle.range_pump.specs.Pump.{IsPumpedFrom, Read}
+use Rattle.range_pump.specs.Pump.{IsPumpedFrom, ReadResult}
 
 -- the estimator took a beginning of the fixes, and all of them where it has not stopped; row n is that of the first n fixes that it took, and the corners
 -- are those of all of them
@@ -17,7 +17,7 @@ pub record Holds (e : Estimation) (sent : List Fix) : Type 0 where
   pub estimate : IsEstimate e.fixes e.rows e.corners
 
 -- the file with this number, of which this is the reading where its source tells its bytes, was followed in blocks of this size
-pub record IsFollowedAs (source : Option Reading) (number size : ℕ) (feeder : FeederView) (read : Read) (e : Estimation) (mark : Bool) : Type 0 where
+pub record IsFollowedAs (source : Option Reading) (number size : ℕ) (feeder : FeederView) (read : ReadResult) (e : Estimation) (mark : Bool) : Type 0 where
   pub file : feeder.file ≡ number
   pub ended : feeder.ended ≡ true
   pub pumped : IsPumpedFrom source size feeder read
@@ -28,7 +28,7 @@ pub record IsFollowedAs (source : Option Reading) (number size : ℕ) (feeder : 
 
 -- what is true of every result: a mark was sent where it was taken, a block was handed back only before it, and a file that was read to its end and taken whole
 -- has a fix
-pub record IsResult (feeder : FeederView) (read : Read) (e : Estimation) (mark : Bool) : Type 0 where
+pub record IsResult (feeder : FeederView) (read : ReadResult) (e : Estimation) (mark : Bool) : Type 0 where
   pub marked : mark ≡ true → feeder.closed ≡ true
   pub gone : read ≡ Err Gone → feeder.closed ≡ false
   pub some : IsOk read → mark ≡ true → e.stopped ≡ false → 0 < length e.fixes

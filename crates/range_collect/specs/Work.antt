@@ -8,7 +8,7 @@ use Rattle.range_collect.specs.Follow.{Holds}
 
 -- each estimator holds what was taken of its file, the files being numbered from the first on by this step
 abbrev pub EachHolds : ℕ → ℕ → List Message → List Estimation → Type 0
-EachHolds first step taken es = (place : ℕ) (e : Estimation) → slice_get es place ≡ Some e → Holds e (fixes taken (first + place * step))
+EachHolds first step taken es = (index : ℕ) (e : Estimation) → slice_get es index ≡ Some e → Holds e (fixes taken (first + index * step))
 
 -- the message, of a file that one of the estimators is for, lawfully comes after what was taken, which they hold
 pub record ComesTo (first step : ℕ) (taken : List Message) (m : Message) (es : List Estimation) : Type 0 where

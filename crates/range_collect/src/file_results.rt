@@ -5,7 +5,7 @@ ghost use Rattle.range_line.specs.Lines.{FeederView};
 ghost use Rattle.range_estimator.specs.Estimation.{Estimation};
 ghost use Rattle.range_collect.specs.Follow.{IsResult};
 ghost use Rattle.range_collect.specs.LineFiles.{IsSeen};
-ghost use Rattle.range_pump.specs.Pump.{Read};
+ghost use Rattle.range_pump.specs.Pump.{ReadResult};
 
 use crate::followed::Followed;
 use range_estimator::Estimator;
@@ -42,9 +42,9 @@ pub(crate) fn pair<A: Allocator + Clone + Copy>(
     estimators: Vec<Estimator<A>, A>,
 ) -> Result<Vec<Followed<A>, A>, OutOfMemory>
     requires counts { (vec_len feeders ≡ vec_len reads) × (vec_len estimators ≡ vec_len reads) }
-    requires results { (place : ℕ) (f : FeederView) (r : Read) (e : Estimation)
-        → slice_get feeders.items place ≡ Some f
-        → slice_get reads.items place ≡ Some r → slice_get estimators.items place ≡ Some e
+    requires results { (index : ℕ) (f : FeederView) (r : ReadResult) (e : Estimation)
+        → slice_get feeders.items index ≡ Some f
+        → slice_get reads.items index ≡ Some r → slice_get estimators.items index ≡ Some e
         → IsResult f r e f.closed }
     ensures feeders { IfOk result (λ all. map (λ f. f.feeder) all.items ≡ feeders.items) }
     ensures reads { IfOk result (λ all. map (λ f. f.read) all.items ≡ reads.items) }

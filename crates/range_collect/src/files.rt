@@ -11,11 +11,8 @@ use crate::lines::follow_lines;
 use crate::shares::{deal, merge};
 use range_options::Plan;
 use range_plane::OutOfMemory;
-use range_pump::Gate;
-use std::alloc::{Allocator, Global};
-use std::io::Read;
-use std::sync::Wait;
-use std::thread::Threads;
+use range_pump::{FileSource, Gate, ThreadAllocator, ThreadRuntime};
+use std::alloc::Global;
 
 /// Follows 1 to [`FILE_LIMIT`](range_options::FILE_LIMIT) files at once, which are numbered from 0 in the
 /// order of their sources. Each file is read by a pump, a thread of its own, which sends its fixes in blocks
@@ -29,12 +26,7 @@ use std::thread::Threads;
 ///
 /// Where an allocation failed or a thread could not be started; every thread that was started has ended. A reader
 /// or an estimator without memory ends nothing but its own work, and the result of its file says so.
-pub fn follow<
-    R: Wait + Threads + Sync,
-    S: Read + Send + Drop,
-    A: Allocator + Clone + Copy + Send + Sync,
-    G: Gate,
->(
+pub fn follow<R: ThreadRuntime, S: FileSource, A: ThreadAllocator + Copy, G: Gate>(
     rt: &R,
     alloc: A,
     global: Global,

@@ -12,12 +12,10 @@ use crate::worker::Worker;
 use range_fixes::{Name, ReadFault};
 use range_line::{Feeder, open_line};
 use range_plane::OutOfMemory;
-use range_pump::Gate;
+use range_pump::{FileSource, Gate, ThreadAllocator, ThreadRuntime};
 use std::alloc::Allocator;
-use std::io::Read;
-use std::sync::Wait;
 use std::thread;
-use std::thread::{Scope, Threads};
+use std::thread::Scope;
 
 // What is left of a line once its pumps have returned and its worker has nothing more to take: the
 // feeders, and what the pumps say of their files, in the order of the files.
@@ -33,9 +31,9 @@ pub(crate) struct LineRun<A: Allocator + Clone + Copy> {
 fn run_in_scope<
     's,
     E,
-    R: Wait + Threads + Sync,
-    S: Read + Send + Drop + 's,
-    A: Allocator + Clone + Copy + Send + Sync + 's,
+    R: ThreadRuntime,
+    S: FileSource + 's,
+    A: ThreadAllocator + Copy + 's,
     G: Gate,
 >(
     context: &'s Context<'s, R, A, G>,
@@ -78,12 +76,7 @@ fn run_in_scope<
 }
 
 // Reads the files of a line, each in a thread of its own, and takes what they send in this one.
-pub(crate) fn run_line<
-    R: Wait + Threads + Sync,
-    S: Read + Send + Drop,
-    A: Allocator + Clone + Copy + Send + Sync,
-    G: Gate,
->(
+pub(crate) fn run_line<R: ThreadRuntime, S: FileSource, A: ThreadAllocator + Copy, G: Gate>(
     context: &Context<'_, R, A, G>,
     sources: Vec<S, A>,
     stride: Stride,

@@ -13,11 +13,10 @@ use crate::stack::small_stack;
 use crate::stride::Stride;
 use range_options::Plan;
 use range_plane::OutOfMemory;
-use range_pump::Gate;
+use range_pump::{FileSource, Gate, ThreadAllocator, ThreadRuntime};
 use std::alloc::Allocator;
 use std::io::Read;
 use std::snapshot::Snapshot;
-use std::sync::Wait;
 use std::thread;
 use std::thread::{Promise, PromisedHandle, Scope, Threads};
 
@@ -44,12 +43,11 @@ impl<S: Read + Drop, A: Allocator + Clone + Copy> Promise<Results<A>> for LineOf
 type LineHandle<S, A> = PromisedHandle<Results<A>, LineOf<S, A>>;
 
 // Follows the files of a line, with a thread for each pump and this one as the worker.
-fn follow_line<
-    R: Wait + Threads + Sync,
-    S: Read + Send + Drop,
-    A: Allocator + Clone + Copy + Send + Sync,
-    G: Gate,
->(context: &Context<'_, R, A, G>, sources: Vec<S, A>, stride: Stride) -> Results<A>
+fn follow_line<R: ThreadRuntime, S: FileSource, A: ThreadAllocator + Copy, G: Gate>(
+    context: &Context<'_, R, A, G>,
+    sources: Vec<S, A>,
+    stride: Stride,
+) -> Results<A>
     requires { (1 ≤ vec_len sources) × (vec_len sources ≤ file_limit) }
     ensures { IfOk result
         (λ all. IsLineFollowed stride.first stride.step context.now.plan.block
@@ -66,14 +64,7 @@ fn follow_line<
 }
 
 // Starts the thread of a line.
-fn start_line<
-    's,
-    E,
-    R: Wait + Threads + Sync,
-    S: Read + Send + Drop + 's,
-    A: Allocator + Clone + Copy + Send + Sync + 's,
-    G: Gate,
->(
+fn start_line<'s, E, R: ThreadRuntime, S: FileSource + 's, A: ThreadAllocator + Copy + 's, G: Gate>(
     context: &'s Context<'s, R, A, G>,
     scope: &'s Scope<'s, E>,
     sources: Vec<S, A>,
@@ -107,9 +98,9 @@ fn start_line<
 fn start_lines<
     's,
     E,
-    R: Wait + Threads + Sync,
-    S: Read + Send + Drop + 's,
-    A: Allocator + Clone + Copy + Send + Sync + 's,
+    R: ThreadRuntime,
+    S: FileSource + 's,
+    A: ThreadAllocator + Copy + 's,
     G: Gate,
 >(
     context: &'s Context<'s, R, A, G>,
@@ -123,8 +114,8 @@ fn start_lines<
     requires room { (handles.old.items ≡ []) × (vec_len shares ≤ vec_capacity handles.old) }
     ensures sources { OnOk result (map (λ h. h.promise.sources.value) handles.new.items
         ≡ shares.items) }
-    ensures stride { (place : ℕ) (h : _) → slice_get handles.new.items place ≡ Some h
-        → (h.promise.stride.first ≡ place) × (h.promise.stride.step ≡ vec_len shares)
+    ensures stride { (index : ℕ) (h : _) → slice_get handles.new.items index ≡ Some h
+        → (h.promise.stride.first ≡ index) × (h.promise.stride.step ≡ vec_len shares)
         × (h.promise.plan ≡ context.now.plan) }
     ensures few { vec_len handles.new ≤ vec_len shares }
 {
@@ -147,8 +138,8 @@ fn join_lines<R: Threads, S: Read + Drop, A: Allocator + Clone + Copy>(
 ) -> Result<Vec<Vec<Followed<A>, A>, A>, OutOfMemory>
     requires room { (all.items ≡ []) × (vec_len handles ≤ vec_capacity all) }
     ensures count { IfOk result (λ all. vec_len all ≡ vec_len handles) }
-    ensures followed { IfOk result (λ all. (place : ℕ) (h r : _)
-        → slice_get handles.items place ≡ Some h → slice_get all.items place ≡ Some r
+    ensures followed { IfOk result (λ all. (index : ℕ) (h r : _)
+        → slice_get handles.items index ≡ Some h → slice_get all.items index ≡ Some r
         → IsLineFollowed h.promise.stride.first h.promise.stride.step h.promise.plan.block
         (readings S.remaining h.promise.plan.unit h.promise.sources.value.items) r.items) }
 {
@@ -163,14 +154,7 @@ fn join_lines<R: Threads, S: Read + Drop, A: Allocator + Clone + Copy>(
 }
 
 // Starts the lines in threads of the scope, and waits for them.
-fn run_lines<
-    's,
-    E,
-    R: Wait + Threads + Sync,
-    S: Read + Send + Drop + 's,
-    A: Allocator + Clone + Copy + Send + Sync + 's,
-    G: Gate,
->(
+fn run_lines<'s, E, R: ThreadRuntime, S: FileSource + 's, A: ThreadAllocator + Copy + 's, G: Gate>(
     context: &'s Context<'s, R, A, G>,
     scope: &'s Scope<'s, E>,
     shares: Vec<Vec<S, A>, A>,
@@ -193,12 +177,7 @@ fn run_lines<
 }
 
 // Follows the files of all lines at once.
-pub(crate) fn follow_lines<
-    R: Wait + Threads + Sync,
-    S: Read + Send + Drop,
-    A: Allocator + Clone + Copy + Send + Sync,
-    G: Gate,
->(
+pub(crate) fn follow_lines<R: ThreadRuntime, S: FileSource, A: ThreadAllocator + Copy, G: Gate>(
     context: &Context<'_, R, A, G>,
     shares: Vec<Vec<S, A>, A>,
 ) -> Result<Vec<Vec<Followed<A>, A>, A>, OutOfMemory>

@@ -5,7 +5,7 @@ ghost use Rattle.range_fixes.specs.Reading.{reading_from};
 ghost use Rattle.range_options.specs.Limits.{block_limit};
 ghost use Rattle.range_line.specs.Lines.{FeederView};
 ghost use Rattle.range_collect.specs.Fresh.{IsNew};
-ghost use Rattle.range_pump.specs.Pump.{IsPumped, Read as ReadView};
+ghost use Rattle.range_pump.specs.Pump.{IsPumped, ReadResult};
 
 use crate::context::Context;
 use crate::stack::small_stack;
@@ -13,11 +13,10 @@ use range_fixes::{Name, ReadFault};
 use range_line::Feeder;
 use range_options::Plan;
 use range_plane::OutOfMemory;
-use range_pump::{Gate, Pumped, pump};
+use range_pump::{FileSource, Gate, Pumped, ThreadAllocator, ThreadRuntime, pump};
 use std::alloc::Allocator;
 use std::io::Read;
 use std::snapshot::Snapshot;
-use std::sync::Wait;
 use std::thread::{Promise, PromisedHandle, Scope, Threads};
 
 // What the thread of a pump promises of what it gives back: it is of this source and this feeder, by this plan.
@@ -41,14 +40,7 @@ impl<S: Read + Drop, A: Allocator + Clone> Promise<Pumped<A>> for PumpOf<S, A> {
 pub(crate) type PumpHandle<S, A> = PromisedHandle<Pumped<A>, PumpOf<S, A>>;
 
 // Starts a pump in a thread of the scope.
-fn start_pump<
-    's,
-    E,
-    R: Wait + Threads + Sync,
-    S: Read + Send + Drop + 's,
-    A: Allocator + Clone + Send + Sync + 's,
-    G: Gate,
->(
+fn start_pump<'s, E, R: ThreadRuntime, S: FileSource + 's, A: ThreadAllocator + 's, G: Gate>(
     context: &'s Context<'s, R, A, G>,
     scope: &'s Scope<'s, E>,
     source: S,
@@ -90,9 +82,9 @@ fn start_pump<
 pub(crate) fn start_pumps<
     's,
     E,
-    R: Wait + Threads + Sync,
-    S: Read + Send + Drop + 's,
-    A: Allocator + Clone + Send + Sync + 's,
+    R: ThreadRuntime,
+    S: FileSource + 's,
+    A: ThreadAllocator + 's,
     G: Gate,
 >(
     context: &'s Context<'s, R, A, G>,
@@ -133,9 +125,9 @@ pub(crate) fn join_pumps<R: Threads, S: Read + Drop, A: Allocator + Clone>(
     requires reads { (reads.old.items ≡ []) × (vec_len handles ≤ vec_capacity reads.old) }
     ensures counts { (vec_len feeders.new ≡ vec_len handles)
         × (vec_len reads.new ≡ vec_len handles) }
-    ensures pumped { (place : ℕ) (h : _) (f : FeederView) (r : ReadView)
-        → slice_get handles.items place ≡ Some h
-        → slice_get feeders.new.items place ≡ Some f → slice_get reads.new.items place ≡ Some r
+    ensures pumped { (index : ℕ) (h : _) (f : FeederView) (r : ReadResult)
+        → slice_get handles.items index ≡ Some h
+        → slice_get feeders.new.items index ≡ Some f → slice_get reads.new.items index ≡ Some r
         → IsPumped (reading_from S.remaining h.promise.plan.unit h.promise.source.value)
         h.promise.plan.block h.promise.feeder.value f r }
 {

@@ -5,7 +5,7 @@ ghost use Rattle.range_plane.specs.Fix.{fix_limit};
 ghost use Rattle.range_plane.specs.declared.fix.Fix.{Fix};
 ghost use Rattle.range_line.specs.declared.message.Message.{Message};
 ghost use Rattle.range_line.specs.Lines.{ended_feeder, files_from, AreOfLine, FeederView};
-ghost use Rattle.range_line.specs.Messages.{fixes_in, joined};
+ghost use Rattle.range_line.specs.Messages.{fixes_in, all_fixes};
 ghost use Rattle.range_estimator.specs.Estimation.{Estimation};
 ghost use Rattle.range_collect.specs.Follow.{Holds};
 ghost use Rattle.range_collect.specs.Work.{ComesTo, EachHolds};
@@ -141,9 +141,9 @@ impl<A: Allocator + Clone + Copy> Worker<A> {
         requires line { AreOfLine feeders.items self.line }
         requires files { map (λ f. f.file) feeders.items ≡ self.files }
         ensures feeders { result.0.items ≡ map ended_feeder feeders.items }
-        ensures holds { (place : ℕ) (f : FeederView) (e : Estimation)
-            → slice_get result.0.items place ≡ Some f
-            → slice_get result.1.items place ≡ Some e → Holds e (joined f.sent) }
+        ensures holds { (index : ℕ) (f : FeederView) (e : Estimation)
+            → slice_get result.0.items index ≡ Some f
+            → slice_get result.1.items index ≡ Some e → Holds e (all_fixes f.sent) }
         ensures count { vec_len result.1 ≡ vec_len result.0 }
     {
         let Worker {

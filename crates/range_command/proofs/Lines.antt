@@ -3,12 +3,12 @@ use Rattle.std.proofs.Common.{◌≡◌, ℕ, ◌+◌, Bool, true, false, ◌==�
 use Rattle.std.specs.Fmt.{decimal}
 use Rattle.std.specs.List.{list_all}
 use Rattle.range_texts.proofs.ForCallers.{joined_lines_are_one_line, numbers_are_one_line, printable_texts_are_one_line, shown_names_are_one_line, shown_texts_are_one_line}
-use Rattle.range_texts.specs.Seen.{IsOneLine, is_printable, shown, shown_name}
+use Rattle.range_texts.specs.Seen.{IsOneLine, is_printable, shown_text, shown_name}
 use Rattle.range_plane.specs.Fix.{fix_limit, second_limit}
 use Rattle.range_plane.specs.Scale.{limit, unit_name}
 use Rattle.range_plane.specs.declared.scale.Scale.{Scale}
 use Rattle.range_plane.specs.declared.scale.Scale.TheVariants.{Metre, Decimetre}
-use Rattle.range_fixes.specs.FaultText.{count_text, fault_text, field_name, fields_word, limit_text, place_text, record_of, wrong_text}
+use Rattle.range_fixes.specs.FaultText.{count_text, fault_text, field_name, fields_word, limit_text, record_text, record_of, wrong_text}
 use Rattle.range_fixes.specs.declared.fault.ReadFault.{ReadFault}
 use Rattle.range_fixes.specs.declared.fault.ReadFault.TheVariants as faults
 use Rattle.range_analysis.specs.FaultText.{analyse_text}
@@ -22,7 +22,7 @@ use Rattle.range_words.specs.declared.level.LevelFault.TheVariants as levels
 use Rattle.range_words.specs.declared.words.WordFault.{WordFault}
 use Rattle.range_words.specs.declared.words.WordFault.TheVariants as words
 use Rattle.range_command.specs.Obeying.{IsToldAlone}
-use Rattle.range_command.specs.Telling.{RefusalsAreOneLine, ShortLinesAreOneLine, called, files_text, line_of, name_of, output_text, report_text, short_files_line, short_run_line, unread_text}
+use Rattle.range_command.specs.Telling.{RefusalsAreOneLine, ShortLinesAreOneLine, source_name, files_text, line_of, name_of, output_text, report_text, short_files_line, short_run_line, unread_text}
 use Rattle.range_command.specs.declared.refusal.Refusal.TheVariants as refusals
 
 -- words of the program's own
@@ -87,12 +87,12 @@ wrong_line faults.NoFixes = words_line (wrong_text faults.NoFixes) refl
 wrong_line faults.Gone = words_line (wrong_text faults.Gone) refl
 wrong_line (faults.BadUse rec) = words_line (codes "use is neither 0 nor 1") refl
 
-place_line : (place : Option ℕ) → IsOneLine (place_text place)
-place_line (Some rec) = counted_line (codes "record ") (codes ": ") rec refl refl
-place_line None = words_line [] refl
+record_line : (number : Option ℕ) → IsOneLine (record_text number)
+record_line (Some rec) = counted_line (codes "record ") (codes ": ") rec refl refl
+record_line None = words_line [] refl
 
 fault_line : (fault : ReadFault) → IsOneLine (fault_text fault)
-fault_line fault = two (place_text (record_of fault)) (wrong_text fault) (place_line (record_of fault)) (wrong_line fault)
+fault_line fault = two (record_text (record_of fault)) (wrong_text fault) (record_line (record_of fault)) (wrong_line fault)
 
 analyse_line : (fault : AnalyseFault) → IsOneLine (analyse_text fault)
 analyse_line analyses.OutOfMemory = words_line (analyse_text analyses.OutOfMemory) refl
@@ -100,12 +100,12 @@ analyse_line (analyses.LineCut file) = words_line (codes "its fixes were not all
 analyse_line (analyses.File file fault) = fault_line fault
 analyse_line (analyses.SameAnimal first second animal) = words_line (codes "have the same animal") refl
 
-called_line : (source : Option (String Global)) → IsOneLine (called source)
-called_line (Some path) = shown_texts_are_one_line true (string_bytes path)
-called_line None = shown_texts_are_one_line true (codes "standard input")
+source_line : (source : Option (String Global)) → IsOneLine (source_name source)
+source_line (Some path) = shown_texts_are_one_line true (string_bytes path)
+source_line None = shown_texts_are_one_line true (codes "standard input")
 
 name_line : (files : List (String Global)) (i : ℕ) → IsOneLine (name_of files i)
-name_line files i = called_line (slice_get files i)
+name_line files i = source_line (slice_get files i)
 
 unread_line : (fault : ReadFault) (reason : Option (String Global)) → IsOneLine (unread_text fault reason)
 unread_line faults.Read (Some reason) = shown_texts_are_one_line false (string_bytes reason)
@@ -148,7 +148,7 @@ files_line files (analyses.SameAnimal first second animal) reason =
 
 output_line : (failed : List ℕ) (reason : Option (String Global)) → list_all is_printable failed ≡ true → IsOneLine (output_text failed reason)
 output_line failed (Some reason) e =
-    two (codes "standard output: ") (shown false (string_bytes reason)) (words_line (codes "standard output: ") refl) (shown_texts_are_one_line false (string_bytes reason))
+    two (codes "standard output: ") (shown_text false (string_bytes reason)) (words_line (codes "standard output: ") refl) (shown_texts_are_one_line false (string_bytes reason))
 output_line failed None e = words_line failed e
 
 report_line : (files : List (String Global)) (fault : RunFault) (reason : Option (String Global)) → IsOneLine (report_text files fault reason)
@@ -176,9 +176,9 @@ pub refusal_line : RefusalsAreOneLine
 refusal_line refusals.OutOfMemory alone = words_line (codes "out of memory") refl
 refusal_line (refusals.NotText word) alone = counted_line (codes "word ") (codes " of the command line is not UTF-8") word refl refl
 refusal_line (refusals.BadWords line) alone = shown_texts_are_one_line false (string_bytes line)
-refusal_line (refusals.Words fault) alone = word_line fault alone
+refusal_line (refusals.CommandLine fault) alone = word_line fault alone
 refusal_line (refusals.Unopened path reason) alone =
-    about (shown true (string_bytes path)) (shown false (string_bytes reason)) (shown_texts_are_one_line true (string_bytes path)) (shown_texts_are_one_line false (string_bytes reason))
+    about (shown_text true (string_bytes path)) (shown_text false (string_bytes reason)) (shown_texts_are_one_line true (string_bytes path)) (shown_texts_are_one_line false (string_bytes reason))
 refusal_line (refusals.Unwritten reason) alone = output_line (codes "the help or the version could not be written") reason refl
 refusal_line (refusals.Run files fault reason) alone = report_line files.items fault reason
 
@@ -200,12 +200,12 @@ pub short_is_one_line : ShortLinesAreOneLine
 short_is_one_line refusals.OutOfMemory = short_of (codes "out of memory") refl _ refl
 short_is_one_line (refusals.NotText word) = short_of (codes "a word of the command line is not UTF-8") refl _ refl
 short_is_one_line (refusals.BadWords line) = short_of (codes "the words of the command line are refused") refl _ refl
-short_is_one_line (refusals.Words words.OutOfMemory) = short_of (codes "out of memory") refl _ refl
-short_is_one_line (refusals.Words (words.Help text)) = short_of (codes "the words of the command line are refused") refl _ refl
-short_is_one_line (refusals.Words (words.Version text)) = short_of (codes "the words of the command line are refused") refl _ refl
-short_is_one_line (refusals.Words (words.BadWords text)) = short_of (codes "the words of the command line are refused") refl _ refl
-short_is_one_line (refusals.Words words.TooManyFiles) = short_of (codes "the words of the command line are refused") refl _ refl
-short_is_one_line (refusals.Words (words.BadLevels fault)) = short_of (codes "the words of the command line are refused") refl _ refl
+short_is_one_line (refusals.CommandLine words.OutOfMemory) = short_of (codes "out of memory") refl _ refl
+short_is_one_line (refusals.CommandLine (words.Help text)) = short_of (codes "the words of the command line are refused") refl _ refl
+short_is_one_line (refusals.CommandLine (words.Version text)) = short_of (codes "the words of the command line are refused") refl _ refl
+short_is_one_line (refusals.CommandLine (words.BadWords text)) = short_of (codes "the words of the command line are refused") refl _ refl
+short_is_one_line (refusals.CommandLine words.TooManyFiles) = short_of (codes "the words of the command line are refused") refl _ refl
+short_is_one_line (refusals.CommandLine (words.BadLevels fault)) = short_of (codes "the words of the command line are refused") refl _ refl
 short_is_one_line (refusals.Unopened path reason) = short_of (codes "a file cannot be opened, and there is no memory to say which") refl _ refl
 short_is_one_line (refusals.Unwritten reason) = short_of (codes "the help or the version could not be written") refl _ refl
 short_is_one_line (refusals.Run files fault reason) = short_run fault

@@ -49,7 +49,7 @@ unopened_of_files find files k file (refusals.Unopened path reason) within befor
     first_refused find files k file (string_bytes path) (string_bytes reason) within before is told.0 told.1
 unopened_of_files find files k file (refusals.NotText word) within before is told = absurd told
 unopened_of_files find files k file (refusals.BadWords line) within before is told = absurd told
-unopened_of_files find files k file (refusals.Words fault) within before is told = absurd told
+unopened_of_files find files k file (refusals.CommandLine fault) within before is told = absurd told
 unopened_of_files find files k file (refusals.Unwritten reason) within before is told = absurd told
 unopened_of_files find files k file (refusals.Run fs fault reason) within before is told = absurd told
 
@@ -58,7 +58,7 @@ files_of_run read w refusals.OutOfMemory told = tt
 files_of_run read w (refusals.Unopened path reason) told = told
 files_of_run read w (refusals.NotText word) told = absurd told
 files_of_run read w (refusals.BadWords line) told = absurd told
-files_of_run read w (refusals.Words fault) told = absurd told
+files_of_run read w (refusals.CommandLine fault) told = absurd told
 files_of_run read w (refusals.Unwritten reason) told = absurd told
 files_of_run read w (refusals.Run fs fault reason) told = absurd told
 
@@ -69,7 +69,7 @@ told_of_run said w read good (refusals.Unopened path reason) told = (read, good,
 told_of_run said w read good (refusals.Run fs fault reason) told = (read, good, told)
 told_of_run said w read good (refusals.NotText word) told = absurd told
 told_of_run said w read good (refusals.BadWords line) told = absurd told
-told_of_run said w read good (refusals.Words fault) told = absurd told
+told_of_run said w read good (refusals.CommandLine fault) told = absurd told
 told_of_run said w read good (refusals.Unwritten reason) told = absurd told
 
 -- what could not be written was asked for
@@ -77,7 +77,7 @@ pub reply_told : (said : List Text) (w : World) (text : String Global) → AskFo
 reply_told said w text asked refusals.OutOfMemory told = absurd told
 reply_told said w text asked (refusals.NotText word) told = absurd told
 reply_told said w text asked (refusals.BadWords line) told = absurd told
-reply_told said w text asked (refusals.Words fault) told = absurd told
+reply_told said w text asked (refusals.CommandLine fault) told = absurd told
 reply_told said w text asked (refusals.Unopened path reason) told = absurd told
 reply_told said w text asked (refusals.Unwritten reason) told = (text, asked)
 reply_told said w text asked (refusals.Run fs fault reason) told = absurd told

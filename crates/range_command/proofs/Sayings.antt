@@ -17,7 +17,7 @@ pub told_in_one : (said : List Text) (w : World) (refusal : Refusal) → IsTold 
 told_in_one said w refusals.OutOfMemory told = tt
 told_in_one said w (refusals.NotText word) told = tt
 told_in_one said w (refusals.BadWords line) told = tt
-told_in_one said w (refusals.Words fault) told = told.0
+told_in_one said w (refusals.CommandLine fault) told = told.0
 told_in_one said w (refusals.Unopened path reason) told = tt
 told_in_one said w (refusals.Unwritten reason) told = tt
 told_in_one said w (refusals.Run files fault reason) told = tt
@@ -26,7 +26,7 @@ pub system_in_one : (refusal : Refusal) → IsOfSystem refusal → IsOfOneLine r
 system_in_one refusals.OutOfMemory told = tt
 system_in_one (refusals.NotText word) told = tt
 system_in_one (refusals.BadWords line) told = absurd told
-system_in_one (refusals.Words fault) told = absurd told
+system_in_one (refusals.CommandLine fault) told = absurd told
 system_in_one (refusals.Unopened path reason) told = absurd told
 system_in_one (refusals.Unwritten reason) told = absurd told
 system_in_one (refusals.Run files fault reason) told = absurd told

@@ -89,7 +89,7 @@ abbrev pub IsTold : List Text → World → Refusal → Type 0
 IsTold said w refusals.OutOfMemory = ⊤
 IsTold said w (refusals.NotText word) = ⊥
 IsTold said w (refusals.BadWords line) = (text : String Global) × IsRefusalOf said (words.BadWords text)
-IsTold said w (refusals.Words fault) = IsToldAlone fault × IsRefusalOf said fault
+IsTold said w (refusals.CommandLine fault) = IsToldAlone fault × IsRefusalOf said fault
 IsTold said w (refusals.Unwritten reason) = (text : String Global) × AskFor said text
 IsTold said w refusal = (read : Words) × AreWordsOf said read × IsOfRun read w refusal
 

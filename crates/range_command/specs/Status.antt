@@ -9,8 +9,8 @@ abbrev pub refusal_status : Refusal → ℕ
 refusal_status refusals.OutOfMemory = 3
 refusal_status (refusals.NotText word) = 2
 refusal_status (refusals.BadWords line) = 2
-refusal_status (refusals.Words words.OutOfMemory) = 3
-refusal_status (refusals.Words fault) = 2
+refusal_status (refusals.CommandLine words.OutOfMemory) = 3
+refusal_status (refusals.CommandLine fault) = 2
 refusal_status (refusals.Unopened path reason) = 1
 refusal_status (refusals.Unwritten reason) = 4
 refusal_status (refusals.Run files fault reason) = status_of (Err fault)

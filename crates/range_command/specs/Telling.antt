@@ -3,7 +3,7 @@ use Rattle.std.specs.Prelude.{◌≡◌, ◌⊎◌, ⊤, ℕ, true, false, List,
 use Rattle.std.specs.Fmt.{decimal}
 use Rattle.std.specs.Global.{Global}
 use Rattle.std.specs.Io.KnownBytes.{Appends}
-use Rattle.range_texts.specs.Seen.{IsOneLine, shown, shown_name}
+use Rattle.range_texts.specs.Seen.{IsOneLine, shown_text, shown_name}
 use Rattle.range_fixes.specs.FaultText.{fault_text}
 use Rattle.range_fixes.specs.declared.fault.ReadFault.{ReadFault}
 use Rattle.range_fixes.specs.declared.fault.ReadFault.TheVariants as faults
@@ -20,16 +20,16 @@ use Rattle.range_command.specs.declared.refusal.Refusal.{Refusal}
 use Rattle.range_command.specs.declared.refusal.Refusal.TheVariants as refusals
 
 -- what a source is called, of the files or of the input
-abbrev pub called : Option (String Global) → List ℕ
-called (Some path) = shown true (string_bytes path)
-called None = shown true (codes "standard input")
+abbrev pub source_name : Option (String Global) → List ℕ
+source_name (Some path) = shown_text true (string_bytes path)
+source_name None = shown_text true (codes "standard input")
 
 abbrev pub name_of : List (String Global) → ℕ → List ℕ
-name_of files i = called (slice_get files i)
+name_of files i = source_name (slice_get files i)
 
 -- why a file cannot be read, for the system's reason where it gave one
 abbrev pub unread_text : ReadFault → Option (String Global) → List ℕ
-unread_text faults.Read (Some reason) = shown false (string_bytes reason)
+unread_text faults.Read (Some reason) = shown_text false (string_bytes reason)
 unread_text fault reason = fault_text fault
 
 -- why the files have no analysis
@@ -42,7 +42,7 @@ files_text files (analyses.SameAnimal first second animal) reason =
 
 -- what standard output answered
 abbrev pub output_text : List ℕ → Option (String Global) → List ℕ
-output_text failed (Some reason) = codes "standard output: " ++ shown false (string_bytes reason)
+output_text failed (Some reason) = codes "standard output: " ++ shown_text false (string_bytes reason)
 output_text failed None = failed
 
 -- why a run has no report
@@ -55,9 +55,9 @@ report_text files runs.Write reason = output_text (run_text runs.Write) reason
 abbrev pub refusal_text : Refusal → List ℕ
 refusal_text refusals.OutOfMemory = codes "out of memory"
 refusal_text (refusals.NotText word) = codes "word " ++ (decimal word ++ codes " of the command line is not UTF-8")
-refusal_text (refusals.BadWords line) = shown false (string_bytes line)
-refusal_text (refusals.Words fault) = word_text fault
-refusal_text (refusals.Unopened path reason) = shown true (string_bytes path) ++ (codes ": " ++ shown false (string_bytes reason))
+refusal_text (refusals.BadWords line) = shown_text false (string_bytes line)
+refusal_text (refusals.CommandLine fault) = word_text fault
+refusal_text (refusals.Unopened path reason) = shown_text true (string_bytes path) ++ (codes ": " ++ shown_text false (string_bytes reason))
 refusal_text (refusals.Unwritten reason) = output_text (codes "the help or the version could not be written") reason
 refusal_text (refusals.Run files fault reason) = report_text files.items fault reason
 
@@ -81,8 +81,8 @@ abbrev pub short_line : Refusal → List ℕ
 short_line refusals.OutOfMemory = codes "homerange: out of memory\n"
 short_line (refusals.NotText word) = codes "homerange: a word of the command line is not UTF-8\n"
 short_line (refusals.BadWords line) = codes "homerange: the words of the command line are refused\n"
-short_line (refusals.Words words.OutOfMemory) = codes "homerange: out of memory\n"
-short_line (refusals.Words fault) = codes "homerange: the words of the command line are refused\n"
+short_line (refusals.CommandLine words.OutOfMemory) = codes "homerange: out of memory\n"
+short_line (refusals.CommandLine fault) = codes "homerange: the words of the command line are refused\n"
 short_line (refusals.Unopened path reason) = codes "homerange: a file cannot be opened, and there is no memory to say which\n"
 short_line (refusals.Unwritten reason) = codes "homerange: the help or the version could not be written\n"
 short_line (refusals.Run files fault reason) = short_run_line fault
@@ -93,7 +93,7 @@ IsTelling refusal old new = Appends old new (line_of (refusal_text refusal)) ⊎
 
 -- a fault of words that is no text of many lines
 abbrev pub IsOfOneLine : Refusal → Type 0
-IsOfOneLine (refusals.Words fault) = IsToldAlone fault
+IsOfOneLine (refusals.CommandLine fault) = IsToldAlone fault
 IsOfOneLine refusal = ⊤
 
 -- each refusal is one line, whatever the names of files and animals are

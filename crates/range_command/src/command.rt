@@ -11,25 +11,17 @@ use crate::opener::Opener;
 use crate::output::Output;
 use crate::reason::known_reason;
 use crate::refusal::Refusal;
-use range_pump::Gate;
+use range_pump::{FileSource, Gate, ThreadRuntime};
 use range_run::write_text;
 use range_words::{WordFault, read_words};
 use std::alloc::Global;
-use std::io::{Read, Write};
-use std::sync::Wait;
-use std::thread::Threads;
+use std::io::Write;
 
 /// Does what the words ask for, of which the first is the program's name and is not read: writes the help or the
 /// version, or the report of a run over the files that they name, or over the input where they name none. Nothing is
 /// written with a status other than 0 and 4.
 /// The gate hears of the messages on the lines, as `analyse` says.
-pub fn obey<
-    R: Wait + Threads + Sync + AllocGlobal,
-    O: Opener,
-    S: Read + Send + Drop,
-    W: Write,
-    G: Gate,
->(
+pub fn obey<R: ThreadRuntime + AllocGlobal, O: Opener, S: FileSource, W: Write, G: Gate>(
     rt: &R,
     opener: &O,
     words: &[String],
@@ -50,7 +42,7 @@ pub fn obey<
         Err(WordFault::Help(text)) => write_reply(alloc, text.as_str(), out),
         Err(WordFault::Version(text)) => write_reply(alloc, text.as_str(), out),
         Err(WordFault::BadWords(text)) => Err(bad_words(alloc, words, text.as_str())),
-        Err(fault) => Err(Refusal::Words(fault)),
+        Err(fault) => Err(Refusal::CommandLine(fault)),
     }
 }
 

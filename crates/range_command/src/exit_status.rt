@@ -13,30 +13,29 @@ use crate::command_line::command_words;
 use crate::opener::Opener;
 use crate::output::Output;
 use crate::refusal::Refusal;
-use range_pump::FreeGate;
+use range_pump::{FileSource, FreeGate, ThreadRuntime};
 use std::alloc::Global;
 use std::env::Env;
-use std::io::{Read, Write};
-use std::sync::Wait;
-use std::thread::Threads;
+use std::io::Write;
 
 /// Does what the words of the environment's command line ask for, as [`answer_to`] says, or refuses words that are
 /// not UTF-8.
-pub fn answer<
-    R: Wait + Threads + Sync + AllocGlobal,
-    E: Env,
-    O: Opener,
-    S: Read + Send + Drop,
-    W: Write,
-    X: Write,
->(rt: &R, environment: &E, opener: &O, input: S, out: &mut Output<W>, errors: &mut Output<X>) -> u8
+pub fn answer<R: ThreadRuntime + AllocGlobal, E: Env, O: Opener, S: FileSource, W: Write, X: Write>(
+    rt: &R,
+    environment: &E,
+    opener: &O,
+    input: S,
+    out: &mut Output<W>,
+    errors: &mut Output<X>,
+) -> u8
     ensures done { result ≡ 0 → (said : List Text)
         × IsObeyed said (world (S.remaining input) (O.finds opener.now))
         (W.contents out.old.writer) (W.contents out.new.writer) }
     ensures unwritten { result ≢ 0 → result ≢ 4 → out.new ≡ out.old }
     ensures quiet { result ≡ 0 → errors.new ≡ errors.old }
     ensures refused { result ≢ 0 → (refusal : Refusal) × (result ≡ refusal_status refusal)
-        × (IsOfSystem refusal ⊎ ((said : List Text) × IsTold said (world (S.remaining input) (O.finds opener.now)) refusal))
+        × (IsOfSystem refusal ⊎ ((said : List Text)
+        × IsTold said (world (S.remaining input) (O.finds opener.now)) refusal))
         × IsSaid out.new.failure refusal X.contents errors.old errors.new }
     ensures one_line { result ≢ 0 → SaysOneLine out.new.failure X.contents errors.old errors.new }
 {
@@ -50,20 +49,22 @@ pub fn answer<
 /// program ends: 0 after a report, the help or the version, and else that of the [`Refusal`]. Where it is refused,
 /// one line on `errors` says why, in one write where that is taken, unless the output is a pipe whose reader has
 /// gone: who closed it has seen enough of it.
-pub fn answer_to<
-    R: Wait + Threads + Sync + AllocGlobal,
-    O: Opener,
-    S: Read + Send + Drop,
-    W: Write,
-    X: Write,
->(rt: &R, opener: &O, words: &[String], input: S, out: &mut Output<W>, errors: &mut Output<X>) -> u8
+pub fn answer_to<R: ThreadRuntime + AllocGlobal, O: Opener, S: FileSource, W: Write, X: Write>(
+    rt: &R,
+    opener: &O,
+    words: &[String],
+    input: S,
+    out: &mut Output<W>,
+    errors: &mut Output<X>,
+) -> u8
     ensures done { result ≡ 0
         → IsObeyed (map string_bytes words.now) (world (S.remaining input) (O.finds opener.now))
         (W.contents out.old.writer) (W.contents out.new.writer) }
     ensures unwritten { result ≢ 0 → result ≢ 4 → out.new ≡ out.old }
     ensures quiet { result ≡ 0 → errors.new ≡ errors.old }
     ensures refused { result ≢ 0 → (refusal : Refusal) × (result ≡ refusal_status refusal)
-        × IsTold (map string_bytes words.now) (world (S.remaining input) (O.finds opener.now)) refusal
+        × IsTold (map string_bytes words.now)
+        (world (S.remaining input) (O.finds opener.now)) refusal
         × IsSaid out.new.failure refusal X.contents errors.old errors.new }
     ensures one_line { result ≢ 0 → SaysOneLine out.new.failure X.contents errors.old errors.new }
 {

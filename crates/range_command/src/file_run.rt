@@ -13,24 +13,23 @@ use crate::refusal::Refusal;
 use crate::source::Source;
 use range_analysis::AnalyseFault;
 use range_fixes::ReadFault;
-use range_pump::Gate;
+use range_pump::{FileSource, Gate, ThreadRuntime};
 use range_run::{RunFault, run_with_gate};
 use range_words::Words;
 use std::alloc::{AllocError, Global};
 use std::io;
-use std::io::{Read, Write};
-use std::sync::Wait;
+use std::io::Write;
 use std::sync::atomic::{AtomicI32, Ordering};
-use std::thread::Threads;
 
 /// Runs over the files of the words, or over the input where they name none, through a gate.
-pub(crate) fn run_over<
-    R: Wait + Threads + Sync + AllocGlobal,
-    O: Opener,
-    S: Read + Send + Drop,
-    W: Write,
-    G: Gate,
->(rt: &R, opener: &O, words: Words, input: S, gate: &G, out: &mut Output<W>) -> Result<(), Refusal>
+pub(crate) fn run_over<R: ThreadRuntime + AllocGlobal, O: Opener, S: FileSource, W: Write, G: Gate>(
+    rt: &R,
+    opener: &O,
+    words: Words,
+    input: S,
+    gate: &G,
+    out: &mut Output<W>,
+) -> Result<(), Refusal>
     requires files { vec_len words.files ≤ file_limit }
     ensures done { OnOk result
         (Reports words (world (S.remaining input) (O.finds opener.now))

@@ -22,7 +22,8 @@ pub(crate) fn open_all<'a, O: Opener>(
     errnos: &'a [AtomicI32],
 ) -> Result<Vec<Source<'a, O::File>>, Refusal>
     requires { length errnos.now ≡ length paths.now }
-    ensures files { IfOk result (λ sources. map (λ source. O.File.remaining source.source) sources.items
+    ensures files { IfOk result (λ sources.
+        map (λ source. O.File.remaining source.source) sources.items
         ≡ map (λ path. bytes_in (O.finds opener.now (string_bytes path))) paths.now) }
     ensures refusal { IfErr result (IsOfFiles (O.finds opener.now) paths.now) }
 {

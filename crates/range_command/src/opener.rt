@@ -4,10 +4,10 @@ ghost use Rattle.std.specs.Prelude.{IfErr, IfOk, List, None, Option, Result, ℕ
 ghost use Rattle.range_command.specs.Opening.{Found, IsNotOpened, IsOpened};
 
 use crate::reason::reason_of;
+use range_pump::FileSource;
 use std::alloc::{AllocError, Global};
 use std::fs::{File, OpenFile};
 use std::io;
-use std::io::Read;
 use std::rt::Files;
 
 // The number that Linux gives to an operation on a folder that only files have.
@@ -24,14 +24,15 @@ pub enum OpenFault {
 
 /// Where files are opened by their paths: by the system, or in a folder in memory.
 pub trait Opener {
-    type File: Read + Send + Drop;
+    type File: FileSource;
 
     /// What a path comes to, where that is known.
     ghost finds: { Self → List ℕ → Found } = { λ _ _. None };
 
     /// The file of this path, opened to be read.
     fn open(&self, alloc: Global, path: &str) -> Result<Self::File, OpenFault>
-        ensures opened { IfOk result (λ file. IsOpened (finds self.now path.now) (Self.File.remaining file)) }
+        ensures opened { IfOk result
+            (λ file. IsOpened (finds self.now path.now) (Self.File.remaining file)) }
         ensures refused { IfErr result (IsNotOpened (finds self.now path.now)) };
 }
 

@@ -84,7 +84,8 @@ impl<W: Write> Write for Output<W> {
 
     fn write(&mut self, buf: &[u8]) -> io::Result<usize>
         ensures bound { WritesAtMost result buf.now }
-        ensures bytes { WriteAppends (W.contents self.old.writer) (W.contents self.new.writer) result buf.now }
+        ensures bytes { WriteAppends (W.contents self.old.writer)
+            (W.contents self.new.writer) result buf.now }
         ensures failed { IfErr result (λ error. self.new.failure ≡ Some error) }
         ensures kept { OnOk result (self.new.failure ≡ self.old.failure) }
     {

@@ -22,7 +22,7 @@ pub enum Refusal {
         line: String,
     },
     /// The words are refused for another reason than this and a wish for help or the version.
-    Words(WordFault),
+    CommandLine(WordFault),
     /// A file cannot be opened to be read, for this reason.
     Unopened {
         path: String,
@@ -57,8 +57,8 @@ impl Refusal {
         ensures { result ≡ refusal_status self.now }
     {
         match self {
-            Refusal::OutOfMemory | Refusal::Words(WordFault::OutOfMemory) => 3,
-            Refusal::NotText { .. } | Refusal::BadWords { .. } | Refusal::Words(_) => 2,
+            Refusal::OutOfMemory | Refusal::CommandLine(WordFault::OutOfMemory) => 3,
+            Refusal::NotText { .. } | Refusal::BadWords { .. } | Refusal::CommandLine(_) => 2,
             Refusal::Unopened { .. } => 1,
             Refusal::Unwritten { .. } => 4,
             Refusal::Run { fault, .. } => fault.status(),

@@ -2,7 +2,7 @@
 
 ghost use Rattle.std.specs.Prelude.{◌≡◌, ◌++◌, Some, codes, false, true};
 ghost use Rattle.std.specs.Fmt.{WritesOnOk};
-ghost use Rattle.range_texts.specs.Seen.{shown};
+ghost use Rattle.range_texts.specs.Seen.{shown_text};
 ghost use Rattle.range_command.specs.Telling.{RefusalsAreOneLine, ShortLinesAreOneLine, files_text, name_of, output_text, refusal_text, report_text, short_files_line, short_line, short_run_line, unread_text};
 
 use crate::refusal::Refusal;
@@ -29,7 +29,7 @@ impl fmt::Display for Refusal {
                 write!(f, "word {word} of the command line is not UTF-8")
             }
             Refusal::BadWords { line } => write!(f, "{}", OneLine::plain(line.as_str())),
-            Refusal::Words(fault) => write!(f, "{fault}"),
+            Refusal::CommandLine(fault) => write!(f, "{fault}"),
             Refusal::Unopened { path, reason } => write_unopened(f, path.as_str(), reason.as_str()),
             Refusal::Unwritten { reason } => {
                 write_output(f, "the help or the version could not be written", reason)
@@ -52,8 +52,8 @@ impl Refusal {
             Refusal::OutOfMemory => OUT_OF_MEMORY,
             Refusal::NotText { .. } => "homerange: a word of the command line is not UTF-8\n",
             Refusal::BadWords { .. } => REFUSED_WORDS,
-            Refusal::Words(WordFault::OutOfMemory) => OUT_OF_MEMORY,
-            Refusal::Words(_) => REFUSED_WORDS,
+            Refusal::CommandLine(WordFault::OutOfMemory) => OUT_OF_MEMORY,
+            Refusal::CommandLine(_) => REFUSED_WORDS,
             Refusal::Unopened { .. } => {
                 "homerange: a file cannot be opened, and there is no memory to say which\n"
             }
@@ -101,7 +101,7 @@ fn short_files_line(fault: &AnalyseFault) -> &'static str
 // Why a file cannot be opened.
 fn write_unopened<W: fmt::Write>(f: &mut fmt::Formatter<W>, path: &str, reason: &str) -> fmt::Result
     ensures { WritesOnOk W.write_str_gives f.old result
-        (shown true path.now ++ (codes ": " ++ shown false reason.now)) f.new }
+        (shown_text true path.now ++ (codes ": " ++ shown_text false reason.now)) f.new }
 {
     write!(f, "{}: {}", OneLine::new(path), OneLine::plain(reason))
 }
@@ -184,7 +184,7 @@ fn write_unread<W: fmt::Write>(
 
 // What a source is called: a file by its path.
 fn source_name(files: &[String], file: u32) -> OneLine<'_>
-    ensures { shown result.doubles result.text.now ≡ name_of files.now file }
+    ensures { shown_text result.doubles result.text.now ≡ name_of files.now file }
 {
     match files.get(file as usize) {
         Some(path) => OneLine::new(path.as_str()),

@@ -11,5 +11,5 @@ pub record CheckedList : Type 0 where
   pub left : Option ℕ
   -- those that pass from here on, and what ends them, where the source tells its bytes
   pub ahead : Option PassedRecords
-  -- a read of the source or a growth failed, so no more records come
+  -- a read of the source or an allocation failed, so no more records come
   pub read_failed : Bool

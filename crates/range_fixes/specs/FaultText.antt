@@ -25,9 +25,9 @@ record_of (faults.BadUse rec) = Some rec
 record_of fault = None
 
 -- where the fault is
-abbrev pub place_text : Option ℕ → List ℕ
-place_text (Some rec) = codes "record " ++ (decimal rec ++ codes ": ")
-place_text None = []
+abbrev pub record_text : Option ℕ → List ℕ
+record_text (Some rec) = codes "record " ++ (decimal rec ++ codes ": ")
+record_text None = []
 
 -- the word for so many fields
 abbrev pub fields_word : ℕ → List ℕ
@@ -64,4 +64,4 @@ wrong_text (faults.BadUse rec) = codes "use is neither 0 nor 1"
 
 -- the text of a fault
 abbrev pub fault_text : ReadFault → List ℕ
-fault_text fault = place_text (record_of fault) ++ wrong_text fault
+fault_text fault = record_text (record_of fault) ++ wrong_text fault

@@ -18,7 +18,7 @@ pub record Progress : Type 0 where
   pub left : Option ℕ
   -- whether calls go on, or all answer alike
   pub stage : Stage
-  -- a read of the source or a growth under the records failed
+  -- a read of the source or an allocation under the records failed
   pub read_failed : Bool
   -- what calls give from here on, where the source tells its bytes
   pub ahead : Option Reading
@@ -42,7 +42,7 @@ is_stage_of_text Going = true
 is_stage_of_text Ended = true
 is_stage_of_text (Failed fault) = is_of_text fault
 
--- a fault in which the text has no part comes where a read or a growth under the records failed, or where no memory was found for the name of the first
+-- a fault in which the text has no part comes where a read or an allocation under the records failed, or where no memory was found for the name of the first
 abbrev pub HasCause : Option (List ℕ) → ReadFault → Bool → Type 0
 HasCause animal fault read_failed = is_of_text fault ≡ false → (read_failed ≡ true) ⊎ ((fault ≡ faults.OutOfMemory) × (animal ≡ None))
 

@@ -7,5 +7,5 @@ pub record RecordList : Type 0 where
   pub left : Option (List Record)
   -- the record that was read last
   pub current : Record
-  -- a read of the source or a growth failed, so no more records come
+  -- a read of the source or an allocation failed, so no more records come
   pub read_failed : Bool

@@ -2,7 +2,7 @@
 
 ghost use Rattle.std.specs.Prelude.{◌≡◌, ◌++◌, Some, codes};
 ghost use Rattle.std.specs.Fmt.{WritesOnOk};
-ghost use Rattle.range_fixes.specs.FaultText.{count_text, fault_text, field_name, fields_word, limit_text, place_text, record_of, wrong_text};
+ghost use Rattle.range_fixes.specs.FaultText.{count_text, fault_text, field_name, fields_word, limit_text, record_text, record_of, wrong_text};
 
 use crate::checks::NAME_LIMIT;
 use range_plane::{FIX_LIMIT, SECOND_LIMIT, Scale};
@@ -81,10 +81,10 @@ impl ReadFault {
 
 // The record that is at fault, with which a text begins, if one is.
 #[derive(Clone, Copy)]
-struct Place(Option<u32>);
+struct FaultyRecord(Option<u32>);
 
-impl fmt::Display for Place {
-    ghost output = { λ place. Some (place_text place.0) };
+impl fmt::Display for FaultyRecord {
+    ghost output = { λ faulty. Some (record_text faulty.0) };
 
     fn fmt<W: fmt::Write>(&self, f: &mut fmt::Formatter<W>) -> fmt::Result {
         match self.0 {
@@ -134,7 +134,7 @@ fn write_limit<W: fmt::Write>(f: &mut fmt::Formatter<W>, field: u32, unit: Scale
     write!(f, "{name} is past its limit of {limit} {unit}")
 }
 
-// What is wrong, without the place.
+// What is wrong, without the record.
 #[derive(Clone, Copy)]
 struct Wrong(ReadFault);
 
@@ -177,7 +177,7 @@ impl fmt::Display for ReadFault {
     ghost output = { λ fault. Some (fault_text fault) };
 
     fn fmt<W: fmt::Write>(&self, f: &mut fmt::Formatter<W>) -> fmt::Result {
-        write!(f, "{}{}", Place(self.record()), Wrong(*self))
+        write!(f, "{}{}", FaultyRecord(self.record()), Wrong(*self))
     }
 }
 

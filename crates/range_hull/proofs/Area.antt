@@ -11,7 +11,7 @@ use Rattle.range_plane.specs.Plane.{Position, origin, turn}
 use Rattle.range_plane.specs.Polygon.{area2, shoelace}
 use Rattle.range_lemmas.proofs.Integers.{linear}
 use Rattle.range_lemmas.proofs.Ring.{Expr, var, num, ◌⊕◌, ◌⊖◌, ◌⊗◌, ring}
-use Rattle.range_pieces.specs.Pieces.{replaced}
+use Rattle.range_pieces.specs.Pieces.{exchange}
 use Rattle.range_hull.specs.declared.side.Side.{Side}
 use Rattle.range_hull.specs.declared.side.Side.TheVariants.{Lower, Upper}
 use Rattle.range_hull.specs.Area.{wedge, path, with_sign, sweep_of, sweep_before, sweep_after, open_edge}
@@ -150,7 +150,7 @@ pub record Grows (side : Side) (L : List Position) (p : Position) (from index to
   pub none_after : index ≡ length L → d ≡ c
 
 grown_between : (side : Side) (L : List Position) (p : Position) (from index to : ℕ) (a b c d : ℤ) → ReplacesRun side L p from index to
-    → Grows side L p from index to a b c d → 0 < index → index < length L → d +ℤ sweep_of side L ≡ a +ℤ sweep_of side (replaced L p from to)
+    → Grows side L p from index to a b c d → 0 < index → index < length L → d +ℤ sweep_of side L ≡ a +ℤ sweep_of side (exchange L p from to)
 grown_between Lower L p from index to a b c d t g h k =
     omega (
       arith,
@@ -178,7 +178,7 @@ grown_between Upper L p from index to a b c d t g h k =
 
 grown_first : (side : Side) (L : List Position) (p : Position) (from index to : ℕ) (a b c d : ℤ) → ReplacesRun side L p from index to
     → Grows side L p from index to a b c d → index ≡ 0 → 0 < length L
-    → d +ℤ sweep_of side L +ℤ with_sign side (wedge p (at L 0)) ≡ a +ℤ sweep_of side (replaced L p from to)
+    → d +ℤ sweep_of side L +ℤ with_sign side (wedge p (at L 0)) ≡ a +ℤ sweep_of side (exchange L p from to)
 grown_first Lower L p from index to a b c d t g z k =
     let f : from ≡ 0 = omega (arith, t.low, z) in
     omega (
@@ -204,7 +204,7 @@ grown_first Upper L p from index to a b c d t g z k =
       ap (λ (n : ℕ). wedge p (at L n) +ℤ path (drop n L)) z,
     )
 
-grown_empty : (side : Side) (p : Position) (from to : ℕ) → sweep_of side [] ≡ sweep_of side (replaced [] p from to)
+grown_empty : (side : Side) (p : Position) (from to : ℕ) → sweep_of side [] ≡ sweep_of side (exchange [] p from to)
 grown_empty Lower p from to = omega (
   arith,
   linear,
@@ -220,7 +220,7 @@ grown_empty Upper p from to = omega (
 
 grown_last : (side : Side) (L : List Position) (p : Position) (from index to : ℕ) (a b c d : ℤ) → ReplacesRun side L p from index to
     → Grows side L p from index to a b c d → 0 < index → index ≡ length L
-    → d +ℤ sweep_of side L +ℤ with_sign side (wedge (at L (length L - 1)) p) ≡ a +ℤ sweep_of side (replaced L p from to)
+    → d +ℤ sweep_of side L +ℤ with_sign side (wedge (at L (length L - 1)) p) ≡ a +ℤ sweep_of side (exchange L p from to)
 grown_last Lower L p from index to a b c d t g h e =
     omega (
       arith,
@@ -255,19 +255,19 @@ grown_so x y side e f h g = ap (λ (z : ℤ). x +ℤ with_sign side z) h ∙ g
 
 grown_from : (side : Side) (L : List Position) (p : Position) (from index to : ℕ) (a b c d : ℤ) → ReplacesRun side L p from index to
     → Grows side L p from index to a b c d → 0 < length L → d +ℤ sweep_of side L +ℤ with_sign side (open_edge (at L 0) (at L (length L - 1)) p) ≡ a +ℤ sweep_of side
-    (replaced L p from to)
+    (exchange L p from to)
 grown_from side L p from index to a b c d t g k =
     elim (cases_lt 0 index) [
-      | inr z ↦ grown_so (d +ℤ sweep_of side L) (a +ℤ sweep_of side (replaced L p from to)) side _ _ (edge_first (at L 0) (at L (length L - 1)) p (t.after 0 z k))
+      | inr z ↦ grown_so (d +ℤ sweep_of side L) (a +ℤ sweep_of side (exchange L p from to)) side _ _ (edge_first (at L 0) (at L (length L - 1)) p (t.after 0 z k))
           (grown_first side L p from index to a b c d t g (omega (arith, z)) k)
       | inl s ↦ elim (cases_lt index (length L)) [
-        | inl l ↦ grown_so (d +ℤ sweep_of side L) (a +ℤ sweep_of side (replaced L p from to)) side _ _
+        | inl l ↦ grown_so (d +ℤ sweep_of side L) (a +ℤ sweep_of side (exchange L p from to)) side _ _
             (edge_none (at L 0) (at L (length L - 1)) p (let u : rank (at L 0) <ℤ rank p = t.before 0 s in omega (arith, linear))
             (let u : rank p <ℤ rank (at L (length L - 1)) = t.after (length L - 1) (omega (arith, l)) (omega arith) in omega (arith, linear)))
             (omega (arith, linear, with_sign_naught side, grown_between side L p from index to a b c d t g s l))
         | inr m ↦
             let e : index ≡ length L = omega (arith, m, t.high, t.within) in
-            grown_so (d +ℤ sweep_of side L) (a +ℤ sweep_of side (replaced L p from to)) side _ _
+            grown_so (d +ℤ sweep_of side L) (a +ℤ sweep_of side (exchange L p from to)) side _ _
             (edge_last (at L 0) (at L (length L - 1)) p (let u : rank (at L 0) <ℤ rank p = t.before 0 s in omega (arith, linear))
             (t.before (length L - 1) (omega (arith, e, k))))
             (grown_last side L p from index to a b c d t g s e)
@@ -277,10 +277,10 @@ grown_from side L p from index to a b c d t g k =
 -- with p in place of a run the sweep gains what the area gained on the way, and the open edge to p where p is a new end
 pub grown : (side : Side) (L : List Position) (p : Position) (from index to : ℕ) (a b c d : ℤ) → ReplacesRun side L p from index to
     → Grows side L p from index to a b c d → d +ℤ sweep_of side L +ℤ with_sign side (open_edge (at L 0) (at L (length L - 1)) p) ≡ a +ℤ sweep_of side
-    (replaced L p from to)
+    (exchange L p from to)
 grown side [] p from index to a b c d t g =
     let z : index ≡ 0 = omega (arith, t.high, t.within) in
-    grown_so (d +ℤ sweep_of side []) (a +ℤ sweep_of side (replaced [] p from to)) side _ _ (edge_origin p)
+    grown_so (d +ℤ sweep_of side []) (a +ℤ sweep_of side (exchange [] p from to)) side _ _ (edge_origin p)
     (omega (arith, linear, with_sign_naught side, grown_empty side p from to, g.at_first z, g.none_before z, g.none_after z))
 grown side (x ∷ L) p from index to a b c d t g = grown_from side (x ∷ L) p from index to a b c d t g (omega arith)
 

@@ -10,7 +10,7 @@ use Rattle.range_plane.specs.Plane.{Position, IsAtMost, IsWithinLimits, origin}
 use Rattle.range_lemmas.proofs.Integers.{linear}
 use Rattle.range_lemmas.proofs.Numbered.{by_one_number}
 use Rattle.range_lemmas.proofs.Indices.{replaced_length}
-use Rattle.range_pieces.specs.Pieces.{replaced}
+use Rattle.range_pieces.specs.Pieces.{exchange}
 use Rattle.range_pieces.specs.PointList.{IsRising}
 use Rattle.range_hull.specs.declared.side.Side.{Side}
 use Rattle.range_hull.specs.Chain.{bend, IsChain, LiesWithin, on_corner, on_chord, BeginsAs, EndsAs, Extends}
@@ -32,17 +32,17 @@ pub record ReplacesRun (side : Side) (L : List Position) (p : Position) (from in
   pub bends_after : to + 1 < length L → pos 0 <ℤ bend side p (at L to) (at L (to + 1))
   pub dents_after : index < to → bend side p (at L (to - 1)) (at L to) ≤ℤ pos 0
 
-pub at_left : (L : List Position) (p : Position) (from to m : ℕ) → from ≤ to → to ≤ length L → m < from → at (replaced L p from to) m ≡ at L m
+pub at_left : (L : List Position) (p : Position) (from to m : ℕ) → from ≤ to → to ≤ length L → m < from → at (exchange L p from to) m ≡ at L m
 at_left L p from to m h k lt =
     get_or_append_left (take from L) (p ∷ drop to L) origin m (omega (arith, length-take-le from L (omega arith))) ∙ get_or-take from L m origin lt
 
-pub at_here : (L : List Position) (p : Position) (from to : ℕ) → from ≤ to → to ≤ length L → at (replaced L p from to) from ≡ p
+pub at_here : (L : List Position) (p : Position) (from to : ℕ) → from ≤ to → to ≤ length L → at (exchange L p from to) from ≡ p
 at_here L p from to h k =
     get_or-append_right (take from L) (p ∷ drop to L) from from origin (length-take-le from L (omega arith)) (omega arith)
     ∙ ap (λ (x : ℕ). get_or (p ∷ drop to L) x origin) (let e : from - from ≡ 0 = omega arith in e)
 
 pub at_right : (L : List Position) (p : Position) (from to m x : ℕ) → from ≤ to → to ≤ length L → m + to ≡ x + from + 1 → to ≤ x
-    → at (replaced L p from to) m ≡ at L x
+    → at (exchange L p from to) m ≡ at L x
 at_right L p from to m x h k e le =
     get_or-append_right (take from L) (p ∷ drop to L) from m origin (length-take-le from L (omega arith)) (omega arith)
     ∙ ap (λ (y : ℕ). get_or (p ∷ drop to L) y origin) (let f : m - from ≡ suc (x - to) = omega arith in f)
@@ -116,16 +116,16 @@ outside_chord {side} {L} {p} {from} {index} {to} c t i j h g k =
 -- ---- the new chain
 -- what stands at index m of the new chain: p, or the corner x of the old one
 data Spot (L : List Position) (p : Position) (from to m : ℕ) : Type 0 where
-  new : m ≡ from → at (replaced L p from to) m ≡ p → Spot L p from to m
-  left : m < from → at (replaced L p from to) m ≡ at L m → Spot L p from to m
-  right : (x : ℕ) → from < m → to ≤ x → x < length L → m + to ≡ x + from + 1 → at (replaced L p from to) m ≡ at L x → Spot L p from to m
+  new : m ≡ from → at (exchange L p from to) m ≡ p → Spot L p from to m
+  left : m < from → at (exchange L p from to) m ≡ at L m → Spot L p from to m
+  right : (x : ℕ) → from < m → to ≤ x → x < length L → m + to ≡ x + from + 1 → at (exchange L p from to) m ≡ at L x → Spot L p from to m
 
-spot : (L : List Position) (p : Position) (from to m : ℕ) → from ≤ to → to ≤ length L → m < length (replaced L p from to) → Spot L p from to m
+spot : (L : List Position) (p : Position) (from to m : ℕ) → from ≤ to → to ≤ length L → m < length (exchange L p from to) → Spot L p from to m
 spot L p from to m h k lt =
     elim (cases_lt m from) [
       | inl l ↦ left l (at_left L p from to m h k l)
       | inr g ↦ elim (eq-or-lt_of_le g) [
-        | inl e ↦ new (sym e) (ap (at (replaced L p from to)) (sym e) ∙ at_here L p from to h k)
+        | inl e ↦ new (sym e) (ap (at (exchange L p from to)) (sym e) ∙ at_here L p from to h k)
         | inr r ↦
             let n = replaced_length L p from to h k in
             let x : ℕ = m + to - from - 1 in
@@ -143,10 +143,10 @@ turns_so P a b c x y z e f g h =
     subst (λ (u : Position). P u b c) (sym e) (subst (λ (v : Position). P x v c) (sym f) (subst (λ (w : Position). P x y w) (sym g) h))
 
 replaced_rising : {side : Side} {L : List Position} {p : Position} {from index to : ℕ} → IsChain side L → ReplacesRun side L p from index to → (i j : ℕ) → i < j
-    → j < length (replaced L p from to) → rank (at (replaced L p from to) i) <ℤ rank (at (replaced L p from to) j)
+    → j < length (exchange L p from to) → rank (at (exchange L p from to) i) <ℤ rank (at (exchange L p from to) j)
 replaced_rising {side} {L} {p} {from} {index} {to} c t i j h k =
     let fits : from ≤ to = omega (arith, t.low, t.high) in
-    let M = replaced L p from to in
+    let M = exchange L p from to in
     let P : Position → Position → Type 0 = λ x y. rank x <ℤ rank y in
     elim (spot L p from to i fits t.within (omega arith)) [
       | new e f ↦ elim (spot L p from to j fits t.within k) [
@@ -167,10 +167,10 @@ replaced_rising {side} {L} {p} {from} {index} {to} c t i j h k =
     ]
 
 replaced_convex : {side : Side} {L : List Position} {p : Position} {from index to : ℕ} → IsChain side L → ReplacesRun side L p from index to → (i j k : ℕ) → i < j
-    → j < k → k < length (replaced L p from to) → pos 0 <ℤ bend side (at (replaced L p from to) i) (at (replaced L p from to) j) (at (replaced L p from to) k)
+    → j < k → k < length (exchange L p from to) → pos 0 <ℤ bend side (at (exchange L p from to) i) (at (exchange L p from to) j) (at (exchange L p from to) k)
 replaced_convex {side} {L} {p} {from} {index} {to} c t i j k ij jk h =
     let fits : from ≤ to = omega (arith, t.low, t.high) in
-    let M = replaced L p from to in
+    let M = exchange L p from to in
     let P : Position → Position → Position → Type 0 = λ x y z. pos 0 <ℤ bend side x y z in
     elim (spot L p from to i fits t.within (omega arith)) [
       | new e1 f1 ↦ elim (spot L p from to j fits t.within (omega arith)) [
@@ -227,7 +227,7 @@ replaced_convex {side} {L} {p} {from} {index} {to} c t i j k ij jk h =
     ]
 
 replaced_is_chain : {side : Side} {L : List Position} {p : Position} {from index to : ℕ} → IsChain side L → ReplacesRun side L p from index to
-    → IsChain side (replaced L p from to)
+    → IsChain side (exchange L p from to)
 replaced_is_chain c t = record { rising = replaced_rising c t; convex = replaced_convex c t }
 
 -- ---- no corner lies outside of the two new edges
@@ -275,13 +275,13 @@ past_right {side} {L} {p} {from} {index} {to} c t m s k =
 
 -- ---- all that was within the chain is within the new one
 kept_corner_left : {side : Side} {L : List Position} {p : Position} {from index to : ℕ} → ReplacesRun side L p from index to → (q : Position) (i : ℕ) → i < from
-    → q ≡ at L i → LiesWithin side (replaced L p from to) q
+    → q ≡ at L i → LiesWithin side (exchange L p from to) q
 kept_corner_left {side} {L} {p} {from} {index} {to} t q i h e =
     let fits : from ≤ to = omega (arith, t.low, t.high) in
     on_corner i (omega (arith, replaced_length L p from to fits t.within, t.within)) (e ∙ sym (at_left L p from to i fits t.within h))
 
 kept_corner_right : {side : Side} {L : List Position} {p : Position} {from index to : ℕ} → ReplacesRun side L p from index to → (q : Position) (i : ℕ) → to ≤ i
-    → i < length L → q ≡ at L i → LiesWithin side (replaced L p from to) q
+    → i < length L → q ≡ at L i → LiesWithin side (exchange L p from to) q
 kept_corner_right {side} {L} {p} {from} {index} {to} t q i h k e =
     let fits : from ≤ to = omega (arith, t.low, t.high) in
     on_corner (i + from + 1 - to) (omega (arith, replaced_length L p from to fits t.within))
@@ -296,29 +296,29 @@ chord {side} M q a b i j e f ij k aq qb h =
 
 -- q between the corner before p and p
 in_left : {side : Side} {L : List Position} {p : Position} {from index to : ℕ} → IsChain side L → ReplacesRun side L p from index to → (q : Position) → 0 < from
-    → rank (at L (from - 1)) ≤ℤ rank q → rank q ≤ℤ rank p → pos 0 ≤ℤ bend side (at L (from - 1)) p q → LiesWithin side (replaced L p from to) q
+    → rank (at L (from - 1)) ≤ℤ rank q → rank q ≤ℤ rank p → pos 0 ≤ℤ bend side (at L (from - 1)) p q → LiesWithin side (exchange L p from to) q
 in_left {side} {L} {p} {from} {index} {to} c t q s wq qp h =
     let fits : from ≤ to = omega (arith, t.low, t.high) in
-    chord (replaced L p from to) q (at L (from - 1)) p (from - 1) from (at_left L p from to (from - 1) fits t.within (omega arith))
+    chord (exchange L p from to) q (at L (from - 1)) p (from - 1) from (at_left L p from to (from - 1) fits t.within (omega arith))
     (at_here L p from to fits t.within) (omega arith) (omega (arith, replaced_length L p from to fits t.within, t.within)) wq qp h
 
 in_right : {side : Side} {L : List Position} {p : Position} {from index to : ℕ} → IsChain side L → ReplacesRun side L p from index to → (q : Position)
-    → to < length L → rank p ≤ℤ rank q → rank q ≤ℤ rank (at L to) → pos 0 ≤ℤ bend side p (at L to) q → LiesWithin side (replaced L p from to) q
+    → to < length L → rank p ≤ℤ rank q → rank q ≤ℤ rank (at L to) → pos 0 ≤ℤ bend side p (at L to) q → LiesWithin side (exchange L p from to) q
 in_right {side} {L} {p} {from} {index} {to} c t q s pq qz h =
     let fits : from ≤ to = omega (arith, t.low, t.high) in
-    chord (replaced L p from to) q p (at L to) from (from + 1) (at_here L p from to fits t.within)
+    chord (exchange L p from to) q p (at L to) from (from + 1) (at_here L p from to fits t.within)
     (at_right L p from to (from + 1) to fits t.within (omega arith) (omega arith)) (omega arith)
     (omega (arith, replaced_length L p from to fits t.within)) pq qz h
 
 -- a corner, kept or not
 corner_stays : {side : Side} {L : List Position} {p : Position} {from index to : ℕ} → IsChain side L → ReplacesRun side L p from index to → (q : Position) (i : ℕ)
-    → i < length L → q ≡ at L i → LiesWithin side (replaced L p from to) q
+    → i < length L → q ≡ at L i → LiesWithin side (exchange L p from to) q
 corner_stays {side} {L} {p} {from} {index} {to} c t q i k e =
     elim (cases_lt i from) [
       | inl l ↦ kept_corner_left t q i l e
       | inr g ↦ elim (cases_lt i to) [
         | inr ge ↦ kept_corner_right t q i ge k e
-        | inl l ↦ subst (λ (x : Position). LiesWithin side (replaced L p from to) x) (sym e) (elim (cases_lt i index) [
+        | inl l ↦ subst (λ (x : Position). LiesWithin side (exchange L p from to) x) (sym e) (elim (cases_lt i index) [
           | inl b ↦ in_left c t (at L i) (t.starts (omega (arith, b)))
               (let s : 0 < from = t.starts (omega (arith, b)) in let u : rank (at L (from - 1)) <ℤ rank (at L i) = c.rising (from - 1) i (omega (arith, g)) k in
               omega (arith, linear)) (let u : rank (at L i) <ℤ rank p = t.before i b in omega (arith, linear)) (past_left c t i (t.starts (omega (arith, b))) k)
@@ -344,10 +344,10 @@ stands_before {side} {L} c i j k lt =
 chord_stays_left : {side : Side} {L : List Position} {p : Position} {from index to : ℕ} → IsChain side L → ReplacesRun side L p from index to
     → (q : Position) (i j : ℕ)
     → i < j → j < length L → rank (at L i) ≤ℤ rank q → rank q ≤ℤ rank (at L j) → pos 0 ≤ℤ bend side (at L i) (at L j) q → 0 < from
-    → rank q <ℤ rank (at L (from - 1)) → LiesWithin side (replaced L p from to) q
+    → rank q <ℤ rank (at L (from - 1)) → LiesWithin side (exchange L p from to) q
 chord_stays_left {side} {L} {p} {from} {index} {to} c t q i j ij k iq qj h s qw =
     let fits : from ≤ to = omega (arith, t.low, t.high) in
-    let M = replaced L p from to in
+    let M = exchange L p from to in
     let n = replaced_length L p from to fits t.within in
     let iw : i < from - 1 = stands_before c i (from - 1) (omega arith) (omega (arith, linear)) in
     elim (cases_lt j from) [
@@ -362,10 +362,10 @@ chord_stays_left {side} {L} {p} {from} {index} {to} c t q i j ij k iq qj h s qw 
 chord_stays_right : {side : Side} {L : List Position} {p : Position} {from index to : ℕ} → IsChain side L → ReplacesRun side L p from index to
     → (q : Position) (i j : ℕ)
     → i < j → j < length L → rank (at L i) ≤ℤ rank q → rank q ≤ℤ rank (at L j) → pos 0 ≤ℤ bend side (at L i) (at L j) q → to < length L
-    → rank (at L to) <ℤ rank q → LiesWithin side (replaced L p from to) q
+    → rank (at L to) <ℤ rank q → LiesWithin side (exchange L p from to) q
 chord_stays_right {side} {L} {p} {from} {index} {to} c t q i j ij k iq qj h s zq =
     let fits : from ≤ to = omega (arith, t.low, t.high) in
-    let M = replaced L p from to in
+    let M = exchange L p from to in
     let n = replaced_length L p from to fits t.within in
     let zj : to < j = stands_before c to j s (omega (arith, linear)) in
     let ej = at_right L p from to (j + from + 1 - to) j fits t.within (omega arith) (omega arith) in
@@ -379,7 +379,7 @@ chord_stays_right {side} {L} {p} {from} {index} {to} c t q i j ij k iq qj h s zq
 
 chord_stays : {side : Side} {L : List Position} {p : Position} {from index to : ℕ} → IsChain side L → ReplacesRun side L p from index to → (q : Position) (i j : ℕ)
     → i < j → j < length L → rank (at L i) ≤ℤ rank q → rank q ≤ℤ rank (at L j) → pos 0 ≤ℤ bend side (at L i) (at L j) q
-    → LiesWithin side (replaced L p from to) q
+    → LiesWithin side (exchange L p from to) q
 chord_stays {side} {L} {p} {from} {index} {to} c t q i j ij k iq qj h =
     by_lt_z (rank q) (rank p)
     (λ qp. elim (cases_lt 0 from) [
@@ -402,11 +402,11 @@ chord_stays {side} {L} {p} {from} {index} {to} c t q i j ij k iq qj h =
     ])
 
 stays_within : {side : Side} {L : List Position} {p : Position} {from index to : ℕ} → IsChain side L → ReplacesRun side L p from index to → (q : Position)
-    → LiesWithin side L q → LiesWithin side (replaced L p from to) q
+    → LiesWithin side L q → LiesWithin side (exchange L p from to) q
 stays_within c t q (on_corner i k e) = corner_stays c t q i k e
 stays_within c t q (on_chord i j ij k iq qj h) = chord_stays c t q i j ij k iq qj h
 
-new_within : {side : Side} {L : List Position} {p : Position} {from index to : ℕ} → ReplacesRun side L p from index to → LiesWithin side (replaced L p from to) p
+new_within : {side : Side} {L : List Position} {p : Position} {from index to : ℕ} → ReplacesRun side L p from index to → LiesWithin side (exchange L p from to) p
 new_within {side} {L} {p} {from} {index} {to} t =
     let fits : from ≤ to = omega (arith, t.low, t.high) in
     on_corner from (omega (arith, replaced_length L p from to fits t.within)) (sym (at_here L p from to fits t.within))
@@ -453,7 +453,7 @@ last_kept : {side : Side} {L : List Position} → IsChain side L → (p : Positi
 last_kept c p h = let b = within_between c p h in inr (refl, b.some, b.last)
 
 first_replaced : {side : Side} {L : List Position} {p : Position} {from index to : ℕ} → IsChain side L → ReplacesRun side L p from index to
-    → BeginsAs L p (replaced L p from to)
+    → BeginsAs L p (exchange L p from to)
 first_replaced {side} {L} {p} {from} {index} {to} c t =
     let fits : from ≤ to = omega (arith, t.low, t.high) in
     elim (cases_lt 0 from) [
@@ -463,7 +463,7 @@ first_replaced {side} {L} {p} {from} {index} {to} c t =
         (let u : rank (at L 0) <ℤ rank p = t.before 0 (omega (arith, l, t.low)) in omega (arith, linear)),
       )
       | inr g ↦ inl (
-        ap (at (replaced L p from to)) (let e : 0 ≡ from = omega (arith, g) in e)
+        ap (at (exchange L p from to)) (let e : 0 ≡ from = omega (arith, g) in e)
             ∙ at_here L p from to fits t.within,
         λ s. elim (cases_lt 0 index) [
           | inl b ↦ absurd (omega (arith, t.starts b, g))
@@ -473,13 +473,13 @@ first_replaced {side} {L} {p} {from} {index} {to} c t =
     ]
 
 last_replaced : {side : Side} {L : List Position} {p : Position} {from index to : ℕ} → IsChain side L → ReplacesRun side L p from index to
-    → EndsAs L p (replaced L p from to)
+    → EndsAs L p (exchange L p from to)
 last_replaced {side} {L} {p} {from} {index} {to} c t =
     let fits : from ≤ to = omega (arith, t.low, t.high) in
     let n = replaced_length L p from to fits t.within in
     elim (cases_lt to (length L)) [
       | inl l ↦ inr (
-        at_right L p from to (length (replaced L p from to) - 1) (length L - 1) fits t.within (omega (arith, l)) (omega (arith, l)),
+        at_right L p from to (length (exchange L p from to) - 1) (length L - 1) fits t.within (omega (arith, l)) (omega (arith, l)),
         omega (arith, l),
         (let u : rank p <ℤ rank (at L (length L - 1)) =
             elim (cases_lt (length L - 1) index) [
@@ -488,7 +488,7 @@ last_replaced {side} {L} {p} {from} {index} {to} c t =
             ] in omega (arith, linear)),
       )
       | inr g ↦ inl (
-        ap (at (replaced L p from to)) (let e : length (replaced L p from to) - 1 ≡ from = omega (arith, g, t.within) in e)
+        ap (at (exchange L p from to)) (let e : length (exchange L p from to) - 1 ≡ from = omega (arith, g, t.within) in e)
             ∙ at_here L p from to fits t.within,
         λ s. elim (cases_lt index (length L)) [
           | inl b ↦ absurd (omega (arith, t.stops b, g))
@@ -501,10 +501,10 @@ last_replaced {side} {L} {p} {from} {index} {to} c t =
 pub contains_at : (L : List Position) (q : Position) (x : ℕ) → x < length L → q ≡ at L x → Contains L q
 contains_at L q x k e = (x, k, sym (e ∙ get_or_default L x origin q k))
 
-members_replaced : (L : List Position) (p : Position) (from to : ℕ) → from ≤ to → to ≤ length L → (q : Position) → Contains (replaced L p from to) q → (q ≡ p)
+members_replaced : (L : List Position) (p : Position) (from to : ℕ) → from ≤ to → to ≤ length L → (q : Position) → Contains (exchange L p from to) q → (q ≡ p)
     ⊎ Contains L q
 members_replaced L p from to h k q m =
-    let e : q ≡ at (replaced L p from to) (m.0) = sym m.2 ∙ get_or_default (replaced L p from to) (m.0) q origin m.1 in
+    let e : q ≡ at (exchange L p from to) (m.0) = sym m.2 ∙ get_or_default (exchange L p from to) (m.0) q origin m.1 in
     elim (spot L p from to (m.0) h k m.1) [
       | new f g ↦ inl (e ∙ g)
       | left l g ↦ inr (contains_at L q (m.0) (omega (arith, l, h, k)) (e ∙ g))
@@ -518,7 +518,7 @@ within_extends c p h = record { chain = c; keeps = λ q w. w; takes = h; members
 
 -- p takes the place of the corners that it covers
 pub replaced_extends : {side : Side} {L : List Position} {p : Position} {from index to : ℕ} → IsChain side L → ReplacesRun side L p from index to
-    → Extends side L p (replaced L p from to)
+    → Extends side L p (exchange L p from to)
 replaced_extends {side} {L} {p} {from} {index} {to} c t = record {
   chain = replaced_is_chain c t;
   keeps = stays_within c t;

@@ -6,7 +6,7 @@ use Rattle.std.proofs.lemmas.List.{take_more}
 use Rattle.std.proofs.lemmas.List.Elements.{Contains-append_cases}
 use lib.Lanes.{zip2}
 use Rattle.range_plane.specs.Covering.{is_covered}
-use Rattle.range_plane.specs.Laws.{BoxesHoldWhatIsCovered, CoveredIsDecided}
+use Rattle.range_plane.proofs.ForCallers.{boxes_hold_what_is_covered, covered_is_decided}
 use Rattle.range_lanes.specs.Lanes.{is_in_box, is_not_negative}
 use Rattle.range_lanes.proofs.Counting.{count_signs, none_pass}
 use Rattle.range_lanes.proofs.Turning.{both_signs, map_same, signs_of_map, signs_of_negated}
@@ -103,15 +103,14 @@ box_signs low high vs w s e n e' n' m m' z hw hs he hn he' hn' hm hm' hz =
     )) vs
 
 -- what corners cover lies in their box, as tests
-covered_passes : CoveredIsDecided → BoxesHoldWhatIsCovered → (L : List Position) (low high q : Position) → AreInBox low high L
-    → is_covered L q ≡ true → is_in_box low high q ≡ true
-covered_passes decided boxes L low high q inside covered =
-    let h = boxes L low high q inside ((decided L q).0 covered) in
+covered_passes : (L : List Position) (low high q : Position) → AreInBox low high L → is_covered L q ≡ true → is_in_box low high q ≡ true
+covered_passes L low high q inside covered =
+    let h = boxes_hold_what_is_covered L low high q inside ((covered_is_decided L q).0 covered) in
     grind (arith, ints, h.west, h.south, h.east, h.north)
 
 -- where all of a group lie out of the corners' box, the corners cover none of it
-pub none_covered : CoveredIsDecided → BoxesHoldWhatIsCovered → (L : List Position) (low high : Position) (vs : List Position) (zs : List ℤ)
-    → AreInBox low high L → map is_not_negative zs ≡ map (is_in_box low high) vs → count_by is_not_negative zs ≡ 0 → 0 ≡ count_by (is_covered L) vs
-none_covered decided boxes L low high vs zs inside signs none =
-    sym (none_pass (is_in_box low high) (is_covered L) (λ q. covered_passes decided boxes L low high q inside) vs
+pub none_covered : (L : List Position) (low high : Position) (vs : List Position) (zs : List ℤ) → AreInBox low high L
+    → map is_not_negative zs ≡ map (is_in_box low high) vs → count_by is_not_negative zs ≡ 0 → 0 ≡ count_by (is_covered L) vs
+none_covered L low high vs zs inside signs none =
+    sym (none_pass (is_in_box low high) (is_covered L) (λ q. covered_passes L low high q inside) vs
     (sym (count_signs (is_in_box low high) vs zs signs) ∙ none))

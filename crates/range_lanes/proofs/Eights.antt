@@ -1,7 +1,6 @@
 -- Groups of eight points.
 use Rattle.std.proofs.Common.{◌≡◌, ℕ, ◌+◌, ◌%◌, ℤ, pos, ◌-ℤ◌, Bool, cond, List, [], ◌∷◌, length, map, replicate, take, drop, count_by, fold, refl, ap, ◌∙◌, sym}
-use Rattle.std.proofs.Math.Nat.{suc_inj}
-use Rattle.std.proofs.Common.{zero, suc, true, ◌<◌, ◌++◌, Some, get_or, slice_get, arith, length-drop, FitsSigned, to_z, of_z, w64}
+use Rattle.std.proofs.Common.{◌<◌, ◌++◌, Some, get_or, slice_get, arith, length-drop, FitsSigned, to_z, of_z, w64}
 use lib.Lanes.{zip2, chunk, Each1, mask_l, top}
 use lib.Count.{ones}
 use lib.Signed.{le_z}
@@ -82,10 +81,3 @@ pub group_more : {A : Type 0} (f : Position → A) (ps : List Position) (at i : 
 group_more f ps at i p within here =
     let read : get_or (drop at ps) i p ≡ p = get_or-drop at ps i p ∙ get_or_from_slice_get ps (at + i) p p here in
     map_more f (drop at ps) i p (omega (arith, length-drop at ps, within)) ∙ ap (λ q. map f (chunk at i ps) ++ f q ∷ []) read
-
--- numbers 0, as one of each point
-pub naught_signs : (ps : List Position) (n : ℕ) → length ps ≡ n → map is_not_negative (replicate n (pos 0)) ≡ map (λ p. true) ps
-naught_signs [] zero h = refl
-naught_signs [] (suc n) h = cc
-naught_signs (p ∷ ps) zero h = cc
-naught_signs (p ∷ ps) (suc n) h = ap (λ l. true ∷ l) (naught_signs ps n (suc_inj h))

@@ -8,10 +8,10 @@ use Rattle.std.proofs.lemmas.Bool.Decides.{Decides-and, Decides-like, same_from_
 use Rattle.range_plane.specs.Covering.{IsLeftOfEdges, is_covered, is_on_segment}
 use Rattle.range_plane.specs.Covering.Covers.{by_segment}
 use Rattle.range_plane.specs.Edges.{at}
-use Rattle.range_plane.specs.Laws.{CoveredIsDecided, LargerSetsCoverMore, ManyCoverTheLeftOfTheirEdges, OnSegmentIsDecided, TwoCoverTheirSegment}
 use Rattle.range_plane.specs.Plane.{Position, origin, turn}
 use Rattle.range_plane.specs.Polygon.{IsPolygon}
-use Rattle.range_lanes.specs.EdgeLines.{before}
+use Rattle.range_plane.proofs.ForCallers.{covered_is_decided, larger_sets_cover_more, many_cover_the_left_of_their_edges, on_segment_is_decided, two_cover_their_segment}
+use Rattle.range_lanes.specs.EdgeLines.{corner_before}
 use Rattle.range_lanes.specs.Lanes.{is_not_negative}
 
 not_negative_decided : (x : ℤ) → Decides (is_not_negative x) (pos 0 ≤ℤ x)
@@ -23,17 +23,17 @@ is_left a b q = is_not_negative (turn a b q)
 -- q is on the left of the edges that end at the first k corners, or on them
 abbrev pub is_left_of_first : List Position → ℕ → Position → Bool
 is_left_of_first L zero q = true
-is_left_of_first L (suc k) q = is_left_of_first L k q && is_left (before L k) (at L k) q
+is_left_of_first L (suc k) q = is_left_of_first L k q && is_left (corner_before L k) (at L k) q
 
 abbrev IsLeftOfFirst : List Position → ℕ → Position → Type 0
-IsLeftOfFirst L n q = (k : ℕ) → k < n → pos 0 ≤ℤ turn (before L k) (at L k) q
+IsLeftOfFirst L n q = (k : ℕ) → k < n → pos 0 ≤ℤ turn (corner_before L k) (at L k) q
 
 first_decided : (L : List Position) (n : ℕ) (q : Position) → Decides (is_left_of_first L n q) (IsLeftOfFirst L n q)
 first_decided L zero q = (λ e k l. absurd (omega arith), λ h. refl)
 first_decided L (suc n) q =
-    Decides-like _ (λ h k l. below_more (λ k. pos 0 ≤ℤ turn (before L k) (at L k) q) n h.0 h.1 k (omega arith))
+    Decides-like _ (λ h k l. below_more (λ k. pos 0 ≤ℤ turn (corner_before L k) (at L k) q) n h.0 h.1 k (omega arith))
     (λ f. (λ k l. f k (omega arith), f n (omega arith)))
-    (Decides-and _ _ (first_decided L n q) (not_negative_decided (turn (before L n) (at L n) q)))
+    (Decides-and _ _ (first_decided L n q) (not_negative_decided (turn (corner_before L n) (at L n) q)))
 
 left_of_all : (L : List Position) (q : Position) → IsLeftOfFirst L (length L) q → IsLeftOfEdges L q
 left_of_all L q h =
@@ -48,20 +48,20 @@ left_of_first L q some h zero l = h.closing (length L - 1) origin (omega arith)
 left_of_first L q some h (suc k) l = rw (← add-one) (h.edges k origin (omega arith))
 
 -- ---- what corners cover, by the laws of the plane
-pub many_cover : CoveredIsDecided → ManyCoverTheLeftOfTheirEdges → (L : List Position) (q : Position) → IsPolygon L L → 2 < length L
-    → is_left_of_first L (length L) q ≡ is_covered L q
-many_cover decided by_edges L q p many =
-    let all = by_edges L L p many q in
+pub many_cover : (L : List Position) (q : Position) → IsPolygon L L → 2 < length L → is_left_of_first L (length L) q ≡ is_covered L q
+many_cover L q p many =
+    let all = many_cover_the_left_of_their_edges L L p many q in
     same_from_decides _ _ (Decides-like _ (left_of_all L q) (left_of_first L q (omega arith)) (first_decided L (length L) q))
-    (Decides-like _ all.0 all.1 (decided L q))
+    (Decides-like _ all.0 all.1 (covered_is_decided L q))
 
-pub few_cover : CoveredIsDecided → OnSegmentIsDecided → LargerSetsCoverMore → TwoCoverTheirSegment → (L : List Position) (a b q : Position) → 0 < length L
-    → length L ≤ 2 → a ≡ at L 0 → b ≡ at L (length L - 1) → is_on_segment q a b ≡ is_covered L q
-few_cover decided on_segment larger two [] a b q some few ea eb = absurd (omega arith)
-few_cover decided on_segment larger two (x ∷ []) a b q some few ea eb =
-    rw (ea, eb) (same_from_decides _ _ (on_segment q x x)
-    (Decides-like _ (λ c. (two x x q).0 (larger (x ∷ []) (x ∷ x ∷ []) q (λ s m. (suc m.0, omega (arith, m.1), m.2)) c))
-    (λ h. by_segment x x (0, omega arith, refl) (0, omega arith, refl) h) (decided (x ∷ []) q)))
-few_cover decided on_segment larger two (x ∷ y ∷ []) a b q some few ea eb =
-    rw (ea, eb) (same_from_decides _ _ (on_segment q x y) (Decides-like _ (two x y q).0 (two x y q).1 (decided (x ∷ y ∷ []) q)))
-few_cover decided on_segment larger two (x ∷ y ∷ z ∷ L) a b q some few ea eb = absurd (omega arith)
+pub few_cover : (L : List Position) (a b q : Position) → 0 < length L → length L ≤ 2 → a ≡ at L 0 → b ≡ at L (length L - 1)
+    → is_on_segment q a b ≡ is_covered L q
+few_cover [] a b q some few ea eb = absurd (omega arith)
+few_cover (x ∷ []) a b q some few ea eb =
+    rw (ea, eb) (same_from_decides _ _ (on_segment_is_decided q x x)
+    (Decides-like _ (λ c. (two_cover_their_segment x x q).0 (larger_sets_cover_more (x ∷ []) (x ∷ x ∷ []) q (λ s m. (suc m.0, omega (arith, m.1), m.2)) c))
+    (λ h. by_segment x x (0, omega arith, refl) (0, omega arith, refl) h) (covered_is_decided (x ∷ []) q)))
+few_cover (x ∷ y ∷ []) a b q some few ea eb =
+    rw (ea, eb) (same_from_decides _ _ (on_segment_is_decided q x y) (Decides-like _ (two_cover_their_segment x y q).0 (two_cover_their_segment x y q).1
+    (covered_is_decided (x ∷ y ∷ []) q)))
+few_cover (x ∷ y ∷ z ∷ L) a b q some few ea eb = absurd (omega arith)

@@ -9,7 +9,7 @@ use Rattle.range_plane.specs.Edges.{at}
 use Rattle.range_plane.specs.Plane.{IsWithinLimits, Position, coordinate_limit, origin, turn, turn_limit}
 use Rattle.range_lemmas.proofs.Integers.{distribute, linear}
 use Rattle.range_lemmas.proofs.Sizes.{abs_difference, fits_from_size}
-use Rattle.range_lanes.specs.EdgeLines.{IsLineOf, before, side}
+use Rattle.range_lanes.specs.EdgeLines.{IsLineOf, corner_before, side}
 use Rattle.range_lanes.specs.Lanes.{IsBounded}
 use Rattle.range_lanes.specs.declared.edge_lines.EdgeLine.{EdgeLine}
 
@@ -56,10 +56,10 @@ line_through a b line in_a in_b east north at_origin bounded = record {
 -- ---- a table of lines
 -- the lines of the edges that end at the first n corners
 abbrev pub AreFirstLines : List Position → List EdgeLine → ℕ → Type 0
-AreFirstLines L lines n = (k : ℕ) (d : EdgeLine) → k < n → IsLineOf (before L k) (at L k) (get_or lines k d)
+AreFirstLines L lines n = (k : ℕ) (d : EdgeLine) → k < n → IsLineOf (corner_before L k) (at L k) (get_or lines k d)
 
 pub lines_more : (L : List Position) (lines : List EdgeLine) (i : ℕ) (line : EdgeLine) → i < length lines → AreFirstLines L lines i
-    → IsLineOf (before L i) (at L i) line → AreFirstLines L (set lines i line) (i + 1)
+    → IsLineOf (corner_before L i) (at L i) line → AreFirstLines L (set lines i line) (i + 1)
 lines_more L lines i line within first last = λ k d less.
     elim (cases_eq k i) [
       | inl same ↦ rw (same, get_or-set_same lines i line d within) last

@@ -3,9 +3,9 @@ use Rattle.std.proofs.Common.{◌≡◌, ◌≢◌, sym, subst, ◌∙◌, ℕ, 
 use Rattle.std.proofs.Common.{Contains, AllPairs}
 use Rattle.std.proofs.Math.Nat.{mul-le-mul_right}
 use Rattle.std.proofs.lemmas.Bool.{cases_eq}
-use Rattle.range_plane.specs.Laws.{CoveringMembersAreCorners, SetsCoverTheirMembers}
 use Rattle.range_plane.specs.Plane.{IsAtMost, Position}
 use Rattle.range_plane.specs.Polygon.{BeginsWithLeast, IsPolygon, TurnsLeft}
+use Rattle.range_plane.proofs.ForCallers.{covering_members_are_corners, sets_cover_their_members}
 use Rattle.range_lanes.specs.InnerIndices.{index_of}
 use Rattle.range_lanes.specs.declared.inner.TheConstants.{INNER_CORNERS}
 
@@ -66,8 +66,7 @@ taken_least (c ∷ L) (a ∷ inner) taken least = λ x member.
     let first : a ≡ c = taken.each 0 c (omega arith) ∙ (λ i. get_or (c ∷ L) (start i) c) in
     subst (λ y. IsAtMost y x) (sym first) (least x (taken_members (c ∷ L) (a ∷ inner) taken x member))
 
-pub taken_polygon : SetsCoverTheirMembers → CoveringMembersAreCorners → (L inner : List Position) → AreTaken L inner → IsPolygon L L
-    → IsPolygon inner inner
-taken_polygon members covering L inner taken polygon =
-    covering inner inner (λ x member. member) (members inner) (taken_distinct L inner taken polygon.distinct)
+pub taken_polygon : (L inner : List Position) → AreTaken L inner → IsPolygon L L → IsPolygon inner inner
+taken_polygon L inner taken polygon =
+    covering_members_are_corners inner inner (λ x member. member) (sets_cover_their_members inner) (taken_distinct L inner taken polygon.distinct)
     (taken_least L inner taken polygon.least_first) (taken_turns L inner taken polygon.convex)

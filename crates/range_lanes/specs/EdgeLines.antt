@@ -21,11 +21,11 @@ pub record IsLineOf (a b : Position) (line : EdgeLine) : Type 0 where
   pub sides : (q : Position) → side line q ≡ turn a b q
 
 -- the corner before the k-th, round the polygon
-abbrev pub before : List Position → ℕ → Position
-before L zero = at L (length L - 1)
-before L (suc k) = at L k
+abbrev pub corner_before : List Position → ℕ → Position
+corner_before L zero = at L (length L - 1)
+corner_before L (suc k) = at L k
 
 -- of each corner the line of the edge that ends there
 pub record AreLinesOf (L : List Position) (lines : List EdgeLine) : Type 0 where
   pub room : length L ≤ length lines
-  pub each : (k : ℕ) (d : EdgeLine) → k < length L → IsLineOf (before L k) (at L k) (slice_index_or lines k d)
+  pub each : (k : ℕ) (d : EdgeLine) → k < length L → IsLineOf (corner_before L k) (at L k) (slice_index_or lines k d)

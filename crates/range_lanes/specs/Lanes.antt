@@ -3,6 +3,7 @@ use Rattle.std.specs.Prelude.{◌≡◌, ℕ, ◌≤◌, ℤ, pos, List, length,
 use Rattle.std.specs.Int.{w64}
 use Rattle.std.specs.Simd.Lanes.{Each1}
 use Rattle.range_plane.specs.Plane.{IsCoordinate, Position}
+use Rattle.range_lanes.specs.declared.lanes.TheConstants.{LANE_COUNT}
 
 -- |x| is at most m
 abbrev pub IsBounded : ℕ → ℤ → Type 0
@@ -10,11 +11,11 @@ IsBounded m x = unsigned_abs x ≤ m
 
 -- eight numbers of 64 bits
 abbrev pub AreLanes : List ℤ → Type 0
-AreLanes xs = (length xs ≡ 8) × Each1 (FitsSigned w64) xs
+AreLanes xs = (length xs ≡ LANE_COUNT) × Each1 (FitsSigned w64) xs
 
 -- eight points, by their eastings and their northings
 abbrev pub AreEight : List ℤ → List ℤ → Type 0
-AreEight es ns = (length es ≡ 8) × (length ns ≡ 8) × Each1 IsCoordinate es × Each1 IsCoordinate ns
+AreEight es ns = (length es ≡ LANE_COUNT) × (length ns ≡ LANE_COUNT) × Each1 IsCoordinate es × Each1 IsCoordinate ns
 
 abbrev pub is_not_negative : ℤ → Bool
 is_not_negative x = int_le (pos 0) x

@@ -43,15 +43,6 @@ impl Eight {
         }
     }
 
-    // A number for each point, 0.
-    #[inline(always)]
-    pub(crate) fn zeros(&self) -> Lanes
-        ensures { map is_not_negative result ≡ map (λ p. true) self.now }
-    {
-        let _ = &self.eastings;
-        Lanes::splat(0)
-    }
-
     // How far each point lies east of the easting `e`.
     #[inline(always)]
     pub(crate) fn east_of(&self, e: i64) -> Lanes

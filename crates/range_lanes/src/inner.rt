@@ -5,7 +5,7 @@ ghost use Rattle.range_lanes.specs.InnerIndices.{index_of};
 ghost use Rattle.range_plane.specs.Plane.{Position};
 ghost use Rattle.range_plane.specs.Polygon.{IsPolygon};
 
-use range_plane::{Point, covering_members_are_corners, sets_cover_their_members};
+use range_plane::Point;
 
 // How many corners an inner polygon has. More of them cover more of the polygon, and cost more.
 // docs/PERFORMANCE.md has what they cost.
@@ -27,8 +27,6 @@ pub(crate) fn inner_of(corners: &[Point]) -> [Point; INNER_CORNERS]
     ensures polygon { IsPolygon result result }
     ensures within { (p : Position) → Contains result p → Contains corners.now p }
 {
-    sets_cover_their_members();
-    covering_members_are_corners();
     let mut inner = [corners[0]; INNER_CORNERS];
     for i in 0..INNER_CORNERS {
         inner[i] = corners[index_of(i, corners.len())];

@@ -12,29 +12,27 @@ use crate::edge_lines::LANE_CORNERS;
 use crate::eight::Eight;
 use crate::inner::{INNER_CORNERS, inner_of};
 use crate::lanes::LANE_COUNT;
-use crate::marking::Edges;
-use range_plane::{
-    Columns, Point, Polygon, boxes_hold_what_is_covered, covered_is_decided, larger_sets_cover_more,
-};
+use crate::margins::Edges;
+use range_plane::{Columns, Point, Polygon};
 use std::alloc::Allocator;
 
 // How many groups of eight points the inner polygon may tell nothing of, one after the other, before it is not asked.
 const TRIES: u32 = 8;
 
-/// Marks at the index of each point whether the polygon covers it. Each edge costs a few steps for eight points.
-/// Where there are more than twelve corners, a polygon of twelve of them is tried, and each point that it does not
-/// cover costs a binary search. So does each of the up to seven points behind the last eight.
+/// Sets the cover flag of each point, at its index: whether the polygon covers it. Each edge costs a few steps for
+/// eight points. Where there are more than twelve corners, a polygon of twelve of them is tried, and each point that it
+/// does not cover costs a binary search. So does each of the up to seven points behind the last eight.
 pub fn mark_inside<A: Allocator, B: Allocator>(
     corners: &Polygon<A>,
     cols: &Columns<B>,
-    out: &mut [bool],
+    flags: &mut [bool],
 )
-    requires { length out.old ≡ length cols.now.points }
-    ensures { out.new ≡ map (is_covered corners.now) cols.now.points }
+    requires { length flags.old ≡ length cols.now.points }
+    ensures { flags.new ≡ map (is_covered corners.now) cols.now.points }
 {
-    let marked = mark_groups(corners, cols, out);
-    for i in marked..cols.len() {
-        out[i] = corners.covers(cols.at(i));
+    let flagged = flag_groups(corners, cols, flags);
+    for i in flagged..cols.len() {
+        flags[i] = corners.covers(cols.at(i));
     }
 }
 
@@ -52,31 +50,31 @@ pub fn count_inside<A: Allocator, B: Allocator>(corners: &Polygon<A>, cols: &Col
     count
 }
 
-// Marks the points of whole groups of eight, and says how many points these are: none where there is no corner.
-fn mark_groups<A: Allocator, B: Allocator>(
+// Sets the cover flags of whole groups of eight, and says how many points these are: none where there is no corner.
+fn flag_groups<A: Allocator, B: Allocator>(
     polygon: &Polygon<A>,
     cols: &Columns<B>,
-    out: &mut [bool],
+    flags: &mut [bool],
 ) -> usize
-    requires { length out.old ≡ length cols.now.points }
+    requires { length flags.old ≡ length cols.now.points }
     ensures within { result ≤ length cols.now.points }
-    ensures marks { take result out.new
+    ensures flags { take result flags.new
         ≡ map (is_covered polygon.now) (take result cols.now.points) }
 {
     if polygon.corners().len() > INNER_CORNERS {
-        mark_by_inner(polygon, cols, out)
+        flag_by_inner(polygon, cols, flags)
     } else {
-        mark_by_edges(polygon.corners(), cols, out)
+        flag_by_edges(polygon.corners(), cols, flags)
     }
 }
 
-// Marks the points of the groups that are held against all edges, and says how many points these are.
-fn mark_by_edges<A: Allocator>(corners: &[Point], cols: &Columns<A>, out: &mut [bool]) -> usize
+// Sets the cover flags of the groups, which are held against all edges, and says how many points these are.
+fn flag_by_edges<A: Allocator>(corners: &[Point], cols: &Columns<A>, flags: &mut [bool]) -> usize
     requires polygon { IsPolygon corners.now corners.now }
     requires few { length corners.now ≤ LANE_CORNERS }
-    requires indices { length out.old ≡ length cols.now.points }
+    requires indices { length flags.old ≡ length cols.now.points }
     ensures within { result ≤ length cols.now.points }
-    ensures marks { take result out.new
+    ensures flags { take result flags.new
         ≡ map (is_covered corners.now) (take result cols.now.points) }
 {
     if corners.is_empty() {
@@ -86,23 +84,25 @@ fn mark_by_edges<A: Allocator>(corners: &[Point], cols: &Columns<A>, out: &mut [
     let groups = cols.len() / LANE_COUNT;
     for group in 0..groups {
         let at = LANE_COUNT * group;
-        edges.margins(&Eight::load(cols, at)).mark(out, at);
+        edges
+            .margins(&Eight::load(cols, at))
+            .flag_not_negative(flags, at);
     }
     LANE_COUNT * groups
 }
 
-// Marks the points of all whole groups, and says how many points these are. Most groups of a track lie within the
+// Sets the cover flags of all whole groups, and says how many points these are. Most groups of a track lie within the
 // inner polygon, which tells that the polygon covers them; where it told of no point in the last groups it is not asked
 // again.
-fn mark_by_inner<A: Allocator, B: Allocator>(
+fn flag_by_inner<A: Allocator, B: Allocator>(
     polygon: &Polygon<A>,
     cols: &Columns<B>,
-    out: &mut [bool],
+    flags: &mut [bool],
 ) -> usize
     requires many { INNER_CORNERS ≤ length polygon.now }
-    requires indices { length out.old ≡ length cols.now.points }
+    requires indices { length flags.old ≡ length cols.now.points }
     ensures within { result ≤ length cols.now.points }
-    ensures marks { take result out.new
+    ensures flags { take result flags.new
         ≡ map (is_covered polygon.now) (take result cols.now.points) }
 {
     let taken = inner_of(polygon.corners());
@@ -112,8 +112,8 @@ fn mark_by_inner<A: Allocator, B: Allocator>(
     for group in 0..groups {
         let at = LANE_COUNT * group;
         if tries == 0 {
-            mark_each(polygon, &[-1; LANE_COUNT], cols, at, out);
-        } else if mark_group(polygon, &inner, cols, at, out) {
+            flag_each(polygon, &[-1; LANE_COUNT], cols, at, flags);
+        } else if flag_group(polygon, &inner, cols, at, flags) {
             tries = TRIES;
         } else {
             tries -= 1;
@@ -122,52 +122,51 @@ fn mark_by_inner<A: Allocator, B: Allocator>(
     LANE_COUNT * groups
 }
 
-// Marks the eight points from `at` on, by the inner polygon where it covers them all. Says whether it covers some.
-fn mark_group<A: Allocator, B: Allocator>(
+// Sets the cover flags of the eight points from `at` on, by the inner polygon where it covers them all. Says whether it
+// covers some.
+fn flag_group<A: Allocator, B: Allocator>(
     polygon: &Polygon<A>,
     inner: &Edges,
     cols: &Columns<B>,
     at: usize,
-    out: &mut [bool],
+    flags: &mut [bool],
 ) -> bool
     requires within { (p : Position) → Contains inner.now p → Contains polygon.now p }
     requires room { at + LANE_COUNT ≤ length cols.now.points }
-    requires indices { length out.old ≡ length cols.now.points }
-    ensures { take (at + LANE_COUNT) out.new
-        ≡ take at out.old ++ map (is_covered polygon.now) (chunk at LANE_COUNT cols.now.points) }
+    requires indices { length flags.old ≡ length cols.now.points }
+    ensures { take (at + LANE_COUNT) flags.new
+        ≡ take at flags.old ++ map (is_covered polygon.now) (chunk at LANE_COUNT cols.now.points) }
 {
-    covered_is_decided();
-    larger_sets_cover_more();
     let group = Eight::load(cols, at);
     let quick = inner.margins(&group);
     let told = quick.count_not_negative() as usize;
     if told == LANE_COUNT {
-        quick.mark(out, at);
+        quick.flag_not_negative(flags, at);
         return true;
     }
-    mark_each(polygon, &quick.to_array(), cols, at, out);
+    flag_each(polygon, &quick.to_array(), cols, at, flags);
     told > 0
 }
 
-// Marks the eight points from `at` on. Those whose number is at least 0 are known to be covered, the others are
-// searched for.
-fn mark_each<A: Allocator, B: Allocator>(
+// Sets the cover flags of the eight points from `at` on. Those whose number is at least 0 are known to be covered, the
+// others are searched for.
+fn flag_each<A: Allocator, B: Allocator>(
     polygon: &Polygon<A>,
     numbers: &[i64; LANE_COUNT],
     cols: &Columns<B>,
     at: usize,
-    out: &mut [bool],
+    flags: &mut [bool],
 )
     requires known { (i : ℕ) (number : ℤ) (p : Position) → slice_get numbers.now i ≡ Some number
         → slice_get cols.now.points (at + i) ≡ Some p
         → is_not_negative number ≡ true → is_covered polygon.now p ≡ true }
     requires room { at + LANE_COUNT ≤ length cols.now.points }
-    requires indices { length out.old ≡ length cols.now.points }
-    ensures { take (at + LANE_COUNT) out.new
-        ≡ take at out.old ++ map (is_covered polygon.now) (chunk at LANE_COUNT cols.now.points) }
+    requires indices { length flags.old ≡ length cols.now.points }
+    ensures { take (at + LANE_COUNT) flags.new
+        ≡ take at flags.old ++ map (is_covered polygon.now) (chunk at LANE_COUNT cols.now.points) }
 {
     for i in 0..LANE_COUNT {
-        out[at + i] = is_known_or_covered(polygon, numbers[i], cols.at(at + i));
+        flags[at + i] = is_known_or_covered(polygon, numbers[i], cols.at(at + i));
     }
 }
 
@@ -217,8 +216,6 @@ fn count_in_box(edges: &Edges, around: &CornerBox, group: &Eight) -> u64
     requires { (p : Position) → Contains edges.now p → IsInBox around.now.low around.now.high p }
     ensures { result ≡ count_by (is_covered edges.now) group.now }
 {
-    covered_is_decided();
-    boxes_hold_what_is_covered();
     if around.margins(group).count_not_negative() == 0 {
         return 0;
     }
@@ -279,9 +276,6 @@ fn count_group<A: Allocator, B: Allocator>(
     requires fits { at + LANE_COUNT < 2 ^ 64 }
     ensures { result ≡ count_by (is_covered polygon.now) (chunk at LANE_COUNT cols.now.points) }
 {
-    covered_is_decided();
-    boxes_hold_what_is_covered();
-    larger_sets_cover_more();
     let group = Eight::load(cols, at);
     if around.margins(&group).count_not_negative() == 0 {
         return 0;

@@ -177,15 +177,15 @@ impl Lanes {
             .count_ones()
     }
 
-    // Says at the eight indices from `at` on which of the numbers are at least 0.
+    // Sets the eight flags from `at` on: whether each number is at least 0.
     #[inline(always)]
-    pub(crate) fn mark(self, out: &mut [bool], at: usize)
-        requires { at + LANE_COUNT ≤ length out.old }
-        ensures { take (at + LANE_COUNT) out.new ≡ take at out.old ++ map is_not_negative self }
+    pub(crate) fn flag_not_negative(self, flags: &mut [bool], at: usize)
+        requires { at + LANE_COUNT ≤ length flags.old }
+        ensures { take (at + LANE_COUNT) flags.new ≡ take at flags.old ++ map is_not_negative self }
     {
         let numbers = self.to_array();
-        for i in 0..8 {
-            out[at + i] = numbers[i] >= 0;
+        for i in 0..LANE_COUNT {
+            flags[at + i] = numbers[i] >= 0;
         }
     }
 }

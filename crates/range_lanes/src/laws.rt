@@ -1,4 +1,4 @@
-// The sizes of what is marked at once, as numbers.
+// The size of the polygon within, as a number.
 
 ghost use Rattle.std.specs.Prelude.{◌≡◌};
 

@@ -9,7 +9,7 @@ mod inner;
 mod inside;
 mod lanes;
 mod laws;
-mod marking;
+mod margins;
 mod totals;
 
 pub use extent::{Extent, extremes};

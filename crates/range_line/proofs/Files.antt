@@ -18,11 +18,11 @@ files_more first step n = map-range_with_len_more (λ j. first + j * step) 0 n n
 
 pub file_is_new : (first step n : ℕ) → 1 ≤ step → Contains (files_from first step n) (first + n * step) → ⊥
 file_is_new first step n some_step c =
-    let place = (files_are_steps_apart first step n (first + n * step)).0 c in
-    let below = place.1 in
-    let same = place.2 in
-    let apart : suc place.0 * step ≤ n * step = mul-le-mul_right step (omega arith) in
-    omega (arith, suc-mul place.0 step, same)
+    let index = (files_are_steps_apart first step n (first + n * step)).0 c in
+    let below = index.1 in
+    let same = index.2 in
+    let apart : suc index.0 * step ≤ n * step = mul-le-mul_right step (omega arith) in
+    omega (arith, suc-mul index.0 step, same)
 
 pub first_of_files : (first step n none : ℕ) → 1 ≤ n → get_or (files_from first step n) 0 none ≡ first
 first_of_files first step n none some =

@@ -3,7 +3,7 @@ use Rattle.std.proofs.Common.{◌≡◌, ℕ, Bool, true, false, List, [], ◌�
 use Rattle.std.specs.Prelude.{◌==◌, Contains, cond, slice_index_or}
 use Rattle.std.proofs.lemmas.List.{append-nil}
 use Rattle.range_line.specs.declared.message.Message.{Message}
-use Rattle.range_line.specs.Messages.{of_file, joined, fixes, fixes_in, has_mark, IsOrderly}
+use Rattle.range_line.specs.Messages.{of_file, all_fixes, fixes, fixes_in, has_mark, IsOrderly}
 use Rattle.range_line.specs.Laws.{IsInOrder, LinesAreInOrder, TheMarkIsLast, MessagesAddTheirFixes, LastMessagesComeNext}
 use Rattle.range_line.proofs.Orderly.{joined_append, of_file_append, of_file_push, mark_is_last, no_cons}
 use Rattle.range_line.proofs.RuleSteps.{At}
@@ -31,13 +31,13 @@ pub the_mark_is_last : TheMarkIsLast
 the_mark_is_last messages beginning file lawful prefix marked =
     sym (append-nil beginning) ∙ ap (λ l. beginning ++ l) (sym (mark_is_last beginning prefix.0 (subst IsOrderly (sym prefix.1) lawful) marked)) ∙ prefix.1
 
-joined_if : (b : Bool) (m : Message) → joined (cond b (m ∷ []) []) ≡ cond b (fixes_in m.body) []
+joined_if : (b : Bool) (m : Message) → all_fixes (cond b (m ∷ []) []) ≡ cond b (fixes_in m.body) []
 joined_if true m = append-nil (fixes_in m.body)
 joined_if false m = refl
 
 pub messages_add_their_fixes : MessagesAddTheirFixes
 messages_add_their_fixes messages m file =
-    ap joined (of_file_append messages (m ∷ []) file) ∙ joined_append (of_file messages file) (of_file (m ∷ []) file)
+    ap all_fixes (of_file_append messages (m ∷ []) file) ∙ joined_append (of_file messages file) (of_file (m ∷ []) file)
     ∙ ap (λ l. fixes messages file ++ l) (joined_if (m.file == file) m)
 
 not_true : (b : Bool) → (b ≡ true → ⊥) → b ≡ false
@@ -56,7 +56,7 @@ last_messages_come_next messages m lawful =
       room = omega (
         arith,
         ap length (joined_append before (m ∷ [])),
-        length-append (joined before) (joined (m ∷ [])),
+        length-append (all_fixes before) (all_fixes (m ∷ [])),
         ap length (append-nil (fixes_in m.body)),
       );
       unmarked = not_true (has_mark before) (λ marked. no_cons m [] (sym (mark_is_last before (m ∷ []) orderly marked)));

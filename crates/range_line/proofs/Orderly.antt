@@ -8,11 +8,11 @@ use Rattle.range_plane.specs.Fix.{fix_limit}
 use Rattle.range_line.specs.declared.message.Message.{Message}
 use Rattle.range_line.specs.declared.message.Body.{Body}
 use Rattle.range_line.specs.declared.message.Body.TheVariants.{Block, Mark}
-use Rattle.range_line.specs.Messages.{of_file, joined, fixes_in, is_mark, has_mark, IsFit, IsPlaced, IsOrderly}
+use Rattle.range_line.specs.Messages.{of_file, all_fixes, fixes_in, is_mark, has_mark, IsFit, IsPlaced, IsOrderly}
 
-pub joined_append : (xs ys : List Message) → joined (xs ++ ys) ≡ joined xs ++ joined ys
+pub joined_append : (xs ys : List Message) → all_fixes (xs ++ ys) ≡ all_fixes xs ++ all_fixes ys
 joined_append [] ys = refl
-joined_append (x ∷ xs) ys = ap (λ l. fixes_in x.body ++ l) (joined_append xs ys) ∙ sym (append_assoc (fixes_in x.body) (joined xs) (joined ys))
+joined_append (x ∷ xs) ys = ap (λ l. fixes_in x.body ++ l) (joined_append xs ys) ∙ sym (append_assoc (fixes_in x.body) (all_fixes xs) (all_fixes ys))
 
 pub of_file_append : (xs ys : List Message) (file : ℕ) → of_file (xs ++ ys) file ≡ of_file xs file ++ of_file ys file
 of_file_append xs ys file = filter-append (λ m. m.file == file) xs ys
@@ -68,7 +68,7 @@ fit_prefix Mark (x ∷ xs) ys fit = absurd (no_cons x (xs ++ ys) (sym fit))
 
 pub orderly_prefix : (xs ys : List Message) → IsOrderly (xs ++ ys) → IsOrderly xs
 orderly_prefix xs ys run = record {
-  room = let r = run.room in omega (arith, ap length (joined_append xs ys), length-append (joined xs) (joined ys));
+  room = let r = run.room in omega (arith, ap length (joined_append xs ys), length-append (all_fixes xs) (all_fixes ys));
   each = λ before m after e. let s = run.each before m (after ++ ys) (ap (λ l. l ++ ys) e ∙ append_assoc before (m ∷ after) ys) in
       record { place = s.place; body = fit_prefix m.body after ys s.body };
 }
@@ -127,10 +127,10 @@ no_mark_in true before x rest is none =
     absurd (true≢false (sym (or_right (has_mark before)) ∙ ap (λ b. has_mark before || (b || has_mark rest)) (sym is) ∙ sym (has_mark_append before (x ∷ rest))
     ∙ none))
 
-pub orderly_push : (xs : List Message) (m : Message) → IsOrderly xs → has_mark xs ≡ false → m.place ≡ length (joined xs) → IsFit m.body []
-    → length (joined xs) + length (fixes_in m.body) ≤ fix_limit → IsOrderly (xs ++ m ∷ [])
+pub orderly_push : (xs : List Message) (m : Message) → IsOrderly xs → has_mark xs ≡ false → m.place ≡ length (all_fixes xs) → IsFit m.body []
+    → length (all_fixes xs) + length (fixes_in m.body) ≤ fix_limit → IsOrderly (xs ++ m ∷ [])
 orderly_push xs m run open_ place fit room = record {
-  room = omega (arith, room, ap length (joined_append xs (m ∷ [])), length-append (joined xs) (joined (m ∷ [])), ap length (append-nil (fixes_in m.body)));
+  room = omega (arith, room, ap length (joined_append xs (m ∷ [])), length-append (all_fixes xs) (all_fixes (m ∷ [])), ap length (append-nil (fixes_in m.body)));
   each = λ before x after e.
       ⊎_elim (λ (t : (before ≡ xs) × (x ≡ m) × (after ≡ [])). subst (λ (u : List Message × Message × List Message). IsPlaced u.0 u.1 u.2)
       (λ i. (sym t.0 i, sym t.1 i, sym t.2 i)) (record { place = place; body = fit }))

@@ -14,7 +14,7 @@ use Rattle.range_options.specs.Limits.{block_limit}
 use Rattle.range_line.specs.declared.message.Body.{Body}
 use Rattle.range_line.specs.declared.message.Message.{Message}
 use Rattle.range_line.specs.declared.rule.PassView.{PassView}
-use Rattle.range_line.specs.Messages.{block_of, the_mark, of_file, joined, fixes_in, is_mark, has_mark, IsFit, IsOrderly, IsLawful}
+use Rattle.range_line.specs.Messages.{block_of, the_mark, of_file, all_fixes, fixes_in, is_mark, has_mark, IsFit, IsOrderly, IsLawful}
 use Rattle.range_line.specs.Rule.{feeder_pass, taker_pass, IsRuled, after_sending, Takes, IsRest, after_ending, after_joining, spent_pass}
 use Rattle.crossbeam_channel.specs.Fifo.{Pushes, Pops, Forks, Merges, Learns}
 use Rattle.std.proofs.lemmas.List.{append-nil}
@@ -33,14 +33,14 @@ pub seat_of_line : {Q M L A : Type 0} (c : Rows (Badge (Key Message)) (Doing Mes
 seat_of_line c a b x same free = (ap (λ l. l.0) same ∙ x.0, ap (λ l. l.1) same ∙ x.1, free, x.3)
 
 pub feeding_of : (p : LinePass) (depth first file : ℕ) (sent : List Message) (closed may : Bool) (fixes : ℕ)
-    → view p ≡ feeder_pass depth first file sent closed may → of_file sent file ≡ sent → IsOrderly sent → has_mark sent ≡ closed → fixes ≡ length (joined sent)
+    → view p ≡ feeder_pass depth first file sent closed may → of_file sent file ≡ sent → IsOrderly sent → has_mark sent ≡ closed → fixes ≡ length (all_fixes sent)
     → IsFeeding p depth file closed fixes
 feeding_of p depth first file sent closed may fixes e own run marked count =
     let all : (view p ≡ feeder_pass depth (first_known p) file (sent_by p) closed (may_send p)) × (of_file (sent_by p) file ≡ sent_by p) × IsOrderly (sent_by p)
-    × (has_mark (sent_by p) ≡ closed) × (fixes ≡ length (joined (sent_by p))) =
+    × (has_mark (sent_by p) ≡ closed) × (fixes ≡ length (all_fixes (sent_by p))) =
     subst (λ (v : PassView). (v ≡ feeder_pass depth (get_or v.files 0 0) file (first_sent v.transcripts) closed v.sends)
     × (of_file (first_sent v.transcripts) file ≡ first_sent v.transcripts) × IsOrderly (first_sent v.transcripts)
-    × (has_mark (first_sent v.transcripts) ≡ closed) × (fixes ≡ length (joined (first_sent v.transcripts)))) (sym e)
+    × (has_mark (first_sent v.transcripts) ≡ closed) × (fixes ≡ length (all_fixes (first_sent v.transcripts)))) (sym e)
     (refl, own, run, marked, count) in
     record { shows = all.0; own = all.1; orderly = all.2; marked = all.3; count = all.4 }
 
@@ -67,16 +67,16 @@ pub record IsNext (p : LinePass) (depth file : ℕ) (closed : Bool) (fixes : ℕ
   pub live : (f.closed ≡ false) × (f.ended ≡ false)
   pub next : m ≡ next_message f body
   pub fit : IsFit body []
-  pub room : length (joined f.sent) + length (fixes_in body) ≤ fix_limit
+  pub room : length (all_fixes f.sent) + length (fixes_in body) ≤ fix_limit
 
 -- what IsNext says of the pass alone
 record Follows (p : LinePass) (depth file : ℕ) (m : Message) : Type 0 where
   shows : view p ≡ feeder_pass depth (first_known p) file (sent_by p) false true
   unmarked : has_mark (sent_by p) ≡ false
   is : m.file ≡ file
-  place : m.place ≡ length (joined (sent_by p))
+  place : m.place ≡ length (all_fixes (sent_by p))
   fit : IsFit m.body []
-  room : length (joined (sent_by p)) + length (fixes_in m.body) ≤ fix_limit
+  room : length (all_fixes (sent_by p)) + length (fixes_in m.body) ≤ fix_limit
 
 module _ (p : LinePass) (depth file : ℕ) (closed : Bool) (fixes : ℕ) (f : FeederView) (body : Body) (m : Message)
     (n : IsNext p depth file closed fixes f body m) where
@@ -84,7 +84,7 @@ module _ (p : LinePass) (depth file : ℕ) (closed : Bool) (fixes : ℕ) (f : Fe
   follows =
       let open_ = ap (λ (x : FeederView). x.closed) n.seen ∙ n.live.0 in
       let live = may (may_send p) (ap (λ (x : FeederView). x.ended) n.seen ∙ n.live.1) in
-      let sent = ap (λ (x : FeederView). length (joined x.sent)) n.seen in
+      let sent = ap (λ (x : FeederView). length (all_fixes x.sent)) n.seen in
       record {
         shows = n.feeding.shows ∙ (λ i. feeder_pass depth (first_known p) file (sent_by p) (open_ i) (live i));
         unmarked = n.feeding.marked ∙ open_;
@@ -112,11 +112,11 @@ module _ (p : LinePass) (depth file : ℕ) (closed : Bool) (fixes : ℕ) (f : Fe
       (ap (of_file (sent ++ m ∷ [])) (sym t.is) ∙ of_file_push sent m ∙ ap (λ l. l ++ m ∷ []) (ap (of_file sent) t.is ∙ n.feeding.own))
       (orderly_push sent m n.feeding.orderly t.unmarked t.place t.fit t.room)
       (has_mark_push sent m ∙ ap (λ b. b || is_mark m.body) t.unmarked)
-      (omega (arith, ap length (joined_append sent (m ∷ [])), length-append (joined sent) (joined (m ∷ [])), ap length (append-nil (fixes_in m.body)))))
+      (omega (arith, ap length (joined_append sent (m ∷ [])), length-append (all_fixes sent) (all_fixes (m ∷ [])), ap length (append-nil (fixes_in m.body)))))
 
 pub block_is_next : (p : LinePass) (depth file : ℕ) (closed : Bool) (fixes : ℕ) (f : FeederView) (given block : List Fix) (m : Message)
     → IsFeeding p depth file closed fixes → seen_as p file closed ≡ f
-    → (f.closed ≡ false) × (f.ended ≡ false) → (1 ≤ length given) × (length given ≤ block_limit) → length (joined f.sent) + length given ≤ fix_limit
+    → (f.closed ≡ false) × (f.ended ≡ false) → (1 ≤ length given) × (length given ≤ block_limit) → length (all_fixes f.sent) + length given ≤ fix_limit
     → block ≡ given → m ≡ next_message f (block_of block)
     → IsNext p depth file closed fixes f (block_of block) m
 block_is_next p depth file closed fixes f given block m feeding seen live size room is next = record {
@@ -137,7 +137,7 @@ mark_is_next p depth file closed fixes f m feeding seen live next = record {
   live = live;
   next = next;
   fit = refl;
-  room = let room = feeding.orderly.room in omega (arith, ap (λ (x : FeederView). length (joined x.sent)) seen);
+  room = let room = feeding.orderly.room in omega (arith, ap (λ (x : FeederView). length (all_fixes x.sent)) seen);
 }
 
 -- what IsTaking says, of what a pass shows

@@ -12,7 +12,7 @@ use Rattle.range_plane.specs.Fix.{fix_limit}
 use Rattle.range_line.specs.declared.message.Message.{Message}
 use Rattle.range_line.specs.declared.rule.Transcript.{Transcript}
 use Rattle.range_line.specs.declared.rule.PassView.{PassView}
-use Rattle.range_line.specs.Messages.{of_file, joined, fixes_in, is_mark, has_mark, IsFit, IsOrderly, IsLawful}
+use Rattle.range_line.specs.Messages.{of_file, all_fixes, fixes_in, is_mark, has_mark, IsFit, IsOrderly, IsLawful}
 use Rattle.range_line.specs.Rule.{transcript, feeder_pass, taker_pass, first_pass, spent_pass, IsTranscript, IsTruthful, SendAlone, IsCarried, IsRuled}
 use Rattle.range_line.specs.Rule.{after_sending, Takes, IsRest, after_opening}
 use Rattle.range_line.proofs.Orderly.{of_file_append, of_file_push, of_file_push_other, orderly_empty, orderly_prefix, orderly_push, has_mark_push}
@@ -120,8 +120,8 @@ begins =
 
 -- a feeder sends: the message fits behind what it sent
 pub sends : (n pass first file : ℕ) (sent : List Message) (m : Message) → m.file ≡ file → IsOrderly sent → has_mark sent ≡ false
-    → m.place ≡ length (joined sent) → IsFit m.body []
-    → length (joined sent) + length (fixes_in m.body) ≤ fix_limit
+    → m.place ≡ length (all_fixes sent) → IsFit m.body []
+    → length (all_fixes sent) + length (fixes_in m.body) ≤ fix_limit
     → Pushes IsRuled n pass (feeder_pass n first file sent false true) m (λ w. w ≡ after_sending (feeder_pass n first file sent false true) m)
 sends n pass first file sent m is run open_ place fit room items views less kept at =
     let v = feeder_pass n first file sent false true in

@@ -50,4 +50,4 @@ abbrev pub LastMessagesComeNext : Type 0
 LastMessagesComeNext = (messages : List Message) (m : Message) → IsLawful (messages ++ m ∷ []) m.file → ComesNext messages m
 
 abbrev pub FilesAreStepsApart : Type 0
-FilesAreStepsApart = (first step count file : ℕ) → Contains (files_from first step count) file ↔ ((place : ℕ) × (place < count) × (file ≡ first + place * step))
+FilesAreStepsApart = (first step count file : ℕ) → Contains (files_from first step count) file ↔ ((index : ℕ) × (index < count) × (file ≡ first + index * step))

@@ -8,7 +8,7 @@ use Rattle.atomic_table.specs.declared.badge.Badge.{Badge}
 use Rattle.crossbeam_channel.specs.declared.flavors.array.Key.{Key}
 use Rattle.range_line.specs.declared.message.Message.{Message}
 use Rattle.range_line.specs.declared.message.Body.{Body}
-use Rattle.range_line.specs.Messages.{message, of_file, joined, is_mark, has_mark}
+use Rattle.range_line.specs.Messages.{message, of_file, all_fixes, is_mark, has_mark}
 
 -- which line it is: its channel has this table and this key to it, and this is the first of its files
 abbrev pub Line : Type 0
@@ -46,7 +46,7 @@ new_taker line files depth = record { line = line; files = files; depth = depth;
 
 -- the feeder's next message, with this body
 abbrev pub next_message : FeederView → Body → Message
-next_message f body = message f.file (length (joined f.sent)) body
+next_message f body = message f.file (length (all_fixes f.sent)) body
 
 -- the feeder once it sent this body
 abbrev pub after_send : FeederView → Body → FeederView

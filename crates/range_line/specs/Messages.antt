@@ -27,13 +27,13 @@ abbrev pub fixes_in : Body → List Fix
 fixes_in (Block fixes) = fixes
 fixes_in Mark = []
 
--- the blocks of some messages joined
-abbrev pub joined : List Message → List Fix
-joined messages = flat_map (λ m. fixes_in m.body) messages
+-- all fixes of some messages
+abbrev pub all_fixes : List Message → List Fix
+all_fixes messages = flat_map (λ m. fixes_in m.body) messages
 
--- the blocks of a file joined
+-- all fixes of a file
 abbrev pub fixes : List Message → ℕ → List Fix
-fixes messages file = joined (of_file messages file)
+fixes messages file = all_fixes (of_file messages file)
 
 abbrev pub is_mark : Body → Bool
 is_mark (Block _) = false
@@ -51,12 +51,12 @@ IsFit Mark after = after ≡ []
 
 -- a message of a file between those before it and those after it: its place is the number of fixes before it
 pub record IsPlaced (before : List Message) (m : Message) (after : List Message) : Type 0 where
-  pub place : m.place ≡ length (joined before)
+  pub place : m.place ≡ length (all_fixes before)
   pub body : IsFit m.body after
 
 -- what the messages of one file may be
 pub record IsOrderly (messages : List Message) : Type 0 where
-  pub room : length (joined messages) ≤ fix_limit
+  pub room : length (all_fixes messages) ≤ fix_limit
   pub each : (before : List Message) (m : Message) (after : List Message) → messages ≡ before ++ m ∷ after → IsPlaced before m after
 
 -- the messages of the file are what they may be

@@ -6,7 +6,7 @@ use Rattle.crossbeam_channel.specs.Claims.{Pass, view}
 use Rattle.range_line.specs.declared.message.Message.{Message}
 use Rattle.range_line.specs.declared.rule.Transcript.{Transcript}
 use Rattle.range_line.specs.declared.rule.PassView.{PassView}
-use Rattle.range_line.specs.Messages.{of_file, joined, has_mark, IsOrderly, IsLawful}
+use Rattle.range_line.specs.Messages.{of_file, all_fixes, has_mark, IsOrderly, IsLawful}
 use Rattle.range_line.specs.Rule.{transcript, feeder_pass, taker_pass}
 use Rattle.range_line.specs.Lines.{Line, FeederView}
 
@@ -51,7 +51,7 @@ pub record IsFeeding (p : LinePass) (depth file : ℕ) (closed : Bool) (fixes : 
   pub own : of_file (sent_by p) file ≡ sent_by p
   pub orderly : IsOrderly (sent_by p)
   pub marked : has_mark (sent_by p) ≡ closed
-  pub count : fixes ≡ length (joined (sent_by p))
+  pub count : fixes ≡ length (all_fixes (sent_by p))
 
 -- the pass is that of a taker
 pub record IsTaking (p : LinePass) : Type 0 where

@@ -6,7 +6,7 @@ ghost use Rattle.crossbeam_channel.specs.Ends.{sends_on, ruled_capacity};
 ghost use Rattle.range_plane.specs.Fix.{fix_limit};
 ghost use Rattle.range_options.specs.Limits.{block_limit};
 ghost use Rattle.range_line.specs.Lines.{after_send, ended_feeder, new_feeder, next_message};
-ghost use Rattle.range_line.specs.Messages.{block_of, has_mark, joined, of_file, the_mark, IsLawful};
+ghost use Rattle.range_line.specs.Messages.{block_of, has_mark, all_fixes, of_file, the_mark, IsLawful};
 ghost use Rattle.range_line.specs.Passes.{after_joining_all, line_from, line_of, IsTaking};
 ghost use Rattle.range_line.specs.Rule.{after_opening, feeder_pass, taker_pass, IsRest};
 
@@ -133,7 +133,7 @@ impl<A: Allocator + Clone> Feeder<A> {
     pub fn send<R: Wait>(&mut self, rt: &R, block: Vec<Fix>) -> Result<(), Vec<Fix>>
         requires live { (self.old.closed ≡ false) × (self.old.ended ≡ false) }
         requires size { (1 ≤ length block.items) × (length block.items ≤ block_limit) }
-        requires room { length (joined self.old.sent) + length block.items ≤ fix_limit }
+        requires room { length (all_fixes self.old.sent) + length block.items ≤ fix_limit }
         ensures line { (self.new.line ≡ self.old.line) × (self.new.file ≡ self.old.file)
             × (self.new.ended ≡ false) }
         ensures sent { MatchResult result (λ _. self.new
@@ -189,7 +189,7 @@ impl<A: Allocator + Clone> Feeder<A> {
 
     /// How many fixes were sent.
     pub fn sent_fixes(&self) -> u64
-        ensures { result ≡ length (joined self.now.sent) }
+        ensures { result ≡ length (all_fixes self.now.sent) }
     {
         self.sent_fixes
     }

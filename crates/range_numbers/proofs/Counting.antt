@@ -1,10 +1,10 @@
--- What digits count in their places, and that it fits 32 bits.
+-- What digits count by their weights, and that it fits 32 bits.
 use Rattle.std.proofs.Common.{◌≡◌, ◌+◌, ◌-◌, ◌*◌, ◌<◌, ◌≤◌, ◌^◌, ◌∙◌, ℕ, true, List, [], ◌∷◌, length, nat_lt, refl, sym, zero, suc, Fits, w32, arith, tests, rules}
 use lib.Lanes.{zip2, sum_l, fold_l, products, Each1, Each2, Steps}
 use Rattle.std.proofs.lemmas.Simd.{sum_bound, adds_fit, sum_fits, sum-zip2, fold-sum, length-zip2}
 use Rattle.std.proofs.lemmas.Bool.{and_parts}
 use Rattle.std.proofs.lemmas.Nat.{mul-le}
-use Rattle.range_numbers.specs.Groups.{are_small, counted, last_places, places_before}
+use Rattle.range_numbers.specs.Groups.{are_small, weighted_sum, last_weights, weights_before}
 
 pub head_small : (x : ℕ) (xs : List ℕ) → are_small (x ∷ xs) ≡ true → x ≤ 9
 head_small x xs e =
@@ -15,7 +15,7 @@ head_small x xs e =
 pub tail_small : (x : ℕ) (xs : List ℕ) → are_small (x ∷ xs) ≡ true → are_small xs ≡ true
 tail_small x xs e = (and_parts (nat_lt x 10) (are_small xs) e).1
 
--- a digit in a place
+-- a digit times its weight
 product : (x p k : ℕ) → x ≤ 9 → p ≤ k → x * p ≤ 9 * k
 product x p k small few = mul-le x p 9 k small few
 
@@ -36,47 +36,47 @@ sum_small k xs ps four four_too e h =
     let many : length (products xs ps) ≡ 4 = length-zip2 (λ x p. x * p) xs ps (four ∙ sym four_too) ∙ four in
     rw many at (sum_bound (9 * k) (products xs ps) (products_small k xs ps e h))
 
--- places of which none counts more than the greatest
+-- weights of which none counts more than the greatest
 abbrev pub AreBefore : List ℕ → Type 0
 AreBefore ps = (length ps ≡ 4) × Each1 (λ p. p ≤ 10000000) ps
 
-pub last_places_small : Each1 (λ p. p ≤ 1000) last_places
-last_places_small = (omega arith, (omega arith, (omega arith, (omega arith, tt))))
+pub last_weights_small : Each1 (λ p. p ≤ 1000) last_weights
+last_weights_small = (omega arith, (omega arith, (omega arith, (omega arith, tt))))
 
 both_sums : (xs ys ps : List ℕ) → length xs ≡ 4 → length ys ≡ 4 → are_small xs ≡ true → are_small ys ≡ true → AreBefore ps
-    → sum_l (products xs ps) + sum_l (products ys last_places) < 2 ^ 32
+    → sum_l (products xs ps) + sum_l (products ys last_weights) < 2 ^ 32
 both_sums xs ys ps four four_too e f before =
-    omega (arith, sum_small 10000000 xs ps four before.0 e before.1, sum_small 1000 ys last_places four_too refl f last_places_small)
+    omega (arith, sum_small 10000000 xs ps four before.0 e before.1, sum_small 1000 ys last_weights four_too refl f last_weights_small)
 
 pub before_and_ending_fit : (xs ys ps : List ℕ) → length xs ≡ 4 → length ys ≡ 4 → are_small xs ≡ true → are_small ys ≡ true → AreBefore ps
-    → Each2 (λ a b. Fits w32 (a + b)) (products xs ps) (products ys last_places)
+    → Each2 (λ a b. Fits w32 (a + b)) (products xs ps) (products ys last_weights)
 before_and_ending_fit xs ys ps four four_too e f before =
-    adds_fit w32 (products xs ps) (products ys last_places) (both_sums xs ys ps four four_too e f before)
+    adds_fit w32 (products xs ps) (products ys last_weights) (both_sums xs ys ps four four_too e f before)
 
 abbrev pub all_products : List ℕ → List ℕ → List ℕ → List ℕ
-all_products xs ys ps = zip2 (λ a b. a + b) (products xs ps) (products ys last_places)
+all_products xs ys ps = zip2 (λ a b. a + b) (products xs ps) (products ys last_weights)
 
 sum_of_all : (xs ys ps : List ℕ) → length xs ≡ 4 → length ys ≡ 4 → length ps ≡ 4
-    → sum_l (all_products xs ys ps) ≡ sum_l (products xs ps) + sum_l (products ys last_places)
+    → sum_l (all_products xs ys ps) ≡ sum_l (products xs ps) + sum_l (products ys last_weights)
 sum_of_all xs ys ps four four_too few =
-    sum-zip2 (products xs ps) (products ys last_places)
-    (length-zip2 (λ x p. x * p) xs ps (four ∙ sym few) ∙ four ∙ sym (length-zip2 (λ x p. x * p) ys last_places four_too ∙ four_too))
+    sum-zip2 (products xs ps) (products ys last_weights)
+    (length-zip2 (λ x p. x * p) xs ps (four ∙ sym few) ∙ four ∙ sym (length-zip2 (λ x p. x * p) ys last_weights four_too ∙ four_too))
 
 pub sums_fit : (xs ys ps : List ℕ) → length xs ≡ 4 → length ys ≡ 4 → are_small xs ≡ true → are_small ys ≡ true → AreBefore ps
     → Steps (λ s x. Fits w32 (s + x)) (λ s x. s + x) 0 (all_products xs ys ps)
 sums_fit xs ys ps four four_too e f before =
     sum_fits w32 0 (all_products xs ys ps) (omega (arith, sum_of_all xs ys ps four four_too before.0, both_sums xs ys ps four four_too e f before))
 
-counted_is_sum : (xs ps : List ℕ) → sum_l (products xs ps) ≡ counted ps xs
-counted_is_sum [] [] = refl
-counted_is_sum [] (p ∷ ps) = refl
-counted_is_sum (x ∷ xs) [] = refl
-counted_is_sum (x ∷ xs) (p ∷ ps) = let rest = counted_is_sum xs ps in let turned : x * p ≡ p * x = omega arith in rw (turned, rest) refl
+weighted_is_sum : (xs ps : List ℕ) → sum_l (products xs ps) ≡ weighted_sum ps xs
+weighted_is_sum [] [] = refl
+weighted_is_sum [] (p ∷ ps) = refl
+weighted_is_sum (x ∷ xs) [] = refl
+weighted_is_sum (x ∷ xs) (p ∷ ps) = let rest = weighted_is_sum xs ps in let turned : x * p ≡ p * x = omega arith in rw (turned, rest) refl
 
-pub sum_is_counted : (xs ys ps : List ℕ) → length xs ≡ 4 → length ys ≡ 4 → length ps ≡ 4
-    → fold_l (λ s x. s + x) 0 (all_products xs ys ps) ≡ counted ps xs + counted last_places ys
-sum_is_counted xs ys ps four four_too few =
-    omega (arith, fold-sum 0 (all_products xs ys ps), sum_of_all xs ys ps four four_too few, counted_is_sum xs ps, counted_is_sum ys last_places)
+pub sum_is_weighted : (xs ys ps : List ℕ) → length xs ≡ 4 → length ys ≡ 4 → length ps ≡ 4
+    → fold_l (λ s x. s + x) 0 (all_products xs ys ps) ≡ weighted_sum ps xs + weighted_sum last_weights ys
+sum_is_weighted xs ys ps four four_too few =
+    omega (arith, fold-sum 0 (all_products xs ys ps), sum_of_all xs ys ps four four_too few, weighted_is_sum xs ps, weighted_is_sum ys last_weights)
 
 -- what holds for each number of digits from 4 to 8
 by_length : (P : ℕ → Type 0) → P 4 → P 5 → P 6 → P 7 → P 8 → (n : ℕ) → 4 ≤ n → n ≤ 8 → P n
@@ -92,20 +92,20 @@ by_length P four five six seven eight n least most =
     from_four (suc (suc (suc (suc zero)))) h = eight
     from_four (suc (suc (suc (suc (suc m))))) h = absurd (omega (arith, h))
 
-pub places_are_before : (n : ℕ) → 4 ≤ n → n ≤ 8 → AreBefore (places_before n)
-places_are_before = by_length (λ n. AreBefore (places_before n)) four five six seven eight
+pub weights_are_before : (n : ℕ) → 4 ≤ n → n ≤ 8 → AreBefore (weights_before n)
+weights_are_before = by_length (λ n. AreBefore (weights_before n)) four five six seven eight
   where
-    four : AreBefore (places_before 4)
+    four : AreBefore (weights_before 4)
     four = (refl, (omega arith, (omega arith, (omega arith, (omega arith, tt)))))
 
-    five : AreBefore (places_before 5)
+    five : AreBefore (weights_before 5)
     five = (refl, (omega arith, (omega arith, (omega arith, (omega arith, tt)))))
 
-    six : AreBefore (places_before 6)
+    six : AreBefore (weights_before 6)
     six = (refl, (omega arith, (omega arith, (omega arith, (omega arith, tt)))))
 
-    seven : AreBefore (places_before 7)
+    seven : AreBefore (weights_before 7)
     seven = (refl, (omega arith, (omega arith, (omega arith, (omega arith, tt)))))
 
-    eight : AreBefore (places_before 8)
+    eight : AreBefore (weights_before 8)
     eight = (refl, (omega arith, (omega arith, (omega arith, (omega arith, tt)))))

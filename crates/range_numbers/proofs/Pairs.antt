@@ -8,7 +8,7 @@ use Rattle.std.specs.Str.Parse.{digits_value}
 use Rattle.std.proofs.lemmas.Bool.{and_parts}
 use Rattle.std.proofs.lemmas.Simd.{Each1-chunk}
 use Rattle.std.proofs.lemmas.Str.{digit_value_digit}
-use Rattle.range_numbers.specs.Groups.{AreDigits, IsDigit, are_small, counted, last_places, places_before}
+use Rattle.range_numbers.specs.Groups.{AreDigits, IsDigit, are_small, weighted_sum, last_weights, weights_before}
 use Rattle.range_numbers.specs.Number.{is_number}
 use Rattle.range_numbers.proofs.Counting.{head_small, tail_small}
 
@@ -77,7 +77,7 @@ all_of_parts P (a ∷ b ∷ c ∷ d ∷ e ∷ f ∷ g ∷ i ∷ j ∷ rest) leas
 
 -- the value by the parts
 value_of_parts : (bytes : List ℕ) → 4 ≤ length bytes → length bytes ≤ 8
-    → counted (places_before (length bytes)) (map digit_value (chunk 0 4 bytes)) + counted last_places (map digit_value (chunk (length bytes - 4) 4 bytes))
+    → weighted_sum (weights_before (length bytes)) (map digit_value (chunk 0 4 bytes)) + weighted_sum last_weights (map digit_value (chunk (length bytes - 4) 4 bytes))
     ≡ digits_value 10 bytes
 value_of_parts (a ∷ b ∷ c ∷ d ∷ []) least most = omega arith
 value_of_parts (a ∷ b ∷ c ∷ d ∷ e ∷ []) least most = omega arith
@@ -90,10 +90,10 @@ value_of_parts (a ∷ b ∷ []) least most = absurd (omega (arith, least))
 value_of_parts (a ∷ b ∷ c ∷ []) least most = absurd (omega (arith, least))
 value_of_parts (a ∷ b ∷ c ∷ d ∷ e ∷ f ∷ g ∷ i ∷ j ∷ rest) least most = absurd (omega (arith, most))
 
--- where all numbers are small the bytes are a number, of the value that is counted
+-- where all numbers are small the bytes are a number, and its value is the sum by weights
 pub number_of_parts : (bytes first last : List ℕ) → 4 ≤ length bytes → length bytes ≤ 8 → AreDigits (chunk 0 4 bytes) first
     → AreDigits (chunk (length bytes - 4) 4 bytes) last → are_small first ≡ true → are_small last ≡ true
-    → (is_number bytes ≡ true) × (counted (places_before (length bytes)) first + counted last_places last ≡ digits_value 10 bytes)
+    → (is_number bytes ≡ true) × (weighted_sum (weights_before (length bytes)) first + weighted_sum last_weights last ≡ digits_value 10 bytes)
 number_of_parts bytes first last least most h k e f =
     let a = digits_of_small (chunk 0 4 bytes) first h e in
     let b = digits_of_small (chunk (length bytes - 4) 4 bytes) last k f in

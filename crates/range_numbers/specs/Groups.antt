@@ -15,15 +15,15 @@ AreDigits bytes numbers = AllZip IsDigit bytes numbers
 abbrev pub are_small : List ℕ → Bool
 are_small numbers = list_all (λ number. nat_lt number 10) numbers
 
--- what a one counts in the first four places of n digits, but nothing in one of the last four
-abbrev pub places_before : ℕ → List ℕ
-places_before n = map (λ i. if nat_lt (i + 4) n then 10 ^ (n - 1 - i) else 0) (0 ∷ 1 ∷ 2 ∷ 3 ∷ [])
+-- what a one counts as each of the first four of n digits, but nothing as one of the last four
+abbrev pub weights_before : ℕ → List ℕ
+weights_before n = map (λ i. if nat_lt (i + 4) n then 10 ^ (n - 1 - i) else 0) (0 ∷ 1 ∷ 2 ∷ 3 ∷ [])
 
--- what a one counts in the last four places
-abbrev pub last_places : List ℕ
-last_places = 1000 ∷ 100 ∷ 10 ∷ 1 ∷ []
+-- what a one counts as each of the last four digits
+abbrev pub last_weights : List ℕ
+last_weights = 1000 ∷ 100 ∷ 10 ∷ 1 ∷ []
 
--- what numbers count in places
-abbrev pub counted : List ℕ → List ℕ → ℕ
-counted (place ∷ places) (number ∷ numbers) = place * number + counted places numbers
-counted places numbers = 0
+-- the sum of numbers, each times its weight
+abbrev pub weighted_sum : List ℕ → List ℕ → ℕ
+weighted_sum (weight ∷ weights) (number ∷ numbers) = weight * number + weighted_sum weights numbers
+weighted_sum weights numbers = 0

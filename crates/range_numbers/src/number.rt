@@ -7,7 +7,7 @@ ghost use Rattle.range_numbers.specs.Number.{is_number};
 use crate::groups::{GROUP, PAIR, pair_value};
 
 // What a one counts before as many digits as two groups have: 10 to the power of `PAIR`.
-const PAIR_PLACE: u64 = 100_000_000;
+const PAIR_WEIGHT: u64 = 100_000_000;
 
 /// A limit to which a value is held is less.
 pub const VALUE_LIMIT: u64 = 1 << 60;
@@ -71,7 +71,7 @@ fn long_value(bytes: &[u8]) -> Option<u64>
         (λ value. (is_number bytes.now ≡ true) × (value ≡ digits_value 10 bytes.now)) }
 {
     let (first, last) = bytes.split_at(bytes.len() - PAIR);
-    Some(short_value(first)? * PAIR_PLACE + short_value(last)?)
+    Some(short_value(first)? * PAIR_WEIGHT + short_value(last)?)
 }
 
 /// The value of a number of one or more digits, of which the first may be zeros: exact up to the limit, and

@@ -1,11 +1,11 @@
--- Pieces that are joined, and what of the joined list stands before and after an index in a piece.
+-- Pieces that are joined, and what of the joined list stands before and after a position in a piece.
 use Rattle.std.proofs.Common.{◌≡◌, sym, ap, ◌∙◌, ℕ, suc, ◌+◌, ◌<◌, ◌≤◌, List, [], ◌∷◌, ◌++◌, length, take, drop, get_or, set, arith, length-append}
 use Rattle.std.proofs.lemmas.List.{set_split, get_or_append_left, append-nil, append_assoc, drop_more, drop_all, take_all, take_more, take-append-drop}
 use Rattle.std.proofs.lemmas.List.{take-append-le, drop-append-le, get_or-append-add}
 use Rattle.std.proofs.lemmas.List.Concat.{flat_map-append}
 use Rattle.std.proofs.Math.Seq.{take-append-add, drop-append-add}
 use Rattle.range_plane.specs.Plane.{Position}
-use Rattle.range_pieces.specs.Pieces.{all_points, piece, offset, replaced}
+use Rattle.range_pieces.specs.Pieces.{all_points, piece, offset, exchange}
 
 pub joined_append : (cs bs : List (List Position)) → all_points (cs ++ bs) ≡ all_points cs ++ all_points bs
 joined_append cs bs = flat_map-append (λ (b : List Position). b) cs bs
@@ -30,7 +30,7 @@ offset_all bs i h = ap (λ (xs : List (List Position)). length (all_points xs)) 
 pub offset_within : (bs : List (List Position)) (i : ℕ) → offset bs i ≤ length (all_points bs)
 offset_within bs i = omega (arith, ap length (joined_cut bs i), length-append (all_points (take i bs)) (all_points (drop i bs)))
 
--- ---- before and after an index
+-- ---- before and after a position
 pub take_joined : (bs : List (List Position)) (i a : ℕ) → i < length bs → a ≤ length (piece bs i)
     → take (offset bs i + a) (all_points bs) ≡ all_points (take i bs) ++ take a (piece bs i)
 take_joined bs i a h le =
@@ -71,11 +71,11 @@ get_or_joined bs i a d h le =
 -- ---- pieces in place of pieces
 -- p within piece i
 pub joined_put : (bs : List (List Position)) (i a b : ℕ) (p : Position) → i < length bs → a ≤ length (piece bs i) → b ≤ length (piece bs i)
-    → all_points (set bs i (replaced (piece bs i) p a b)) ≡ replaced (all_points bs) p (offset bs i + a) (offset bs i + b)
+    → all_points (set bs i (exchange (piece bs i) p a b)) ≡ exchange (all_points bs) p (offset bs i + a) (offset bs i + b)
 joined_put bs i a b p h ha hb =
-    ap all_points (set_split bs i (replaced (piece bs i) p a b) h
-    ∙ ap (λ (k : ℕ). take i bs ++ replaced (piece bs i) p a b ∷ drop k bs) (let e : suc i ≡ i + 1 = omega arith in e))
-    ∙ joined_append (take i bs) (replaced (piece bs i) p a b ∷ drop (i + 1) bs)
+    ap all_points (set_split bs i (exchange (piece bs i) p a b) h
+    ∙ ap (λ (k : ℕ). take i bs ++ exchange (piece bs i) p a b ∷ drop k bs) (let e : suc i ≡ i + 1 = omega arith in e))
+    ∙ joined_append (take i bs) (exchange (piece bs i) p a b ∷ drop (i + 1) bs)
     ∙ regroup (all_points (take i bs)) (take a (piece bs i)) (drop b (piece bs i)) (all_points (drop (i + 1) bs)) p
     ∙ sym (ap (λ (xs : List Position). xs ++ p ∷ drop (offset bs i + b) (all_points bs)) (take_joined bs i a h ha)
     ∙ ap (λ (xs : List Position). (all_points (take i bs) ++ take a (piece bs i)) ++ p ∷ xs) (drop_joined bs i b h hb))
@@ -85,7 +85,7 @@ joined_put bs i a b p h ha hb =
 
 -- p in a piece of its own
 pub joined_open : (bs : List (List Position)) (i : ℕ) (p : Position)
-    → all_points (take i bs ++ (p ∷ []) ∷ drop i bs) ≡ replaced (all_points bs) p (offset bs i) (offset bs i)
+    → all_points (take i bs ++ (p ∷ []) ∷ drop i bs) ≡ exchange (all_points bs) p (offset bs i) (offset bs i)
 joined_open bs i p =
     joined_append (take i bs) ((p ∷ []) ∷ drop i bs)
     ∙ sym (ap (λ (xs : List Position). xs ++ p ∷ drop (offset bs i) (all_points bs)) (take_offset bs i)
@@ -113,7 +113,7 @@ joined_join bs i h =
 
 -- p in place of the end of piece i, all pieces up to k, and the start of piece k
 pub joined_across : (bs : List (List Position)) (i k a b : ℕ) (p : Position) → i < k → k < length bs → a ≤ length (piece bs i) → b ≤ length (piece bs k)
-    → all_points (take i bs ++ (take a (piece bs i) ++ p ∷ []) ∷ drop b (piece bs k) ∷ drop (k + 1) bs) ≡ replaced (all_points bs) p (offset bs i + a)
+    → all_points (take i bs ++ (take a (piece bs i) ++ p ∷ []) ∷ drop b (piece bs k) ∷ drop (k + 1) bs) ≡ exchange (all_points bs) p (offset bs i + a)
     (offset bs k + b)
 joined_across bs i k a b p ik h ha hb =
     joined_append (take i bs) ((take a (piece bs i) ++ p ∷ []) ∷ drop b (piece bs k) ∷ drop (k + 1) bs)
@@ -126,7 +126,7 @@ joined_across bs i k a b p ik h ha hb =
 
 -- the same to the end of the list
 pub joined_to_end : (bs : List (List Position)) (i k a : ℕ) (p : Position) → i < length bs → k ≡ length bs → a ≤ length (piece bs i)
-    → all_points (take i bs ++ (take a (piece bs i) ++ p ∷ []) ∷ []) ≡ replaced (all_points bs) p (offset bs i + a) (offset bs k + 0)
+    → all_points (take i bs ++ (take a (piece bs i) ++ p ∷ []) ∷ []) ≡ exchange (all_points bs) p (offset bs i + a) (offset bs k + 0)
 joined_to_end bs i k a p h e ha =
     joined_append (take i bs) ((take a (piece bs i) ++ p ∷ []) ∷ [])
     ∙ regroup (all_points (take i bs)) (take a (piece bs i)) p

@@ -338,7 +338,7 @@ free_between bs free i c h room below above =
     ]
 
 -- ---- halves of a full piece
--- index `at` of piece j of M is index `index` of piece i of bs, and piece j has room
+-- what stands at `index` in piece i of bs stands at `at` in piece j of M, which has room
 pub record IsHalf (bs M : List (List Position)) (i index j at : ℕ) : Type 0 where
   pub piece_is : j < length M
   pub within : at ≤ length (piece M j)

@@ -1,5 +1,5 @@
 -- A list of points that is kept in pieces.
-use Rattle.std.specs.Prelude.{ℕ, ◌+◌, ◌*◌, ◌/◌, ◌^◌, ◌<◌, ◌≤◌, ◌⊎◌, max, min, List, [], ◌∷◌, ◌++◌, length, take, drop, slice_index_or}
+use Rattle.std.specs.Prelude.{ℕ, ◌+◌, ◌*◌, ◌/◌, ◌<◌, ◌≤◌, ◌⊎◌, max, min, List, [], ◌∷◌, ◌++◌, length, take, drop, slice_index_or}
 use Rattle.std.specs.List.{flat_map}
 use Rattle.range_plane.specs.Plane.{Position}
 use Rattle.range_pieces.specs.declared.piece.TheConstants.{PIECE_SIZE}
@@ -22,8 +22,8 @@ abbrev pub offset : List (List Position) → ℕ → ℕ
 offset bs i = length (all_points (take i bs))
 
 -- L with p in place of the points from `from` up to `to`
-abbrev pub replaced : List Position → Position → ℕ → ℕ → List Position
-replaced L p from to = take from L ++ p ∷ drop to L
+abbrev pub exchange : List Position → Position → ℕ → ℕ → List Position
+exchange L p from to = take from L ++ p ∷ drop to L
 
 -- pieces hold at least one point, and at most piece_size; neighbours hold more than piece_size together, save for those at indices from lo up to hi
 pub record IsCut (bs : List (List Position)) (lo hi : ℕ) : Type 0 where

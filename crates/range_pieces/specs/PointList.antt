@@ -1,4 +1,4 @@
--- What contracts see of a list of points, and the indices in it.
+-- What contracts see of a list of points, and of positions in it.
 use Rattle.std.specs.Prelude.{ℕ, ◌+◌, ◌<◌, ◌≤◌, ◌≤ℤ◌, ◌<ℤ◌, ◌≡◌, List, length}
 use Rattle.range_plane.specs.Edges.{at}
 use Rattle.range_plane.specs.Order.{rank}
@@ -17,7 +17,7 @@ pub record Content : Type 0 where
 abbrev pub points_in : Content → List Position
 points_in list = all_points list.pieces
 
--- how many points stand before the cursor
+-- the index of the point after the cursor: how many points stand before it
 abbrev pub index : List (List Position) → Cursor → ℕ
 index bs c = offset bs c.piece + c.within
 

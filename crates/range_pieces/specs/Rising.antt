@@ -9,7 +9,7 @@ use Rattle.range_pieces.specs.Pieces.{piece}
 abbrev pub Rises : (ℕ → Position) → ℕ → Type 0
 Rises point n = (i j : ℕ) → i < j → j < n → rank (point i) <ℤ rank (point j)
 
--- p comes after point `low`, unless that is the first, and not after the one `size` indices on, if there is one
+-- p comes after point `low`, unless that is the first, and not after the one `size` further on, if there is one
 pub record IsBetween (point : ℕ → Position) (n : ℕ) (p : Position) (low size : ℕ) : Type 0 where
   pub some : 0 < size
   pub within : low + size ≤ n

@@ -1,7 +1,7 @@
 // What a point changes in pieces: it opens, splits and joins them.
 
 ghost use Rattle.std.specs.Prelude.{◌≡◌, ◌⊎◌, ◌+◌, ◌<◌, ◌≤◌, ◌∷◌, ◌++◌, length, take, drop};
-ghost use Rattle.range_pieces.specs.Pieces.{IsCut, piece, capacity_of, all_points, most_pieces, offset, replaced};
+ghost use Rattle.range_pieces.specs.Pieces.{IsCut, piece, capacity_of, all_points, most_pieces, offset, exchange};
 ghost use Rattle.range_pieces.specs.PointList.{Stands, index};
 
 use crate::cursor::Cursor;
@@ -13,7 +13,7 @@ use std::alloc::Allocator;
 // Where a full piece is cut in two.
 const HALF: usize = PIECE_SIZE / 2;
 
-// Joins neighbours at indices from `lo` up to `hi` that fit into one piece.
+// Joins neighbours that fit into one piece, among the pieces from `lo` up to `hi`.
 pub(crate) fn join_small<A: Allocator>(shelf: &mut Shelf<A>, lo: usize, hi: usize)
     requires { IsCut shelf.old.pieces lo hi }
     ensures points { all_points shelf.new.pieces ≡ all_points shelf.old.pieces }
@@ -37,7 +37,7 @@ pub(crate) fn insert_between<A: Allocator>(shelf: &mut Shelf<A>, i: usize, p: Po
     requires room { length (all_points shelf.old.pieces)
         < capacity_of (length shelf.old.pieces + shelf.old.free) }
     ensures points { all_points shelf.new.pieces
-        ≡ replaced (all_points shelf.old.pieces) p (offset shelf.old.pieces i)
+        ≡ exchange (all_points shelf.old.pieces) p (offset shelf.old.pieces i)
         (offset shelf.old.pieces i) }
     ensures cut { IsCut shelf.new.pieces 0 0 }
     ensures total { length shelf.new.pieces + shelf.new.free ≡ length shelf.old.pieces
@@ -57,7 +57,7 @@ pub(crate) fn insert_between<A: Allocator>(shelf: &mut Shelf<A>, i: usize, p: Po
     shelf.open(i, p);
 }
 
-// Where index `index` of piece `i` is once that is cut in two.
+// The half in which `index` of piece `i` lies once that is cut in two, and the index there.
 fn in_halves(i: usize, index: usize) -> (usize, usize)
     requires { i ≤ most_pieces }
     ensures { ((result.0 ≡ i) × (result.1 ≡ index) × (index ≤ HALF))
@@ -79,7 +79,7 @@ pub(crate) fn insert_within<A: Allocator>(shelf: &mut Shelf<A>, i: usize, index:
         < capacity_of (length shelf.old.pieces + shelf.old.free) }
     requires few { length shelf.old.pieces ≤ most_pieces }
     ensures points { all_points shelf.new.pieces
-        ≡ replaced (all_points shelf.old.pieces) p (offset shelf.old.pieces i
+        ≡ exchange (all_points shelf.old.pieces) p (offset shelf.old.pieces i
         + index) (offset shelf.old.pieces i + index) }
     ensures cut { IsCut shelf.new.pieces 0 0 }
     ensures total { length shelf.new.pieces + shelf.new.free ≡ length shelf.old.pieces
@@ -109,7 +109,7 @@ pub(crate) fn replace_within<A: Allocator>(
     requires within { to ≤ length (piece shelf.old.pieces i) }
     requires few { length shelf.old.pieces ≤ most_pieces }
     ensures points { all_points shelf.new.pieces
-        ≡ replaced (all_points shelf.old.pieces) p (offset shelf.old.pieces i
+        ≡ exchange (all_points shelf.old.pieces) p (offset shelf.old.pieces i
         + from) (offset shelf.old.pieces i + to) }
     ensures cut { IsCut shelf.new.pieces 0 0 }
     ensures total { length shelf.new.pieces + shelf.new.free ≡ length shelf.old.pieces
@@ -137,7 +137,7 @@ pub(crate) fn replace_across<A: Allocator>(
     requires to { to < length (piece shelf.old.pieces k) }
     requires few { length shelf.old.pieces ≤ most_pieces }
     ensures points { all_points shelf.new.pieces
-        ≡ replaced (all_points shelf.old.pieces) p (offset shelf.old.pieces i
+        ≡ exchange (all_points shelf.old.pieces) p (offset shelf.old.pieces i
         + from) (offset shelf.old.pieces k + to) }
     ensures cut { IsCut shelf.new.pieces 0 0 }
     ensures total { length shelf.new.pieces + shelf.new.free ≡ length shelf.old.pieces
@@ -156,7 +156,7 @@ pub(crate) fn replace_rest<A: Allocator>(shelf: &mut Shelf<A>, i: usize, from: u
     requires from { from < length (piece shelf.old.pieces i) }
     requires few { length shelf.old.pieces ≤ most_pieces }
     ensures points { all_points shelf.new.pieces
-        ≡ replaced (all_points shelf.old.pieces) p (offset shelf.old.pieces i
+        ≡ exchange (all_points shelf.old.pieces) p (offset shelf.old.pieces i
         + from) (length (all_points shelf.old.pieces)) }
     ensures cut { IsCut shelf.new.pieces 0 0 }
     ensures total { length shelf.new.pieces + shelf.new.free ≡ length shelf.old.pieces
@@ -167,7 +167,7 @@ pub(crate) fn replace_rest<A: Allocator>(shelf: &mut Shelf<A>, i: usize, from: u
     join_small(shelf, i.saturating_sub(1), i + 2);
 }
 
-// Puts `p` in place of the points between two indices.
+// Puts `p` in place of the points between two positions.
 pub(crate) fn replace_between<A: Allocator>(
     shelf: &mut Shelf<A>,
     from: Cursor,
@@ -182,7 +182,7 @@ pub(crate) fn replace_between<A: Allocator>(
         < capacity_of (length shelf.old.pieces + shelf.old.free) }
     requires few { length shelf.old.pieces ≤ most_pieces }
     ensures points { all_points shelf.new.pieces
-        ≡ replaced (all_points shelf.old.pieces) p (index shelf.old.pieces from)
+        ≡ exchange (all_points shelf.old.pieces) p (index shelf.old.pieces from)
         (index shelf.old.pieces to) }
     ensures cut { IsCut shelf.new.pieces 0 0 }
     ensures total { length shelf.new.pieces + shelf.new.free ≡ length shelf.old.pieces

@@ -2,7 +2,7 @@
 
 ghost use Rattle.std.specs.Prelude.{◌≡◌, ◌+◌, ◌-◌, ◌<◌, ◌≤◌, [], ◌∷◌, ◌++◌, length, take, drop, IfOk};
 ghost use Rattle.range_plane.specs.Edges.{at};
-ghost use Rattle.range_pieces.specs.Pieces.{replaced};
+ghost use Rattle.range_pieces.specs.Pieces.{exchange};
 
 use range_plane::{OutOfMemory, Point};
 use std::alloc::Allocator;
@@ -83,7 +83,7 @@ impl<A: Allocator> Piece<A> {
     pub(crate) fn replace(&mut self, from: usize, to: usize, p: Point)
         requires order { from < to }
         requires within { to ≤ length self.old }
-        ensures { self.new ≡ replaced self.old p from to }
+        ensures { self.new ≡ exchange self.old p from to }
     {
         self.first = if from == 0 { p } else { self.first };
         self.points[from] = p;

@@ -3,7 +3,7 @@
 ghost use Rattle.std.specs.Bool.{OnFalse};
 ghost use Rattle.std.specs.Prelude.{◌≡◌, ◌↔◌, ◌+◌, ◌-◌, ◌*◌, ◌/◌, ◌<◌, ◌≤◌, [], length, max, IfOk, IsOk, IsTrue, OnOk};
 ghost use Rattle.range_plane.specs.Edges.{at};
-ghost use Rattle.range_pieces.specs.Pieces.{piece, all_points, offset, replaced};
+ghost use Rattle.range_pieces.specs.Pieces.{piece, all_points, offset, exchange};
 ghost use Rattle.range_pieces.specs.PointList.{FallsAt, IsRising, Stands, index, points_in};
 
 use crate::cursor::Cursor;
@@ -117,7 +117,7 @@ impl<A: Allocator> PointList<A> {
         self.shelf.points_of(i)
     }
 
-    /// The index before the first point.
+    /// The position before the first point.
     pub fn start(&self) -> Cursor
         ensures stands { Stands self.now.pieces result }
         ensures index { index self.now.pieces result ≡ 0 }
@@ -129,7 +129,7 @@ impl<A: Allocator> PointList<A> {
         }
     }
 
-    /// The index after the last point.
+    /// The position after the last point.
     pub fn end(&self) -> Cursor
         ensures stands { Stands self.now.pieces result }
         ensures index { index self.now.pieces result ≡ length (points_in self.now) }
@@ -140,7 +140,7 @@ impl<A: Allocator> PointList<A> {
         }
     }
 
-    /// The index before index `within` of piece `i`.
+    /// The position behind the first `within` points of piece `i`.
     pub fn cursor_in(&self, i: usize, within: usize) -> Cursor
         requires piece { i < length self.now.pieces }
         requires within { within ≤ length (piece self.now.pieces i) }
@@ -195,7 +195,7 @@ impl<A: Allocator> PointList<A> {
         self.shelf.points_of(c.piece)[c.within]
     }
 
-    /// The index one point on.
+    /// The position one point on.
     pub fn next(&self, c: Cursor) -> Cursor
         requires stands { Stands self.now.pieces c }
         requires within { index self.now.pieces c < length (points_in self.now) }
@@ -216,7 +216,7 @@ impl<A: Allocator> PointList<A> {
         }
     }
 
-    /// The index one point back.
+    /// The position one point back.
     pub fn previous(&self, c: Cursor) -> Cursor
         requires stands { Stands self.now.pieces c }
         requires within { 0 < index self.now.pieces c }
@@ -238,7 +238,7 @@ impl<A: Allocator> PointList<A> {
         }
     }
 
-    /// The index at which `p` falls: the points before it come before `p`, and no others.
+    /// The position at which `p` falls: the points before it come before `p`, and no others.
     pub fn find(&self, p: Point) -> Cursor
         requires { IsRising (points_in self.now) }
         ensures stands { Stands self.now.pieces result }
@@ -259,7 +259,7 @@ impl<A: Allocator> PointList<A> {
         requires order { index self.old.pieces from ≤ index self.old.pieces to }
         requires room { 0 < self.old.spare }
         ensures points { points_in self.new
-            ≡ replaced (points_in self.old) p (index self.old.pieces from)
+            ≡ exchange (points_in self.old) p (index self.old.pieces from)
             (index self.old.pieces to) }
         ensures spare { self.old.spare ≤ self.new.spare + 1 }
         ensures memory { self.new.held ≡ self.old.held }
@@ -270,7 +270,7 @@ impl<A: Allocator> PointList<A> {
     }
 }
 
-// How many points there are between two indices.
+// How many points there are between two positions.
 fn run_len<A: Allocator>(shelf: &Shelf<A>, from: Cursor, to: Cursor) -> usize
     requires from { Stands shelf.now.pieces from }
     requires to { Stands shelf.now.pieces to }

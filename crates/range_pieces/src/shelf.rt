@@ -2,7 +2,7 @@
 
 ghost use Rattle.std.specs.Prelude.{◌≡◌, ◌+◌, ◌-◌, ◌<◌, ◌≤◌, [], ◌∷◌, ◌++◌, length, take, drop, slice_set, IsOk, OnOk};
 ghost use Rattle.range_plane.specs.Edges.{at};
-ghost use Rattle.range_pieces.specs.Pieces.{piece, replaced};
+ghost use Rattle.range_pieces.specs.Pieces.{piece, exchange};
 
 use crate::piece::{PIECE_SIZE, Piece};
 use range_plane::{OutOfMemory, Point};
@@ -180,7 +180,7 @@ impl<A: Allocator> Shelf<A> {
         requires room { length (piece self.old.pieces i) < PIECE_SIZE }
         ensures { self.new ≡ record self.old {
           pieces = slice_set self.old.pieces i
-              (replaced (piece self.old.pieces i) p index index);
+              (exchange (piece self.old.pieces i) p index index);
         } }
     {
         self.pieces[i].insert(index, p);
@@ -193,7 +193,7 @@ impl<A: Allocator> Shelf<A> {
         requires within { to ≤ length (piece self.old.pieces i) }
         ensures { self.new ≡ record self.old {
           pieces = slice_set self.old.pieces i
-              (replaced (piece self.old.pieces i) p from to);
+              (exchange (piece self.old.pieces i) p from to);
         } }
     {
         self.pieces[i].replace(from, to, p);

@@ -1,4 +1,4 @@
--- The edges of a polygon by their first indices, those that a point falls between, and the corner that comes last in order.
+-- The edges of a polygon by the indices of their first corners, those that a point falls between, and the corner that comes last in order.
 use Rattle.std.specs.Prelude.{ℕ, ◌+◌, ◌-◌, ◌<◌, pos, ◌<ℤ◌, List, length, slice_index_or, Contains}
 use Rattle.range_plane.specs.Plane.{Position, origin, turn, IsAtMost, IsBefore}
 

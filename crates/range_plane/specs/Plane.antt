@@ -1,7 +1,7 @@
 -- Positions on the plane: their limits, their order, and how three of them turn.
 use Rattle.std.specs.Prelude.{ℕ, ◌+◌, ◌*◌, ℤ, pos, ◌-ℤ◌, ◌*ℤ◌, ◌≤ℤ◌, ◌<ℤ◌, ◌≡◌, ◌≢◌, ◌⊎◌}
 
--- an index on the plane, with no limits: its easting and its northing
+-- a position on the plane, with no limits: its easting and its northing
 pub record Position : Type 0 where
   pub e : ℤ
   pub n : ℤ

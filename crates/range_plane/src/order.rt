@@ -10,8 +10,8 @@ use crate::point::{COORDINATE_LIMIT, Point};
 // What one step of easting counts for in a rank: more than any northing.
 const RANK_BASE: i64 = 2 * COORDINATE_LIMIT;
 
-/// The index of `p` in the order by easting, then by northing, as a number: points in rising order of it
-/// stand in that order, and no two points have one rank.
+/// The rank of `p` in the order by easting, then by northing: points whose ranks rise stand in that order, and no
+/// two points have one rank.
 pub fn rank(p: Point) -> i64
     ensures value { result ≡ rank p }
     ensures not_negative { pos 0 ≤ℤ result }

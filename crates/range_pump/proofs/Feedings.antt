@@ -12,9 +12,9 @@ use Rattle.range_fixes.specs.Progress.{Progress, Reads, is_of_text}
 use Rattle.range_fixes.specs.Reading.{Reading}
 use Rattle.range_line.specs.declared.message.Message.{Message}
 use Rattle.range_line.specs.Lines.{FeederView, after_send}
-use Rattle.range_line.specs.Messages.{block_count, block_of, blocks, fixes_in, joined, message, the_mark}
+use Rattle.range_line.specs.Messages.{block_count, block_of, blocks, fixes_in, all_fixes, message, the_mark}
 use Rattle.range_pump.specs.Feeding.{EndsAfter, GivesNext, IsFed, after_block}
-use Rattle.range_pump.specs.Pump.{IsPumped, IsReadAs, Read}
+use Rattle.range_pump.specs.Pump.{IsPumped, IsReadAs, ReadResult}
 use Rattle.range_pump.proofs.BlockCuts.{blocks_of_longer, count_of_full, count_of_more, last_block}
 
 -- the fixes are the first that the reader gave
@@ -28,10 +28,10 @@ pub record IsUnderWay (source : Option Reading) (size : ℕ) (before : FeederVie
   pub file : f.file ≡ before.file
   pub unmarked : f.closed ≡ false
   pub live : f.ended ≡ false
-  pub counted : p.count ≡ length (joined f.sent)
-  pub full : length (joined f.sent) ≡ count * size
-  pub sent : f.sent ≡ blocks f.file (joined f.sent) size count
-  pub told : IfSome source (GaveFirst p (joined f.sent))
+  pub counted : p.count ≡ length (all_fixes f.sent)
+  pub full : length (all_fixes f.sent) ≡ count * size
+  pub sent : f.sent ≡ blocks f.file (all_fixes f.sent) size count
+  pub told : IfSome source (GaveFirst p (all_fixes f.sent))
 
 -- and then the reader gave the fixes of a block more
 pub record HasRead (source : Option Reading) (size : ℕ) (before : FeederView) (p : Progress) (f : FeederView) (count : ℕ) (fixes : List Fix)
@@ -43,31 +43,31 @@ pub record HasRead (source : Option Reading) (size : ℕ) (before : FeederView) 
 
 -- the feeder g is f once the fixes were sent as the last block
 record IsCut (f : FeederView) (size : ℕ) (g : FeederView) (fixes : List Fix) : Type 0 where
-  whole : joined g.sent ≡ joined f.sent ++ fixes
-  sent : g.sent ≡ blocks f.file (joined f.sent ++ fixes) size (block_count (joined f.sent ++ fixes) size)
+  whole : all_fixes g.sent ≡ all_fixes f.sent ++ fixes
+  sent : g.sent ≡ blocks f.file (all_fixes f.sent ++ fixes) size (block_count (all_fixes f.sent ++ fixes) size)
   line : g.line ≡ f.line
   file : g.file ≡ f.file
   closed : g.closed ≡ f.closed
   ended : g.ended ≡ f.ended
 
-cut : (f : FeederView) (size count : ℕ) (fixes : List Fix) → 1 ≤ size → length (joined f.sent) ≡ count * size
-    → f.sent ≡ blocks f.file (joined f.sent) size count → length fixes ≤ size → IsCut f size (after_block f fixes) fixes
+cut : (f : FeederView) (size count : ℕ) (fixes : List Fix) → 1 ≤ size → length (all_fixes f.sent) ≡ count * size
+    → f.sent ≡ blocks f.file (all_fixes f.sent) size count → length fixes ≤ size → IsCut f size (after_block f fixes) fixes
 cut f size count [] some full sent small = record {
-  whole = sym (append-nil (joined f.sent));
-  sent = let same = append-nil (joined f.sent) in let all = count_of_full (joined f.sent) size count some full in
-      sent ∙ ap (λ n. blocks f.file (joined f.sent) size n) (sym all) ∙ ap (λ l. blocks f.file l size (block_count l size)) (sym same);
+  whole = sym (append-nil (all_fixes f.sent));
+  sent = let same = append-nil (all_fixes f.sent) in let all = count_of_full (all_fixes f.sent) size count some full in
+      sent ∙ ap (λ n. blocks f.file (all_fixes f.sent) size n) (sym all) ∙ ap (λ l. blocks f.file l size (block_count l size)) (sym same);
   line = refl;
   file = refl;
   closed = refl;
   ended = refl;
 }
 cut f size count (x ∷ xs) some full sent small =
-    let all = joined f.sent ++ x ∷ xs in
-    let m = message f.file (length (joined f.sent)) (block_of (x ∷ xs)) in
+    let all = all_fixes f.sent ++ x ∷ xs in
+    let m = message f.file (length (all_fixes f.sent)) (block_of (x ∷ xs)) in
     record {
-      whole = flat_map-append (λ (n : Message). fixes_in n.body) f.sent (m ∷ []) ∙ ap (λ l. joined f.sent ++ l) (append-nil (x ∷ xs));
-      sent = ap (λ l. l ++ m ∷ []) sent ∙ sym (last_block f.file (joined f.sent) (x ∷ xs) size count full small)
-          ∙ ap (λ n. blocks f.file all size n) (sym (count_of_more (joined f.sent) (x ∷ xs) size count full (omega arith) small));
+      whole = flat_map-append (λ (n : Message). fixes_in n.body) f.sent (m ∷ []) ∙ ap (λ l. all_fixes f.sent ++ l) (append-nil (x ∷ xs));
+      sent = ap (λ l. l ++ m ∷ []) sent ∙ sym (last_block f.file (all_fixes f.sent) (x ∷ xs) size count full small)
+          ∙ ap (λ n. blocks f.file all size n) (sym (count_of_more (all_fixes f.sent) (x ∷ xs) size count full (omega arith) small));
       line = refl;
       file = refl;
       closed = search rules;
@@ -78,7 +78,7 @@ cut f size count (x ∷ xs) some full sent small =
 pub way_none : (source : Option Reading) (size : ℕ) (f : FeederView) (p : Progress) → (f.closed ≡ false) × (f.ended ≡ false) × (f.sent ≡ []) → p.count ≡ 0
     → IfSome source (Reads p) → IsUnderWay source size f p f 0
 way_none source size f p new none reads =
-    let empty : joined f.sent ≡ [] = ap joined new.2 in
+    let empty : all_fixes f.sent ≡ [] = ap all_fixes new.2 in
     record {
       line = refl;
       file = refl;
@@ -90,16 +90,16 @@ way_none source size f p new none reads =
       told = told source reads;
     }
   where
-    told : (known : Option Reading) → IfSome known (Reads p) → IfSome known (GaveFirst p (joined f.sent))
+    told : (known : Option Reading) → IfSome known (Reads p) → IfSome known (GaveFirst p (all_fixes f.sent))
     told None reads = tt
-    told (Some r) reads = record { reads = reads; first = ap joined new.2 ∙ ap (λ n. take n r.fixes) (sym none) }
+    told (Some r) reads = record { reads = reads; first = ap all_fixes new.2 ∙ ap (λ n. take n r.fixes) (sym none) }
 
 -- all that was read is the first of the reading
 told_more : {source : Option Reading} {size : ℕ} {before : FeederView} {p : Progress} {f : FeederView} {count : ℕ} {fixes : List Fix} {q : Progress}
-    → HasRead source size before p f count fixes q → IfSome source (GaveFirst q (joined f.sent ++ fixes))
+    → HasRead source size before p f count fixes q → IfSome source (GaveFirst q (all_fixes f.sent ++ fixes))
 told_more {source} {size} {before} {p} {f} {count} {fixes} {q} read = told source read.way.told
   where
-    told : (known : Option Reading) → IfSome known (GaveFirst p (joined f.sent)) → IfSome known (GaveFirst q (joined f.sent ++ fixes))
+    told : (known : Option Reading) → IfSome known (GaveFirst p (all_fixes f.sent)) → IfSome known (GaveFirst q (all_fixes f.sent ++ fixes))
     told None so_far = tt
     told (Some r) so_far = record {
       reads = read.gives.reads r so_far.reads;
@@ -114,8 +114,8 @@ way_more {source} {size} {before} {p} {f} {count} {fixes} {q} g read full after 
     let way = read.way in
     let c = cut f size count fixes read.width way.full way.sent read.small in
     let width : (count + 1) * size ≡ count * size + size = omega (arith, suc-mul count size) in
-    let number = count_of_more (joined f.sent) fixes size count way.full (omega (arith, read.width)) read.small in
-    let long = length-append (joined f.sent) fixes in
+    let number = count_of_more (all_fixes f.sent) fixes size count way.full (omega (arith, read.width)) read.small in
+    let long = length-append (all_fixes f.sent) fixes in
     subst (λ (v : FeederView). IsUnderWay source size before q v (count + 1)) (sym after)
     record {
       line = c.line ∙ way.line;
@@ -142,8 +142,8 @@ pub fed_gone : {source : Option Reading} {size : ℕ} {before : FeederView} {p :
     → HasRead source size before p f count fixes q → 1 ≤ length fixes → g ≡ f → IsFed source size before g (Err Gone)
 fed_gone {source} {size} {before} {p} {f} {count} {fixes} {q} g read some same =
     let way = read.way in
-    let all = joined f.sent ++ fixes in
-    let number = count_of_more (joined f.sent) fixes size count way.full some read.small in
+    let all = all_fixes f.sent ++ fixes in
+    let number = count_of_more (all_fixes f.sent) fixes size count way.full some read.small in
     subst (λ (v : FeederView). IsFed source size before v (Err Gone)) (sym same)
     record {
       pumped = record {
@@ -155,7 +155,7 @@ fed_gone {source} {size} {before} {p} {f} {count} {fixes} {q} g read some same =
           sent = record {
             closed = λ e. absurd (cc);
             unmarked = λ e own. absurd (own refl);
-            gone = λ e. (count, omega (arith, number), way.sent ∙ sym (blocks_of_longer f.file (joined f.sent) fixes size count (omega (arith, way.full))));
+            gone = λ e. (count, omega (arith, number), way.sent ∙ sym (blocks_of_longer f.file (all_fixes f.sent) fixes size count (omega (arith, way.full))));
           };
           some = λ e. cc;
           told = told source (told_more read);
@@ -165,19 +165,19 @@ fed_gone {source} {size} {before} {p} {f} {count} {fixes} {q} g read some same =
       whole = λ own. absurd (own refl);
     }
   where
-    told : (known : Option Reading) → IfSome known (GaveFirst q (joined f.sent ++ fixes)) → IfSome known (λ r. IsReadAs r (joined f.sent ++ fixes) (Err Gone))
+    told : (known : Option Reading) → IfSome known (GaveFirst q (all_fixes f.sent ++ fixes)) → IfSome known (λ r. IsReadAs r (all_fixes f.sent ++ fixes) (Err Gone))
     told None gave = tt
-    told (Some r) gave = record { prefix = is_prefix q (joined f.sent ++ fixes) r gave; name = λ name e. cc; fault = λ fault e text. cc }
+    told (Some r) gave = record { prefix = is_prefix q (all_fixes f.sent ++ fixes) r gave; name = λ name e. cc; fault = λ fault e text. cc }
 
 -- all blocks are sent, whatever ended them
 fed : {source : Option Reading} {size : ℕ} {before : FeederView} {p : Progress} {f : FeederView} {count : ℕ} {fixes : List Fix} {q : Progress} (g : FeederView)
-    (said : Read)
+    (said : ReadResult)
     → HasRead source size before p f count fixes q → g ≡ after_block f fixes → said ≢ Err Gone → (IsOk said → 0 < q.count)
-    → ((r : Reading) → Reads p r → GaveFirst q (joined f.sent ++ fixes) r → IsReadAs r (joined f.sent ++ fixes) said) → IsFed source size before g said
+    → ((r : Reading) → Reads p r → GaveFirst q (all_fixes f.sent ++ fixes) r → IsReadAs r (all_fixes f.sent ++ fixes) said) → IsFed source size before g said
 fed {source} {size} {before} {p} {f} {count} {fixes} {q} g said read after own given as_read =
     let way = read.way in
     let c = cut f size count fixes read.width way.full way.sent read.small in
-    let all = joined f.sent ++ fixes in
+    let all = all_fixes f.sent ++ fixes in
     subst (λ (v : FeederView). IsFed source size before v said) (sym after)
     record {
       pumped = record {
@@ -191,7 +191,7 @@ fed {source} {size} {before} {p} {f} {count} {fixes} {q} g said read after own g
             unmarked = λ e o. c.sent ∙ ap (λ n. blocks n all size (block_count all size)) (sym c.file);
             gone = λ e. absurd (own e);
           };
-          some = λ ok. omega (arith, given ok, read.gives.count, way.counted, length-append (joined f.sent) fixes);
+          some = λ ok. omega (arith, given ok, read.gives.count, way.counted, length-append (all_fixes f.sent) fixes);
           told = told source way.told (told_more read);
         };
       };
@@ -199,8 +199,8 @@ fed {source} {size} {before} {p} {f} {count} {fixes} {q} g said read after own g
       whole = λ o. c.whole;
     }
   where
-    told : (known : Option Reading) → IfSome known (GaveFirst p (joined f.sent)) → IfSome known (GaveFirst q (joined f.sent ++ fixes))
-        → IfSome known (λ r. IsReadAs r (joined f.sent ++ fixes) said)
+    told : (known : Option Reading) → IfSome known (GaveFirst p (all_fixes f.sent)) → IfSome known (GaveFirst q (all_fixes f.sent ++ fixes))
+        → IfSome known (λ r. IsReadAs r (all_fixes f.sent ++ fixes) said)
     told None before_it gave = tt
     told (Some r) before_it gave = as_read r before_it.reads gave
 
@@ -212,17 +212,17 @@ pub fed_fault : {source : Option Reading} {size : ℕ} {before : FeederView} {p 
 fed_fault {source} {size} {before} {p} {f} {count} {fixes} {q} g fault read after own ends =
     fed g (Err fault) read after (λ e. own (cc)) (λ ok. cc) (λ r reads gave.
     record {
-      prefix = is_prefix q (joined f.sent ++ fixes) r gave;
+      prefix = is_prefix q (all_fixes f.sent ++ fixes) r gave;
       name = λ name e. cc;
       fault = λ other e text.
           let same : fault ≡ other = cc in
           let end = ends (subst (λ (x : ReadFault). is_of_text x ≡ true) (sym same) text) r reads in
-          (all_first q (joined f.sent ++ fixes) r gave end.0, end.1 ∙ ap (λ x. Some x) same);
+          (all_first q (all_fixes f.sent ++ fixes) r gave end.0, end.1 ∙ ap (λ x. Some x) same);
     })
 
 -- the reader's end, with the name, or that memory ran out for it
 pub fed_end : {source : Option Reading} {size : ℕ} {before : FeederView} {p : Progress} {f : FeederView} {count : ℕ} {fixes : List Fix} {q : Progress}
-    (g : FeederView) (said : Read)
+    (g : FeederView) (said : ReadResult)
     → HasRead source size before p f count fixes q → g ≡ after_block f fixes → 0 < q.count → EndsAfter p q.count None
     → IfOk said (λ name. q.animal ≡ Some name) → IfErr said (λ fault. fault ≡ OutOfMemory) → IsFed source size before g said
 fed_end {source} {size} {before} {p} {f} {count} {fixes} {q} g (Ok name) read after given ends named refused =
@@ -231,14 +231,14 @@ fed_end {source} {size} {before} {p} {f} {count} {fixes} {q} g (Ok name) read af
     let animal = rw later at gave.reads.animal in
     let end = ends r reads in
     record {
-      prefix = is_prefix q (joined f.sent ++ fixes) r gave;
-      name = λ other e. (sym animal ∙ named ∙ cc, all_first q (joined f.sent ++ fixes) r gave end.0, end.1);
+      prefix = is_prefix q (all_fixes f.sent ++ fixes) r gave;
+      name = λ other e. (sym animal ∙ named ∙ cc, all_first q (all_fixes f.sent ++ fixes) r gave end.0, end.1);
       fault = λ fault e text. cc;
     })
 fed_end g (Err fault) read after given ends named refused = fed_fault g fault read after (λ e. cc) (λ text. absurd (cc (ap is_of_text refused)))
 
 -- the mark, where all blocks were sent
-closed : (source : Option Reading) (size : ℕ) (before f : FeederView) (read : Read) → IsFed source size before f read → read ≢ Err Gone
+closed : (source : Option Reading) (size : ℕ) (before f : FeederView) (read : ReadResult) → IsFed source size before f read → read ≢ Err Gone
     → IsPumped source size before (after_send f the_mark) read
 closed source size before f read fed own =
     let p = fed.pumped in
@@ -260,7 +260,7 @@ closed source size before f read fed own =
     }
 
 -- a file is pumped once the mark was offered, whether it was sent or not
-pub pumped : (source : Option Reading) (size : ℕ) (before f g : FeederView) (read : Read) (sent : Bool) → IsFed source size before f read → read ≢ Err Gone
+pub pumped : (source : Option Reading) (size : ℕ) (before f g : FeederView) (read : ReadResult) (sent : Bool) → IsFed source size before f read → read ≢ Err Gone
     → MatchBool sent (g ≡ after_send f the_mark) (g ≡ f) → IsPumped source size before g read
 pumped source size before f g read true fed own is = subst (λ (v : FeederView). IsPumped source size before v read) (sym is)
     (closed source size before f read fed own)

@@ -6,8 +6,8 @@ use Rattle.range_fixes.specs.declared.fault.ReadFault.TheVariants.{Gone}
 use Rattle.range_fixes.specs.Progress.{Progress, Reads}
 use Rattle.range_fixes.specs.Reading.{Reading}
 use Rattle.range_line.specs.Lines.{FeederView, after_send}
-use Rattle.range_line.specs.Messages.{block_of, joined}
-use Rattle.range_pump.specs.Pump.{IsPumped, Read}
+use Rattle.range_line.specs.Messages.{block_of, all_fixes}
+use Rattle.range_pump.specs.Pump.{IsPumped, ReadResult}
 
 -- the reader gave these fixes, which are the next of each reading that it goes through
 pub record GivesNext (old : Progress) (fixes : List Fix) (new : Progress) : Type 0 where
@@ -25,7 +25,7 @@ after_block f [] = f
 after_block f (fix ∷ fixes) = after_send f (block_of (fix ∷ fixes))
 
 -- a feeder that was not given the mark yet, and what is said of its file; its blocks joined are the fixes, but for a block that was handed back
-pub record IsFed (source : Option Reading) (size : ℕ) (before after : FeederView) (read : Read) : Type 0 where
+pub record IsFed (source : Option Reading) (size : ℕ) (before after : FeederView) (read : ReadResult) : Type 0 where
   pub pumped : IsPumped source size before after read
   pub unmarked : after.closed ≡ false
-  pub whole : read ≢ Err Gone → joined after.sent ≡ pumped.pumped.fixes
+  pub whole : read ≢ Err Gone → all_fixes after.sent ≡ pumped.pumped.fixes

@@ -10,24 +10,24 @@ use Rattle.range_line.specs.Lines.{FeederView}
 use Rattle.range_line.specs.Messages.{blocks, block_count, stream}
 
 -- what a pump says of its file: the animal's name, or the first fault
-abbrev pub Read : Type 0
-Read = Result (List ℕ) ReadFault
+abbrev pub ReadResult : Type 0
+ReadResult = Result (List ℕ) ReadFault
 
 -- what was sent of these fixes in blocks of this size: all of their stream where the feeder is closed, all but the mark where only the mark was handed back,
 -- and the blocks before the one that was handed back
-pub record IsSent (feeder : FeederView) (fixes : List Fix) (size : ℕ) (read : Read) : Type 0 where
+pub record IsSent (feeder : FeederView) (fixes : List Fix) (size : ℕ) (read : ReadResult) : Type 0 where
   pub closed : feeder.closed ≡ true → (feeder.sent ≡ stream feeder.file fixes size) × (read ≢ Err Gone)
   pub unmarked : feeder.closed ≡ false → read ≢ Err Gone → feeder.sent ≡ blocks feeder.file fixes size (block_count fixes size)
   pub gone : read ≡ Err Gone → (count : ℕ) × (count < block_count fixes size) × (feeder.sent ≡ blocks feeder.file fixes size count)
 
 -- the fixes are the first of the reading; all of them, with its animal, where it goes to the end of the file, and all of them where its fault ends it
-pub record IsReadAs (r : Reading) (fixes : List Fix) (read : Read) : Type 0 where
+pub record IsReadAs (r : Reading) (fixes : List Fix) (read : ReadResult) : Type 0 where
   pub prefix : IsPrefix fixes r.fixes
   pub name : (name : List ℕ) → read ≡ Ok name → (r.animal ≡ Some name) × (r.fixes ≡ fixes) × (r.fault ≡ None)
   pub fault : (fault : ReadFault) → read ≡ Err fault → is_of_text fault ≡ true → (r.fixes ≡ fixes) × (r.fault ≡ Some fault)
 
 -- a feeder and what is said of its file, of which this is the reading where its source tells its bytes
-pub record IsPumpedFrom (source : Option Reading) (size : ℕ) (feeder : FeederView) (read : Read) : Type 0 where
+pub record IsPumpedFrom (source : Option Reading) (size : ℕ) (feeder : FeederView) (read : ReadResult) : Type 0 where
   -- the fixes that were read, of which the last may not have been sent
   pub fixes : List Fix
   pub sent : IsSent feeder fixes size read
@@ -35,7 +35,7 @@ pub record IsPumpedFrom (source : Option Reading) (size : ℕ) (feeder : FeederV
   pub told : IfSome source (λ r. IsReadAs r fixes read)
 
 -- the same of a feeder that comes back with its line and file, of a line that has not ended
-pub record IsPumped (source : Option Reading) (size : ℕ) (before after : FeederView) (read : Read) : Type 0 where
+pub record IsPumped (source : Option Reading) (size : ℕ) (before after : FeederView) (read : ReadResult) : Type 0 where
   pub line : after.line ≡ before.line
   pub file : after.file ≡ before.file
   pub live : after.ended ≡ false

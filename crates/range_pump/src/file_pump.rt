@@ -6,7 +6,7 @@ ghost use Rattle.range_options.specs.Limits.{block_limit};
 ghost use Rattle.range_fixes.specs.declared.reader.Stage.TheVariants.{Failed};
 ghost use Rattle.range_fixes.specs.Progress.{Reads};
 ghost use Rattle.range_fixes.specs.Reading.{Reading, reading_from};
-ghost use Rattle.range_line.specs.Messages.{joined};
+ghost use Rattle.range_line.specs.Messages.{all_fixes};
 ghost use Rattle.range_pump.specs.Feeding.{after_block, IsFed};
 ghost use Rattle.range_pump.specs.Pump.{IsPumped};
 
@@ -48,7 +48,7 @@ fn send_block<R: Wait, A: Allocator + Clone, G: Gate>(
 ) -> Result<(), ReadFault>
     requires live { (feeder.old.closed ≡ false) × (feeder.old.ended ≡ false) }
     requires size { length fixes.items ≤ block_limit }
-    requires room { length (joined feeder.old.sent) + length fixes.items ≤ fix_limit }
+    requires room { length (all_fixes feeder.old.sent) + length fixes.items ≤ fix_limit }
     ensures line { (feeder.new.line ≡ feeder.old.line) × (feeder.new.file ≡ feeder.old.file)
         × (feeder.new.ended ≡ false) }
     ensures sent { OnOk result (feeder.new ≡ after_block feeder.old fixes.items) }

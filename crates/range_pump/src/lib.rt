@@ -2,8 +2,10 @@
 #![tactic(auto)]
 
 mod block;
+mod bounds;
 mod file_pump;
 mod gate;
 
+pub use bounds::{FileSource, ThreadAllocator, ThreadRuntime};
 pub use file_pump::{Pumped, pump};
 pub use gate::{FreeGate, Gate};

@@ -3,8 +3,8 @@ use Rattle.std.proofs.Common.{◌≡◌, ℕ, zero, suc, ◌+◌, ◌-◌, ◌*�
 use Rattle.std.proofs.lemmas.List.{append-nil, drop_min, take_all, take_min, take_rest}
 use Rattle.std.proofs.lemmas.Grind.{flat_map-append}
 use Rattle.std.specs.List.{flat_map, range_with_len}
-use Rattle.range_report.specs.Parts.{numbered_from, part_count, part_lines}
-use Rattle.range_report.specs.Report.{lines_from, numbered}
+use Rattle.range_report.specs.Parts.{numbered_lines_from, part_count, part_lines}
+use Rattle.range_report.specs.Report.{lines_from, numbered_lines}
 
 -- the text of one number more
 texts_more : {A : Type 0} (text : ℕ → List A) (a n j : ℕ) → a + n ≡ j → flat_map text (range_with_len a (suc n)) ≡ flat_map text (range_with_len a n) ++ text j
@@ -38,7 +38,7 @@ pub four_texts : {P A : Type 0} (text : P → List A) (p0 p1 p2 p3 p4 : List P) 
 four_texts text p0 p1 p2 p3 p4 first last b b′ c c′ one two of_two three of_three four =
     rw (last_text text p3 p4 last four, three, of_three, two, of_two, last_text text p0 p1 first one) (simp append_assoc)
 
--- the members from a place on, part_lines of them at most, by places that lie within the list
+-- the members from an index on, part_lines of them at most, by indices that lie within the list
 pub members_from : {A : Type 0} (xs : List A) (from a b : ℕ) → a ≡ min from (length xs) → b ≡ min part_lines (length (take (length xs - a) (drop a xs)))
     → take b (take (length xs - a) (drop a xs)) ≡ take part_lines (drop from xs)
 members_from xs from a b e f =
@@ -64,14 +64,14 @@ module _ {A : Type 0} (line : ℕ → A → List ℕ) where
       ∙ ap (λ l. line number x ++ l) (lines_cut (number + 1) m s xs) ∙ ap (λ k. lines_from line number (take k (x ∷ xs))) sum
 
   -- the first n parts
-  parts_so_far : (n : ℕ) (xs : List A) → flat_map (λ i. numbered_from line (i * part_lines) xs) (range_with_len 0 n) ≡ numbered line (take (n * part_lines) xs)
+  parts_so_far : (n : ℕ) (xs : List A) → flat_map (λ i. numbered_lines_from line (i * part_lines) xs) (range_with_len 0 n) ≡ numbered_lines line (take (n * part_lines) xs)
   parts_so_far zero xs = refl
   parts_so_far (suc n) xs =
       let sum : n * part_lines + part_lines ≡ suc n * part_lines = omega arith in
-      texts_more (λ i. numbered_from line (i * part_lines) xs) 0 n n (omega arith)
-      ∙ ap (λ l. l ++ numbered_from line (n * part_lines) xs) (parts_so_far n xs) ∙ lines_cut 1 (n * part_lines) part_lines xs
-      ∙ ap (λ k. numbered line (take k xs)) sum
+      texts_more (λ i. numbered_lines_from line (i * part_lines) xs) 0 n n (omega arith)
+      ∙ ap (λ l. l ++ numbered_lines_from line (n * part_lines) xs) (parts_so_far n xs) ∙ lines_cut 1 (n * part_lines) part_lines xs
+      ∙ ap (λ k. numbered_lines line (take k xs)) sum
 
   -- all parts
-  pub numbered_cut : (xs : List A) → flat_map (λ i. numbered_from line (i * part_lines) xs) (range_with_len 0 (part_count (length xs))) ≡ numbered line xs
-  numbered_cut xs = parts_so_far (part_count (length xs)) xs ∙ ap (numbered line) (take_all (part_count (length xs) * part_lines) xs (omega arith))
+  pub numbered_cut : (xs : List A) → flat_map (λ i. numbered_lines_from line (i * part_lines) xs) (range_with_len 0 (part_count (length xs))) ≡ numbered_lines line xs
+  numbered_cut xs = parts_so_far (part_count (length xs)) xs ∙ ap (numbered_lines line) (take_all (part_count (length xs) * part_lines) xs (omega arith))

@@ -37,8 +37,8 @@ together xs ys a c = simp append_assoc
 set_last_but_one : {A : Type 0} (xs ys : List A) (a b c : A) (i : ℕ) → i ≡ length (xs ++ (ys ++ a ∷ []) ++ c ∷ []) - 2
     → set (xs ++ (ys ++ a ∷ []) ++ c ∷ []) i b ≡ xs ++ (ys ++ b ∷ []) ++ c ∷ []
 set_last_but_one xs ys a b c i last =
-    let place : i ≡ length (xs ++ ys) = omega (arith, last, ap length (together xs ys a c), length-append (xs ++ ys) (a ∷ c ∷ [])) in
-    rw (together xs ys a c, together xs ys b c, place) (set-append_seam (xs ++ ys) a (c ∷ []) b)
+    let index : i ≡ length (xs ++ ys) = omega (arith, last, ap length (together xs ys a c), length-append (xs ++ ys) (a ∷ c ∷ [])) in
+    rw (together xs ys a c, together xs ys b c, index) (set-append_seam (xs ++ ys) a (c ∷ []) b)
 
 -- the number between a head and a comma, from the one before by the last digit
 pub next_number : (head start : List ℕ) (n i : ℕ) → n < 2 ^ 64 → n % 10 ≢ 0 → i ≡ length start - 2 → start ≡ head ++ decimal (n - 1) ++ codes ","

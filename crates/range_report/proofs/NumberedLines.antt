@@ -14,7 +14,7 @@ lines_push line number (y ∷ ys) x =
     let rest = lines_push line (number + 1) ys x ∙ ap (λ n. lines_from line (number + 1) ys ++ line n x) later in
     ap (λ l. line number y ++ l) rest ∙ sym (append_assoc (line number y) (lines_from line (number + 1) ys) (line (suc (length ys) + number) x))
 
--- a line more behind the lines of the members so far, of which the first has this place
+-- a line more behind the lines of the members so far, of which the first stands at this index
 pub lines_more : {A : Type 0} (line : ℕ → A → List ℕ) (start before after : List ℕ) (xs : List A) (from i : ℕ) (x d : A) → i < length xs → x ≡ get_or xs i d
     → before ≡ start ++ lines_from line (from + 1) (take i xs) → after ≡ before ++ line (from + i + 1) x
     → after ≡ start ++ lines_from line (from + 1) (take (i + 1) xs)

@@ -17,15 +17,15 @@ part_lines = PART_LINES
 abbrev pub part_count : ℕ → ℕ
 part_count count = (count + (part_lines - 1)) / part_lines
 
--- a line for each member from this place on, and for part_lines of them at most
-abbrev pub numbered_from : {A : Type 0} → (ℕ → A → List ℕ) → ℕ → List A → List ℕ
-numbered_from line from members = lines_from line (from + 1) (take part_lines (drop from members))
+-- a line for each member from this index on, and for part_lines of them at most
+abbrev pub numbered_lines_from : {A : Type 0} → (ℕ → A → List ℕ) → ℕ → List A → List ℕ
+numbered_lines_from line from members = lines_from line (from + 1) (take part_lines (drop from members))
 
--- such lines of an animal, those of its rows or corners from a place on
+-- such lines of an animal, those of its rows or corners from an index on
 abbrev pub part_text : Lines → ℕ → Animal → List ℕ
 part_text Head from animal = animal_line animal.name (length animal.rows) ++ box_line animal.name animal.extent
-part_text Rows from animal = numbered_from (row_line animal.name) from animal.rows
-part_text Corners from animal = numbered_from (corner_line animal.name) from animal.polygon
+part_text Rows from animal = numbered_lines_from (row_line animal.name) from animal.rows
+part_text Corners from animal = numbered_lines_from (corner_line animal.name) from animal.polygon
 part_text Percents from animal = flat_map (percent_line animal.name) animal.percents
 
 abbrev pub text_of : Part → List ℕ

@@ -56,8 +56,8 @@ lines_from line number [] = []
 lines_from line number (x ∷ xs) = line number x ++ lines_from line (number + 1) xs
 
 -- a line for each member, counted from 1
-abbrev pub numbered : {A : Type 0} → (ℕ → A → List ℕ) → List A → List ℕ
-numbered line members = lines_from line 1 members
+abbrev pub numbered_lines : {A : Type 0} → (ℕ → A → List ℕ) → List A → List ℕ
+numbered_lines line members = lines_from line 1 members
 
 abbrev pub percent_line : List ℕ → PercentRow → List ℕ
 percent_line name row =
@@ -75,7 +75,7 @@ end_line animals = codes "end," ++ decimal animals ++ codes "\n"
 unfoldable pub animal_text : Animal → List ℕ
 animal_text animal =
     animal_line animal.name (length animal.rows) ++ box_line animal.name animal.extent
-    ++ numbered (row_line animal.name) animal.rows ++ numbered (corner_line animal.name) animal.polygon
+    ++ numbered_lines (row_line animal.name) animal.rows ++ numbered_lines (corner_line animal.name) animal.polygon
     ++ flat_map (percent_line animal.name) animal.percents
 
 -- the report of an analysis

@@ -4,7 +4,7 @@
 mod laws;
 mod lines;
 mod parts;
-mod writing;
+mod report_text;
 
 pub use laws::sizes_are_these;
-pub use writing::{report, report_parts};
+pub use report_text::{report, report_parts};

@@ -157,7 +157,7 @@ fn push_row<A: Allocator>(
     text.extend_from_slice(tail)
 }
 
-// Appends the lines of rows, of which the first has this place, counted from 0.
+// Appends the lines of rows, of which the first stands at this index, counted from 0.
 pub(crate) fn push_rows<A: Allocator + Copy>(
     text: &mut Vec<u8, A>,
     name: &[u8],
@@ -201,7 +201,7 @@ fn push_corner<A: Allocator>(
     Ok(())
 }
 
-// Appends the lines of corners, of which the first has this place, counted from 0.
+// Appends the lines of corners, of which the first stands at this index, counted from 0.
 pub(crate) fn push_corners<A: Allocator>(
     text: &mut Vec<u8, A>,
     name: &[u8],
@@ -251,17 +251,17 @@ pub(crate) fn push_percents<A: Allocator>(
     Ok(())
 }
 
-// Appends the name of the animal at a place.
+// Appends the name of the animal at an index.
 fn push_name<A: Allocator>(
     text: &mut Vec<u8, A>,
     animals: &[Animal],
-    place: u32,
+    index: u32,
 ) -> Result<(), AllocError>
-    requires { place < length animals.now }
+    requires { index < length animals.now }
     ensures { OnOk result (text.new.items ≡ text.old.items
-        ++ name_at (map (λ a. a.name) animals.now) place) }
+        ++ name_at (map (λ a. a.name) animals.now) index) }
 {
-    text.extend_from_slice(animals[place as usize].name.as_slice())
+    text.extend_from_slice(animals[index as usize].name.as_slice())
 }
 
 // Appends the line of an overlap.

@@ -29,7 +29,7 @@ pub(crate) enum Lines {
 pub(crate) struct Part<'a> {
     pub(crate) animal: &'a Animal,
     pub(crate) lines: Lines,
-    // The place of the first of its rows or corners.
+    // The index of the first of its rows or corners.
     pub(crate) from: usize,
 }
 

@@ -9,16 +9,14 @@ use crate::fault::RunFault;
 use crate::output::write_parts;
 use range_analysis::analyse;
 use range_options::Options;
-use range_pump::{FreeGate, Gate};
+use range_pump::{FileSource, FreeGate, Gate, ThreadRuntime};
 use range_report::report_parts;
 use std::alloc::Global;
-use std::io::{Read, Write};
-use std::sync::Wait;
-use std::thread::Threads;
+use std::io::Write;
 
 /// Reads the sources in threads, makes the whole report of their analysis, writes it and flushes once.
 /// `Write` is answered only where a write failed or took no byte, or the flush failed.
-pub fn run<R: Wait + Threads + Sync, S: Read + Send + Drop, W: Write>(
+pub fn run<R: ThreadRuntime, S: FileSource, W: Write>(
     rt: &R,
     alloc: Global,
     sources: Vec<S>,
@@ -46,7 +44,7 @@ pub fn run<R: Wait + Threads + Sync, S: Read + Send + Drop, W: Write>(
 }
 
 /// The same through a gate, which hears of the messages on the lines as [`analyse`] says.
-pub fn run_with_gate<R: Wait + Threads + Sync, S: Read + Send + Drop, W: Write, G: Gate>(
+pub fn run_with_gate<R: ThreadRuntime, S: FileSource, W: Write, G: Gate>(
     rt: &R,
     alloc: Global,
     sources: Vec<S>,

@@ -6,7 +6,7 @@ use Rattle.std.specs.List.{flat_map, list_all}
 use Rattle.std.specs.Fmt.{decimal}
 use Rattle.std.specs.Str.{chars, encode_utf8_all, is_utf8}
 use Rattle.std.specs.Char.Escape.{escape_ascii, escape_default}
-use Rattle.range_texts.specs.Seen.{IsOneLine, is_printable, is_unseen, shown, shown_char, shown_name}
+use Rattle.range_texts.specs.Seen.{IsOneLine, is_printable, is_unseen, shown_text, shown_char, shown_name}
 use Rattle.range_texts.proofs.Printable.{decimal_prints, escape_ascii_prints, escape_default_prints, printable_line}
 
 abbrev AreSeen : List ℕ → Type 0
@@ -39,7 +39,7 @@ seen_chars doubles [] = refl
 seen_chars doubles (c ∷ cs) =
     seen_append (shown_char doubles c) (flat_map (shown_char doubles) cs) (seen_char (doubles && c == 92) c) (seen_chars doubles cs)
 
-pub shown_line : (doubles : Bool) (text : List ℕ) → IsOneLine (shown doubles text)
+pub shown_line : (doubles : Bool) (text : List ℕ) → IsOneLine (shown_text doubles text)
 shown_line doubles text = (flat_map (shown_char doubles) (chars text), refl, seen_chars doubles (chars text))
 
 seen_bytes : (bytes : List ℕ) → AreSeen (flat_map escape_ascii bytes)
@@ -47,7 +47,7 @@ seen_bytes [] = refl
 seen_bytes (b ∷ bytes) =
     seen_append (escape_ascii b) (flat_map escape_ascii bytes) (printable_line (escape_ascii b) (escape_ascii_prints b)).1 (seen_bytes bytes)
 
-name_as : (utf8 : Bool) (name : List ℕ) → IsOneLine (if utf8 then shown true name else encode_utf8_all (flat_map escape_ascii name))
+name_as : (utf8 : Bool) (name : List ℕ) → IsOneLine (if utf8 then shown_text true name else encode_utf8_all (flat_map escape_ascii name))
 name_as true name = shown_line true name
 name_as false name = (flat_map escape_ascii name, refl, seen_bytes name)
 

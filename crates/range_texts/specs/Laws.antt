@@ -2,7 +2,7 @@
 use Rattle.std.specs.Prelude.{◌≡◌, ℕ, Bool, true, List, ◌++◌}
 use Rattle.std.specs.List.{list_all}
 use Rattle.std.specs.Fmt.{decimal}
-use Rattle.range_texts.specs.Seen.{IsOneLine, is_printable, shown, shown_name}
+use Rattle.range_texts.specs.Seen.{IsOneLine, is_printable, shown_text, shown_name}
 
 -- two lines, one after the other
 abbrev pub JoinedLinesAreOneLine : Type 0
@@ -17,7 +17,7 @@ NumbersAreOneLine = (n : ℕ) → IsOneLine (decimal n)
 
 -- each text as it is shown, whatever its bytes
 abbrev pub ShownTextsAreOneLine : Type 0
-ShownTextsAreOneLine = (doubles : Bool) (text : List ℕ) → IsOneLine (shown doubles text)
+ShownTextsAreOneLine = (doubles : Bool) (text : List ℕ) → IsOneLine (shown_text doubles text)
 
 abbrev pub ShownNamesAreOneLine : Type 0
 ShownNamesAreOneLine = (name : List ℕ) → IsOneLine (shown_name name)

@@ -39,12 +39,12 @@ abbrev pub shown_char : Bool → ℕ → List ℕ
 shown_char doubles c = if doubles && c == 92 then 92 ∷ 92 ∷ [] else (if is_unseen c then escape_default c else c ∷ [])
 
 -- a text as it is shown
-abbrev pub shown : Bool → List ℕ → List ℕ
-shown doubles text = encode_utf8_all (flat_map (shown_char doubles) (chars text))
+abbrev pub shown_text : Bool → List ℕ → List ℕ
+shown_text doubles text = encode_utf8_all (flat_map (shown_char doubles) (chars text))
 
 -- a name as it is shown: as its text, or where it is not UTF-8 by its bytes as Rust writes them
 abbrev pub shown_name : List ℕ → List ℕ
-shown_name name = if is_utf8 name then shown true name else encode_utf8_all (flat_map escape_ascii name)
+shown_name name = if is_utf8 name then shown_text true name else encode_utf8_all (flat_map escape_ascii name)
 
 -- a byte that ASCII prints
 abbrev pub is_printable : ℕ → Bool

@@ -4,7 +4,7 @@ ghost use Rattle.std.specs.Prelude.{◌≡◌, Some, encode_utf8_all, false, tru
 ghost use Rattle.std.specs.List.{flat_map};
 ghost use Rattle.std.specs.Fmt.{WritesOnOk};
 ghost use Rattle.std.specs.Char.Escape.{escape_ascii, escape_default};
-ghost use Rattle.range_texts.specs.Seen.{shown, shown_char, shown_name};
+ghost use Rattle.range_texts.specs.Seen.{shown_text, shown_char, shown_name};
 
 use crate::seen::is_unseen;
 use std::fmt;
@@ -40,7 +40,7 @@ impl<'a> OneLine<'a> {
 }
 
 impl fmt::Display for OneLine<'_> {
-    ghost output = { λ line. Some (shown line.doubles line.text.now) };
+    ghost output = { λ line. Some (shown_text line.doubles line.text.now) };
 
     fn fmt<W: fmt::Write>(&self, f: &mut fmt::Formatter<W>) -> fmt::Result {
         let mut rest = self.text.chars();

@@ -35,7 +35,7 @@ plain c is = plain_fields c (ap (λ (a : App). a.top.is_plain) is)
 names_no_group : (c : Command) → app_of c ≡ homerange → All (λ a. a.groups.items ≡ []) (args_of c)
 names_no_group c is = simple_groups c (ap (λ (a : App). list_all (λ (r : Rule). r.is_simple) a.top.rules) is)
 
--- the place of an option of the program tells its name
+-- the index of an option of the program tells its name
 id_at : (c : Command) → app_of c ≡ homerange → (k : ℕ) (d : Arg) → k < length (args_of c)
     → (get_or (args_of c) k d).id.now ≡ (get_or homerange.top.rules k (rule_of d)).id
 id_at c is k d within = ap (λ (r : Rule). r.id) (rule_at c is k d within)
@@ -70,7 +70,7 @@ workers_at (suc (suc (suc (suc zero)))) r lt e = cc
 workers_at (suc (suc (suc (suc (suc zero))))) r lt e = cc
 workers_at (suc (suc (suc (suc (suc (suc k)))))) r lt e = absurd (omega arith)
 
--- an option of the program that is a number: its place, which no other has with its name, and its rule
+-- an option of the program that is a number: its index, which no other has with its name, and its rule
 record IsNumber (name : List ℕ) (k limit : ℕ) : Type 0 where
   few : k < 6
   sole : IsAt name k

@@ -27,7 +27,7 @@ files_rule = record (new_rule (codes "FILE")) { action = Some Append; value_name
 abbrev pub program : App
 program = on_top (λ top. record top { has_version = true }) (new_app (codes "homerange"))
 
--- the options in the order of their places, and then the files
+-- the options in the order in which they stand, and then the files
 abbrev pub homerange : App
 homerange =
     let percent = with_rule program (option_rule (codes "percent")) in

@@ -20,7 +20,7 @@ level_in part =
 abbrev pub part_at : List (List ℕ) → ℕ → List ℕ
 part_at parts i = slice_index_or parts i []
 
--- each part before the one at place n writes a level
+-- each part before the one at index n writes a level
 abbrev pub AreLevelsBefore : List (List ℕ) → ℕ → Type 0
 AreLevelsBefore parts n = (i : ℕ) → i < n → IsSome (level_in (part_at parts i))
 

@@ -47,7 +47,7 @@ fn program<'a>(alloc: Global) -> Command<'a>
 }
 
 // The program with its options and arguments.
-fn command<'a>(alloc: Global) -> Result<Command<'a>, AllocError>
+fn whole_command<'a>(alloc: Global) -> Result<Command<'a>, AllocError>
     ensures { IfOk result (λ c. app_of c ≡ homerange) }
 {
     program(alloc)
@@ -68,6 +68,6 @@ pub(crate) fn found<'a>(alloc: Global, words: &'a [String]) -> Result<ArgMatches
     ensures depth { IfOk result (HasNumber (codes "depth") depth_limit) }
     ensures workers { IfOk result (HasNumber (codes "workers") worker_limit) }
 {
-    let command = command(alloc)?;
+    let command = whole_command(alloc)?;
     command.try_get_matches_from(words)
 }

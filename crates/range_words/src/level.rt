@@ -16,7 +16,7 @@ use thiserror::Error;
 #[derive(Clone, Copy, PartialEq, Eq, Debug, Error)]
 pub enum LevelFault {
     OutOfMemory,
-    /// The part at this place, counted from 0, is no number from 1 to 100.
+    /// The part at this index, counted from 0, is no number from 1 to 100.
     BadLevel { index: u32 },
     /// There are more than eight parts, and the first eight are good.
     TooMany,

@@ -7,8 +7,8 @@ use Rattle.range_analysis.specs.Tracks.{IsMeasuredOf}
 use Rattle.range_analysis.proofs.Analyses.{all_known, animals_of, overlaps_of, rows_numbered}
 use Rattle.range_analysis.proofs.analysis.analysis_of.Goals as goal
 
-pub overlaps-requires-clause-files : goal.overlaps-requires-clause-files
-overlaps-requires-clause-files g c =
+pub count_overlaps-requires-clause-files : goal.count_overlaps-requires-clause-files
+count_overlaps-requires-clause-files g c =
     omega (
       arith,
       c.deref.ensures.len,
@@ -19,8 +19,8 @@ overlaps-requires-clause-files g c =
       c.in_ok-measured.measured.ok,
     )
 
-pub overlaps-requires-clause-known : goal.overlaps-requires-clause-known
-overlaps-requires-clause-known g c κs within = rw c.deref.ensures.value
+pub count_overlaps-requires-clause-known : goal.count_overlaps-requires-clause-known
+count_overlaps-requires-clause-known g c κs within = rw c.deref.ensures.value
     (all_known c.args.levels.now c.args.tracks.items c.in_ok-measured.measured.items c.in_ok-measured.ensures)
 
 pub invariant_of-result : goal.invariant_of-result

@@ -42,8 +42,8 @@ loop-read-preserved g c =
       room = omega (arith, lr, inv.room, push.len, push.capacity);
       feeders_count = omega (arith, lf, lr, inv.feeders_count);
       estimators_count = omega (arith, le, lr, inv.estimators_count);
-      results = λ place x y z in_f in_r in_e. inv.results (suc place) x y z (ap (λ l. slice_get l (suc place)) f ∙ in_f)
-          (ap (λ l. slice_get l (suc place)) r ∙ in_r) (ap (λ l. slice_get l (suc place)) e ∙ in_e);
+      results = λ index x y z in_f in_r in_e. inv.results (suc index) x y z (ap (λ l. slice_get l (suc index)) f ∙ in_f)
+          (ap (λ l. slice_get l (suc index)) r ∙ in_r) (ap (λ l. slice_get l (suc index)) e ∙ in_e);
       feeders = rw push.items (moved (λ f. f.feeder) all one _ _ _ _ inv.feeders f made.0);
       reads = rw push.items (moved (λ f. f.read) all one _ _ _ _ inv.reads r made.1);
       estimators = rw push.items (moved (λ f. f.estimator) all one _ _ _ _ inv.estimators e made.2);

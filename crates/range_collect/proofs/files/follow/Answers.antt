@@ -7,7 +7,7 @@ use Rattle.range_collect.specs.Shares.{AreDealt, AreSharesOf}
 use Rattle.range_collect.specs.declared.followed.Followed.{Followed}
 use Rattle.range_collect.proofs.Deals.{dealt_map, dealt_sizes, share_sizes, sizes_alike}
 use Rattle.range_lemmas.proofs.Indices.{all_of, map_length, map_map, mapped, paired_at}
-use Rattle.range_collect.proofs.Results.{file_followed, shares_alike, same_line, same_over, same_place, same_under}
+use Rattle.range_collect.proofs.Results.{file_followed, shares_alike, same_line, same_over, same_share, same_under}
 use Rattle.range_collect.proofs.files.follow.Given as given
 use Rattle.range_collect.proofs.files.follow.Goals as goal
 use Rattle.range_collect.proofs.files.follow.Goals.{In_ok-results}
@@ -17,10 +17,10 @@ follow_lines-requires-clause-sources g c = λ κs live.
     let sources = c.args.sources in
     let shares = c.in_ok-shares.shares in
     let count = map_length (λ (v : Vec _ _). v.items) shares.items in
-    all_of (λ (share : Vec _ _). (1 ≤ vec_len share) × (vec_len share ≤ file_limit)) shares.items (λ place share is.
-    let sizes = share_sizes sources.items (map (λ (v : Vec _ _). v.items) shares.items) place share.items c.in_ok-shares.ensures.dealt
+    all_of (λ (share : Vec _ _). (1 ≤ vec_len share) × (vec_len share ≤ file_limit)) shares.items (λ index share is.
+    let sizes = share_sizes sources.items (map (λ (v : Vec _ _). v.items) shares.items) index share.items c.in_ok-shares.ensures.dealt
     (omega (arith, count, shares.ok.0, c.in_ok-shares.ensures.count, c.min.ensures, c.len-count.ensures, sources.ok.0))
-    (mapped (λ (v : Vec _ _). v.items) shares.items place share is) in
+    (mapped (λ (v : Vec _ _). v.items) shares.items index share is) in
     (omega (arith, share.ok.0, sizes.0), omega (arith, share.ok.0, sizes.1, sources.ok.0, c.requires.sources)))
 
 -- what the sources tell was dealt to the shares
@@ -79,11 +79,11 @@ returns-clause-followed g c =
     let count : length sources ≡ length c.in_ok-all.all.items = map_length tell c.args.sources.items
     ∙ (sym c.args.sources.ok.0 ∙ (sym c.len-count.ensures ∙ (sym c.in_ok-all.ensures.count ∙ c.in_ok-all.all.ok.0))) in
     paired_at (λ file source (f : Followed _ g.A.Clone). IsFollowed source file c.args.plan.block f) 0 sources c.in_ok-all.all.items count
-    (λ place source f in_sources in_all.
-    let index : place ≡ 0 + place = omega arith in
-    subst (λ (n : ℕ). IsFollowed source n c.args.plan.block f) index
+    (λ index source f in_sources in_all.
+    let from_zero : index ≡ 0 + index = omega arith in
+    subst (λ (n : ℕ). IsFollowed source n c.args.plan.block f) from_zero
     (file_followed c.args.plan.block sources shares results c.in_ok-all.all.items (told g at) dealt c.in_ok-results.ensures
-    (some_shares g at) place source f in_sources in_all))
+    (some_shares g at) index source f in_sources in_all))
 
 pub returns-clause-lines : goal.returns-clause-lines
 returns-clause-lines g c = λ i j f f' in_i in_j.
@@ -103,5 +103,5 @@ returns-clause-lines g c = λ i j f f' in_i in_j.
           (same_over i j c.len-count.result workers (length shares) is_min below_i below_j same),
       λ line.
           same_under i j c.len-count.result workers (length shares) is_min below_i below_j
-          (same_place c.args.plan.block sources shares results all dealt c.in_ok-results.ensures (some_shares g at) i j f f' in_i in_j line),
+          (same_share c.args.plan.block sources shares results all dealt c.in_ok-results.ensures (some_shares g at) i j f f' in_i in_j line),
     )

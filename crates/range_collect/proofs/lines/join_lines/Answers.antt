@@ -36,5 +36,5 @@ returns-else-refused g c =
     let count = ap length done in
     record {
       count = omega (arith, count, j.2, c.args.handles.ok.0, c.loop-handle.all.ok.0);
-      followed = λ place h r in_handles. j.3 place h r (subst (λ l. slice_get l place ≡ Some h) done in_handles);
+      followed = λ index h r in_handles. j.3 index h r (subst (λ l. slice_get l index ≡ Some h) done in_handles);
     }

@@ -14,7 +14,7 @@ loop-sources-init g c =
     let zero = ap length none in
     record {
       sources = rw (none, all) refl;
-      stride = λ place h is. let within = slice_get_within _ place h is in absurd (omega (arith, within, zero));
+      stride = λ index h is. let within = slice_get_within _ index h is in absurd (omega (arith, within, zero));
       sizes = rw all c.requires.sources;
       first = omega (arith, zero, c.args.handles.now.ok.0);
       step = omega (arith, c.args.shares.ok.0);
@@ -39,11 +39,11 @@ loop-sources-preserved g c =
     let sources = ap length source in
     record {
       sources = rw items (moved _ hs h c.in-Some.sources _ _ _ inv.sources source made.0);
-      stride = rw items (λ place v is. elim (before_or_last hs v h place is) [
-        | inl before ↦ inv.stride place v before
-        | inr last ↦ (let place_is : c.loop-sources.first ≡ place = (let at = last.0 in omega (arith, at, inv.first, c.loop-sources.handles.ok.0)) in
-            subst (λ x. (x.promise.stride.first ≡ place) × (x.promise.stride.step ≡ vec_len c.args.shares) × (x.promise.plan ≡ c.args.context.now.plan)) last.1
-            (ap (λ (n : Stride). n.first) made.1 ∙ place_is, ap (λ (n : Stride). n.step) made.1 ∙ inv.step, made.2))
+      stride = rw items (λ index v is. elim (before_or_last hs v h index is) [
+        | inl before ↦ inv.stride index v before
+        | inr last ↦ (let index_is : c.loop-sources.first ≡ index = (let at = last.0 in omega (arith, at, inv.first, c.loop-sources.handles.ok.0)) in
+            subst (λ x. (x.promise.stride.first ≡ index) × (x.promise.stride.step ≡ vec_len c.args.shares) × (x.promise.plan ≡ c.args.context.now.plan)) last.1
+            (ap (λ (n : Stride). n.first) made.1 ∙ index_is, ap (λ (n : Stride). n.step) made.1 ∙ inv.step, made.2))
       ]);
       sizes = All-rest (λ (share : Vec _ _). (1 ≤ vec_len share) × (vec_len share ≤ file_limit)) _ _ _ source inv.sizes;
       first = omega (arith, inv.first, c.push_reserved.ensures.len);

@@ -33,8 +33,8 @@ loop-handle-preserved g c =
     }
 
 pub returns-clause-pumped : goal.returns-clause-pumped
-returns-clause-pumped g c = λ place h f r in_handles.
+returns-clause-pumped g c = λ index h f r in_handles.
     let j = c.loop-handle.invariant.joined in
     let none : length (into_iter_items c.loop-handle.handle-iterator) ≡ 0 = search rules in
     let all = j.1 ∙ (ap (λ l. j.0 ++ l) (nil_from_length _ none) ∙ append-nil j.0) in
-    j.4 place h f r (subst (λ l. slice_get l place ≡ Some h) all in_handles)
+    j.4 index h f r (subst (λ l. slice_get l index ≡ Some h) all in_handles)

@@ -27,11 +27,11 @@ receive-requires g c =
     let taken = c.requires.next.1 in
     let e : Estimation = c.index_mut.result.now in
     let index : ℕ = (c.args.message.file - n.first) / n.step in
-    let below : index < length es = (let b = at.below in let i = at.index in omega (arith, b, i)) in
-    let here : slice_get es at.place ≡ Some e = subst (λ (p : ℕ). slice_get es p ≡ Some e) at.index
+    let below : index < length es = (let b = at.below in let i = at.quotient in omega (arith, b, i)) in
+    let here : slice_get es at.index ≡ Some e = subst (λ (p : ℕ). slice_get es p ≡ Some e) at.quotient
     (slice_get_read es (length es) index e refl below c.index_mut.ensures.value) in
     let holds : Holds e (fixes c.requires.next.0 c.args.message.file) =
-    subst (λ (file : ℕ). Holds e (fixes c.requires.next.0 file)) (sym at.file_is) (taken.holds at.place e here) in
+    subst (λ (file : ℕ). Holds e (fixes c.requires.next.0 file)) (sym at.file_is) (taken.holds at.index e here) in
     record { few = λ running. few c.requires.next.0 c.args.message e taken.lawful holds running }
 
 pub returns-clause-holds : goal.returns-clause-holds
@@ -42,7 +42,7 @@ returns-clause-holds g c = λ taken holds.
     let es = c.args.estimators.now.items in
     let e : Estimation = c.index_mut.result.now in
     let index : ℕ = (c.args.message.file - n.first) / n.step in
-    let below : index < length es = (let b = at.below in let i = at.index in omega (arith, b, i)) in
-    let file : c.args.message.file ≡ n.first + index * n.step = at.file_is ∙ ap (λ (p : ℕ). n.first + p * n.step) (sym at.index) in
+    let below : index < length es = (let b = at.below in let i = at.quotient in omega (arith, b, i)) in
+    let file : c.args.message.file ≡ n.first + index * n.step = at.file_is ∙ ap (λ (p : ℕ). n.first + p * n.step) (sym at.quotient) in
     each_holds_more n.first n.step taken c.args.message es index e c.receive.new.estimator n.within.1 file
     (slice_get_read es (length es) index e refl below c.index_mut.ensures.value) c.receive.ensures holds

@@ -1,7 +1,7 @@
 use Rattle.std.proofs.Common.{List, ℕ, ◌++◌, codes, ap, ap₂, sym, ◌∙◌}
 use Rattle.std.proofs.Output.{has_written_of_eq}
 use Rattle.range_analysis.specs.FaultText.{analyse_text}
-use Rattle.range_texts.specs.Seen.{shown, shown_name}
+use Rattle.range_texts.specs.Seen.{shown_text, shown_name}
 use Rattle.range_command.specs.Telling.{files_text, name_of}
 use Rattle.range_command.proofs.refusal_text.write_analysis.Goals as goal
 
@@ -16,7 +16,7 @@ returns-in-SameAnimal g c plain ok =
     let second = c.source_name-second.result in
     let slice = c.as_slice.result.now in
     let said : List ℕ = codes "have the same animal" in
-    let told = ap (λ (t : List ℕ). text (shown first.doubles first.text.now) (shown second.doubles second.text.now) t (shown_name slice)) (ap analyse_text c.in-SameAnimal.is) in
+    let told = ap (λ (t : List ℕ). text (shown_text first.doubles first.text.now) (shown_text second.doubles second.text.now) t (shown_name slice)) (ap analyse_text c.in-SameAnimal.is) in
     let names = ap₂ (λ (x y : List ℕ). text x y said (shown_name slice)) c.source_name-first.ensures c.source_name-second.ensures in
     let animal = ap (λ (b : List ℕ). text (name_of files c.in-SameAnimal.first) (name_of files c.in-SameAnimal.second) said (shown_name b)) c.as_slice.ensures in
     let whole = sym (ap (λ fault. files_text files fault c.args.reason.now) c.in-SameAnimal.is) in

@@ -2,7 +2,7 @@ use Rattle.std.proofs.Common.{◌≡◌, ◌<◌, length, add-one, ◌∙◌, ar
 use Rattle.std.proofs.lemmas.List.{get_or_read, length-set}
 use Rattle.range_plane.specs.Edges.{at}
 use Rattle.range_plane.specs.Plane.{origin}
-use Rattle.range_lanes.specs.EdgeLines.{IsLineOf, before}
+use Rattle.range_lanes.specs.EdgeLines.{IsLineOf, corner_before}
 use Rattle.range_lanes.proofs.Lines.{lines_more}
 use Rattle.range_lanes.proofs.edge_lines.lines_of.Goals as goal
 
@@ -16,7 +16,7 @@ loop-i-preserved c =
     let to : c.index-corners-i.result ≡ at L i = get_or_read L i c.index-corners-i.result (omega arith) c.index-corners-i.is origin in
     let next : c.index-corners-i-in-loop-i.result ≡ at L i = get_or_read L i c.index-corners-i-in-loop-i.result (omega arith)
     c.index-corners-i-in-loop-i.is origin in
-    let line : IsLineOf (before L i) (at L i) c.through.result = rw (← inv.from, ← to) c.through.ensures in
+    let line : IsLineOf (corner_before L i) (at L i) c.through.result = rw (← inv.from, ← to) c.through.ensures in
     record {
       from = rw add-one next;
       size = length-set lines i c.through.result ∙ inv.size;

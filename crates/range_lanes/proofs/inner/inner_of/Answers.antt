@@ -10,9 +10,7 @@ taken c = record {
 }
 
 pub returns-clause-polygon : goal.returns-clause-polygon
-returns-clause-polygon c =
-    taken_polygon c.sets_cover_their_members.ensures c.covering_members_are_corners.ensures c.args.corners.now c.loop-i.inner
-    (taken c) c.requires.polygon
+returns-clause-polygon c = taken_polygon c.args.corners.now c.loop-i.inner (taken c) c.requires.polygon
 
 pub returns-clause-within : goal.returns-clause-within
 returns-clause-within c = taken_members c.args.corners.now c.loop-i.inner (taken c)

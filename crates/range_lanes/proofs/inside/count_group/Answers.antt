@@ -5,12 +5,12 @@ use Rattle.range_plane.specs.Covering.{is_covered}
 use Rattle.range_lanes.specs.Lanes.{is_not_negative}
 use Rattle.range_lanes.proofs.CornerBoxes.{none_covered}
 use Rattle.range_lanes.proofs.Counting.{all_pass, count_of_map, count_signs}
-use Rattle.range_lanes.proofs.Known.{passes_where_not_negative}
+use Rattle.range_lanes.proofs.Known.{passes_where_not_negative, within_covered}
 use Rattle.range_lanes.proofs.inside.count_group.Goals as goal
 
 pub returns-then-count_not_negative-eq0 : goal.returns-then-count_not_negative-eq0
 returns-then-count_not_negative-eq0 g c =
-    none_covered c.covered_is_decided.ensures.set c.boxes_hold_what_is_covered.ensures c.args.polygon.now c.args.around.now.low c.args.around.now.high
+    none_covered c.args.polygon.now c.args.around.now.low c.args.around.now.high
     c.load-group.result c.margins.result c.requires.around c.margins.ensures (sym c.count_not_negative.ensures ∙ c.if-count_not_negative-eq0.true)
     ∙ ap (count_by (is_covered c.args.polygon.now)) c.load-group.ensures
 
@@ -19,12 +19,11 @@ returns-then-count_not_negative-eq-LANE_COUNT g c =
     let inner = c.args.inner.now in
     let polygon = c.args.polygon.now in
     let group = c.load-group.result in
-    let decided = c.covered_is_decided.ensures.set in
     let size : length group ≡ 8 = ap length c.load-group.ensures ∙ length-chunk c.args.at 8 c.args.cols.now.points c.requires.room in
     let counted : count_by (is_covered inner) group ≡ 8 = sym (c.count_not_negative-2.ensures
     ∙ count_signs (is_covered inner) group c.margins-within.result c.margins-within.ensures) ∙ c.if-count_not_negative-eq-LANE_COUNT.true in
     let covered = all_pass (is_covered inner) (is_covered polygon)
-    (λ q within. (decided polygon q).1 (c.larger_sets_cover_more.ensures inner polygon q c.requires.within ((decided inner q).0 within))) group
+    (within_covered inner polygon c.requires.within) group
     (counted ∙ sym size) in
     sym counted ∙ sym (count_of_map (is_covered inner) group) ∙ ap (count_by (λ b. b)) covered ∙ count_of_map (is_covered polygon) group
     ∙ ap (count_by (is_covered polygon)) c.load-group.ensures
@@ -33,12 +32,11 @@ pub count_each-requires-clause-known : goal.count_each-requires-clause-known
 count_each-requires-clause-known g c = λ i number p here there known.
     let inner = c.args.inner.now in
     let polygon = c.args.polygon.now in
-    let decided = c.covered_is_decided.ensures.set in
     let numbers = c.to_array.result in
     let same : map is_not_negative numbers ≡ map (is_covered inner) (chunk c.args.at 8 c.args.cols.now.points) =
     ap (map is_not_negative) c.to_array.ensures ∙ c.margins-within.ensures ∙ ap (map (is_covered inner)) c.load-group.ensures in
     let covered = passes_where_not_negative (is_covered inner) numbers c.args.at c.args.cols.now.points c.requires.room same i number p here there known in
-    (decided polygon p).1 (c.larger_sets_cover_more.ensures inner polygon p c.requires.within ((decided inner p).0 covered))
+    within_covered inner polygon c.requires.within p covered
 
 pub returns-in-Some : goal.returns-in-Some
 returns-in-Some g c =

@@ -6,7 +6,7 @@ use Rattle.range_lanes.proofs.inside.count_in_box.Goals as goal
 
 pub returns-then-count_not_negative-eq0 : goal.returns-then-count_not_negative-eq0
 returns-then-count_not_negative-eq0 c =
-    none_covered c.covered_is_decided.ensures.set c.boxes_hold_what_is_covered.ensures c.args.edges.now c.args.around.now.low c.args.around.now.high
+    none_covered c.args.edges.now c.args.around.now.low c.args.around.now.high
     c.args.group.now c.margins.result c.requires c.margins.ensures (sym c.count_not_negative.ensures ∙ c.if-count_not_negative-eq0.true)
 
 pub returns : goal.returns

@@ -3,4 +3,4 @@ use Rattle.range_plane.specs.Covering.{is_covered}
 use Rattle.range_lanes.proofs.inside.mark_inside.Given as goal
 
 abbrev pub invariant-loop-i : goal.invariant-loop-i
-invariant-loop-i g l = take l.i l.out ≡ map (is_covered l.corners) (take l.i l.cols.points)
+invariant-loop-i g l = take l.i l.flags ≡ map (is_covered l.corners) (take l.i l.cols.points)

@@ -11,7 +11,7 @@ returns-then-are_small c =
     let small : (are_small first && are_small last) ≡ true = sym c.are_small.ensures ∙ c.if-are_small.true in
     let parts = number_of_parts c.args.bytes.now first last c.requires.least c.requires.most c.group_at-first.ensures c.group_at-last.ensures
     ((and_parts (are_small first) (are_small last) small).0) ((and_parts (are_small first) (are_small last) small).1) in
-    (parts.0, c.from.ensures ∙ c.counted.ensures ∙ parts.1)
+    (parts.0, c.from.ensures ∙ c.weighted_sum.ensures ∙ parts.1)
 
 pub returns-else-are_small : goal.returns-else-are_small
 returns-else-are_small c =

@@ -1,6 +1,6 @@
 use Rattle.std.proofs.Common.{◌≡◌, ◌∙◌, sym, ap, subst, ℕ, ◌+◌, ◌-◌, ◌∷◌, ◌<◌, [], length, List, arith}
 use Rattle.range_plane.specs.Plane.{Position}
-use Rattle.range_pieces.specs.Pieces.{IsCut, piece, piece_size, all_points, offset, replaced}
+use Rattle.range_pieces.specs.Pieces.{IsCut, piece, piece_size, all_points, offset, exchange}
 use Rattle.range_pieces.specs.Shelf.{Shelved}
 use Rattle.range_pieces.proofs.PieceCuts.{cut_between, free_between}
 use Rattle.range_pieces.proofs.Joins.{joined_open, joined_put, offset_more}
@@ -24,7 +24,7 @@ returns-then-end-lt-PIECE_SIZE-clause-points g c =
     ) in
     ap (λ (v : Shelved). all_points v.pieces) c.insert.ensures
     ∙ joined_put bs (i - 1) end end p within (omega (arith, value)) (omega (arith, value))
-    ∙ ap (λ (k : ℕ). replaced (all_points bs) p k k) index
+    ∙ ap (λ (k : ℕ). exchange (all_points bs) p k k) index
 
 pub returns-then-len_of-lt-PIECE_SIZE-clause-points : goal.returns-then-len_of-lt-PIECE_SIZE-clause-points
 returns-then-len_of-lt-PIECE_SIZE-clause-points g c =
@@ -32,7 +32,7 @@ returns-then-len_of-lt-PIECE_SIZE-clause-points g c =
     let i = c.args.i in
     ap (λ (v : Shelved). all_points v.pieces) c.insert-then-len_of-lt-PIECE_SIZE.ensures
     ∙ joined_put bs i 0 0 c.args.p (omega arith) (omega arith) (omega arith)
-    ∙ ap (λ (k : ℕ). replaced (all_points bs) c.args.p k k) (let e : offset bs i + 0 ≡ offset bs i = omega arith in e)
+    ∙ ap (λ (k : ℕ). exchange (all_points bs) c.args.p k k) (let e : offset bs i + 0 ≡ offset bs i = omega arith in e)
 
 pub open-requires-clause-room : goal.open-requires-clause-room
 open-requires-clause-room g c =

@@ -1,6 +1,6 @@
 use Rattle.std.proofs.Common.{◌≡◌, ◌∙◌, sym, ap, subst, ℕ, ◌+◌, ◌∷◌, ◌++◌, [], length, take, drop, List, arith}
 use Rattle.range_plane.specs.Plane.{Position}
-use Rattle.range_pieces.specs.Pieces.{IsCut, piece, all_points, offset, replaced}
+use Rattle.range_pieces.specs.Pieces.{IsCut, piece, all_points, offset, exchange}
 use Rattle.range_pieces.specs.Shelf.{Shelved}
 use Rattle.std.proofs.lemmas.List.{length-set}
 use Rattle.range_pieces.proofs.PieceCuts.{cut_to_end, set_to_end}
@@ -34,5 +34,5 @@ returns-clause-points g c =
     c.join_small.ensures.points
     ∙ ap all_points list
     ∙ joined_to_end bs i (length bs) c.args.from c.args.p c.requires.piece (omega arith) (omega (arith, c.requires.from))
-    ∙ ap (λ (k : ℕ). replaced (all_points bs) c.args.p (offset bs i + c.args.from) k)
+    ∙ ap (λ (k : ℕ). exchange (all_points bs) c.args.p (offset bs i + c.args.from) k)
     (let e : offset bs (length bs) + 0 ≡ length (all_points bs) = omega (arith, offset_all bs (length bs) (omega arith)) in e)

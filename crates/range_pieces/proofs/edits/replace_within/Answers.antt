@@ -1,6 +1,6 @@
 use Rattle.std.proofs.Common.{◌∙◌, sym, ap, subst, ℕ, ◌+◌, set, arith}
 use Rattle.range_lemmas.proofs.Indices.{replaced_length}
-use Rattle.range_pieces.specs.Pieces.{IsCut, piece, all_points, replaced}
+use Rattle.range_pieces.specs.Pieces.{IsCut, piece, all_points, exchange}
 use Rattle.range_pieces.specs.Shelf.{Shelved}
 use Rattle.range_pieces.proofs.PieceCuts.{cut_grow, cut_set}
 use Rattle.range_pieces.proofs.Joins.{joined_put}
@@ -10,7 +10,7 @@ pub join_small-requires : goal.join_small-requires
 join_small-requires g c =
     let bs = c.args.shelf.now.pieces in
     let i = c.args.i in
-    let b = replaced (piece bs i) c.args.p c.args.from c.args.to in
+    let b = exchange (piece bs i) c.args.p c.args.from c.args.to in
     let size = replaced_length (piece bs i) c.args.p c.args.from c.args.to (omega arith) c.requires.within in
     let top = c.requires.cut.bound i c.requires.piece in
     subst (λ (v : Shelved). IsCut v.pieces c.saturating_sub.result (i + 1)) (sym c.replace.ensures)
@@ -32,7 +32,7 @@ pub returns-else-from-to-clause-cut : goal.returns-else-from-to-clause-cut
 returns-else-from-to-clause-cut g c =
     let bs = c.args.shelf.now.pieces in
     let i = c.args.i in
-    let b = replaced (piece bs i) c.args.p c.args.from c.args.to in
+    let b = exchange (piece bs i) c.args.p c.args.from c.args.to in
     let size = replaced_length (piece bs i) c.args.p c.args.from c.args.to (omega arith) c.requires.within in
     let top = c.requires.cut.bound i c.requires.piece in
     subst (λ (v : Shelved). IsCut v.pieces 0 0) (sym c.replace.ensures)

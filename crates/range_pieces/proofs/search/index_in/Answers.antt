@@ -1,4 +1,4 @@
-use Rattle.std.proofs.Common.{◌+◌, ◌<◌, length, arith}
+use Rattle.std.proofs.Common.{◌<◌, length, arith}
 use Rattle.range_plane.specs.Edges.{at}
 use Rattle.range_pieces.proofs.Falling.{counted, falls_last, read}
 use Rattle.range_pieces.proofs.search.index_in.Goals as goal

@@ -65,7 +65,7 @@ loop-preserved g c =
     }
 
 pub returns-in_default-clause-holds : goal.returns-in_default-clause-holds
-returns-in_default-clause-holds g c = λ place f e in_feeders in_estimators.
+returns-in_default-clause-holds g c = λ index f e in_feeders in_estimators.
     let inv = c.loop.invariant in
     let n = c.self.inside.stride in
     let s = c.settle-later.ensures in
@@ -73,10 +73,10 @@ returns-in_default-clause-holds g c = λ place f e in_feeders in_estimators.
     let old : List Message = c.loop.taker.taken in
     let new : List Message = c.settle-later.result.taker.taken in
     let taken : new ≡ old = ap (λ (v : TakerView). v.taken) (s.taker ∙ ap (ended_taker c.loop.taker) c.in_default.is) in
-    let all = of_all (λ (f : FeederView). IsAllTaken new f) fs place f (rw c.in_default.is at s.whole) in_feeders in
+    let all = of_all (λ (f : FeederView). IsAllTaken new f) fs index f (rw c.in_default.is at s.whole) in_feeders in
     let order = ap (map (λ (f : FeederView). f.file)) s.feeders ∙ (ended_files c.loop.feeders.items ∙ (inv.order ∙ inv.known)) in
-    holds_sent n.first n.step (vec_len c.loop.estimators) old fs place f e order in_feeders (ap (λ (ms : List Message). of_file ms f.file) (sym taken) ∙ all)
-    (inv.holds place e in_estimators)
+    holds_sent n.first n.step (vec_len c.loop.estimators) old fs index f e order in_feeders (ap (λ (ms : List Message). of_file ms f.file) (sym taken) ∙ all)
+    (inv.holds index e in_estimators)
 
 pub returns-in_default-clause-count : goal.returns-in_default-clause-count
 returns-in_default-clause-count g c =

@@ -25,7 +25,7 @@ invariant_of-result g c =
     let inv = c.loop-made.invariant in
     let stride = c.args.stride in
     let all : EachHolds stride.first stride.step [] c.loop-made.estimators.items =
-    λ place e is. of_all (λ (e : Estimation). Holds e []) c.loop-made.estimators.items place e inv.holds is in (
+    λ index e is. of_all (λ (e : Estimation). Holds e []) c.loop-made.estimators.items index e inv.holds is in (
       c.requires.files ∙ ap (files_from stride.first stride.step) (omega (arith, inv.len)),
       subst (λ (ms : List Message). EachHolds stride.first stride.step ms c.loop-made.estimators.items) (sym c.requires.fresh) all,
     )

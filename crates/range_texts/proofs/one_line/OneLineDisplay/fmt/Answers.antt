@@ -4,7 +4,7 @@ use Rattle.std.proofs.lemmas.Str.{chars-nil, chars_past_char, encodes-append, Is
 use Rattle.std.proofs.lemmas.List.{nil_from_length}
 use Rattle.std.specs.Str.{chars}
 use Rattle.std.specs.Str.Iter.{chars_rest}
-use Rattle.range_texts.specs.Seen.{shown, shown_char}
+use Rattle.range_texts.specs.Seen.{shown_text, shown_char}
 use Rattle.range_texts.proofs.one_line.OneLineDisplay.fmt.Goals as goal
 
 pub loop-character-preserved : goal.loop-character-preserved
@@ -16,7 +16,7 @@ loop-character-preserved g c =
     let step = c.in-Some.ensures.steps.0 in
     let utf8 = c.loop-character.invariant.0 in
     let next : chars before ≡ ch ∷ chars after = chars_past_char before after ch utf8 step in
-    let here : shown doubles before ≡ encode_utf8_all (shown_char doubles ch) ++ shown doubles after =
+    let here : shown_text doubles before ≡ encode_utf8_all (shown_char doubles ch) ++ shown_text doubles after =
     ap (λ cs. encode_utf8_all (flat_map (shown_char doubles) cs)) next ∙ encodes-append (shown_char doubles ch) (flat_map (shown_char doubles) (chars after)) in (
       IsUtf8-past_char before after ch utf8 step,
       λ plain.
@@ -24,7 +24,7 @@ loop-character-preserved g c =
           let text = encode_utf8_all (shown_char doubles ch) in (
             now.0 ++ text,
             has_written_append _ _ _ _ _ _ now.1 (search rules),
-            append_assoc now.0 text (shown doubles after) ∙ ap (λ l. now.0 ++ l) (sym here) ∙ now.2,
+            append_assoc now.0 text (shown_text doubles after) ∙ ap (λ l. now.0 ++ l) (sym here) ∙ now.2,
           ),
     )
 
@@ -32,6 +32,6 @@ pub returns-clause-writes : goal.returns-clause-writes
 returns-clause-writes g c plain ok =
     let now = c.loop-character.invariant.1 plain in
     let ended : chars_rest c.loop-character.rest ≡ [] = nil_from_length _ c.in_default.ensures.steps.0.0 in
-    let none : shown c.args.self.now.doubles (chars_rest c.loop-character.rest) ≡ [] =
+    let none : shown_text c.args.self.now.doubles (chars_rest c.loop-character.rest) ≡ [] =
     rw (ended, chars-nil) refl in
     has_written_of_eq _ _ _ _ _ (sym (append-nil now.0) ∙ ap (λ l. now.0 ++ l) (sym none) ∙ now.2) now.1

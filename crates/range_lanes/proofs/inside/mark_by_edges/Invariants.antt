@@ -1,6 +1,0 @@
-use Rattle.std.proofs.Common.{◌≡◌, ◌*◌, take, map}
-use Rattle.range_plane.specs.Covering.{is_covered}
-use Rattle.range_lanes.proofs.inside.mark_by_edges.Given as goal
-
-abbrev pub invariant-loop-group : goal.invariant-loop-group
-invariant-loop-group g l = take (8 * l.group) l.out ≡ map (is_covered l.corners) (take (8 * l.group) l.cols.points)

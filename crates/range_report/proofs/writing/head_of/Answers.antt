@@ -1,8 +1,0 @@
-use Rattle.std.proofs.Common.{rules}
-use Rattle.range_report.proofs.writing.head_of.Goals as goal
-
-pub returns-in-Metre : goal.returns-in-Metre
-returns-in-Metre c = search rules
-
-pub returns-in-Decimetre : goal.returns-in-Decimetre
-returns-in-Decimetre c = search rules
