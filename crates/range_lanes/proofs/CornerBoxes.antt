@@ -8,8 +8,8 @@ use lib.Lanes.{zip2}
 use Rattle.range_plane.specs.Covering.{is_covered}
 use Rattle.range_plane.proofs.ForCallers.{boxes_hold_what_is_covered, covered_is_decided}
 use Rattle.range_lanes.specs.Lanes.{is_in_box, is_not_negative}
-use Rattle.range_lanes.proofs.Counting.{count_signs, none_pass}
-use Rattle.range_lanes.proofs.Turning.{both_signs, map_same, signs_of_map, signs_of_negated}
+use Rattle.range_lanes.proofs.Counts.{count_signs, none_pass}
+use Rattle.range_lanes.proofs.Turns.{both_signs, map_same, signs_of_map, signs_of_negated}
 use Rattle.range_lemmas.proofs.Members.{contained, empty_contains_nothing}
 use Rattle.range_lemmas.proofs.Sizes.{kept}
 use Rattle.range_plane.specs.Plane.{IsCoordinate, IsInBox, Position, coordinate_limit, position}
@@ -59,6 +59,7 @@ reaches low high c = record {
 abbrev pub AreInBox : Position → Position → List Position → Type 0
 AreInBox low high points = (p : Position) → Contains points p → IsInBox low high p
 
+-- a box of the first i points, made wider by the next, has this one too
 pub box_more : (low high : Position) (points : List Position) (i : ℕ) (c : Position) → i < length points → get_or points i c ≡ c
     → AreInBox low high (take i points) → AreInBox (lower low c) (higher high c) (take (i + 1) points)
 box_more low high points i c within here before = λ p member.

@@ -25,13 +25,16 @@ pub moved_n : (g : ℤ → ℤ) (es ns : List ℤ) → length es ≡ length ns �
 moved_n g es ns same =
     ap (map g) (sym (seconds_of_zipped position (λ (p : Position). p.n) (λ e n. refl) es ns same)) ∙ map-map g (λ (p : Position). p.n) (zip2 position es ns)
 
+-- what is true of each member gives what is true of each of the mapped list
 pub each_map : {A : Type 0} (f : A → ℤ) (P : A → Type 0) (Q : ℤ → Type 0) → ((x : A) → P x → Q (f x)) → (xs : List A) → Each1 P xs → Each1 Q (map f xs)
 each_map f P Q s [] h = tt
 each_map f P Q s (x ∷ xs) h = (s x h.0, each_map f P Q s xs h.1)
 
+-- eight numbers less the same number
 pub less_value : (x : ℤ) (es : List ℤ) → length es ≡ 8 → zip2 ◌-ℤ◌ es (replicate 8 x) ≡ map (λ y. y -ℤ x) es
 less_value x es eight = zip2_splat ◌-ℤ◌ es 8 x eight
 
+-- differences of coordinates are bounded
 pub less_small : (x : ℤ) (es : List ℤ) → IsCoordinate x → Each1 IsCoordinate es → Each1 (IsBounded coordinate_limit) (map (λ y. y -ℤ x) es)
 less_small x es h = each_map (λ y. y -ℤ x) IsCoordinate (IsBounded coordinate_limit) (λ y f. abs_difference coordinate_limit y x f h) es
 
@@ -43,6 +46,7 @@ zipped_back (v ∷ vs) = ap (λ l. v ∷ l) (zipped_back vs)
 chunk_map : (f : Position → ℤ) (at : ℕ) (ps : List Position) → chunk at 8 (map f ps) ≡ map f (chunk at 8 ps)
 chunk_map f at ps = ap (take 8) (drop-map f at ps) ∙ take-map f 8 (drop at ps)
 
+-- groups of both columns are the group of points
 pub group_is : (at : ℕ) (ps : List Position) → zip2 position (chunk at 8 (map (λ p. p.e) ps)) (chunk at 8 (map (λ p. p.n) ps)) ≡ chunk at 8 ps
 group_is at ps =
     ap (λ l. zip2 position l (chunk at 8 (map (λ p. p.n) ps))) (chunk_map (λ p. p.e) at ps)
@@ -65,6 +69,7 @@ not_below a b = le_z (to_z w64 a) (to_z w64 b)
 not_below_zero : (z : ℤ) → FitsSigned w64 z → not_below 0 (of_z w64 z) ≡ is_not_negative z
 not_below_zero z f = ap (λ y. le_z (pos 0) y) (to_z-of_z w64 z f)
 
+-- the bits of a comparison with 0 count the lanes that are not negative
 pub count_mask : (zs : List ℤ) → AreLanes zs → ones (mask_l (map (top 63)
     (zip2 (λ a b. cond (not_below a b) 18446744073709551615 0) (replicate 8 0) (map (of_z w64) zs))) % 18446744073709551616) ≡ count_by is_not_negative zs
 count_mask zs h =

@@ -17,6 +17,7 @@ use Rattle.range_lanes.specs.Lanes.{is_not_negative}
 not_negative_decided : (x : ℤ) → Decides (is_not_negative x) (pos 0 ≤ℤ x)
 not_negative_decided x = (λ e. omega (arith, ints, e), λ h. grind (arith, ints))
 
+-- q is on the left of the way from a to b, or on it, as a test
 abbrev pub is_left : Position → Position → Position → Bool
 is_left a b q = is_not_negative (turn a b q)
 
@@ -48,12 +49,14 @@ left_of_first L q some h zero l = h.closing (length L - 1) origin (omega arith)
 left_of_first L q some h (suc k) l = rw (← add-one) (h.edges k origin (omega arith))
 
 -- ---- what corners cover, by the laws of the plane
+-- three or more corners cover what is on the left of each edge
 pub many_cover : (L : List Position) (q : Position) → IsPolygon L L → 2 < length L → is_left_of_first L (length L) q ≡ is_covered L q
 many_cover L q p many =
     let all = many_cover_the_left_of_their_edges L L p many q in
     same_from_decides _ _ (Decides-like _ (left_of_all L q) (left_of_first L q (omega arith)) (first_decided L (length L) q))
     (Decides-like _ all.0 all.1 (covered_is_decided L q))
 
+-- one or two corners cover the segment from the first to the last
 pub few_cover : (L : List Position) (a b q : Position) → 0 < length L → length L ≤ 2 → a ≡ at L 0 → b ≡ at L (length L - 1)
     → is_on_segment q a b ≡ is_covered L q
 few_cover [] a b q some few ea eb = absurd (omega arith)

@@ -1,11 +1,11 @@
 pub mod Eights
-pub mod Choosing
+pub mod Choices
 pub mod CornerBoxes
-pub mod Counting
+pub mod Counts
 pub mod Known
 pub mod LaneEdges
 pub mod Lines
 pub mod Signed
-pub mod Summing
+pub mod LaneSums
 pub mod Taken
-pub mod Turning
+pub mod Turns

@@ -58,6 +58,7 @@ line_through a b line in_a in_b east north at_origin bounded = record {
 abbrev pub AreFirstLines : List Position → List EdgeLine → ℕ → Type 0
 AreFirstLines L lines n = (k : ℕ) (d : EdgeLine) → k < n → IsLineOf (corner_before L k) (at L k) (get_or lines k d)
 
+-- one more line in the table
 pub lines_more : (L : List Position) (lines : List EdgeLine) (i : ℕ) (line : EdgeLine) → i < length lines → AreFirstLines L lines i
     → IsLineOf (corner_before L i) (at L i) line → AreFirstLines L (set lines i line) (i + 1)
 lines_more L lines i line within first last = λ k d less.

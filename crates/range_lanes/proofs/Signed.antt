@@ -52,6 +52,7 @@ each_zip f P Q R s [] ys p q = tt
 each_zip f P Q R s (x ∷ xs) [] p q = tt
 each_zip f P Q R s (x ∷ xs) (y ∷ ys) p q = (s x y p.0 q.0, each_zip f P Q R s xs ys p.1 q.1)
 
+-- an operation whose results fit 64 bits gives lanes
 pub lanes_from_each : (f : ℤ → ℤ → ℤ) (P Q : ℤ → Type 0) → ((x y : ℤ) → P x → Q y → FitsSigned w64 (f x y)) → (xs ys : List ℤ) → AreLanes xs → AreLanes ys
     → Each1 P xs → Each1 Q ys → AreLanes (zip2 f xs ys)
 lanes_from_each f P Q s xs ys a b p q =
@@ -84,6 +85,7 @@ exact_product = record {
 }
 
 module _ (f : ℤ → ℤ → ℤ) (k : ℕ) (exact : Exact f k) (xs ys : List ℤ) (p : Each1 (IsBounded k) xs) (q : Each1 (IsBounded k) ys) where
+  -- what the vector operation requires, what it gives, and that this is lanes
   pub exact_asks : Each2 (λ a b. FitsSigned w64 (f (to_z w64 a) (to_z w64 b))) (map (of_z w64) xs) (map (of_z w64) ys)
   exact_asks =
       lanes_ask _ (IsBounded k) (IsBounded k) (λ x y p q. rw (to_z-of_z w64 x (exact.small x p), to_z-of_z w64 y (exact.small y q))
@@ -117,6 +119,7 @@ select_is m [] ys = refl
 select_is m (x ∷ xs) [] = refl
 select_is m (x ∷ xs) (y ∷ ys) = ap (λ l. cond (top 63 (m x y)) x y ∷ l) (select_is m xs ys)
 
+-- the same with the choices exchanged
 pub select_swapped_is : (m : ℕ → ℕ → ℕ) (xs ys : List ℕ) → sel_l (map (top 63) (zip2 m xs ys)) ys xs ≡ zip2 (λ a b. cond (top 63 (m a b)) b a) xs ys
 select_swapped_is m [] ys = refl
 select_swapped_is m (x ∷ xs) [] = refl
@@ -126,9 +129,11 @@ chosen : (t : Bool) (x y : ℤ) → FitsSigned w64 x → FitsSigned w64 y → to
 chosen true x y f g = to_z-of_z w64 x f
 chosen false x y f g = to_z-of_z w64 y g
 
+-- all bits set where a is less than b, as signed numbers
 abbrev pub less_mask : ℕ → ℕ → ℕ
 less_mask a b = cond (lt_z (to_z w64 a) (to_z w64 b)) 18446744073709551615 0
 
+-- a choice by this mask is the smaller number
 pub min_is : (x y : ℤ) → FitsSigned w64 x → FitsSigned w64 y → to_z w64
     (cond (top 63 (less_mask (of_z w64 x) (of_z w64 y))) (of_z w64 x) (of_z w64 y)) ≡ int_min x y
 min_is x y fx fy =
@@ -138,6 +143,7 @@ min_is x y fx fy =
     ∙ ap (λ b. cond (lt_z x b) x y) (to_z-of_z w64 y fy)
     ∙ min_same x y
 
+-- the other choice is the greater number
 pub max_is : (x y : ℤ) → FitsSigned w64 x → FitsSigned w64 y → to_z w64
     (cond (top 63 (less_mask (of_z w64 x) (of_z w64 y))) (of_z w64 y) (of_z w64 x)) ≡ int_max x y
 max_is x y fx fy =
@@ -175,6 +181,7 @@ or_sign x y f g =
     sign_of_bits (bit_or (of_z w64 x) (of_z w64 y)) ∙ or_below_half (of_z w64 x) (of_z w64 y)
     ∙ ap (λ s. s && ltb (of_z w64 y) (2 ^ 63)) (sign_kept x f) ∙ ap (λ s. is_not_negative x && s) (sign_kept y g)
 
+-- a bitwise or is negative exactly where one of the two is
 pub signs_of_or : (xs ys : List ℤ) → Each1 (FitsSigned w64) xs → Each1 (FitsSigned w64) ys
     → map is_not_negative (zip2 (int_bit_or w64) xs ys) ≡ zip2 ◌&&◌ (map is_not_negative xs) (map is_not_negative ys)
 signs_of_or [] ys p q = refl
@@ -193,6 +200,7 @@ narrow_fits : (x : ℤ) → IsBounded coordinate_limit x → FitsSigned w32 x
 narrow_fits x h =
     let room : coordinate_limit < 2147483648 = lit< tt in fits_signed_from_abs w32 x (omega arith)
 
+-- each of the numbers fits 32 bits
 pub narrow_asks : (xs : List ℤ) → Each1 (IsBounded coordinate_limit) xs → Each1 (λ b. FitsSigned w32 (to_z w64 b)) (map (of_z w64) xs)
 narrow_asks [] h = tt
 narrow_asks (x ∷ xs) h =
@@ -204,6 +212,7 @@ widen_asks [] h = tt
 widen_asks (x ∷ xs) h =
     (rw (to_z-of_z w64 x (coordinate_size_fits x h.0), to_z-of_z w32 x (narrow_fits x h.0)) (coordinate_size_fits x h.0), widen_asks xs h.1)
 
+-- through 32 bits and back they stay the same
 pub narrow_is : (xs : List ℤ) → Each1 (IsBounded coordinate_limit) xs
     → map (to_z w64) (map (λ b. of_z w64 (to_z w32 b)) (map (λ b. of_z w32 (to_z w64 b)) (map (of_z w64) xs))) ≡ xs
 narrow_is [] h = refl

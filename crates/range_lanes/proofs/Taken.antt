@@ -41,6 +41,7 @@ module _ (L inner : List Position) (taken : AreTaken L inner) where
   inside : (i : ℕ) → i < length inner → i < INNER_CORNERS
   inside i within = omega (arith, taken.count, within)
 
+  -- each of them is a corner of the polygon
   pub taken_members : (x : Position) → Contains inner x → Contains L x
   taken_members x member =
       let few = inside member.0 member.1 in

@@ -7,6 +7,7 @@ use Rattle.std.proofs.lemmas.Option.{get_or_from_slice_get, none-some, same_Some
 use Rattle.std.specs.List.{range_with_len}
 use Rattle.range_lemmas.specs.Pairs.{PairedFrom}
 
+-- a member appended moves none of those before it
 pub slice_get_before : {X : Type 0} (xs : List X) (y : X) (i : ℕ) → i < length xs → slice_get (xs ++ y ∷ []) i ≡ slice_get xs i
 slice_get_before [] y i h = absurd (omega arith)
 slice_get_before (x ∷ xs) y zero h = refl
@@ -16,6 +17,7 @@ pub slice_get_last : {X : Type 0} (xs : List X) (y : X) → slice_get (xs ++ y �
 slice_get_last [] y = refl
 slice_get_last (x ∷ xs) y = slice_get_last xs y
 
+-- what stands at an index of a list with y appended stood there before, or is y
 pub before_or_last : {X : Type 0} (xs : List X) (x y : X) (i : ℕ) → slice_get (xs ++ y ∷ []) i ≡ Some x → (slice_get xs i ≡ Some x)
     ⊎ ((i ≡ length xs) × (y ≡ x))
 before_or_last [] x y zero e = inr (refl, same_Some y x e)
@@ -23,14 +25,17 @@ before_or_last [] x y (suc i) e = absurd (none-some x e)
 before_or_last (z ∷ xs) x y zero e = inl e
 before_or_last (z ∷ xs) x y (suc i) e = elim (before_or_last xs x y i e) [ inl k ↦ inl k | inr l ↦ inr (ap suc l.0, l.1) ]
 
+-- each index below the length has a member
 pub there_is : {X : Type 0} (xs : List X) (index : ℕ) → index < length xs → (x : X) × (slice_get xs index ≡ Some x)
 there_is [] index below = absurd (omega arith)
 there_is (x ∷ xs) zero below = (x, refl)
 there_is (x ∷ xs) (suc index) below = there_is xs index (omega arith)
 
+-- what is true of all members is true of the one at an index
 pub of_all : {X : Type 0} (P : X → Type 0) (xs : List X) (index : ℕ) (x : X) → All P xs → slice_get xs index ≡ Some x → P x
 of_all P xs index x all is = subst P (get_or_from_slice_get xs index x x is) (all index x (slice_get_within xs index x is))
 
+-- what is true at each index is true of all members
 pub all_of : {X : Type 0} (P : X → Type 0) (xs : List X) → ((index : ℕ) (x : X) → slice_get xs index ≡ Some x → P x) → All P xs
 all_of P xs each = λ index d below. each index (get_or xs index d) (slice_get-get_or xs index d below)
 
@@ -38,6 +43,7 @@ all_of P xs each = λ index d below. each index (get_or xs index d) (slice_get-g
 pub mapped : {X Y : Type 0} (f : X → Y) (xs : List X) (index : ℕ) (x : X) → slice_get xs index ≡ Some x → slice_get (map f xs) index ≡ Some (f x)
 mapped f xs index x is = slice_get-map f xs index ∙ ap (option_map f) is
 
+-- what stands in a mapped list was made of the member at the same index
 pub mapped_from : {X Y : Type 0} (f : X → Y) (xs : List X) (index : ℕ) (y : Y) → slice_get (map f xs) index ≡ Some y → (x : X) × (slice_get xs index ≡ Some x)
     × (f x ≡ y)
 mapped_from f [] index y is = absurd (none-some y is)
@@ -56,6 +62,7 @@ pub map_map : {X Y Z : Type 0} (f : Y → Z) (g : X → Y) (xs : List X) → map
 map_map f g [] = refl
 map_map f g (x ∷ xs) = ap (λ l. f (g x) ∷ l) (map_map f g xs)
 
+-- the list of f 0, f 1 and so on, up to n: what stands at an index
 pub range_at : {X : Type 0} (f : ℕ → X) (n index : ℕ) (x : X) → slice_get (map f (range_with_len 0 n)) index ≡ Some x → (index < n) × (x ≡ f index)
 range_at f n index x is =
     let len = length-map-range_with_len f 0 n in
@@ -74,6 +81,7 @@ set_or_kept (z ∷ xs) (suc i) y (suc index) x is =
     elim (set_or_kept xs i y index x is) [ inl k ↦ inl (ap suc k.0, k.1) | inr k ↦ inr (λ e. k.0 (omega (arith, e)), k.1) ]
 
 -- ---- a list in which one member took the place of a run of them
+-- how long the list is then
 pub replaced_length : {X : Type 0} (xs : List X) (x : X) (from to : ℕ) → from ≤ to → to ≤ length xs
     → length (take from xs ++ x ∷ drop to xs) + to ≡ length xs + from + 1
 replaced_length xs x from to order within =
@@ -89,6 +97,7 @@ same_indices (x ∷ xs) (y ∷ ys) same each =
     let head = each 0 x y refl refl in
     let rest = same_indices xs ys (omega (arith, same)) (λ index. each (suc index)) in cc
 
+-- lists whose members at each index go together, counted from n, are paired
 pub paired_at : {X Y : Type 0} (R : ℕ → X → Y → Type 0) (n : ℕ) (xs : List X) (ys : List Y) → length xs ≡ length ys
     → ((index : ℕ) (x : X) (y : Y) → slice_get xs index ≡ Some x → slice_get ys index ≡ Some y → R (n + index) x y) → PairedFrom R n xs ys
 paired_at R n [] [] same each = tt
@@ -112,10 +121,12 @@ moved f (w ∷ xs) x y rest rest' (v ∷ all) was step is =
     let tail = moved f xs x y rest rest' all (cc) step is in cc
 
 -- ---- three lists, index by index
+-- a relation holds between the members at each index, here of three lists
 abbrev pub Threes : {X Y Z : Type 0} → (X → Y → Z → Type 0) → List X → List Y → List Z → Type 0
 Threes {X} {Y} {Z} R xs ys zs = (index : ℕ) (x : X) (y : Y) (z : Z) → slice_get xs index ≡ Some x → slice_get ys index ≡ Some y → slice_get zs index ≡ Some z
     → R x y z
 
+-- three lists that each get one more member
 pub threes_pushed : {X Y Z : Type 0} (R : X → Y → Z → Type 0) (xs : List X) (ys : List Y) (zs : List Z) (x : X) (y : Y) (z : Z)
     → length xs ≡ length ys → length xs ≡ length zs → Threes R xs ys zs → R x y z → Threes R (xs ++ x ∷ []) (ys ++ y ∷ []) (zs ++ z ∷ [])
 threes_pushed R xs ys zs x y z in_ys in_zs each last index u v w is_u is_v is_w =
@@ -131,9 +142,11 @@ threes_pushed R xs ys zs x y z in_ys in_zs each last index u v w is_u is_v is_w 
           rw (← at.1, ← v_is, ← w_is) last)
     ]
 
+-- the same of two lists
 abbrev pub Twos : {X Y : Type 0} → (X → Y → Type 0) → List X → List Y → Type 0
 Twos {X} {Y} R xs ys = (index : ℕ) (x : X) (y : Y) → slice_get xs index ≡ Some x → slice_get ys index ≡ Some y → R x y
 
+-- two lists that each get one more member
 pub twos_pushed : {X Y : Type 0} (R : X → Y → Type 0) (xs : List X) (ys : List Y) (x : X) (y : Y) → length xs ≡ length ys → Twos R xs ys → R x y
     → Twos R (xs ++ x ∷ []) (ys ++ y ∷ [])
 twos_pushed R xs ys x y same each last index u v is_u is_v =

@@ -78,6 +78,7 @@ nonpos_product a b h k = omega (arith, linear, neg_product a b, nonneg_product a
 pub nonpos_nonpos : (a b : ℤ) → a ≤ℤ pos 0 → b ≤ℤ pos 0 → pos 0 ≤ℤ (a *ℤ b)
 nonpos_nonpos a b h k = omega (arith, linear, product_comm a b, neg_product b a, nonpos_product (neg_ℤ a) b (omega (arith, linear)) k, product_comm b (neg_ℤ a))
 
+-- a factor of a positive product is positive where the other is not negative
 pub positive_factor : (a x : ℤ) → pos 0 ≤ℤ a → pos 0 <ℤ (a *ℤ x) → pos 0 <ℤ x
 positive_factor a x h k = by_lt_z (pos 0) x (λ p. p) (λ q. absurd (omega (arith, linear, nonpos_product a x h q)))
 
@@ -91,6 +92,7 @@ sign (pos zero) = naught refl
 sign (pos (suc n)) = positive (omega (arith, linear))
 sign (negsuc n) = negative (omega (arith, linear))
 
+-- only 0 has a square that is not positive
 pub square_naught : (a : ℤ) → (a *ℤ a) ≤ℤ pos 0 → a ≡ pos 0
 square_naught (pos zero) h = refl
 square_naught (pos (suc m)) h = absurd (omega (arith, ints))

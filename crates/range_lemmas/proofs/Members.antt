@@ -15,6 +15,7 @@ at_index : {X : Type 0} (y : X) (xs : List X) (x : X) (k : ℕ) → k < suc (len
 at_index y xs x zero h e = inl (sym e)
 at_index y xs x (suc k) h e = inr (k, le_of_suc-le-suc h, e)
 
+-- a member of y and others is y or one of the others
 pub contained : {X : Type 0} (y : X) (xs : List X) (x : X) → Contains (y ∷ xs) x → (x ≡ y) ⊎ Contains xs x
 contained y xs x c = at_index y xs x c.0 c.1 c.2
 

@@ -17,6 +17,7 @@ pub abs_above : (z : ℤ) (m : ℕ) → unsigned_abs z ≤ m → z ≤ℤ pos m
 abs_above (pos k) m h = omega (arith, ints)
 abs_above (negsuc k) m h = omega (arith, ints)
 
+-- sizes of numbers bound the size of their difference, sum and product
 pub abs_sub : (x y : ℤ) (k m : ℕ) → unsigned_abs x ≤ k → unsigned_abs y ≤ m → unsigned_abs (x -ℤ y) ≤ k + m
 abs_sub x y k m f g =
     let xl = abs_below x k f in
@@ -47,12 +48,15 @@ IsUpTo m x = (pos 0 ≤ℤ x) × (x ≤ℤ pos m)
 pub abs_up_to : (m : ℕ) (x : ℤ) → IsUpTo m x → unsigned_abs x ≤ m
 abs_up_to m x f = abs_le x m (omega (arith, ints)) (omega (arith, ints))
 
+-- a difference of two numbers from 0 to m
 pub abs_difference : (m : ℕ) (x y : ℤ) → IsUpTo m x → IsUpTo m y → unsigned_abs (x -ℤ y) ≤ m
 abs_difference m x y f g = abs_le (x -ℤ y) m (omega (arith, ints)) (omega (arith, ints))
 
+-- a number from 0 to m comes back from 64 bits as it was
 pub kept : (m : ℕ) → m < 9223372036854775808 → (x : ℤ) → IsUpTo m x → to_z w64 (of_z w64 x) ≡ x
 kept m room x f = to_z-of_z w64 x (fits_from_size m room x (abs_up_to m x f))
 
+-- so does a difference of two such numbers, as code computes it
 pub difference_kept : (m : ℕ) → m < 9223372036854775808 → (x y : ℤ) → IsUpTo m x → IsUpTo m y
     → to_z w64 (of_z w64 (to_z w64 (of_z w64 x) -ℤ to_z w64 (of_z w64 y))) ≡ x -ℤ y
 difference_kept m room x y f g =

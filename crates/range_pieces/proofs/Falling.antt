@@ -53,6 +53,7 @@ is_in_piece bs c s h =
       | inr l ↦ l
     ]
 
+-- a cursor after all points stands at no piece
 pub is_last : (bs : List (List Position)) (c : Cursor) → Stands bs c → index bs c ≡ length (all_points bs) → c.piece ≡ length bs
 is_last bs c s h =
     elim (eq-or-lt_of_le s.bound) [
@@ -60,6 +61,7 @@ is_last bs c s h =
       | inr l ↦ absurd (omega (arith, h, index_before_end bs c s l))
     ]
 
+-- a cursor before all points stands at the first piece
 pub is_first : (bs : List (List Position)) (c : Cursor) → IsCut bs 0 0 → Stands bs c → index bs c ≡ 0 → c.piece ≡ 0
 is_first bs c cut s h =
     elim (cases_lt 0 c.piece) [
@@ -76,6 +78,7 @@ is_first bs c cut s h =
       | inr g ↦ omega (arith, g)
     ]
 
+-- of two cursors the one before stands in an earlier piece, or earlier in the same
 pub stand_in_order : (bs : List (List Position)) (a b : Cursor) → Stands bs a → Stands bs b → index bs a ≤ index bs b → (a.piece < b.piece)
     ⊎ ((a.piece ≡ b.piece) × (a.within ≤ b.within))
 stand_in_order bs a b s t h =
@@ -113,6 +116,7 @@ all_after L p m c h i g k =
 abbrev pub Counts : (ℕ → Position) → Position → ℕ → ℕ → ℕ → Type 0
 Counts f p k step r = ((r ≡ step) × (rank (f k) <ℤ rank p)) ⊎ ((r ≡ 0) × (rank p ≤ℤ rank (f k)))
 
+-- what a probe says of point k, where x is that point
 pub counted : (f : ℕ → Position) (p x : Position) (k step r : ℕ) → x ≡ f k → ((r ≡ step) × (rank x <ℤ rank p)) ⊎ ((r ≡ 0) × (rank p ≤ℤ rank x))
     → Counts f p k step r
 counted f p x k step r e h = subst (λ (y : Position). ((r ≡ step) × (rank y <ℤ rank p)) ⊎ ((r ≡ 0) × (rank p ≤ℤ rank y))) e h
@@ -138,6 +142,7 @@ stepped f n p low size next left m c b some within le passed reached = record {
   reached = λ k. later f n p m (next + left) c le k (reached (omega (arith, le, k)));
 }
 
+-- a step of three probes leaves about a quarter of the points
 pub quartered : (f : ℕ → Position) (n : ℕ) (p : Position) (low size q first second third : ℕ) → Rises f n → IsBetween f n p low size → 0 < q → 4 * q ≤ size
     → Counts f p (low + q) q first → Counts f p (low + 2 * q) q second → Counts f p (low + 3 * q) q third
     → IsBetween f n p (low + (first + second + third)) (size - 3 * q)
@@ -167,6 +172,7 @@ quartered f n p low size q first second third c b some le o1 o2 o3 =
     go next m e fits g passed reached =
         subst (λ (x : ℕ). IsBetween f n p x (size - 3 * q)) e (stepped f n p low size next (size - 3 * q) m c b (omega (arith, le, some)) fits g passed reached)
 
+-- a step of one probe leaves about half of them
 pub halved : (f : ℕ → Position) (n : ℕ) (p : Position) (low size half step : ℕ) → Rises f n → IsBetween f n p low size → 0 < half → 2 * half ≤ size
     → Counts f p (low + half) half step → IsBetween f n p (low + step) (size - half)
 halved f n p low size half step c b some le (inl h) =
@@ -188,6 +194,7 @@ halved_or_done f n p low size step c b o =
           (λ i. ((let e : low ≡ low + step = omega (arith, nothing) in e) i, (let e : size ≡ size - size / 2 = omega (arith, none) in e) i)) b
     ]
 
+-- where one point is left, p falls before or behind it
 pub falls_last : (L : List Position) (p : Position) (low size step : ℕ) → IsRising L → size ≤ 1 → IsBetween (at L) (length L) p low size
     → Counts (at L) p low 1 step → FallsAt L p (low + step)
 falls_last L p low size step c h b (inl k) =
@@ -229,6 +236,7 @@ heads_rise bs i j cut c ij h =
     (c (offset bs i + 0) (offset bs j + 0) (omega (arith, offset_more bs i hi, cut.filled i hi, offset_later bs (i + 1) j (omega (arith, ij))))
     (joined_within bs j 0 h (cut.filled j h))))
 
+-- the first points of the pieces rise as well
 pub firsts_rise : (bs : List (List Position)) → IsCut bs 0 0 → IsRising (all_points bs) → Rises (first_of bs) (length bs)
 firsts_rise bs cut c i j ij h = heads_rise bs i j cut c ij h
 

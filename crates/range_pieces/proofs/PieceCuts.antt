@@ -16,6 +16,7 @@ pub record IsSpliced (bs mid M : List (List Position)) (i k : ℕ) : Type 0 wher
   pub middle : (m : ℕ) → m < length mid → piece M (i + m) ≡ piece mid m
   pub right : (m : ℕ) → piece M (i + length mid + m) ≡ piece bs (k + m)
 
+-- the first i pieces, `mid` and those from k on, put together, are such a list
 pub spliced : (bs mid : List (List Position)) (i k : ℕ) → i ≤ k → k ≤ length bs → IsSpliced bs mid (take i bs ++ (mid ++ drop k bs)) i k
 spliced bs mid i k le within =
     let n : length (take i bs) ≡ i = length-take-le i bs (omega arith) in record {
@@ -274,6 +275,7 @@ cut_across bs i k a b p ik h ha hb c =
     (spliced bs (x ∷ y ∷ []) i (k + 1) (omega (arith, ik)) (omega (arith, h)))
     (fair_two x y (omega (arith, n)) (omega (arith, n, ha, top)) (omega (arith, m, hb)) (omega (arith, m, top'))) c
 
+-- the end of piece i and all later pieces make room for one point
 pub cut_to_end : (bs : List (List Position)) (i a : ℕ) (p : Position) → i < length bs → a < length (piece bs i) → IsCut bs 0 0
     → IsCut (take i bs ++ (take a (piece bs i) ++ p ∷ []) ∷ []) (i - 1) (i + 2)
 cut_to_end bs i a p h ha c =
@@ -345,6 +347,7 @@ pub record IsHalf (bs M : List (List Position)) (i index j at : ℕ) : Type 0 wh
   pub room : length (piece M j) < piece_size
   pub same : offset M j + at ≡ offset bs i + index
 
+-- an index in a piece that is cut in two lies in one of its halves
 pub halved : (bs M : List (List Position)) (i index j at : ℕ) → i < length bs → length (piece bs i) ≡ piece_size → index ≤ piece_size
     → M ≡ take i bs ++ take 128 (piece bs i) ∷ drop 128 (piece bs i) ∷ drop (i + 1) bs → ((j ≡ i) × (at ≡ index) × (index ≤ 128))
     ⊎ ((j ≡ i + 1) × (at + 128 ≡ index)) → IsHalf bs M i index j at
@@ -394,6 +397,7 @@ set_across bs i k x y ik h =
     ∙ ap (λ (xs : List (List Position)). (take i bs ++ x ∷ []) ++ xs) back
     ∙ append_assoc (take i bs) (x ∷ []) (y ∷ drop (k + 1) bs)
 
+-- the same where nothing is left behind them
 pub set_to_end : (bs : List (List Position)) (i k : ℕ) (x : List Position) → i < length bs → k ≡ length bs
     → take (i + 1) (set bs i x) ++ drop k (set bs i x) ≡ take i bs ++ x ∷ []
 set_to_end bs i k x h e =

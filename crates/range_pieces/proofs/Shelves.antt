@@ -13,6 +13,7 @@ pub record IsShifted {X : Type 0} (d : X) (old new : List X) (from to k : ℕ) :
   pub moved : (m : ℕ) → m < k → get_or new (from + m) d ≡ get_or old (to + m) d
   pub rest : (m : ℕ) → to + k ≤ m → get_or new m d ≡ get_or old m d
 
+-- once all elements from `to` on are moved, those between are gone
 pub shifted_all : {X : Type 0} (d : X) (old new : List X) (from to k n : ℕ) → from ≤ to → to ≤ length old → k ≡ length old - to → n ≡ from + k
     → IsShifted d old new from to k → take n new ≡ take from old ++ drop to old
 shifted_all {X} d old new from to k n le within e f s =
@@ -32,6 +33,7 @@ shifted_all {X} d old new from to k n le within e f s =
           ∙ sym (get_or-append_right (take from old) (drop to old) from m d a r)
     ])
 
+-- two neighbours leave, and y takes their place
 pub set_remove : {X : Type 0} (xs : List X) (i : ℕ) (y : X) → i + 1 < length xs → set (remove xs (i + 1)) i y ≡ take i xs ++ y ∷ drop (i + 2) xs
 set_remove xs i y h =
     let n : length (take (i + 1) xs) ≡ i + 1 = length-take-le (i + 1) xs (omega arith) in

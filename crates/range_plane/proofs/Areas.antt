@@ -67,6 +67,7 @@ triangles_start [] = refl
 triangles_start (a ∷ []) = refl
 triangles_start (a ∷ b ∷ L) = omega (arith, linear, turn_swap a a b, turn_self a b)
 
+-- one more corner adds one triangle
 pub triangles_more : (p : Position) (L : List Position) (k : ℕ) (d : Position) → suc k < length L
     → triangles p (take (suc (suc k)) L) ≡ triangles p (take (suc k) L) +ℤ turn p (slice_index_or L k d) (slice_index_or L (suc k) d)
 unfolding triangles
@@ -75,6 +76,7 @@ triangles_more p (a ∷ []) k d h = absurd (omega arith)
 triangles_more p (a ∷ b ∷ L) zero d h = omega (arith, linear)
 triangles_more p (a ∷ b ∷ L) (suc k) d h = omega (arith, linear, triangles_more p (b ∷ L) k d (omega arith))
 
+-- the doubled area is the sum of all triangles at the first corner
 pub area2_all : (L : List Position) → area2 L ≡ triangles (slice_index_or L 0 origin) L
 unfolding triangles
 area2_all [] = refl

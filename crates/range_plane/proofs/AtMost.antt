@@ -4,6 +4,7 @@ use Rattle.std.proofs.lemmas.Int.{by_lt_z}
 use Rattle.range_lemmas.proofs.Integers.{linear}
 use Rattle.range_plane.specs.Plane.{Position, IsAtMost}
 
+-- of two points one is not after the other
 pub at_most_one_way : (a b : Position) → IsAtMost a b ⊎ IsAtMost b a
 at_most_one_way a b =
     by_lt_z a.e b.e (λ h. inl (inl h))

@@ -6,6 +6,7 @@ use Rattle.range_lemmas.proofs.Sizes.{abs_add, abs_difference, abs_mul, abs_sub,
 use Rattle.range_plane.specs.Plane.{Position, IsCoordinate, IsWithinLimits, coordinate_limit, product_limit, turn_limit, turn}
 use Rattle.range_plane.specs.Covering.{scalar_product}
 
+-- how large a product of two differences of coordinates may be
 pub abs_product : (a b c d : ℤ) → IsCoordinate a → IsCoordinate b → IsCoordinate c → IsCoordinate d → unsigned_abs ((a -ℤ b) *ℤ (c -ℤ d)) ≤ product_limit
 abs_product a b c d fa fb fc fd =
     abs_mul (a -ℤ b) (c -ℤ d) coordinate_limit coordinate_limit (abs_difference coordinate_limit a b fa fb) (abs_difference coordinate_limit c d fc fd)
@@ -28,12 +29,14 @@ abs_scalar_product q a b fq fa fb =
 pub coordinate_is : (x : ℤ) → IsCoordinate x → to_z w64 (of_z w64 x) ≡ x
 coordinate_is x f = kept coordinate_limit (lit< tt) x f
 
+-- what code over 64 bits computes is the difference itself
 pub difference_is : (x y : ℤ) → IsCoordinate x → IsCoordinate y → to_z w64 (of_z w64 (to_z w64 (of_z w64 x) -ℤ to_z w64 (of_z w64 y))) ≡ x -ℤ y
 difference_is x y f g = difference_kept coordinate_limit (lit< tt) x y f g
 
 pub product_fits : (z : ℤ) → unsigned_abs z ≤ product_limit → FitsSigned w64 z
 product_fits z h = fits_from_size product_limit (lit< tt) z h
 
+-- so it is with a product
 pub product_is : (x y : ℤ) → unsigned_abs (x *ℤ y) ≤ product_limit → to_z w64 (of_z w64 (x *ℤ y)) ≡ x *ℤ y
 product_is x y h = to_z-of_z w64 (x *ℤ y) (product_fits (x *ℤ y) h)
 

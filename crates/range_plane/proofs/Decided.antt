@@ -36,6 +36,7 @@ some_decided p P each (s ∷ S) = Decides-like (list_any p (s ∷ S)) to back (D
     back : ((x : Position) × Contains (s ∷ S) x × P x) → P s ⊎ ((x : Position) × Contains S x × P x)
     back w = elim (contained s S w.0 w.1) [ inl e ↦ inl (subst P e w.2) | inr m ↦ inr (w.0, m, w.2) ]
 
+-- the test of a segment is true exactly on it
 pub segment_decided : (q a b : Position) → Decides (is_on_segment q a b) (IsOnSegment q a b)
 segment_decided q a b =
     Decides-like (is_on_segment q a b) (λ h. record { straight = h.0; between = h.1 }) (λ s. (s.straight, s.between))
@@ -48,6 +49,7 @@ triangle_decided q a b c =
     (Decides-and _ _ (Decides-and _ _ (Decides-and _ _ (below_decided (pos 0) (turn a b c)) (at_most_decided (pos 0) (turn a b q)))
     (at_most_decided (pos 0) (turn b c q))) (at_most_decided (pos 0) (turn c a q)))
 
+-- the test of a set is true exactly where the set covers the point
 pub covered_decided : (S : List Position) (q : Position) → Decides (is_covered S q) (Covers S q)
 unfolding is_covered
 covered_decided S q =

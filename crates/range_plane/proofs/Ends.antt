@@ -30,6 +30,7 @@ not_after_last L q m greatest h c =
     ((rising (q ∷ L)).ahead x q (contains_later q L x k) (contains_first q L) (through_most x m q (greatest x k) h.0)
     (λ e. h.1 (least_alone m q h.0 (subst (λ z. IsAtMost z m) e (greatest x k))))))
 
+-- no corner comes before the first
 pub first_least : (L : List Position) → BeginsWithLeast L → (x : Position) → Contains L x → IsAtMost (at L 0) x
 first_least [] b x m = absurd (empty_contains_nothing x m)
 first_least (c ∷ L) b x m = b x m
@@ -53,6 +54,7 @@ not_covered L q n = none (is_covered L q) (λ e. n ((covered_decided L q).0 e))
     none true f = absurd (f refl)
     none false f = refl
 
+-- an answer that is true exactly where L covers q is the test of it
 pub is_decided : (L : List Position) (q : Position) (b : Bool) → (IsTrue b → Covers L q) → (Covers L q → IsTrue b) → b ≡ is_covered L q
 is_decided L q true to back = sym ((covered_decided L q).1 (to refl))
 is_decided L q false to back = not_covered L q (λ c. false_apart (back c))

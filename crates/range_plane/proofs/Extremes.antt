@@ -34,6 +34,7 @@ pub record IsBound (S : List Position) (f : Position → ℤ) : Type 0 where
   pub nonneg : pos 0 ≤ℤ bound
   pub above : (x : Position) → Contains S x → pos 0 <ℤ (bound +ℤ f x)
 
+-- finitely many numbers have a bound
 pub bound_of : (S : List Position) (f : Position → ℤ) → IsBound S f
 bound_of [] f = record { bound = pos 0; nonneg = omega (arith, linear); above = λ x m. absurd (empty_contains_nothing x m) }
 bound_of (s ∷ S) f =
@@ -135,5 +136,6 @@ kernel_within (suc n) S T h sub c = go (redundant T T (λ t m. m)) (kernel_withi
           λ t m. extreme_in T S t (λ x l. c x l) (λ x l. covers_member S x (sub x l)) (record { member = m; needed = f t m });
     }
 
+-- of every set some members cover it, each of which is extreme
 pub kernel : (S : List Position) → Kernel S
 kernel S = kernel_within (suc (length S)) S S (omega arith) (λ t m. m) (λ x m. covers_member S x m)

@@ -107,6 +107,7 @@ fan_least [] f = tt
 fan_least (c ∷ L) f = each (IsAtMost c) c L (at_most_itself c) (λ x m. subst (IsAtMost c) (get_or_default L m.0 origin x m.1 ∙ m.2)
     (f.least (suc m.0) (omega arith) (omega (arith, m.1))).0)
 
+-- corners that turn left round the first of them are a polygon, and the other way round
 pub polygon_of_fan : (L : List Position) → IsFan L → IsPolygon L L
 polygon_of_fan L f = polygon_by_covering L L (λ x m. m) (λ x m. covers_member L x m) (fan_distinct L f) (fan_least L f) (fan_convex L f)
 

@@ -72,6 +72,7 @@ covered_from_edges (c ∷ a ∷ b ∷ L) q t n h =
 
 -- ---- all corners lie to the left of each edge, or on it
 module _ (L : List Position) (t : TurnsLeft L) where
+  -- no corner lies on the right of an edge
   pub left_of_edge : (k : ℕ) (d : Position) → k + 1 < length L → (x : Position) → Contains L x → pos 0 ≤ℤ turn (get_or L k d) (get_or L (k + 1) d) x
   left_of_edge k d l x m =
       let at : get_or L m.0 d ≡ x = get_or_default L m.0 d x m.1 ∙ m.2 in
@@ -87,6 +88,7 @@ module _ (L : List Position) (t : TurnsLeft L) where
           (omega (arith, linear, turn_end (get_or L k d) (get_or L (k + 1) d)))
       go (inr (inr h)) (inr (inr w)) = absurd (omega arith)
 
+  -- nor on the right of the closing edge
   pub left_of_closing : (k : ℕ) (d : Position) → k + 1 ≡ length L → (x : Position) → Contains L x → pos 0 ≤ℤ turn (get_or L k d) (get_or L 0 d) x
   left_of_closing k d l x m =
       let at : get_or L m.0 d ≡ x = get_or_default L m.0 d x m.1 ∙ m.2 in
@@ -110,5 +112,6 @@ edges_from_covered L q t c =
       closing = λ k d l. in_half_plane L (get_or L k d) (get_or L 0 d) q (left_of_closing L t k d l) c;
     }
 
+-- corners that turn left cover what lies on the left of each edge, or on it
 pub covered_if_left_of_edges : (L : List Position) (q : Position) → TurnsLeft L → 2 < length L → Covers L q ↔ IsLeftOfEdges L q
 covered_if_left_of_edges L q t n = (edges_from_covered L q t, covered_from_edges L q t n)

@@ -38,6 +38,7 @@ least_stays S n c p l within is after = record {
   ];
 }
 
+-- the least of the first n members is the least of all where there are no more
 pub least_all : (S : List Position) (n : ℕ) (c : Position) → IsLeastOfFirst S n c → length S ≤ n → IsLeast S c
 least_all S n c l all = record {
   member = l.member;

@@ -14,6 +14,7 @@ polygon_covers_set S L p x m = let k = kernel S in wider k.points L x (λ t l. (
 pub set_covers_polygon : (S L : List Position) → IsPolygon S L → CoversEach S L
 set_covers_polygon S L p x m = covers_member S x ((p.corners x).0 m).member
 
+-- a polygon covers exactly what its set covers
 pub same_covering : (S L : List Position) → IsPolygon S L → (q : Position) → Covers L q ↔ Covers S q
 same_covering S L p q = (covers_through S L q (set_covers_polygon S L p), covers_through L S q (polygon_covers_set S L p))
 

@@ -213,6 +213,7 @@ least_of s (t ∷ S) = go (least_of t S)
         )
         pick (inr h) = (c, record { member = contains_later s (t ∷ S) c l.member; least = each (IsAtMost c) s (t ∷ S) h l.least })
 
+-- every finite set has a polygon
 pub polygon_of : (S : List Position) → (L : List Position) × IsPolygon S L
 polygon_of [] = (
   [],
@@ -231,9 +232,11 @@ pub record GoesRound (S : List Position) (n : ℕ) (L : List Position) : Type 0 
   pub least : IsLeast S (get_or L 0 origin)
   pub round : IsRound S (get_or L 0 origin) n L
 
+-- at first there is the least point alone
 pub goes_start : (S : List Position) (c : Position) → IsLeast S c → GoesRound S 0 (c ∷ [])
 goes_start S c l = record { least = l; round = round_start S c l }
 
+-- the next point is a corner already, or the others cover it
 pub goes_same : (S : List Position) (n : ℕ) (L : List Position) (p : Position) → GoesRound S n L → n < length S → p ≡ get_or S n p → Contains L p
     ⊎ Covers (without p S) p → GoesRound S (n + 1) L
 goes_same S n [] p r within is old = cc r.round.first
@@ -243,6 +246,7 @@ goes_same S n (c ∷ R) p r within is old = record { least = r.least; round = ro
     by o (inl m) = elim (contained c R p m) [ inl e ↦ absurd (o.1 e) | inr n ↦ n ]
     by o (inr covered) = absurd (o.0.needed covered)
 
+-- the next point is a new corner, put where it goes round the first
 pub goes_next : (S : List Position) (n : ℕ) (L : List Position) (index : ℕ) (p : Position) → GoesRound S n L → n < length S → p ≡ get_or S n p
     → ¬ (Contains L p) → ¬ (Covers (without p S) p)
     → 0 < index → ((k : ℕ) → 0 < k → k < index → pos 0 <ℤ turn (get_or L 0 origin) (get_or L k origin) p)
@@ -258,9 +262,11 @@ goes_next S n (c ∷ R) (suc k) p r within is new needed some before after = rec
       (λ j h w. before (suc j) (omega arith) (omega arith)) (λ w. after (omega arith));
 }
 
+-- after all points it is the polygon
 pub goes_all : (S : List Position) (n : ℕ) (L : List Position) → GoesRound S n L → length S ≤ n → IsPolygon S L
 goes_all S n L r all = round_all S (get_or L 0 origin) r.least n L r.round all
 
+-- there is a first corner at all times
 pub goes_some : (S : List Position) (n : ℕ) (L : List Position) → GoesRound S n L → 0 < length L
 goes_some S n [] r = cc r.round.first
 goes_some S n (c ∷ R) r = omega arith

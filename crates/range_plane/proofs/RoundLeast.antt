@@ -18,6 +18,7 @@ use Rattle.range_plane.proofs.Vectors.{turn_end}
 use Rattle.range_plane.proofs.Without.{equal_or_apart, without_keeps, without_has}
 use lib.IntN.{zero-*ℤ}
 
+-- one more member, at the front, that goes with all others
 pub pairs_with : {X : Type 0} (R : X → X → Type 0) (y : X) (xs : List X) → ((x : X) → Contains xs x → R y x) → AllPairs R xs → AllPairs R (y ∷ xs)
 pairs_with R y xs f p zero zero d h k = absurd (omega arith)
 pairs_with R y xs f p zero (suc j) d h k = f (get_or xs j d) (Contains-get_or xs j d (le_of_suc-le-suc k))
@@ -73,6 +74,7 @@ nearer_covered d c x y hx h e =
     spread' a b c = ring (a ∷ b ∷ c ∷ []) ((var 0 ⊖ var 1) ⊗ var 2) (var 0 ⊗ var 2 ⊖ var 1 ⊗ var 2) tt
 
 module _ (S : List Position) (c : Position) (l : IsLeast S c) where
+  -- all other points lie ahead of the least
   pub ahead : (x : Position) → Contains S x → x ≢ c → pos 0 <ℤ dot (rising S).direction (from c x)
   ahead x m a = (rising S).ahead c x l.member m (l.least x m) (λ e. a (sym e))
 

@@ -53,6 +53,7 @@ triangle_behind q a b c d t ha hb hc =
       at_least_product (cross w u) (dot d v) hwu hb,
     )
 
+-- no set covers a point that all its members are ahead of, in some direction
 pub not_both : (S : List Position) (q d : Position) → Covers S q → IsAhead S q d → ⊥
 not_both S q d (by_segment a b ma mb s) h = segment_behind q a b d s (h a ma) (h b mb)
 not_both S q d (by_triangle a b c ma mb mc t) h = triangle_behind q a b c d t (h a ma) (h b mb) (h c mc)
@@ -77,10 +78,12 @@ pub data View (S : List Position) (q : Position) : Type 0 where
   covering : Covers S q → View S q
   pointed : Cone S q → View S q
 
+-- a larger set covers all that a smaller one covers
 pub wider : (S T : List Position) (q : Position) → ((x : Position) → Contains S x → Contains T x) → Covers S q → Covers T q
 wider S T q f (by_segment a b ma mb s) = by_segment a b (f a ma) (f b mb) s
 wider S T q f (by_triangle a b c ma mb mc t) = by_triangle a b c (f a ma) (f b mb) (f c mc) t
 
+-- q lies between two points that it sees in opposite directions
 pub segment_from : (q a b : Position) → cross (from q a) (from q b) ≡ pos 0 → dot (from q a) (from q b) ≤ℤ pos 0 → IsOnSegment q a b
 segment_from q a b e h = record { straight = turn_at q a b ∙ e; between = subst (λ (z : ℤ). z ≤ℤ pos 0) (sym (scalar_product_is q a b)) h }
 
@@ -260,6 +263,7 @@ from_view S q (empty none) = inr (record { direction = q; ahead = λ x m. absurd
 from_view S q (covering c) = inl c
 from_view S q (pointed k) = inr (record { direction = k.direction; ahead = λ x m. (k.within x m).ahead })
 
+-- either a set covers a point, or a direction strictly separates the two
 pub covered_or_separated : (S : List Position) (q : Position) → Covers S q ⊎ IsSeparated S q
 covered_or_separated S q = from_view S q (view S q)
 
@@ -279,6 +283,7 @@ not_ahead (s ∷ S) q d =
 behind_reversed : (d q s : Position) → dot (reverse_of d) (from q s) +ℤ dot d (from q s) ≡ pos 0
 behind_reversed d q s = omega (arith, linear, dot_reverse d q s, dot_from d q s q, dot_origin q d)
 
+-- a set covers a point exactly where no direction strictly separates the two
 pub covers_every_way : (S : List Position) (q : Position) → Covers S q ↔ Reaches S q
 covers_every_way S q = (reaches, covers)
   where

@@ -51,6 +51,7 @@ module _ (S : List Position) (r : IsRising S) where
   from_ahead a b ma mb (inl e) h = subst (λ z. pos 0 ≤ℤ dot r.direction (from a z)) e (omega (arith, linear, dot_origin a r.direction))
   from_ahead a b ma mb (inr n) h = omega (arith, linear, r.ahead a b ma mb h n)
 
+  -- a later point of the set is not behind an earlier one, in the direction of their order
   pub not_behind : (a b : Position) → Contains S a → Contains S b → IsAtMost a b → pos 0 ≤ℤ dot r.direction (from a b)
   not_behind a b ma mb h = from_ahead a b ma mb (equal_or_apart a b) h
 
@@ -106,6 +107,7 @@ next_member L i h =
       | inr e ↦ subst (Contains L) (sym (next_last L i e)) (at_member L 0 (omega arith))
     ]
 
+-- what is covered lies on the left of each edge, or on it
 pub left_of_each : (L : List Position) (q : Position) (i : ℕ) → TurnsLeft L → i < length L → Covers L q → pos 0 ≤ℤ turn (at L i) (next L i) q
 left_of_each L q i t h c =
     elim (inner_or_last L i h) [
@@ -113,6 +115,7 @@ left_of_each L q i t h c =
       | inr e ↦ subst (λ z. pos 0 ≤ℤ turn (at L i) z q) (sym (next_last L i e)) (in_half_plane L (at L i) (at L 0) q (left_of_closing L t i origin e) c)
     ]
 
+-- a point is covered exactly where it is on the left of the two edges that span it
 pub two_edges : (L : List Position) → TurnsLeft L → (q : Position) (i k : ℕ) → i < length L → k < length L → Spans (at L i) (next L i) q
     → Spans (next L k) (at L k) q → Covers L q ↔ ((pos 0 ≤ℤ turn (at L i) (next L i) q) × (pos 0 ≤ℤ turn (at L k) (next L k) q))
 two_edges L t q i k hi hk low high = (

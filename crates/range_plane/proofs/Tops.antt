@@ -102,18 +102,22 @@ module _ (L : List Position) (t : TurnsLeft L) (r : IsRising L) (least : (x : Po
   fall_from top h g (suc d) (suc m) e k = subst (λ i. IsAtMost (at L (suc m + 1)) (at L i)) (let f : m + 1 ≡ suc m = omega arith in f)
       (inner_after m (suc m + 1) (omega arith) (omega arith) k (fall_from top h g d m (omega arith) (omega arith)))
 
+-- where corner m is not after the next, that comes last of the corners up to it
 pub at_most_the_top : (L : List Position) → TurnsLeft L → BeginsWithLeast L → (m : ℕ) → m + 1 < length L → IsAtMost (at L m) (at L (m + 1)) → (i : ℕ)
     → i ≤ m + 1 → IsAtMost (at L i) (at L (m + 1))
 at_most_the_top L t b = up_to L t (rising L) (first_least L b)
 
+-- where the next corner is not after corner m, this comes last of itself and all later ones
 pub fall : (L : List Position) → TurnsLeft L → BeginsWithLeast L → (m : ℕ) → 0 < m → m + 1 < length L → IsAtMost (at L (m + 1)) (at L m) → (i : ℕ) → m ≤ i
     → i < length L → IsAtMost (at L i) (at L m)
 fall L t b = down_from L t (rising L) (first_least L b)
 
+-- corners rise up to the top
 pub rises_to_top : (L : List Position) (top : ℕ) → TurnsLeft L → BeginsWithLeast L → IsTop L top → top < length L → (m : ℕ) → m < top
     → IsAtMost (at L m) (at L (m + 1))
 rises_to_top L top t b i within m h = rise_to L t (rising L) (first_least L b) top within i.greatest (top - (m + 1)) m (omega arith)
 
+-- corners fall from the top on
 pub falls_from_top : (L : List Position) (top : ℕ) → TurnsLeft L → BeginsWithLeast L → IsTop L top → 0 < top → (m : ℕ) → top ≤ m → m + 1 < length L
     → IsAtMost (at L (m + 1)) (at L m)
 falls_from_top L top t b i some m h = fall_from L t (rising L) (first_least L b) top some i.greatest (m - top) m (omega arith)
@@ -134,6 +138,7 @@ top_between L top h below above = record {
     split : (m n : ℕ) → (m ≤ n) ⊎ (n ≤ m)
     split m n = grind arith
 
+-- the first of at most one corner is the top
 pub top_of_few : (L : List Position) → length L < 2 → IsTop L 0
 top_of_few [] h = record { within = λ k. k; greatest = λ x m. absurd (empty_contains_nothing x m) }
 top_of_few (c ∷ []) h = record { within = λ k. k; greatest = λ x m. subst (λ z. IsAtMost z c) (sym (one_of_one c x m)) (at_most_itself c) }

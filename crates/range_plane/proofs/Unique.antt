@@ -11,6 +11,7 @@ use Rattle.range_plane.proofs.Without.{both_coordinates}
 pub from_head : {X : Type 0} (R : X → X → Type 0) (y : X) (xs : List X) → AllPairs R (y ∷ xs) → (x : X) → Contains xs x → R y x
 from_head R y xs h x m = subst (R y) m.2 (h 0 (suc m.0) x (omega arith) (suc-le-suc m.1))
 
+-- what is true of each two members is true of each two without the first
 pub in_rest : {X : Type 0} (R : X → X → Type 0) (y : X) (xs : List X) → AllPairs R (y ∷ xs) → AllPairs R xs
 in_rest R y xs h i j d l m = h (suc i) (suc j) d (suc-le-suc l) (suc-le-suc m)
 

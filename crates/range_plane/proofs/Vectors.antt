@@ -8,9 +8,11 @@ use Rattle.range_lemmas.proofs.Integers.{linear, at_least_product, nonneg_produc
 use Rattle.range_lemmas.proofs.Integers.{positive_factor, product_comm, neg_product}
 use Rattle.range_lemmas.proofs.Ring.{Expr, var, num, ◌⊕◌, ◌⊖◌, ◌⊗◌, ring}
 
+-- twice the signed area between u and v: positive where v is on the left of u
 unfoldable pub cross : Position → Position → ℤ
 cross u v = u.e *ℤ v.n -ℤ u.n *ℤ v.e
 
+-- positive where u and v point the same way
 unfoldable pub dot : Position → Position → ℤ
 dot u v = u.e *ℤ v.e +ℤ u.n *ℤ v.n
 
@@ -39,12 +41,14 @@ pub cross_self : (u : Position) → cross u u ≡ pos 0
 unfolding cross cross_of
 cross_self u = ring (u.e ∷ u.n ∷ []) (cross_of (var 0) (var 1) (var 0) (var 1)) (num (pos 0)) tt
 
+-- x lies inward where it is on the left of u and on the right of v
 pub dot_inward : (u v x : Position) → dot (inward u v) x ≡ cross u x +ℤ cross x v
 unfolding cross cross_of dot dot_of inward
 dot_inward u v x =
     ring (u.e ∷ u.n ∷ v.e ∷ v.n ∷ x.e ∷ x.n ∷ []) (dot_of (var 3 ⊖ var 1) (var 0 ⊖ var 2) (var 4) (var 5))
     (cross_of (var 0) (var 1) (var 4) (var 5) ⊕ cross_of (var 4) (var 5) (var 2) (var 3)) tt
 
+-- three vectors of the plane depend on each other, by their areas
 pub cramer : (a b c d : Position) → cross a b *ℤ dot d c +ℤ cross b c *ℤ dot d a +ℤ cross c a *ℤ dot d b ≡ pos 0
 unfolding cross cross_of dot dot_of
 cramer p q r s =
@@ -52,6 +56,7 @@ cramer p q r s =
     ring (p.e ∷ p.n ∷ q.e ∷ q.n ∷ r.e ∷ r.n ∷ s.e ∷ s.n ∷ []) (cross_of a a' b b' ⊗ dot_of d d' c c' ⊕ cross_of b b' c c' ⊗ dot_of d d' a a' ⊕ cross_of c c' a
     a' ⊗ dot_of d d' b b') (num (pos 0)) tt
 
+-- a product with u, by the parts along it and across it
 pub along : (u y d : Position) → dot u y *ℤ dot d u ≡ dot u u *ℤ dot d y -ℤ cross u y *ℤ cross u d
 unfolding cross cross_of dot dot_of
 along p q r =
@@ -88,6 +93,7 @@ pub nonneg_norm : (u : Position) → pos 0 ≤ℤ dot u u
 unfolding dot
 nonneg_norm u = omega (arith, linear, nonneg_square u.e, nonneg_square u.n)
 
+-- a vector that points ahead is not 0
 pub positive_norm : (d u : Position) → pos 0 <ℤ dot d u → pos 0 <ℤ dot u u
 positive_norm d u h =
     positive_factor (dot d d) (dot u u) (nonneg_norm d) (omega (
@@ -134,6 +140,7 @@ past k p q a b a' b' x y e f hp hq ha ha' hx hb hb' =
     )))
     (λ hy. positive_factor p k (omega (arith, linear)) (omega (arith, linear, product_comm p k, positive_product a x ha hx, nonneg_product b y hb hy)))
 
+-- which side of w the vector z is on, by a third vector t
 pub across : (w z t d : Position) → cross w z *ℤ dot d t ≡ cross w t *ℤ dot d z +ℤ cross t z *ℤ dot d w
 unfolding cross cross_of dot dot_of
 across p q r s =
@@ -151,6 +158,7 @@ right_of u v d w z wu wv du dv dz uz zv =
     past (cross w z) (dot d u) (dot d v) (cross w u) (cross u z) (cross w v) (cross v z) (dot d z) (dot d w) (across w z u d) (across w z v d) du dv wu wv dz uz
     (omega (arith, linear, cross_flip v z))
 
+-- w lies to the left of u and v, which enclose z, and so to the left of z
 pub left_of : (u v d w z : Position) → pos 0 <ℤ cross u w → pos 0 <ℤ cross v w → pos 0 <ℤ dot d u → pos 0 <ℤ dot d v → pos 0 <ℤ dot d z → pos 0 ≤ℤ cross u z
     → pos 0 ≤ℤ cross z v → pos 0 <ℤ cross z w
 left_of u v d w z uw vw du dv dz uz zv =
@@ -194,6 +202,7 @@ pub cross_origin : (q d : Position) → cross (from q q) d ≡ pos 0
 unfolding cross cross_of from
 cross_origin q d = ring (q.e ∷ q.n ∷ d.e ∷ d.n ∷ []) (cross_of (var 0 ⊖ var 0) (var 1 ⊖ var 1) (var 2) (var 3)) (num (pos 0)) tt
 
+-- points that differ have a distance
 pub positive_apart : (p q : Position) → p ≢ q → pos 0 <ℤ dot (from p q) (from p q)
 unfolding dot from
 positive_apart p q a =
@@ -211,11 +220,13 @@ positive_apart p q a =
 turn_of : Expr → Expr → Expr → Expr → Expr → Expr → Expr
 turn_of a a' b b' c c' = (b ⊖ a) ⊗ (c' ⊖ a') ⊖ (b' ⊖ a') ⊗ (c ⊖ a)
 
+-- a turn changes its sign where two points change places
 pub turn_swap : (a b c : Position) → turn a b c +ℤ turn a c b ≡ pos 0
 unfolding turn turn_of
 turn_swap a b c = ring (a.e ∷ a.n ∷ b.e ∷ b.n ∷ c.e ∷ c.n ∷ []) (turn_of (var 0) (var 1) (var 2) (var 3) (var 4) (var 5) ⊕ turn_of (var 0) (var 1) (var 4)
     (var 5) (var 2) (var 3)) (num (pos 0)) tt
 
+-- a turn may begin at any of its points
 pub turn_cycle : (a b c : Position) → turn b c a ≡ turn a b c
 unfolding turn turn_of
 turn_cycle a b c = ring (a.e ∷ a.n ∷ b.e ∷ b.n ∷ c.e ∷ c.n ∷ []) (turn_of (var 2) (var 3) (var 4) (var 5) (var 0) (var 1))
@@ -229,6 +240,7 @@ turn_self a b = ring (a.e ∷ a.n ∷ b.e ∷ b.n ∷ []) (turn_of (var 0) (var 
 unfoldable pub leftward : Position → Position → Position
 leftward a b = record { e = a.n -ℤ b.n; n = b.e -ℤ a.e }
 
+-- how much further to the left of the line x lies than q, by two turns
 pub dot_leftward : (a b q x : Position) → dot (leftward a b) (from q x) ≡ turn a b x -ℤ turn a b q
 unfolding turn turn_of dot dot_of from leftward
 dot_leftward a b q x =
@@ -243,6 +255,7 @@ pub turn_round : (c x y : Position) → turn c x y ≡ cross (from c x) (from c 
 unfolding turn cross from
 turn_round c x y = refl
 
+-- the scalar product of two ways from x, by ways from c
 pub scalar_product_round : (c x y : Position) → scalar_product x c y ≡ dot (from c x) (from c x) -ℤ dot (from c x) (from c y)
 unfolding scalar_product dot dot_of from
 scalar_product_round c x y =

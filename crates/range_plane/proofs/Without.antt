@@ -11,6 +11,7 @@ pub data Compared (a b : Position) : Bool → Type 0 where
   equal : a ≡ b → Compared a b true
   different : a ≢ b → Compared a b false
 
+-- points with the same coordinates are one
 pub both_coordinates : (a b : Position) → a.e ≡ b.e → a.n ≡ b.n → a ≡ b
 both_coordinates a b p q = λ i. record { e = p i; n = q i }
 
@@ -19,6 +20,7 @@ from_coordinates a b true true p q = equal (both_coordinates a b (p.0 refl) (q.0
 from_coordinates a b true false p q = different (λ e. true≢false (sym (q.1 (ap (λ (x : Position). x.n) e))))
 from_coordinates a b false t p q = different (λ e. true≢false (sym (p.1 (ap (λ (x : Position). x.e) e))))
 
+-- what the test of two points says of them
 pub compared : (a b : Position) → Compared a b (same_position a b)
 compared a b = from_coordinates a b (int_eq a.e b.e) (int_eq a.n b.n) (signed_Decides a.e b.e) (signed_Decides a.n b.n)
 
@@ -38,6 +40,7 @@ keeps_case p s x S false (different a) d f m = elim (contained s S x m) [
   | inr k ↦ contains_later s (without p S) x (f k)
 ]
 
+-- the other members stay
 pub without_keeps : (p : Position) (S : List Position) (x : Position) → x ≢ p → Contains S x → Contains (without p S) x
 without_keeps p [] x d m = absurd (empty_contains_nothing x m)
 without_keeps p (s ∷ S) x d m = keeps_case p s x S (same_position s p) (compared s p) d (without_keeps p S x d) m
@@ -51,6 +54,7 @@ within_case p s x S false (different a) f m = elim (contained s (without p S) x 
   | inr k ↦ (contains_later s S x (f k).0, (f k).1)
 ]
 
+-- what stays is a member and not p
 pub without_has : (p : Position) (S : List Position) (x : Position) → Contains (without p S) x → Contains S x × (x ≢ p)
 without_has p [] x m = absurd (empty_contains_nothing x m)
 without_has p (s ∷ S) x m = within_case p s x S (same_position s p) (compared s p) (without_has p S x) m

@@ -7,7 +7,7 @@ use Rattle.std.proofs.lemmas.List.{take_all}
 use Rattle.std.proofs.lemmas.Simd.{length-zip2, length-chunk}
 use Rattle.range_plane.specs.Plane.{coordinate_limit}
 use Rattle.range_lemmas.proofs.Sizes.{kept}
-use Rattle.range_lanes.proofs.Choosing.{choice_more, choice_parts, min_choice, least_from_fold}
+use Rattle.range_lanes.proofs.Choices.{choice_more, choice_parts, min_choice, least_from_fold}
 use Rattle.range_lanes.proofs.extent.least_of.Goals as goal
 
 pub loop-group-preserved : goal.loop-group-preserved

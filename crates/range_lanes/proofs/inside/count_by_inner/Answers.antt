@@ -1,6 +1,6 @@
 use Rattle.std.proofs.Common.{◌≡◌, ◌+◌, ◌*◌, sym, arith}
 use Rattle.range_plane.specs.Covering.{is_covered}
-use Rattle.range_lanes.proofs.Counting.{count_more}
+use Rattle.range_lanes.proofs.Counts.{count_more}
 use Rattle.range_lanes.proofs.inside.count_by_inner.Goals as goal
 
 pub count_group-count-requires-clause-within : goal.count_group-count-requires-clause-within

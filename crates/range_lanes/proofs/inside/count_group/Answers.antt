@@ -4,7 +4,7 @@ use Rattle.std.proofs.lemmas.Simd.{length-chunk}
 use Rattle.range_plane.specs.Covering.{is_covered}
 use Rattle.range_lanes.specs.Lanes.{is_not_negative}
 use Rattle.range_lanes.proofs.CornerBoxes.{none_covered}
-use Rattle.range_lanes.proofs.Counting.{all_pass, count_of_map, count_signs}
+use Rattle.range_lanes.proofs.Counts.{all_pass, count_of_map, count_signs}
 use Rattle.range_lanes.proofs.Known.{passes_where_not_negative, within_covered}
 use Rattle.range_lanes.proofs.inside.count_group.Goals as goal
 

@@ -3,7 +3,7 @@ use lib.Lanes.{chunk}
 use Rattle.std.proofs.lemmas.Simd.{length-chunk}
 use Rattle.range_plane.specs.Covering.{is_covered}
 use Rattle.range_lanes.specs.Lanes.{is_not_negative}
-use Rattle.range_lanes.proofs.Counting.{all_pass, count_signs}
+use Rattle.range_lanes.proofs.Counts.{all_pass, count_signs}
 use Rattle.range_lanes.proofs.Known.{passes_where_not_negative, within_covered}
 use Rattle.range_lanes.proofs.inside.flag_group.Goals as goal
 

@@ -5,7 +5,7 @@ use Rattle.range_plane.specs.Plane.{turn}
 use Rattle.range_lanes.specs.EdgeLines.{corner_before, side}
 use Rattle.range_lanes.specs.declared.edge_lines.EdgeLine.{EdgeLine}
 use Rattle.range_lanes.proofs.LaneEdges.{is_left, is_left_of_first, many_cover}
-use Rattle.range_lanes.proofs.Turning.{both_signs, map_same, signs_of_map}
+use Rattle.range_lanes.proofs.Turns.{both_signs, map_same, signs_of_map}
 use Rattle.range_lanes.proofs.margins.margins_of_lines.Goals as goal
 
 abbrev no_line : EdgeLine

@@ -1,4 +1,4 @@
-use Rattle.range_lanes.proofs.Turning.{segment_signs}
+use Rattle.range_lanes.proofs.Turns.{segment_signs}
 use Rattle.range_lanes.proofs.margins.margins_of_segment.Goals as goal
 
 pub returns : goal.returns

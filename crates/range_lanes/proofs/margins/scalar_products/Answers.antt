@@ -2,7 +2,7 @@ use Rattle.std.proofs.Common.{◌-ℤ◌, map, ap, ◌∙◌, lit<}
 use Rattle.range_plane.specs.Covering.{scalar_product}
 use Rattle.range_plane.specs.Plane.{coordinate_limit, Position, position}
 use Rattle.range_lemmas.proofs.Sizes.{kept}
-use Rattle.range_lanes.proofs.Turning.{scalar_products_value, product_to_turn, sum_small, times_small}
+use Rattle.range_lanes.proofs.Turns.{scalar_products_value, product_to_turn, sum_small, times_small}
 use Rattle.range_lanes.proofs.margins.scalar_products.Goals as goal
 
 pub plus-requires-clause-left : goal.plus-requires-clause-left

@@ -1,7 +1,7 @@
 use Rattle.std.proofs.Common.{◌-ℤ◌, ◌*ℤ◌, map, ap, ◌∙◌, lit<}
 use Rattle.range_plane.specs.Plane.{coordinate_limit, Position, position, turn}
 use Rattle.range_lemmas.proofs.Sizes.{difference_kept, kept}
-use Rattle.range_lanes.proofs.Turning.{difference_small, factor_small, product_to_turn, scaled_small, turns_value}
+use Rattle.range_lanes.proofs.Turns.{difference_small, factor_small, product_to_turn, scaled_small, turns_value}
 use Rattle.range_lanes.proofs.margins.turns.Goals as goal
 
 pub minus-requires-clause-left : goal.minus-requires-clause-left

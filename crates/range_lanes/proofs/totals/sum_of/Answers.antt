@@ -5,7 +5,7 @@ use Rattle.std.proofs.lemmas.List.{take_all}
 use Rattle.std.proofs.lemmas.Simd.{length-zip2, length-chunk}
 use Rattle.range_lanes.specs.Totals.{IsSumOf, total}
 use Rattle.range_lanes.proofs.Signed.{each_zip}
-use Rattle.range_lanes.proofs.Summing.{group_within, group_sums, sum_bounds, sum_more, sum_step, total_is, total_fits, total_asks, total_back}
+use Rattle.range_lanes.proofs.LaneSums.{group_within, group_sums, sum_bounds, sum_more, sum_step, total_is, total_fits, total_asks, total_back}
 use Rattle.range_lanes.proofs.totals.sum_of.Goals as goal
 
 pub plus-partial-requires-clause-right : goal.plus-partial-requires-clause-right

@@ -1,6 +1,6 @@
 use Rattle.std.proofs.Common.{◌+ℤ◌, ◌*ℤ◌, map, ap, ◌∙◌, lit<}
 use Rattle.range_plane.specs.Plane.{coordinate_limit, turn_limit}
-use Rattle.range_lanes.proofs.Turning.{difference_small, product_to_turn, scaled_small}
+use Rattle.range_lanes.proofs.Turns.{difference_small, product_to_turn, scaled_small}
 use Rattle.range_lanes.proofs.Lines.{sides_value, size_kept}
 use Rattle.range_lanes.proofs.edge_lines.EdgeLine.sides.Goals as goal
 

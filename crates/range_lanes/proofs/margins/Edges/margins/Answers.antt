@@ -4,7 +4,7 @@ use Rattle.range_plane.specs.Covering.{is_covered, is_on_segment}
 use Rattle.range_plane.specs.Edges.{at}
 use Rattle.range_plane.specs.Plane.{origin}
 use Rattle.range_lanes.proofs.LaneEdges.{few_cover}
-use Rattle.range_lanes.proofs.Turning.{map_same}
+use Rattle.range_lanes.proofs.Turns.{map_same}
 use Rattle.range_lanes.proofs.margins.Edges.margins.Goals as goal
 
 pub returns-then-corners-le2 : goal.returns-then-corners-le2

@@ -86,13 +86,16 @@ cast_asks (negsuc n) h f = absurd (omega (arith, ints))
 pub total_fits : (xs : List ℤ) → length xs ≤ fix_limit → All IsCoordinate xs → FitsSigned w64 (total xs)
 total_fits xs few h = few_fit (length xs) (total xs) few (sum_bounds xs h)
 
+-- what a cast of the sum to an unsigned number requires
 pub total_asks : (xs : List ℤ) → length xs ≤ fix_limit → All IsCoordinate xs → T (non_neg (to_z w64 (of_z w64 (total xs))))
     × Fits w64 (nat_abs (to_z w64 (of_z w64 (total xs))))
 total_asks xs few h = rw (to_z-of_z w64 (total xs) (total_fits xs few h)) (cast_asks (total xs) (sum_bounds xs h).0 (total_fits xs few h))
 
+-- the cast gives the sum itself
 pub total_back : (xs : List ℤ) → length xs ≤ fix_limit → All IsCoordinate xs → pos (nat_abs (to_z w64 (of_z w64 (total xs)))) ≡ total xs
 total_back xs few h = rw (to_z-of_z w64 (total xs) (total_fits xs few h)) (cast_back (total xs) (sum_bounds xs h).0)
 
+-- each coordinate is a sum of one coordinate
 pub group_sums : (xs : List ℤ) (at : ℕ) → All IsCoordinate xs → Each1 (IsSumOf 1) (chunk at 8 xs)
 group_sums xs at h =
     Each1-chunk (IsSumOf 1) at 8 xs (Each1-weaker IsCoordinate (IsSumOf 1) (λ x f. (f.0, f.1)) xs (each_from_all IsCoordinate xs h))

@@ -17,6 +17,7 @@ pub map_same : {A B : Type 0} (f g : A → B) → ((x : A) → f x ≡ g x) → 
 map_same f g s [] = refl
 map_same f g s (x ∷ xs) = ap (λ y. y ∷ map f xs) (s x) ∙ ap (λ l. g x ∷ l) (map_same f g s xs)
 
+-- what two products make, lane by lane, are turns
 pub turns_value : (a b : Position) (vs : List Position) (north east s t r : List ℤ) → north ≡ map (λ p. p.n -ℤ a.n) vs → east ≡ map (λ p. p.e -ℤ a.e) vs
     → s ≡ map (λ x. (b.e -ℤ a.e) *ℤ x) north → t ≡ map (λ x. (b.n -ℤ a.n) *ℤ x) east → r ≡ zip2 ◌-ℤ◌ s t → r ≡ map (turn a b) vs
 unfolding turn
@@ -44,6 +45,7 @@ scalar_product_back : (a b q : Position) → ((q.e -ℤ a.e) *ℤ (q.e -ℤ b.e)
 unfolding scalar_product
 scalar_product_back a b q = omega (arith, linear, product_back q.e a.e b.e, product_back q.n a.n b.n)
 
+-- and scalar products
 pub scalar_products_value : (a b : Position) (vs : List Position) (east east' north north' s t r : List ℤ)
     → east ≡ map (λ p. p.e -ℤ a.e) vs → east' ≡ map (λ p. p.e -ℤ b.e) vs → north ≡ map (λ p. p.n -ℤ a.n) vs → north' ≡ map (λ p. p.n -ℤ b.n) vs
     → s ≡ zip2 ◌*ℤ◌ east east' → t ≡ zip2 ◌*ℤ◌ north north' → r ≡ zip2 ◌+ℤ◌ s t → r ≡ map (λ q. scalar_product q a b) vs
@@ -62,6 +64,7 @@ pub factor_small : (x y : ℤ) → IsCoordinate x → IsCoordinate y → IsBound
     (to_z w64 (of_z w64 (to_z w64 (of_z w64 x) -ℤ to_z w64 (of_z w64 y))))
 factor_small x y f g = subst (IsBounded coordinate_limit) (sym (difference_kept coordinate_limit (lit< tt) x y f g)) (abs_difference coordinate_limit x y f g)
 
+-- products of coordinates, and sums and differences of these, stay within their limits
 pub scaled_small : (k : ℤ) (xs ys : List ℤ) → IsBounded coordinate_limit k → Each1 (IsBounded coordinate_limit) xs → ys ≡ map (λ x. k *ℤ x) xs
     → Each1 (IsBounded product_limit) ys
 scaled_small k xs ys hk h e =
@@ -95,6 +98,7 @@ negated_sign (pos zero) = refl
 negated_sign (pos (suc n)) = grind (arith, ints)
 negated_sign (negsuc n) = grind (arith, ints)
 
+-- numbers with their signs changed say where f is at most 0
 pub signs_of_negated : (f : Position → ℤ) (vs : List Position) (xs ys : List ℤ) → xs ≡ map f vs → ys ≡ map (λ x. pos 0 -ℤ x) xs
     → map is_not_negative ys ≡ map (λ p. int_le (f p) (pos 0)) vs
 signs_of_negated f vs xs ys e h =
@@ -102,6 +106,7 @@ signs_of_negated f vs xs ys e h =
     ∙ map-map is_not_negative (λ p. pos 0 -ℤ f p) vs
     ∙ map_same (λ p. is_not_negative (pos 0 -ℤ f p)) (λ p. int_le (f p) (pos 0)) (λ p. negated_sign (f p)) vs
 
+-- numbers say where f is not negative
 pub signs_of_map : (f : Position → ℤ) (vs : List Position) (xs : List ℤ) → xs ≡ map f vs → map is_not_negative xs ≡ map (λ p. is_not_negative (f p)) vs
 signs_of_map f vs xs e = ap (map is_not_negative) e ∙ map-map is_not_negative f vs
 

@@ -73,6 +73,7 @@ contained (x ∷ xs) a r some e (inl h) = (0, some, sym (h ∙ e))
 contained (x ∷ xs) a r some e (inr h) = h
 contained [] a r some e h = absurd (omega arith)
 
+-- a fold from the first number on gives the least, or the greatest
 pub least_from_fold : (xs : List ℤ) (a r : ℤ) → 0 < length xs → a ≡ get_or xs 0 (pos 0) → r ≡ fold int_min a xs → IsLeastCoordinate xs r
 least_from_fold xs a r some e h = (contained xs a r some e (fold-int_min_reached a xs r h), (fold-int_min_bounds a xs r h).1)
 

@@ -12,9 +12,11 @@ use Rattle.range_lanes.proofs.Eights.{group_more}
 pub count_of_map : {A : Type 0} (p : A → Bool) (xs : List A) → count_by (λ b. b) (map p xs) ≡ count_by p xs
 count_of_map p xs = fold-map (λ a b. a + cond b 1 0) p 0 xs
 
+-- as many numbers are not negative as points pass the test
 pub count_signs : (p : Position → Bool) (vs : List Position) (zs : List ℤ) → map is_not_negative zs ≡ map p vs → count_by is_not_negative zs ≡ count_by p vs
 count_signs p vs zs e = sym (count_of_map is_not_negative zs) ∙ ap (count_by (λ b. b)) e ∙ count_of_map p vs
 
+-- one more group of eight
 pub count_more : (p : Position → Bool) (at : ℕ) (ps : List Position) → count_by p (take at ps) + count_by p (chunk at 8 ps) ≡ count_by p (take (at + 8) ps)
 count_more p at ps = sym (sum_by-append (λ x. cond (p x) 1 0) (take at ps) (chunk at 8 ps)) ∙ ap (count_by p) (sym (take-add at 8 ps))
 
@@ -54,6 +56,7 @@ none_pass f g stronger (x ∷ xs) none =
 abbrev pub one_or_none : Bool → ℕ
 one_or_none b = cond b 1 0
 
+-- code makes the same number of a test
 pub bit_of : (b : Bool) → bool_byte b ≡ one_or_none b
 bit_of true = refl
 bit_of false = refl
