@@ -21,8 +21,8 @@ use Rattle.range_words.specs.declared.level.LevelFault.{LevelFault}
 use Rattle.range_words.specs.declared.level.LevelFault.TheVariants as levels
 use Rattle.range_words.specs.declared.words.WordFault.{WordFault}
 use Rattle.range_words.specs.declared.words.WordFault.TheVariants as words
-use Rattle.range_command.specs.Obeying.{IsToldAlone}
-use Rattle.range_command.specs.Telling.{RefusalsAreOneLine, ShortLinesAreOneLine, source_name, files_text, line_of, name_of, output_text, report_text, short_files_line, short_run_line, unread_text}
+use Rattle.range_command.specs.Command.{IsToldAlone}
+use Rattle.range_command.specs.RefusalText.{RefusalsAreOneLine, ShortLinesAreOneLine, source_name, files_text, line_of, name_of, output_text, report_text, short_files_line, short_run_line, unread_text}
 use Rattle.range_command.specs.declared.refusal.Refusal.TheVariants as refusals
 
 -- words of the program's own

@@ -3,10 +3,10 @@ use Rattle.std.proofs.Common.{inl, inr, List, ℕ, Option, subst}
 use Rattle.std.specs.declared.io.Error.{Error}
 use Rattle.std.specs.Io.KnownBytes.{Appends}
 use Rattle.range_texts.specs.Seen.{IsOneLine}
-use Rattle.range_command.specs.Answering.{IsSaid, SaysOneLine}
-use Rattle.range_command.specs.Obeying.{IsOfSystem, IsTold, World}
+use Rattle.range_command.specs.SaidLine.{IsSaid, SaysOneLine}
+use Rattle.range_command.specs.Command.{IsOfSystem, IsTold, World}
 use Rattle.range_command.specs.Output.{Outlet}
-use Rattle.range_command.specs.Telling.{IsOfOneLine, IsTelling, line_of, refusal_text}
+use Rattle.range_command.specs.RefusalText.{IsOfOneLine, IsTelling, line_of, refusal_text}
 use Rattle.range_command.specs.declared.refusal.Refusal.{Refusal}
 use Rattle.range_command.specs.declared.refusal.Refusal.TheVariants as refusals
 use Rattle.range_command.proofs.Lines.{refusal_line, short_is_one_line}

@@ -1,6 +1,6 @@
-pub mod Answering
-pub mod Obeying
-pub mod Opening
+pub mod Command
+pub mod Opener
 pub mod Output
+pub mod RefusalText
+pub mod SaidLine
 pub mod Status
-pub mod Telling

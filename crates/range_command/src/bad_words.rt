@@ -1,6 +1,6 @@
 // What is wrong with words that are not the program's, in one line.
 
-ghost use Rattle.range_command.specs.Obeying.{IsOfBadWords};
+ghost use Rattle.range_command.specs.Command.{IsOfBadWords};
 
 use crate::refusal::Refusal;
 use range_texts::OneLine;

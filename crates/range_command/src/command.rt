@@ -2,7 +2,7 @@
 
 ghost use Rattle.std.specs.Prelude.{◌≡◌, ◌≢◌, IfErr, OnOk, map, string_bytes};
 ghost use Rattle.std.specs.Io.KnownBytes.{Appends};
-ghost use Rattle.range_command.specs.Obeying.{IsObeyed, IsOfReply, IsTold, world};
+ghost use Rattle.range_command.specs.Command.{IsObeyed, IsOfReply, IsTold, world};
 ghost use Rattle.range_command.specs.Status.{refusal_status};
 
 use crate::bad_words::bad_words;

@@ -1,7 +1,7 @@
 // The words of the command line, as the system gives them.
 
 ghost use Rattle.std.specs.Prelude.{IfErr};
-ghost use Rattle.range_command.specs.Obeying.{IsOfSystem};
+ghost use Rattle.range_command.specs.Command.{IsOfSystem};
 
 use crate::refusal::Refusal;
 use std::alloc::Global;

@@ -2,10 +2,10 @@
 
 ghost use Rattle.std.specs.Prelude.{◌≡◌, ◌≢◌, ◌⊎◌, List, None, false, map, string_bytes, true};
 ghost use Rattle.clap.specs.Words.{Text};
-ghost use Rattle.range_command.specs.Answering.{IsSaid, SaysOneLine};
-ghost use Rattle.range_command.specs.Obeying.{IsObeyed, IsOfSystem, IsTold, world};
+ghost use Rattle.range_command.specs.SaidLine.{IsSaid, SaysOneLine};
+ghost use Rattle.range_command.specs.Command.{IsObeyed, IsOfSystem, IsTold, world};
 ghost use Rattle.range_command.specs.Status.{refusal_status};
-ghost use Rattle.range_command.specs.Telling.{IsTelling};
+ghost use Rattle.range_command.specs.RefusalText.{IsTelling};
 ghost use Rattle.range_command.specs.declared.refusal.Refusal.{Refusal};
 
 use crate::command::obey;

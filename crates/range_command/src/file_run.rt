@@ -2,7 +2,7 @@
 
 ghost use Rattle.std.specs.Prelude.{◌≡◌, ◌≢◌, ◌≤◌, ◌∷◌, [], IfErr, IfOk, OnOk, vec_len};
 ghost use Rattle.range_options.specs.Limits.{file_limit};
-ghost use Rattle.range_command.specs.Obeying.{IsOfRun, Reports, world};
+ghost use Rattle.range_command.specs.Command.{IsOfRun, Reports, world};
 ghost use Rattle.range_command.specs.Status.{refusal_status};
 
 use crate::files::open_all;

@@ -1,8 +1,8 @@
 // Files that are opened to be read.
 
 ghost use Rattle.std.specs.Prelude.{◌≡◌, IfErr, IfOk, length, map, string_bytes};
-ghost use Rattle.range_command.specs.Obeying.{IsOfFiles, IsUnopened};
-ghost use Rattle.range_command.specs.Opening.{Found, IsNotOpened, bytes_in};
+ghost use Rattle.range_command.specs.Command.{IsOfFiles, IsUnopened};
+ghost use Rattle.range_command.specs.Opener.{Found, IsNotOpened, bytes_in};
 
 use crate::opener::{OpenFault, Opener};
 use crate::refusal::Refusal;

@@ -1,7 +1,7 @@
 // Where files are opened by their paths.
 
 ghost use Rattle.std.specs.Prelude.{IfErr, IfOk, List, None, Option, Result, ℕ};
-ghost use Rattle.range_command.specs.Opening.{Found, IsNotOpened, IsOpened};
+ghost use Rattle.range_command.specs.Opener.{Found, IsNotOpened, IsOpened};
 
 use crate::reason::reason_of;
 use range_pump::FileSource;

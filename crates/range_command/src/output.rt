@@ -3,7 +3,7 @@
 ghost use Rattle.std.specs.Prelude.{◌≡◌, ◌↔◌, IfErr, IsTrue, None, OnOk, Some};
 ghost use Rattle.std.specs.Io.{WritesAtMost};
 ghost use Rattle.std.specs.Io.KnownBytes.{Appends, WriteAppends};
-ghost use Rattle.range_command.specs.Answering.{HasLeft};
+ghost use Rattle.range_command.specs.SaidLine.{HasLeft};
 
 use crate::retry::write_again;
 use std::io;

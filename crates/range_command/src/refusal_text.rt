@@ -3,7 +3,7 @@
 ghost use Rattle.std.specs.Prelude.{◌≡◌, ◌++◌, Some, codes, false, true};
 ghost use Rattle.std.specs.Fmt.{WritesOnOk};
 ghost use Rattle.range_texts.specs.Seen.{shown_text};
-ghost use Rattle.range_command.specs.Telling.{RefusalsAreOneLine, ShortLinesAreOneLine, files_text, name_of, output_text, refusal_text, report_text, short_files_line, short_line, short_run_line, unread_text};
+ghost use Rattle.range_command.specs.RefusalText.{RefusalsAreOneLine, ShortLinesAreOneLine, files_text, name_of, output_text, refusal_text, report_text, short_files_line, short_line, short_run_line, unread_text};
 
 use crate::refusal::Refusal;
 use range_analysis::AnalyseFault;

@@ -13,7 +13,7 @@ use Rattle.range_fixes.specs.Reading.{Reading}
 use Rattle.range_line.specs.declared.message.Message.{Message}
 use Rattle.range_line.specs.Lines.{FeederView, after_send}
 use Rattle.range_line.specs.Messages.{block_count, block_of, blocks, fixes_in, all_fixes, message, the_mark}
-use Rattle.range_pump.specs.Feeding.{EndsAfter, GivesNext, IsFed, after_block}
+use Rattle.range_pump.specs.Blocks.{EndsAfter, GivesNext, IsFed, after_block}
 use Rattle.range_pump.specs.Pump.{IsPumped, IsReadAs, ReadResult}
 use Rattle.range_pump.proofs.BlockCuts.{blocks_of_longer, count_of_full, count_of_more, last_block}
 

@@ -5,7 +5,7 @@ use Rattle.std.proofs.lemmas.Option.{get_or_from_slice_get, slice_get_within}
 use Rattle.range_plane.specs.declared.fix.Fix.{Fix}
 use Rattle.range_fixes.specs.Progress.{Answers, Progress, Reads}
 use Rattle.range_fixes.specs.Reading.{Reading}
-use Rattle.range_pump.specs.Feeding.{GivesNext}
+use Rattle.range_pump.specs.Blocks.{GivesNext}
 
 -- the reader gave one fix more of each reading that it goes through
 pub gives_more : (p q s : Progress) (fixes : List Fix) (fix : Fix) → GivesNext p fixes q → ((r : Reading) → Reads q r → Reads s r)

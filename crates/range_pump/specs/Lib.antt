@@ -1,2 +1,2 @@
-pub mod Feeding
+pub mod Blocks
 pub mod Pump

@@ -4,7 +4,7 @@ ghost use Rattle.std.specs.Prelude.{◌≡◌, ◌≢◌, ◌⊎◌, ◌<◌, �
 ghost use Rattle.range_plane.specs.Fix.{fix_limit};
 ghost use Rattle.range_fixes.specs.declared.reader.Stage.TheVariants.{Failed};
 ghost use Rattle.range_fixes.specs.Progress.{is_of_text};
-ghost use Rattle.range_pump.specs.Feeding.{EndsAfter, GivesNext};
+ghost use Rattle.range_pump.specs.Blocks.{EndsAfter, GivesNext};
 
 use range_fixes::{FixReader, ReadFault};
 use range_plane::Fix;

@@ -7,7 +7,7 @@ ghost use Rattle.range_fixes.specs.declared.reader.Stage.TheVariants.{Failed};
 ghost use Rattle.range_fixes.specs.Progress.{Reads};
 ghost use Rattle.range_fixes.specs.Reading.{Reading, reading_from};
 ghost use Rattle.range_line.specs.Messages.{all_fixes};
-ghost use Rattle.range_pump.specs.Feeding.{after_block, IsFed};
+ghost use Rattle.range_pump.specs.Blocks.{after_block, IsFed};
 ghost use Rattle.range_pump.specs.Pump.{IsPumped};
 
 use crate::block::read_block;

@@ -1,7 +1,7 @@
 use Rattle.std.proofs.Common.{inl, inr, map, string_bytes, subst, rules}
 use Rattle.std.proofs.lemmas.Result.{IfErr-weaker, on_ok_weaker}
 use Rattle.range_words.specs.WordList.{IsRefusalOf}
-use Rattle.range_command.specs.Obeying.{IsOfReply, IsOfRun, IsTold, world}
+use Rattle.range_command.specs.Command.{IsOfReply, IsOfRun, IsTold, world}
 use Rattle.range_command.proofs.RunSources.{reply_told, told_of_run}
 use Rattle.range_command.proofs.command.obey.Goals as goal
 

@@ -1,5 +1,5 @@
 use Rattle.std.proofs.Common.{map, string_bytes, rules}
-use Rattle.range_command.specs.Obeying.{world}
+use Rattle.range_command.specs.Command.{world}
 use Rattle.range_command.proofs.Sayings.{said_in_one, told_in_one}
 use Rattle.range_command.proofs.exit_status.answer_to.Goals as goal
 

@@ -1,5 +1,5 @@
 use Rattle.std.proofs.Common.{refl, rules}
-use Rattle.range_command.specs.Obeying.{world}
+use Rattle.range_command.specs.Command.{world}
 use Rattle.range_command.proofs.RunSources.{alone_said, explained, files_of_run, files_said, reported}
 use Rattle.range_command.proofs.file_run.run_over.Goals as goal
 use Rattle.range_command.proofs.file_run.run_over.Goals.{then-is_empty+in_ok-sources, else-is_empty+in_ok-sources-2}

@@ -1,6 +1,6 @@
 use Rattle.std.proofs.Common.{◌≡◌, ◌++◌, ◌∷◌, [], ℕ, List, String, Global, string_bytes, subst, ap, ◌∙◌, rules, arith}
-use Rattle.range_command.specs.Opening.{Found, MayOpen, bytes_in}
-use Rattle.range_command.specs.Obeying.{IsUnopened}
+use Rattle.range_command.specs.Opener.{Found, MayOpen, bytes_in}
+use Rattle.range_command.specs.Command.{IsUnopened}
 use Rattle.range_command.proofs.RunSources.{may_open_of, told_more, unopened_of_files}
 use Rattle.range_command.proofs.files.open_all.Goals as goal
 

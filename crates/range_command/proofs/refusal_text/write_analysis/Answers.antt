@@ -2,7 +2,7 @@ use Rattle.std.proofs.Common.{List, ℕ, ◌++◌, codes, ap, ap₂, sym, ◌∙
 use Rattle.std.proofs.Output.{has_written_of_eq}
 use Rattle.range_analysis.specs.FaultText.{analyse_text}
 use Rattle.range_texts.specs.Seen.{shown_text, shown_name}
-use Rattle.range_command.specs.Telling.{files_text, name_of}
+use Rattle.range_command.specs.RefusalText.{files_text, name_of}
 use Rattle.range_command.proofs.refusal_text.write_analysis.Goals as goal
 
 -- the text by the names of the two files, by what is said of them, and by the animal

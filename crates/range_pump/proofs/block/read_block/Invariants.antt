@@ -1,7 +1,7 @@
 use Rattle.std.proofs.Common.{◌≡◌, ◌≤◌}
 use Rattle.std.specs.Vec.{vec_len, vec_capacity}
 use Rattle.range_plane.specs.Fix.{fix_limit}
-use Rattle.range_pump.specs.Feeding.{GivesNext}
+use Rattle.range_pump.specs.Blocks.{GivesNext}
 use Rattle.range_pump.proofs.block.read_block.Given as goal
 
 abbrev pub invariant-loop-number : goal.invariant-loop-number

@@ -11,7 +11,7 @@ use Rattle.range_words.specs.declared.words.Words.{Words}
 use Rattle.range_words.specs.declared.words.WordFault.{WordFault}
 use Rattle.range_words.specs.declared.words.WordFault.TheVariants as words
 use Rattle.range_run.specs.Run.{Explains, WritesReport}
-use Rattle.range_command.specs.Opening.{Found, IsFirstRefused, MayRefuse, bytes_in}
+use Rattle.range_command.specs.Opener.{Found, IsFirstRefused, MayRefuse, bytes_in}
 use Rattle.range_command.specs.declared.refusal.Refusal.{Refusal}
 use Rattle.range_command.specs.declared.refusal.Refusal.TheVariants as refusals
 

@@ -6,7 +6,7 @@ use Rattle.std.specs.declared.io.ErrorKind.TheVariants as kind
 use Rattle.std.specs.IoError.{error_kind}
 use Rattle.range_texts.specs.Seen.{IsOneLine}
 use Rattle.range_command.specs.Output.{Outlet}
-use Rattle.range_command.specs.Telling.{IsTelling, line_of}
+use Rattle.range_command.specs.RefusalText.{IsTelling, line_of}
 use Rattle.range_command.specs.declared.refusal.Refusal.{Refusal}
 
 -- the last failure of an output was that its reader has gone

@@ -15,7 +15,7 @@ use Rattle.range_run.specs.declared.fault.RunFault.{RunFault}
 use Rattle.range_run.specs.declared.fault.RunFault.TheVariants as runs
 use Rattle.range_words.specs.FaultText.{word_text}
 use Rattle.range_words.specs.declared.words.WordFault.TheVariants as words
-use Rattle.range_command.specs.Obeying.{IsToldAlone}
+use Rattle.range_command.specs.Command.{IsToldAlone}
 use Rattle.range_command.specs.declared.refusal.Refusal.{Refusal}
 use Rattle.range_command.specs.declared.refusal.Refusal.TheVariants as refusals
 
