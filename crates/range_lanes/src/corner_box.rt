@@ -34,7 +34,8 @@ impl CornerBox {
     // A number for each point, which is at least 0 exactly where the point lies in the box.
     #[inline(always)]
     pub(crate) fn margins(&self, group: &Eight) -> Lanes
-        ensures { map is_not_negative result ≡ map (is_in_box self.now.low self.now.high) group.now }
+        ensures { map is_not_negative result
+            ≡ map (is_in_box self.now.low self.now.high) group.now }
     {
         let (low, high) = (self.low, self.high);
         let from_west = group.east_of(low.e);
