@@ -1,4 +1,4 @@
-// The marks and counts of the part `lanes` of crates/benches in plain Rust, by a scan of the edges that ends
+// The cover flags and counts of the part `lanes` of crates/benches in plain Rust, by a scan of the edges that ends
 // early and by binary search. Reads the corners from standard input, and times the track that is named.
 mod ranges;
 mod tracks;
@@ -19,9 +19,9 @@ fn by_scan(corners: &[Point], q: Point) -> bool {
     true
 }
 
-fn mark(es: &[i64], ns: &[i64], out: &mut [bool], covers: impl Fn(Point) -> bool) {
-    for ((mark, &e), &n) in out.iter_mut().zip(es).zip(ns) {
-        *mark = covers(Point { e, n });
+fn flag(es: &[i64], ns: &[i64], out: &mut [bool], covers: impl Fn(Point) -> bool) {
+    for ((flag, &e), &n) in out.iter_mut().zip(es).zip(ns) {
+        *flag = covers(Point { e, n });
     }
 }
 
@@ -49,15 +49,15 @@ fn main() {
     let mut out = vec![false; points.len()];
     let scan = |q| by_scan(&corners, q);
     let search = |q| by_search(&corners, top, q);
-    let (marks_by_search, _) = best(|| mark(&es, &ns, &mut out, search));
-    let marked = out.iter().filter(|mark| **mark).count();
+    let (flags_by_search, _) = best(|| flag(&es, &ns, &mut out, search));
+    let flagged = out.iter().filter(|flag| **flag).count();
     let (counts_by_search, covered) = best(|| count(&es, &ns, search));
-    assert_eq!(marked as u64, covered);
+    assert_eq!(flagged as u64, covered);
     // A scan of very many edges would take minutes.
-    let (mut marks_by_scan, mut counts_by_scan) = (f64::INFINITY, f64::INFINITY);
+    let (mut flags_by_scan, mut counts_by_scan) = (f64::INFINITY, f64::INFINITY);
     if corners.len() <= 1000 {
-        marks_by_scan = best(|| mark(&es, &ns, &mut out, scan)).0;
+        flags_by_scan = best(|| flag(&es, &ns, &mut out, scan)).0;
         counts_by_scan = best(|| count(&es, &ns, scan)).0;
     }
-    println!("{marks_by_scan} {marks_by_search} {counts_by_scan} {counts_by_search} {covered}");
+    println!("{flags_by_scan} {flags_by_search} {counts_by_scan} {counts_by_search} {covered}");
 }

@@ -1,5 +1,5 @@
-"""The parts of the program that are timed beside plain Rust: marks and counts of points, inserts into a hull, percent
-polygons, and files that are followed.
+"""The parts of the program that are timed beside plain Rust: cover flags and counts of points, inserts into a hull,
+percent polygons, and files that are followed.
 
 Each part gives its cases, and one run of it what each way came to and took in each of them: the proved program of the
 crate `benches`, and plain Rust in the ways that it has.
@@ -53,11 +53,11 @@ def proved(benches, part, text):
     return zip(results.splitlines(), times.splitlines(), strict=True)
 
 
-def marks_run(benches, plain, wanted, size):
+def flags_run(benches, plain, wanted, size):
     text = text_of(polygon.corners(size))
     for came, took in proved(benches, "lanes", text):
         track, _, covered = came.split(",")
-        cases = (f"marks-{size}-{track}", f"counts-{size}-{track}")
+        cases = (f"flags-{size}-{track}", f"counts-{size}-{track}")
         if wanted.isdisjoint(cases):
             continue
         for case, time in zip(cases, took.split(",")[2:]):
@@ -68,9 +68,9 @@ def marks_run(benches, plain, wanted, size):
             yield Found(case, "search", covered, float(search))
 
 
-def marks(size):
-    cases = [f"{work}-{size}-{track}" for work in ("marks", "counts") for track in ("scattered", "walk")]
-    return Part(tuple(cases), lambda *given: marks_run(*given, size))
+def flags(size):
+    cases = [f"{work}-{size}-{track}" for work in ("flags", "counts") for track in ("scattered", "walk")]
+    return Part(tuple(cases), lambda *given: flags_run(*given, size))
 
 
 def inserts_run(benches, plain, wanted):
@@ -109,7 +109,7 @@ def follow_run(benches, plain, _):
 
 
 PARTS = (
-    *map(marks, SIZES),
+    *map(flags, SIZES),
     Part(tuple(f"inserts-{track}" for track in ("walk", "cloud", "spiral", "curve", "shuffled")), inserts_run),
     Part(("percents",), percents_run),
     Part(tuple(follow_case(track, count) for track, counts in WORKERS.items() for count in counts), follow_run),

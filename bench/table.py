@@ -3,11 +3,11 @@
 A case is a row; without one it prints those of the page. Of each case what all ways come to is compared first, and it
 stops where they differ. Then they are run in turns, since a machine's pace wanders.
 
-Of a part a time is the least of all runs, each of which makes several passes over marks and percent polygons. Of the
-whole program it is the median of the turns, from start to end, with the report sent to /dev/null; beside it stand the
-medians of the processor's time, its own and the system's, and, of homerange, of the most memory that a run held. The
-ratios are those of the time and of the processor's time to the plain way that took the least time, which is named, and
-then to plain Rust whose fields the crate csv reads, as the proved port of it does homerange's.
+Of a part a time is the least of all runs, each of which makes several passes over cover flags and percent polygons. Of
+the whole program it is the median of the turns, from start to end, with the report sent to /dev/null; beside it stand
+the medians of the processor's time, its own and the system's, and, of homerange, of the most memory that a run held.
+The ratios are those of the time and of the processor's time to the plain way that took the least time, which is named,
+and then to plain Rust whose fields the crate csv reads, as the proved port of it does homerange's.
 Behind the table stands the share of the processors' time that other machines took meanwhile, builds included.
 """
 
@@ -22,9 +22,9 @@ import programs
 import timing
 
 ROWS = {
-    "marks-12-walk": "marks, 12 corners",
-    "marks-200-walk": "marks, 200 corners",
-    "marks-20000-walk": "marks, 20,000 corners",
+    "flags-12-walk": "flags, 12 corners",
+    "flags-200-walk": "flags, 200 corners",
+    "flags-20000-walk": "flags, 20,000 corners",
     "inserts-walk": "inserts, walk",
     "inserts-spiral": "inserts, spiral",
     "inserts-shuffled": "inserts, curve shuffled",

@@ -8,13 +8,13 @@ use std::time::Instant;
 
 const ROUNDS: u8 = 7;
 
-// The best time of a few rounds of marks, in microseconds.
-fn time_marks(rt: &HostRuntime, polygon: &Polygon, cols: &Columns) -> io::Result<u128> {
+// The best time of a few rounds of cover flags, in microseconds.
+fn time_flags(rt: &HostRuntime, polygon: &Polygon, cols: &Columns) -> io::Result<u128> {
     let mut least = u128::MAX;
     for _ in 0..ROUNDS {
-        let mut marks = vec![in rt.alloc(); false; cols.len()]?;
+        let mut flags = vec![in rt.alloc(); false; cols.len()]?;
         let start = Instant::now(rt)?;
-        mark_inside(polygon, cols, &mut marks);
+        mark_inside(polygon, cols, &mut flags);
         least = least.min(start.elapsed(rt)?.as_micros());
     }
     Ok(least)
@@ -39,14 +39,14 @@ fn time_track(
 ) -> Result<(), anyhow::Error> {
     let cols = columns_of(rt.alloc(), points)?;
     let corners = polygon.corners().len();
-    let marks = time_marks(rt, polygon, &cols)?;
+    let flags = time_flags(rt, polygon, &cols)?;
     let (counts, covered) = time_counts(rt, polygon, &cols)?;
     println!(rt; "{name},{corners},{covered}")?;
-    eprintln!(rt; "{name},{corners},{marks},{counts}")?;
+    eprintln!(rt; "{name},{corners},{flags},{counts}")?;
     Ok(())
 }
 
-/// Times the marks and the counts for the polygon whose corners the text has. Prints how many points it covers,
+/// Times the flags and the counts for the polygon whose corners the text has. Prints how many points it covers,
 /// and says how many microseconds the best of a few rounds took.
 pub(crate) fn time_lanes(rt: &HostRuntime, text: &str) -> Result<(), anyhow::Error> {
     let corners = read_points(rt.alloc(), text)?;
