@@ -1,5 +1,5 @@
 -- The table of no fixes.
-use Rattle.std.proofs.Common.{◌≡◌, List, [], refl, rules, ◌∙◌, sym, ap}
+use Rattle.std.proofs.Common.{◌≡◌, List, [], refl, rules, ap}
 use Rattle.range_plane.specs.Plane.{Position}
 use Rattle.range_plane.proofs.ForCallers.{covering_members_are_corners}
 use Rattle.range_hull.specs.Hull.{Hull}
