@@ -1,6 +1,6 @@
 // All files, followed side by side.
 
-ghost use Rattle.std.specs.Prelude.{◌≡◌, ◌≤◌, ◌↔◌, ℕ, ◌%◌, Some, slice_get, length, IfOk, vec_len};
+ghost use Rattle.std.specs.Prelude.{◌≡◌, ◌≤◌, ◌↔◌, ℕ, ◌%◌, Some, slice_get, IfOk, vec_len};
 ghost use Rattle.range_fixes.specs.Reading.{readings};
 ghost use Rattle.range_options.specs.Limits.{file_limit};
 ghost use Rattle.range_collect.specs.Results.{AreFollowed};

@@ -1,9 +1,9 @@
 // Eight points of columns.
 
-ghost use Rattle.std.specs.Prelude.{◌≡◌, ◌+◌, ◌≤◌, ◌-ℤ◌, length, map, true};
+ghost use Rattle.std.specs.Prelude.{◌≡◌, ◌+◌, ◌≤◌, ◌-ℤ◌, length, map};
 ghost use Rattle.std.specs.Simd.Lanes.{chunk, Each1};
 ghost use Rattle.range_plane.specs.Plane.{IsCoordinate, coordinate_limit};
-ghost use Rattle.range_lanes.specs.Lanes.{IsBounded, is_not_negative};
+ghost use Rattle.range_lanes.specs.Lanes.{IsBounded};
 
 use crate::lanes::{LANE_COUNT, Lanes};
 use range_plane::Columns;

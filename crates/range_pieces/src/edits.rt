@@ -1,6 +1,6 @@
 // What a point changes in pieces: it opens, splits and joins them.
 
-ghost use Rattle.std.specs.Prelude.{◌≡◌, ◌⊎◌, ◌+◌, ◌<◌, ◌≤◌, ◌∷◌, ◌++◌, length, take, drop};
+ghost use Rattle.std.specs.Prelude.{◌≡◌, ◌⊎◌, ◌+◌, ◌<◌, ◌≤◌, ◌∷◌, ◌++◌, length};
 ghost use Rattle.range_pieces.specs.Pieces.{IsCut, piece, capacity_of, all_points, most_pieces, offset, exchange};
 ghost use Rattle.range_pieces.specs.PointList.{Stands, index};
 

@@ -1,6 +1,6 @@
 // The thread that reads a file.
 
-ghost use Rattle.std.specs.Prelude.{◌≡◌, ◌≢◌, ◌⊎◌, ◌+◌, ◌<◌, ◌≤◌, [], false, length, Err, Some, None, Option, IfErr, IfSome, IfOk, MatchBool, OnOk};
+ghost use Rattle.std.specs.Prelude.{◌≡◌, ◌≢◌, ◌⊎◌, ◌+◌, ◌<◌, ◌≤◌, [], false, length, Err, Some, Option, IfErr, IfSome, IfOk, MatchBool, OnOk};
 ghost use Rattle.range_plane.specs.Fix.{fix_limit};
 ghost use Rattle.range_options.specs.Limits.{block_limit};
 ghost use Rattle.range_fixes.specs.declared.reader.Stage.TheVariants.{Failed};
