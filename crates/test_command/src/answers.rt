@@ -1,6 +1,7 @@
 // What the program answers to whole command lines: its status, its report and its line of fault.
 
 use crate::failing::{Failures, Output};
+use crate::options::{LEVELS_WORD, UNIT_WORD};
 use crate::runs::REPORT_A;
 use crate::started::Line;
 use range_command::{SystemFiles, answer};
@@ -11,8 +12,8 @@ use std::sync::Wait;
 use std::thread::Threads;
 use test_doubles::FILE_A;
 
-// A command line over an input is answered by this status and this line, and by file A's report where it is whole.
-fn expect<R: Wait + Threads + Sync + Files<File = File> + AllocGlobal + Abort>(
+/// A command line over an input is answered by this status and this line, and by file A's report where it is whole.
+pub(crate) fn expect<R: Wait + Threads + Sync + Files<File = File> + AllocGlobal + Abort>(
     rt: &R,
     words: &[&[u8]],
     input: &[u8],
@@ -35,9 +36,9 @@ fn a_whole_run_is_answered_by_status_0_and_its_report(rt: HostRuntime) {
     let all = [
         b"homerange".as_slice(),
         b"--percent",
-        b"50,95,100",
+        LEVELS_WORD,
         b"--unit",
-        b"m",
+        UNIT_WORD,
         b"--block",
         b"2",
         b"--depth",
@@ -59,7 +60,7 @@ fn no_word_is_left_out_wherever_it_stands(rt: HostRuntime) {
         b"--percent",
         b"50",
         b"--unit",
-        b"m",
+        UNIT_WORD,
         b"--block",
         b"2",
         b"--depth",
@@ -71,8 +72,6 @@ fn no_word_is_left_out_wherever_it_stands(rt: HostRuntime) {
     expect(&rt, &[b"homerange", b"--bogus"], FILE_A, 2, line);
     expect(&rt, &[b"homerange", b"", b"--bogus"], FILE_A, 2, line);
     expect(&rt, late.as_slice(), FILE_A, 2, line);
-    let line = "homerange: word 1 of the command line is not UTF-8\n";
-    expect(&rt, &[b"homerange", b"\xFF"], FILE_A, 2, line);
 }
 
 #[test]

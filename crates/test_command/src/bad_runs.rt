@@ -1,12 +1,14 @@
 // Runs over files with each fault of their reader but too many records, which runs over sources without end have.
 
 use crate::line::line;
+use crate::refusals::expect_told;
 use crate::runs::run_in;
 use range_analysis::AnalyseFault;
 use range_command::{Output, SystemFiles, obey};
 use range_plane::Scale;
 use range_pump::FreeGate;
 use range_run::{RunFault, status};
+use std::alloc::Global;
 use std::fs::File;
 use std::process::Abort;
 use std::rt::Files;
@@ -15,43 +17,45 @@ use std::test::Fail;
 use std::thread::Threads;
 use test_files::{BadFile, bad_records, files_without_fix};
 
-// A run over the file is refused with its fault, and so are words over it as the input, with the text of the
-// fault. Nothing is written.
-fn expect_refused<R: Wait + Threads + Sync + Files<File = File> + AllocGlobal + Abort>(
+// A run over the file is refused with its fault, and nothing is written.
+fn expect_fault<R: Wait + Threads + Sync + Abort>(
     rt: &R,
+    alloc: Global,
     bad: BadFile,
 ) -> Result<(), Fail> {
-    let alloc = rt.alloc();
     let (file, fault) = (0, bad.fault);
     let mut out = Vec::new(alloc);
     let outcome = run_in(rt, alloc, bad.source(), Scale::Decimetre, &mut out)?;
     assert!(rt; out.is_empty() && status(&outcome) == 1, "{fault}");
     let expected = RunFault::Analyse(AnalyseFault::File { file, fault });
     assert!(rt; outcome == Err(expected), "{fault}");
-    let words = line(alloc, &["--unit", "dm"])?;
-    let mut out = Output::new(Vec::new(alloc));
-    let refused = obey(
-        rt,
-        &SystemFiles::new(rt),
-        words.as_slice(),
-        bad.source(),
-        &FreeGate,
-        &mut out,
-    );
-    let refusal = refused.err().ok_or("no refusal")?;
-    assert!(rt; out.writer().is_empty() && refusal.status() == 1, "{fault}");
-    let told = format!(in alloc; "{refusal}")?;
-    let text = format!(in alloc; "standard input: {fault}")?;
-    assert!(rt; told.as_str() == text.as_str(), "{told}");
     Ok(())
+}
+
+// Words over the file as the input are refused with the text of its fault, and nothing is written.
+fn expect_refused<R: Wait + Threads + Sync + Files<File = File> + AllocGlobal + Abort>(
+    rt: &R,
+    bad: BadFile,
+) -> Result<(), Fail> {
+    let alloc = rt.alloc();
+    let fault = bad.fault;
+    let (words, files) = (line(alloc, &["--unit", "dm"])?, SystemFiles::new(rt));
+    let (source, mut out) = (bad.source(), Output::new(Vec::new(alloc)));
+    let refused = obey(rt, &files, words.as_slice(), source, &FreeGate, &mut out);
+    let refusal = refused.err().ok_or("no refusal")?;
+    assert!(rt; out.writer().is_empty(), "{fault}");
+    let text = format!(in alloc; "standard input: {fault}")?;
+    expect_told(rt, alloc, &refusal, 1, text.as_str())
 }
 
 #[test]
 fn each_fault_of_a_file_is_told_and_nothing_is_written(rt: HostRuntime) -> Result<(), Fail> {
     for file in bad_records(3, Scale::Decimetre) {
+        expect_fault(&rt, rt.alloc(), file)?;
         expect_refused(&rt, file)?;
     }
     for file in files_without_fix() {
+        expect_fault(&rt, rt.alloc(), file)?;
         expect_refused(&rt, file)?;
     }
     Ok(())

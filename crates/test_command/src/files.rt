@@ -18,6 +18,13 @@ const LINES_A: &[u8] =
 const LINES_B: &[u8] =
     b"animal,B,fixes,3\nbox,B,5,5,20,5\nrow,B,1,0,1,0\nrow,B,2,60,2,0\nrow,B,3,120,2,0\ncorner,B,1,5,5\ncorner,B,2,20,5\npercent,B,50,2,2,0\npercent,B,95,3,2,0\npercent,B,100,3,2,0\n";
 
+const A_FIRST: &[u8] = b"overlap,A,B,1,5\noverlap,B,A,2,3\nend,2\n";
+
+const B_FIRST: &[u8] = b"overlap,B,A,2,3\noverlap,A,B,1,5\nend,2\n";
+
+// Linux gives no byte of this file, for a reason of its own.
+const MEMORY: &str = "/proc/self/mem";
+
 // The words write these parts, or are refused with status 1 by this text, and then write nothing.
 fn expect<R: Wait + Threads + Sync + Files<File = File> + AllocGlobal + Abort>(
     rt: &R,
@@ -51,6 +58,35 @@ fn expect<R: Wait + Threads + Sync + Files<File = File> + AllocGlobal + Abort>(
     Ok(())
 }
 
+// The words over the files of the folder write these parts, or are refused by this text.
+fn expect_each<R: Wait + Threads + Sync + Files<File = File> + AllocGlobal + Abort>(
+    rt: &R,
+) -> Result<(), Fail> {
+    let same = "a.csv and a.csv have the same animal, A";
+    let fields = "cut.csv: record 1: 3 fields where 4 are wanted";
+    let reason = "/proc/self/mem: Input/output error";
+    let missing = "missing.csv: No such file or directory";
+    let cases = [
+        (
+            ["a.csv", "b.csv"].as_slice(),
+            [LINES_A, LINES_B, A_FIRST].as_slice(),
+            "",
+        ),
+        (&["b.csv", "a.csv"], &[LINES_B, LINES_A, B_FIRST], ""),
+        (&["b.csv"], &[LINES_B, b"end,1\n"], ""),
+        (&["a.csv", "a.csv"], &[], same),
+        (&["a.csv", "cut.csv"], &[], fields),
+        (&["a.csv", MEMORY], &[], reason),
+        (&[MEMORY, "cut.csv"], &[], reason),
+        (&["a.csv", "cut.csv", MEMORY], &[], fields),
+        (&["a.csv", "missing.csv", "cut.csv"], &[], missing),
+    ];
+    for (words, parts, text) in cases {
+        expect(rt, words, parts, text)?;
+    }
+    Ok(())
+}
+
 #[test]
 fn files_are_read_in_the_order_of_the_words(rt: HostRuntime) -> Result<(), Fail> {
     let cut = b"animal,second,easting,northing\nA,0,0\n".as_slice();
@@ -58,24 +94,7 @@ fn files_are_read_in_the_order_of_the_words(rt: HostRuntime) -> Result<(), Fail>
     for (path, text) in files {
         fs::write(&rt, path, text)?;
     }
-    let a_first = b"overlap,A,B,1,5\noverlap,B,A,2,3\nend,2\n".as_slice();
-    let b_first = b"overlap,B,A,2,3\noverlap,A,B,1,5\nend,2\n".as_slice();
-    let one = b"end,1\n".as_slice();
-    expect(&rt, &["a.csv", "b.csv"], &[LINES_A, LINES_B, a_first], "")?;
-    expect(&rt, &["b.csv", "a.csv"], &[LINES_B, LINES_A, b_first], "")?;
-    expect(&rt, &["b.csv"], &[LINES_B, one], "")?;
-    let same = "a.csv and a.csv have the same animal, A";
-    expect(&rt, &["a.csv", "a.csv"], &[], same)?;
-    let fields = "cut.csv: record 1: 3 fields where 4 are wanted";
-    expect(&rt, &["a.csv", "cut.csv"], &[], fields)?;
-    // Linux gives no byte of this file, for a reason of its own.
-    let memory = "/proc/self/mem";
-    let reason = "/proc/self/mem: Input/output error";
-    expect(&rt, &["a.csv", memory], &[], reason)?;
-    expect(&rt, &[memory, "cut.csv"], &[], reason)?;
-    expect(&rt, &["a.csv", "cut.csv", memory], &[], fields)?;
-    let missing = "missing.csv: No such file or directory";
-    expect(&rt, &["a.csv", "missing.csv", "cut.csv"], &[], missing)?;
+    expect_each(&rt)?;
     for (path, _) in files {
         fs::remove_file(&rt, path)?;
     }

@@ -1,6 +1,6 @@
 // One animal, two and five in many plans.
 
-use crate::options::options;
+use crate::options::{LEVELS, options};
 use crate::runs::REPORT_A;
 use range_options::{BLOCK_LIMIT, DEPTH_LIMIT, WORKER_LIMIT};
 use range_plane::Scale;
@@ -45,7 +45,7 @@ fn expect_report<R: Wait + Threads + Sync + Abort>(
             (BLOCK_LIMIT, DEPTH_LIMIT),
         ] {
             let plan = (block, depth, workers);
-            let options = options(alloc, &[50, 95, 100], plan, Scale::Metre)?;
+            let options = options(alloc, &LEVELS, plan, Scale::Metre)?;
             let sources = Vec::from_slice(alloc, files)?;
             let mut out = Vec::new(alloc);
             assert!(rt; run(rt, alloc, sources, &options, &mut out) == Ok(()));

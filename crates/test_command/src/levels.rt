@@ -1,5 +1,6 @@
 // Tests of levels, and of lists of them.
 
+use crate::options::{LEVELS, LEVELS_WORD};
 use range_options::Levels;
 use range_words::{LevelFault, levels};
 use std::alloc::{Allocator, Global};
@@ -10,7 +11,7 @@ use test_doubles::Refusing;
 #[test]
 fn good_lists_are_read(rt: HostRuntime) -> Result<(), Fail> {
     let cases = [
-        (b"50,95,100".as_slice(), [50, 95, 100].as_slice()),
+        (LEVELS_WORD, LEVELS.as_slice()),
         (b"7,7", &[7, 7]),
         (b"007", &[7]),
         (b"1,2,3,4,5,6,7,8", &[1, 2, 3, 4, 5, 6, 7, 8]),
@@ -82,15 +83,15 @@ fn levels_are_numbers_from_1_to_100(rt: HostRuntime) -> Result<(), Fail> {
 
 // Reads a list of levels, again where it is refused, which says so. How often it was refused.
 fn levels_again<A: Allocator + Copy>(rt: &impl Abort, alloc: A) -> u32 {
-    let found = levels(alloc, b"50,95,100");
+    let found = levels(alloc, LEVELS_WORD);
     let refusals = u32::from(found.is_err());
     if refusals > 0 {
         assert!(rt; found.err() == Some(LevelFault::OutOfMemory), "fault");
-        let again = levels(alloc, b"50,95,100").expect(rt, "again");
-        assert!(rt; again.as_slice() == [50, 95, 100].as_slice(), "again");
+        let again = levels(alloc, LEVELS_WORD).expect(rt, "again");
+        assert!(rt; again.as_slice() == LEVELS.as_slice(), "again");
     } else {
         let found = found.expect(rt, "levels");
-        assert!(rt; found.as_slice() == [50, 95, 100].as_slice(), "levels");
+        assert!(rt; found.as_slice() == LEVELS.as_slice(), "levels");
     }
     refusals
 }

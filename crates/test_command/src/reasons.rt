@@ -22,34 +22,33 @@ const NO_SPACE: i32 = 28;
 
 const BROKEN_PIPE: i32 = 32;
 
-// What is written for these words where reads and writes of eight bytes at most fail so, whether the output's
-// reader has gone, and the refusal with its status.
-fn outcome_of<R: Wait + Threads + Sync + Files<File = File> + AllocGlobal + Abort>(
+// These words, over file A in pieces of eight bytes whose reads and whose writes fail so, are refused by this status
+// and this text, if they are, and so many bytes are written, of the report where there are no words. Whether the
+// output's reader has gone.
+fn is_left<R: Wait + Threads + Sync + Files<File = File> + AllocGlobal + Abort>(
     rt: &R,
     words: &[&str],
-    reads: Failures,
-    writes: Failures,
-) -> Result<(Vec<u8>, bool, Option<(u8, String)>), Fail> {
+    failures: (Failures, Failures),
+    told: Option<(u8, &str)>,
+    written: usize,
+) -> Result<bool, Fail> {
     let alloc = rt.alloc();
-    let source = Source {
-        pieces: ScriptedSource::new(FILE_A, 8),
-        failures: reads,
-    };
+    let (failures, writes) = failures;
+    let pieces = ScriptedSource::new(FILE_A, 8);
+    let source = Source { pieces, failures };
     let mut out = range_command::Output::new(Output::new(Vec::new(alloc), 8, writes));
-    let words = line(alloc, words)?;
-    let told = match obey(
-        rt,
-        &SystemFiles::new(rt),
-        words.as_slice(),
-        source,
-        &FreeGate,
-        &mut out,
-    ) {
-        Ok(()) => None,
-        Err(refusal) => Some((refusal.status(), format!(in alloc; "{refusal}")?)),
-    };
-    let held = Vec::from_slice(alloc, out.writer().held.as_slice())?;
-    Ok((held, out.is_closed(), told))
+    let (line, files) = (line(alloc, words)?, SystemFiles::new(rt));
+    match obey(rt, &files, line.as_slice(), source, &FreeGate, &mut out) {
+        Ok(()) => assert!(rt; told.is_none(), "a refusal"),
+        Err(refusal) => {
+            let text = format!(in alloc; "{refusal}")?;
+            assert!(rt; told == Some((refusal.status(), text.as_str())), "{text}");
+        }
+    }
+    let held = out.writer().held.as_slice();
+    assert!(rt; held.len() == written, "{written} bytes");
+    assert!(rt; !words.is_empty() || REPORT_A.starts_with(held));
+    Ok(out.is_closed())
 }
 
 // The reason of a failed read, and nothing is written.
@@ -61,11 +60,8 @@ fn a_failed_read_is_told_by_its_reason(rt: HostRuntime) -> Result<(), Fail> {
     ];
     for (number, text) in cases {
         for before in 0..12 {
-            let failures = Failures::one_after(before, number);
-            let (held, is_closed, told) = outcome_of(&rt, &[], failures, Failures::none())?;
-            assert!(rt; held.is_empty() && !is_closed);
-            let (status, line) = told.ok_or("no refusal")?;
-            assert!(rt; status == 1 && line.as_str() == text);
+            let failures = (Failures::one_after(before, number), Failures::none());
+            assert!(rt; !is_left(&rt, &[], failures, Some((1, text)), 0)?);
         }
     }
     Ok(())
@@ -78,14 +74,13 @@ fn a_failed_write_is_told_by_its_reason(rt: HostRuntime) -> Result<(), Fail> {
         (NO_SPACE, "standard output: No space left on device", false),
         (BROKEN_PIPE, "standard output: Broken pipe", true),
     ];
-    for (number, text, is_left) in cases {
+    for (number, text, has_gone) in cases {
         for words in [[].as_slice(), &["--help"]] {
             for before in [0, 1, REPORT_A.len() / 8] {
-                let failures = Failures::one_after(before, number);
-                let (held, is_closed, told) = outcome_of(&rt, words, Failures::none(), failures)?;
-                assert!(rt; held.len() == before.saturating_mul(8) && is_closed == is_left);
-                let (status, line) = told.ok_or("no refusal")?;
-                assert!(rt; status == 4 && line.as_str() == text);
+                let failures = (Failures::none(), Failures::one_after(before, number));
+                let written = before.saturating_mul(8);
+                let left = is_left(&rt, words, failures, Some((4, text)), written)?;
+                assert!(rt; left == has_gone);
             }
         }
     }
@@ -130,25 +125,19 @@ fn fifteen_interruptions_are_as_none_and_sixteen_are_a_failure(
                 count,
                 number: INTERRUPTED,
             };
-            let (held, _, told) = outcome_of(&rt, &[], failures, Failures::none())?;
-            let text = "standard input: Interrupted system call";
-            assert!(rt;
-                told.is_some_and(|(status, line)| status == 1 && line.as_str() == text)
-                    == are_failed
-            );
-            assert!(rt; held.as_slice() == if are_failed { b"" } else { REPORT_A });
-            let (held, _, told) = outcome_of(&rt, &[], Failures::none(), failures)?;
-            let text = "standard output: Interrupted system call";
-            assert!(rt;
-                told.is_some_and(|(status, line)| status == 4 && line.as_str() == text)
-                    == are_failed
-            );
-            let length = if are_failed {
-                before.saturating_mul(8)
+            let (read, written) = if are_failed {
+                (0, before.saturating_mul(8))
             } else {
-                REPORT_A.len()
+                (REPORT_A.len(), REPORT_A.len())
             };
-            assert!(rt; held.len() == length && REPORT_A.starts_with(held.as_slice()));
+            let text = "standard input: Interrupted system call";
+            let told = if are_failed { Some((1, text)) } else { None };
+            let reads = (failures, Failures::none());
+            assert!(rt; !is_left(&rt, &[], reads, told, read)?);
+            let text = "standard output: Interrupted system call";
+            let told = if are_failed { Some((4, text)) } else { None };
+            let writes = (Failures::none(), failures);
+            assert!(rt; !is_left(&rt, &[], writes, told, written)?);
         }
     }
     Ok(())

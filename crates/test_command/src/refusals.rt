@@ -16,7 +16,7 @@ use std::test::Fail;
 use std::thread::Threads;
 
 // A refusal is told by this text and this status.
-fn expect_told<R: Abort>(
+pub(crate) fn expect_told<R: Abort>(
     rt: &R,
     alloc: Global,
     refusal: &Refusal,
@@ -148,46 +148,32 @@ fn a_file_more_than_the_most_is_refused(rt: HostRuntime) -> Result<(), Fail> {
     expect_refused(&rt, words.as_slice(), 2, text)
 }
 
-#[test]
-fn help_is_written(rt: HostRuntime) -> Result<(), Fail> {
+// Words are obeyed by a text that begins and ends so.
+fn expect_written<R: Wait + Threads + Sync + Files<File = File> + AllocGlobal + Abort>(
+    rt: &R,
+    words: &[&str],
+    first: &[u8],
+    last: &[u8],
+) -> Result<(), Fail> {
     let alloc = rt.alloc();
-    let words = line(alloc, &["--help"])?;
-    let mut out = Output::new(Vec::new(alloc));
-    assert!(rt;
-        obey(
-            &rt,
-            &SystemFiles::new(&rt),
-            words.as_slice(),
-            b"".as_slice(),
-            &FreeGate,
-            &mut out
-        )
-        .is_ok()
-    );
-    let help = out.writer().as_slice();
-    assert!(rt; help.starts_with(b"Home ranges of tagged animals"));
-    assert!(rt; help.ends_with(b"says why.\n"));
+    let (line, files) = (line(alloc, words)?, SystemFiles::new(rt));
+    let (input, mut out) = (b"".as_slice(), Output::new(Vec::new(alloc)));
+    let obeyed = obey(rt, &files, line.as_slice(), input, &FreeGate, &mut out);
+    assert!(rt; obeyed.is_ok());
+    assert!(rt; out.writer().starts_with(first) && out.writer().ends_with(last));
     Ok(())
 }
 
 #[test]
+fn help_is_written(rt: HostRuntime) -> Result<(), Fail> {
+    let first = b"Home ranges of tagged animals".as_slice();
+    expect_written(&rt, &["--help"], first, b"says why.\n")
+}
+
+#[test]
 fn version_is_written(rt: HostRuntime) -> Result<(), Fail> {
-    let alloc = rt.alloc();
-    let words = line(alloc, &["--version", "/no/such.csv"])?;
-    let mut out = Output::new(Vec::new(alloc));
-    assert!(rt;
-        obey(
-            &rt,
-            &SystemFiles::new(&rt),
-            words.as_slice(),
-            b"".as_slice(),
-            &FreeGate,
-            &mut out
-        )
-        .is_ok()
-    );
-    assert!(rt; out.writer().as_slice().starts_with(b"homerange 1.0.0 ("));
-    Ok(())
+    let words = ["--version", "/no/such.csv"];
+    expect_written(&rt, &words, b"homerange 1.0.0 (", b")\n")
 }
 
 // A run over these files that ends with this fault is told by this text and this status.

@@ -1,6 +1,6 @@
 // What a run writes, and the status it ends with.
 
-use crate::options::options;
+use crate::options::{LEVELS, PLAN, options};
 use range_analysis::AnalyseFault;
 use range_fixes::{Name, ReadFault};
 use range_plane::Scale;
@@ -37,36 +37,48 @@ pub(crate) fn run_in<R: Wait + Threads + Sync + Abort, S: Read + Send + Drop, W:
     unit: Scale,
     out: &mut W,
 ) -> Result<Result<(), RunFault>, Fail> {
-    let options = options(alloc, &[50, 95, 100], (256, 4, 2), unit)?;
+    let options = options(alloc, &LEVELS, PLAN, unit)?;
     let mut sources = Vec::new(alloc);
     sources.push(source)?;
     Ok(run(rt, alloc, sources, &options, out))
 }
 
-// Runs over a text, and over it behind a byte order mark, by a few bytes a read and by all.
+// Runs in this unit over each text, and over it behind a byte order mark, by a few bytes a read and by all.
+fn expect_reports<R: Wait + Threads + Sync + Abort>(
+    rt: &R,
+    alloc: Global,
+    unit: Scale,
+    cases: &[(&[u8], &[u8])],
+) -> Result<(), Fail> {
+    for &(text, report) in cases {
+        let mut marked = Vec::from_slice(alloc, b"\xEF\xBB\xBF")?;
+        marked.extend_from_slice(text)?;
+        for text in [text, marked.as_slice()] {
+            expect_report(rt, alloc, unit, text, report)?;
+        }
+    }
+    Ok(())
+}
+
 fn expect_report<R: Wait + Threads + Sync + Abort>(
     rt: &R,
     alloc: Global,
+    unit: Scale,
     text: &[u8],
     report: &[u8],
 ) -> Result<(), Fail> {
-    let mut marked = Vec::from_slice(alloc, b"\xEF\xBB\xBF")?;
-    marked.extend_from_slice(text)?;
-    for text in [text, marked.as_slice()] {
-        for most in READS {
-            let mut out = Vec::new(alloc);
-            let source = ScriptedSource::new(text, most);
-            let outcome = run_over(rt, alloc, source, &mut out)?;
-            assert!(rt; outcome == Ok(()) && status(&outcome) == 0);
-            assert!(rt; out.as_slice() == report, "by {most} bytes");
-        }
+    for most in READS {
+        let mut out = Vec::new(alloc);
+        let source = ScriptedSource::new(text, most);
+        let outcome = run_in(rt, alloc, source, unit, &mut out)?;
+        assert!(rt; outcome == Ok(()) && status(&outcome) == 0);
+        assert!(rt; out.as_slice() == report, "by {most} bytes");
     }
     Ok(())
 }
 
 #[test]
 fn a_run_writes_this_report_and_ends_with_status_0(rt: HostRuntime) -> Result<(), Fail> {
-    let alloc = rt.alloc();
     let cases = [
         (FILE_A, REPORT_A),
         (QUOTED_A, REPORT_A),
@@ -75,16 +87,12 @@ fn a_run_writes_this_report_and_ends_with_status_0(rt: HostRuntime) -> Result<()
             b"animal,\xFF,fixes,1\nbox,\xFF,16777216,3,16777216,3\nrow,\xFF,1,7,1,0\ncorner,\xFF,1,16777216,3\npercent,\xFF,50,1,1,0\npercent,\xFF,95,1,1,0\npercent,\xFF,100,1,1,0\nend,1\n",
         ),
     ];
-    for (text, report) in cases {
-        expect_report(&rt, alloc, text, report)?;
-    }
-    Ok(())
+    expect_reports(&rt, rt.alloc(), Scale::Metre, &cases)
 }
 
 // Records that are used, and others among them, whose fixes are left out.
 #[test]
 fn fixes_of_records_that_are_not_used_are_left_out(rt: HostRuntime) -> Result<(), Fail> {
-    let alloc = rt.alloc();
     let cases = [
         (
             b"animal,second,easting,northing,use\nA,0,0,0,1\nA,60,10,0,1\nA,120,10,10,1\nA,180,0,10,1\nA,240,5,5,1\n".as_slice(),
@@ -99,16 +107,12 @@ fn fixes_of_records_that_are_not_used_are_left_out(rt: HostRuntime) -> Result<()
             b"animal,A,fixes,3\nbox,A,0,0,10,10\nrow,A,1,0,1,0\nrow,A,2,60,2,0\nrow,A,3,180,3,100\ncorner,A,1,0,0\ncorner,A,2,10,0\ncorner,A,3,10,10\npercent,A,50,2,2,0\npercent,A,95,3,3,100\npercent,A,100,3,3,100\nend,1\n",
         ),
     ];
-    for (text, report) in cases {
-        expect_report(&rt, alloc, text, report)?;
-    }
-    Ok(())
+    expect_reports(&rt, rt.alloc(), Scale::Metre, &cases)
 }
 
 // Ranges without area, the largest area, and corners that come, stay and go.
 #[test]
 fn ranges_of_each_shape_have_these_reports(rt: HostRuntime) -> Result<(), Fail> {
-    let alloc = rt.alloc();
     let cases = [
         (
             FILE_B,
@@ -139,17 +143,13 @@ fn ranges_of_each_shape_have_these_reports(rt: HostRuntime) -> Result<(), Fail> 
             b"animal,H,fixes,6\nbox,H,0,0,10,4\nrow,H,1,0,1,0\nrow,H,2,1,2,0\nrow,H,3,2,3,8\nrow,H,4,3,4,20\nrow,H,5,4,5,36\nrow,H,6,5,5,56\ncorner,H,1,0,0\ncorner,H,2,4,0\ncorner,H,3,10,2\ncorner,H,4,4,4\ncorner,H,5,0,4\npercent,H,50,3,3,4\npercent,H,95,6,5,56\npercent,H,100,6,5,56\nend,1\n".as_slice(),
         ),
     ];
-    for (text, report) in cases {
-        expect_report(&rt, alloc, text, report)?;
-    }
-    Ok(())
+    expect_reports(&rt, rt.alloc(), Scale::Metre, &cases)
 }
 
 // Reports in decimetres, which begin with a line that says so: of the square of above, each coordinate ten
 // times as great, and of the greatest square.
 #[test]
 fn a_report_in_decimetres_begins_with_its_unit(rt: HostRuntime) -> Result<(), Fail> {
-    let alloc = rt.alloc();
     let cases = [
         (
             b"animal,second,easting,northing\nA,0,0,0\nA,60,100,0\nA,120,100,100\nA,180,0,100\nA,240,50,50\n".as_slice(),
@@ -160,21 +160,13 @@ fn a_report_in_decimetres_begins_with_its_unit(rt: HostRuntime) -> Result<(), Fa
             b"unit,dm\nanimal,F,fixes,4\nbox,F,0,0,134217728,134217728\nrow,F,1,0,1,0\nrow,F,2,1,2,0\nrow,F,3,2,3,18014398509481984\nrow,F,4,1099511627776,4,36028797018963968\ncorner,F,1,0,0\ncorner,F,2,134217728,0\ncorner,F,3,134217728,134217728\ncorner,F,4,0,134217728\npercent,F,50,2,2,0\npercent,F,95,4,4,36028797018963968\npercent,F,100,4,4,36028797018963968\nend,1\n",
         ),
     ];
-    for (text, report) in cases {
-        for most in READS {
-            let source = ScriptedSource::new(text, most);
-            let mut out = Vec::new(alloc);
-            assert!(rt; run_in(&rt, alloc, source, Scale::Decimetre, &mut out)? == Ok(()));
-            assert!(rt; out.as_slice() == report, "by {most} bytes");
-        }
-    }
-    Ok(())
+    expect_reports(&rt, rt.alloc(), Scale::Decimetre, &cases)
 }
 
 #[test]
 fn the_unit_of_two_animals_stands_once(rt: HostRuntime) -> Result<(), Fail> {
     let alloc = rt.alloc();
-    let options = options(alloc, &[], (256, 4, 2), Scale::Decimetre)?;
+    let options = options(alloc, &[], PLAN, Scale::Decimetre)?;
     let first = b"animal,second,easting,northing\nA,0,16777217,0\n".as_slice();
     let second = b"animal,second,easting,northing\nB,0,16777217,0\n".as_slice();
     let sources = vec![in alloc; first, second]?;
@@ -302,7 +294,7 @@ fn two_files_have_a_report_with_overlaps_or_the_first_fault(rt: HostRuntime) -> 
         ([b"".as_slice(), HEADER], Err(RunFault::Analyse(empty))),
     ];
     for (files, expected) in cases {
-        for plan in [(256, 4, 2), (1, 1, 8)] {
+        for plan in [PLAN, (1, 1, 8)] {
             let options = options(alloc, &[100, 50], plan, Scale::Metre)?;
             let sources = vec![in alloc; files[0], files[1]]?;
             let mut out = Vec::new(alloc);

@@ -1,6 +1,6 @@
 // The program, with the words that the system gives it.
 
-use crate::runs::REPORT_A;
+use crate::answers::expect;
 use range_command::{Output, SystemFiles, answer};
 use std::env::{Env, FillError};
 use std::fs::File;
@@ -36,48 +36,43 @@ impl Env for Line<'_> {
     }
 }
 
-// What the program writes with these words and file A as its input, its status, and the line that it says.
-fn started<R: Wait + Threads + Sync + Files<File = File> + AllocGlobal + Abort>(
-    rt: &R,
-    words: &[&[u8]],
-) -> Result<(Vec<u8>, u8, Vec<u8>), Fail> {
-    let alloc = rt.alloc();
-    let mut out = Output::new(Vec::new(alloc));
-    let mut errors = Output::new(Vec::new(alloc));
-    let files = SystemFiles::new(rt);
-    let status = answer(rt, &Line(words), &files, FILE_A, &mut out, &mut errors);
-    let held = Vec::from_slice(alloc, out.writer().as_slice())?;
-    let said = Vec::from_slice(alloc, errors.writer().as_slice())?;
-    Ok((held, status, said))
-}
-
 #[test]
-fn the_name_of_the_program_is_not_read(rt: HostRuntime) -> Result<(), Fail> {
+fn the_name_of_the_program_is_not_read(rt: HostRuntime) {
     for name in [b"".as_slice(), b"\xFF/homerange", b"--help"] {
-        let (held, status, said) = started(&rt, &[name])?;
-        assert!(rt; status == 0 && said.is_empty() && held.as_slice() == REPORT_A);
+        expect(&rt, &[name], FILE_A, 0, "");
     }
-    let (held, status, said) = started(&rt, &[])?;
-    assert!(rt; status == 0 && said.is_empty() && held.as_slice() == REPORT_A);
-    Ok(())
+    expect(&rt, &[], FILE_A, 0, "");
 }
 
 // The first word that is not UTF-8 is told by its number, and nothing is read or written.
 #[test]
-fn the_first_word_that_is_no_text_is_told_by_its_number(rt: HostRuntime) -> Result<(), Fail> {
-    let cases = [
-        ([b"homerange".as_slice(), b"\xFF.csv", b"--help"], 1),
-        ([b"\xFF".as_slice(), b"--help", b"\xC3"], 2),
-    ];
-    for (words, number) in cases {
-        let (held, status, said) = started(&rt, words.as_slice())?;
-        assert!(rt; held.is_empty() && status == 2);
-        let line = format!(in rt.alloc();
-            "homerange: word {number} of the command line is not UTF-8\n"
-        );
-        assert!(rt; said.as_slice() == line?.as_bytes());
-    }
-    Ok(())
+fn the_first_word_that_is_no_text_is_told_by_its_number(rt: HostRuntime) {
+    let line = "homerange: word 1 of the command line is not UTF-8\n";
+    expect(&rt, &[b"homerange", b"\xFF"], FILE_A, 2, line);
+    expect(
+        &rt,
+        &[b"homerange", b"\xFF.csv", b"--help"],
+        FILE_A,
+        2,
+        line,
+    );
+    let line = "homerange: word 2 of the command line is not UTF-8\n";
+    expect(&rt, &[b"\xFF", b"--help", b"\xC3"], FILE_A, 2, line);
+}
+
+// A file that is missing is told by its whole path, whatever the reason.
+fn expect_told<R: Wait + Threads + Sync + Files<File = File> + AllocGlobal + Abort>(
+    rt: &R,
+    path: &[u8],
+) {
+    let mut out = Output::new(Vec::new(rt.alloc()));
+    let mut errors = Output::new(Vec::new(rt.alloc()));
+    let (line, files) = ([b"homerange".as_slice(), path], SystemFiles::new(rt));
+    let status = answer(rt, &Line(&line), &files, FILE_A, &mut out, &mut errors);
+    assert!(rt; out.writer().is_empty() && status == 1);
+    let rest = errors.writer().as_slice().strip_prefix(b"homerange: ");
+    let rest = rest.and_then(|rest| rest.strip_prefix(path));
+    assert!(rt; rest.is_some_and(|rest| rest.starts_with(b": ")));
 }
 
 #[test]
@@ -86,13 +81,7 @@ fn a_word_of_any_length_is_read_whole(rt: HostRuntime) -> Result<(), Fail> {
     for length in [255, 256, 257, 511, 512, 513, 4097] {
         let mut path = Vec::from_slice(alloc, b"/no/such/")?;
         path.resize(length, b'/')?;
-        let (held, status, said) = started(&rt, &[b"homerange".as_slice(), path.as_slice()])?;
-        assert!(rt; held.is_empty() && status == 1);
-        let rest = said.as_slice().strip_prefix(b"homerange: ");
-        assert!(rt;
-            rest.is_some_and(|rest| rest.starts_with(path.as_slice())
-                && rest[length..].starts_with(b": "))
-        );
+        expect_told(&rt, path.as_slice());
     }
     Ok(())
 }

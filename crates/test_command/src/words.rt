@@ -1,6 +1,7 @@
 // What words say, and which are refused.
 
 use crate::line::read;
+use crate::options::{LEVELS, PLAN};
 use range_options::FILE_LIMIT;
 use range_plane::Scale;
 use range_words::{LevelFault, WordFault};
@@ -31,7 +32,7 @@ fn expect<R: Abort>(
 #[test]
 fn words_say_files_levels_and_the_plan(rt: HostRuntime) -> Result<(), Fail> {
     let alloc = rt.alloc();
-    let (plan, levels) = ((256, 4, 2), [50, 95, 100].as_slice());
+    let (plan, levels) = (PLAN, LEVELS.as_slice());
     let cases = [
         ([].as_slice(), (0, levels, plan)),
         (&["--percent", "7,7", "x.csv"], (1, &[7, 7], plan)),
