@@ -9,8 +9,7 @@ use std::process::Abort;
 use std::sync::Wait;
 use std::test::Fail;
 use std::thread::Threads;
-use test_doubles::SQUARE;
-use test_files::are_at;
+use test_doubles::{SQUARE, are_at};
 
 // A square and a fix within it, a line that ends at its corner, and one fix far from both.
 const FOX: File = File {

@@ -1,11 +1,13 @@
-//! An allocator that refuses one allocation, a source that does as it is told, numbers that look drawn at random, and
-//! worked tracks. They are for tests alone.
+//! An allocator that refuses one allocation, a source that does as it is told, numbers that look drawn at random,
+//! worked tracks, and where points are. They are for tests alone.
 #![tactic(auto)]
 
+mod places;
 mod random;
 mod scripted;
 mod tracks;
 
+pub use places::are_at;
 pub use random::next_random;
 pub use scripted::ScriptedSource;
 use std::alloc::{AllocError, Allocator};

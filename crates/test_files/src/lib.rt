@@ -1,9 +1,9 @@
-//! Files with each fault that a reader can have of its bytes or its source, and what names and corners have to be. They
+//! Files with each fault that a reader can have of its bytes or its source, and what names have to be. They
 //! are for tests alone.
 #![tactic(auto)]
 
 use range_fixes::{Name, ReadFault};
-use range_plane::{Point, Scale};
+use range_plane::Scale;
 use test_doubles::{HEADER, HEADER_WITH_USE, ScriptedSource};
 
 const GOOD: &[u8] = b"A,7,1,2\n";
@@ -120,13 +120,4 @@ pub fn too_many_records() -> BadFile {
 /// Whether a reader gave this name.
 pub fn is_name(read: &Result<Name, ReadFault>, name: &[u8]) -> bool {
     matches!(read, Ok(found) if found.as_slice() == name)
-}
-
-/// Whether these points are at these places, in this order.
-pub fn are_at(points: &[Point], places: &[(i64, i64)]) -> bool {
-    points.len() == places.len()
-        && points
-            .iter()
-            .zip(places)
-            .all(|(p, &(e, n))| p.e == e && p.n == n)
 }

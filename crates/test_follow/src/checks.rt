@@ -13,7 +13,8 @@ use std::process::Abort;
 use std::sync::Wait;
 use std::test::Fail;
 use std::thread::Threads;
-use test_files::{are_at, is_name};
+use test_doubles::are_at;
+use test_files::is_name;
 
 pub(crate) fn plan(block: u32, depth: u32, workers: u32) -> Result<Plan, Fail> {
     Ok(Plan::new(block, depth, workers, Scale::Metre).ok_or("no plan")?)

@@ -13,8 +13,8 @@ use std::process::Abort;
 use std::sync::Wait;
 use std::test::Fail;
 use std::thread::Threads;
-use test_doubles::{CUT_A, ScriptedSource};
-use test_files::{BadFile, are_at, bad_records, files_without_fix, is_name};
+use test_doubles::{CUT_A, ScriptedSource, are_at};
+use test_files::{BadFile, bad_records, files_without_fix, is_name};
 
 // Checks that the file has its fault as it is, and that the mark and the fixes before it were sent and taken.
 fn expect_bad(rt: &impl Abort, followed: &Followed, file: BadFile) {

@@ -2,7 +2,23 @@
 
 use crate::points::{parabola, points_of};
 use range_plane::are_corners;
+use std::alloc::Global;
+use std::process::Abort;
 use std::test::Fail;
+
+// Checks whether the points of each case are corners.
+fn expect_corners(
+    rt: &impl Abort,
+    alloc: Global,
+    cases: &[(&[(i64, i64)], &str)],
+    are: bool,
+) -> Result<(), Fail> {
+    for &(places, name) in cases {
+        let points = points_of(alloc, places)?;
+        assert!(rt; are_corners(&points) == are, "{name}");
+    }
+    Ok(())
+}
 
 #[test]
 fn corners_in_order_are_corners(rt: HostRuntime) -> Result<(), Fail> {
@@ -13,11 +29,7 @@ fn corners_in_order_are_corners(rt: HostRuntime) -> Result<(), Fail> {
         (&[(0, 0), (4, 0), (4, 4), (0, 4)], "a square"),
         (&[(0, 1), (1, 0), (3, 0), (4, 2), (2, 4)], "a pentagon"),
     ];
-    for (places, name) in cases {
-        let points = points_of(rt.alloc(), places)?;
-        assert!(rt; are_corners(&points), "{name}");
-    }
-    Ok(())
+    expect_corners(&rt, rt.alloc(), &cases, true)
 }
 
 #[test]
@@ -41,11 +53,7 @@ fn points_in_another_order_or_in_line_are_no_corners(rt: HostRuntime) -> Result<
         (&[(0, 0), (4, 0), (3, 2), (4, 4), (0, 4)], "a dent"),
         (&[(0, 1), (3, 0), (2, 4), (1, 0), (4, 2)], "a pentagram"),
     ];
-    for (places, name) in cases {
-        let points = points_of(rt.alloc(), places)?;
-        assert!(rt; !are_corners(&points), "{name}");
-    }
-    Ok(())
+    expect_corners(&rt, rt.alloc(), &cases, false)
 }
 
 #[test]

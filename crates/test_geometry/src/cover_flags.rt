@@ -1,6 +1,6 @@
 // Tests of cover flags by a hull's polygon, of points that are added to the hull after that.
 
-use crate::points::{columns_of, hull_of, parabola, point, points_of};
+use crate::points::{columns_of, hull_at, hull_of, parabola, point};
 use range_hull::OnlineHull;
 use range_cover::{CoverCache, add_point};
 use range_plane::FIX_LIMIT;
@@ -34,8 +34,8 @@ fn expect_added(
 
 #[test]
 fn points_outside_alone_are_inserted_and_covered_from_then_on(rt: HostRuntime) -> Result<(), Fail> {
-    let square = points_of(rt.alloc(), &[(0, 0), (10, 0), (10, 10), (0, 10)])?;
-    let mut hull = hull_of(&rt, rt.alloc(), &square)?;
+    let square = [(0, 0), (10, 0), (10, 10), (0, 10)];
+    let mut hull = hull_at(&rt, rt.alloc(), &square)?;
     expect_added(&rt, &mut hull, [true, true, false, true, false])?;
     assert!(rt; hull.inserted() == 6 && hull.points() == 9);
     expect_added(&rt, &mut hull, [true; 5])?;

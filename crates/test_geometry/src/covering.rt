@@ -5,6 +5,7 @@ use range_plane::{COORDINATE_LIMIT, Point, Polygon, are_corners};
 use std::alloc::Global;
 use std::process::Abort;
 use std::test::Fail;
+use test_doubles::are_at;
 
 // A northing, and the first and the last easting of the points there that are covered. Where the first
 // is above the last none is.
@@ -83,8 +84,7 @@ fn a_polygon_keeps_its_corners_and_has_their_area(rt: HostRuntime) -> Result<(),
     ];
     for (corners, area2) in cases {
         let polygon = polygon_of(&rt, rt.alloc(), corners)?;
-        let expected = points_of(rt.alloc(), corners)?;
-        assert!(rt; polygon.corners() == expected.as_slice(), "{corners:?}");
+        assert!(rt; are_at(polygon.corners(), corners), "{corners:?}");
         assert!(rt; polygon.area2() == area2, "{corners:?}");
     }
     Ok(())

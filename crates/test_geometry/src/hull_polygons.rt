@@ -17,7 +17,7 @@ fn expect_plain(rt: &impl Abort, alloc: Global, points: &[Point]) -> Result<(), 
         let first = &points[..=i];
         let polygon = plain_of(rt, alloc, first)?;
         assert!(rt;
-            has_corners(alloc, &hull, polygon.corners())?,
+            has_corners(alloc, &hull, polygon.corners()),
             "corners to {i}"
         );
         assert!(rt; hull.area2() == polygon.area2(), "area to {i}");

@@ -1,8 +1,8 @@
 // Tests of worked lists of points, whose polygons were made by hand.
 
 use crate::points::{
-    HEXAGON, HEXAGON_CORNERS, WORKED, arch, has_corners, hull_of, insert, parabola, point,
-    points_of,
+    HEXAGON, HEXAGON_CORNERS, WORKED, arch, has_corners, has_corners_at, hull_at, hull_of, insert,
+    parabola, point,
 };
 use range_hull::OnlineHull;
 use range_plane::{FIX_LIMIT, Point};
@@ -32,8 +32,7 @@ fn expect_rows(
     for (place, row) in places.iter().zip(rows) {
         expect_row(rt, &mut hull, point(*place)?, *row);
     }
-    let corners = points_of(alloc, corners)?;
-    assert!(rt; has_corners(alloc, &hull, &corners)?, "corners");
+    assert!(rt; has_corners_at(alloc, &hull, corners), "corners");
     Ok(())
 }
 
@@ -46,71 +45,64 @@ fn each_insert_gives_these_corners_and_this_area(rt: HostRuntime) -> Result<(), 
 }
 
 #[test]
-fn an_empty_hull_has_no_corner_and_no_area(rt: HostRuntime) -> Result<(), Fail> {
+fn an_empty_hull_has_no_corner_and_no_area(rt: HostRuntime) {
     let hull = OnlineHull::new(rt.alloc());
-    assert!(rt; has_corners(rt.alloc(), &hull, &[])?);
+    assert!(rt; has_corners(rt.alloc(), &hull, &[]));
     assert!(rt; hull.points() == 0 && hull.turns() == 0 && hull.area2() == 0);
-    Ok(())
 }
 
 // Five corners bound three triangles, each of which took a turn.
 #[test]
 fn six_inserts_take_few_turns(rt: HostRuntime) -> Result<(), Fail> {
-    let points = points_of(rt.alloc(), &HEXAGON)?;
-    let hull = hull_of(&rt, rt.alloc(), &points)?;
+    let hull = hull_at(&rt, rt.alloc(), &HEXAGON)?;
     let turns = hull.turns();
     assert!(rt; (3..=48).contains(&turns), "{turns} turns");
     Ok(())
 }
 
+// Checks the hull of the points of a parabola or an arch, of which all are corners, in this order, after few turns.
+fn expect_all_corners(
+    rt: &impl Abort,
+    alloc: Global,
+    points: &[Point],
+    corners: &[Point],
+) -> Result<(), Fail> {
+    let hull = hull_of(rt, alloc, points)?;
+    let turns = hull.turns();
+    assert_eq!(rt; hull.area2(), 22_889_717_760, "area");
+    assert!(rt; (4094..=32_768).contains(&turns), "{turns} turns");
+    assert!(rt; has_corners(alloc, &hull, corners), "corners");
+    Ok(())
+}
+
 #[test]
 fn a_parabola_is_all_corners_in_either_order(rt: HostRuntime) -> Result<(), Fail> {
-    let rising = parabola(rt.alloc(), 4096)?;
-    let mut falling = parabola(rt.alloc(), 4096)?;
+    let alloc = rt.alloc();
+    let rising = parabola(alloc, 4096)?;
+    let mut falling = parabola(alloc, 4096)?;
     falling.reverse();
-    for points in [&rising, &falling] {
-        let hull = hull_of(&rt, rt.alloc(), points)?;
-        assert_eq!(rt; hull.area2(), 22_889_717_760, "area");
-        assert!(rt;
-            (4094..=32_768).contains(&hull.turns()),
-            "{} turns",
-            hull.turns()
-        );
-        assert!(rt; has_corners(rt.alloc(), &hull, &rising)?, "corners");
-    }
-    Ok(())
+    expect_all_corners(&rt, alloc, &rising, &rising)?;
+    expect_all_corners(&rt, alloc, &falling, &rising)
 }
 
 // The same upside down: all corners but the ends stand above the line between them.
 #[test]
 fn an_arch_is_all_corners_in_either_order(rt: HostRuntime) -> Result<(), Fail> {
-    let rising = arch(rt.alloc(), 4096)?;
-    let mut falling = arch(rt.alloc(), 4096)?;
+    let alloc = rt.alloc();
+    let rising = arch(alloc, 4096)?;
+    let mut falling = arch(alloc, 4096)?;
     falling.reverse();
-    let mut corners = arch(rt.alloc(), 1)?;
+    let mut corners = arch(alloc, 1)?;
     corners.extend_from_slice(&falling)?;
     corners.pop();
-    for points in [&rising, &falling] {
-        let hull = hull_of(&rt, rt.alloc(), points)?;
-        assert_eq!(rt; hull.area2(), 22_889_717_760, "area");
-        assert!(rt;
-            (4094..=32_768).contains(&hull.turns()),
-            "{} turns",
-            hull.turns()
-        );
-        assert!(rt; has_corners(rt.alloc(), &hull, &corners)?, "corners");
-    }
-    Ok(())
+    expect_all_corners(&rt, alloc, &rising, &corners)?;
+    expect_all_corners(&rt, alloc, &falling, &corners)
 }
 
-#[test]
-fn skip_changes_the_count_alone(rt: HostRuntime) -> Result<(), Fail> {
-    let points = points_of(rt.alloc(), &HEXAGON)?;
-    let mut hull = hull_of(&rt, rt.alloc(), &points)?;
+// Skips a point, which the hull covers.
+fn expect_skipped(rt: &impl Abort, hull: &mut OnlineHull, p: Point) {
     let (turns, spare) = (hull.turns(), hull.spare());
-    let polygon = hull.polygon(rt.alloc())?;
-    let p = point((3, 2))?;
-    assert!(rt; polygon.covers(p) && hull.points() < FIX_LIMIT, "may skip");
+    assert!(rt; hull.covers(p) && hull.points() < FIX_LIMIT, "may skip");
     hull.skip(p);
     assert!(rt; hull.points() == 7 && hull.inserted() == 6, "counts");
     assert!(rt;
@@ -118,7 +110,15 @@ fn skip_changes_the_count_alone(rt: HostRuntime) -> Result<(), Fail> {
         "turns and room"
     );
     assert!(rt; hull.area2() == 56, "area");
-    let corners = points_of(rt.alloc(), &HEXAGON_CORNERS)?;
-    assert!(rt; has_corners(rt.alloc(), &hull, &corners)?, "corners");
+}
+
+#[test]
+fn skip_changes_the_count_alone(rt: HostRuntime) -> Result<(), Fail> {
+    let mut hull = hull_at(&rt, rt.alloc(), &HEXAGON)?;
+    expect_skipped(&rt, &mut hull, Point { e: 3, n: 2 });
+    assert!(rt;
+        has_corners_at(rt.alloc(), &hull, &HEXAGON_CORNERS),
+        "corners"
+    );
     Ok(())
 }

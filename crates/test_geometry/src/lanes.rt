@@ -196,13 +196,32 @@ fn marks_are_exact_at_the_limits(rt: HostRuntime) -> Result<(), Fail> {
     Ok(())
 }
 
-// So many points, in turn the corners of the greatest square in decimetres.
-fn far_corners(alloc: Global, points: u8) -> Result<Columns, Fail> {
+// So many points, at these places in turn.
+fn repeated(alloc: Global, places: &[(i64, i64)], points: u8) -> Result<Columns, Fail> {
     let mut cols = Columns::new(alloc);
-    for place in DECIMETRE_LIMITS.iter().cycle().take(usize::from(points)) {
+    for place in places.iter().cycle().take(usize::from(points)) {
         cols.push(point(*place)?)?;
     }
     Ok(cols)
+}
+
+// Checks the marks of so many corners of the greatest square in decimetres, in turn: each but the fourth ones, where the
+// polygon lacks that corner.
+fn expect_far_corners(
+    rt: &impl Abort,
+    alloc: Global,
+    polygon: &Polygon,
+    points: u8,
+    lacks_fourth: bool,
+) -> Result<(), Fail> {
+    let cols = repeated(alloc, &DECIMETRE_LIMITS, points)?;
+    assert!(rt; cols.len() == usize::from(points));
+    let inside = marks(rt, alloc, polygon, &cols)?;
+    for (i, mark) in inside.iter().enumerate() {
+        let covered = !lacks_fourth || i % 4 != 3;
+        assert!(rt; *mark == covered, "{points} {i}");
+    }
+    Ok(())
 }
 
 // The square covers each of its corners, and three of them all but the fourth.
@@ -212,21 +231,20 @@ fn the_greatest_square_covers_its_corners_in_each_lane(rt: HostRuntime) -> Resul
     let square = plain_at(&rt, alloc, &DECIMETRE_LIMITS)?;
     let triangle = plain_at(&rt, alloc, &DECIMETRE_LIMITS[..3])?;
     for points in 0..41u8 {
-        let cols = far_corners(alloc, points)?;
-        assert!(rt; cols.len() == usize::from(points));
-        let inside = marks(&rt, alloc, &square, &cols)?;
-        assert!(rt; inside.iter().all(|mark| *mark), "{points}");
-        let inside = marks(&rt, alloc, &triangle, &cols)?;
-        for (i, mark) in inside.iter().enumerate() {
-            assert!(rt; *mark == (i % 4 != 3), "{points} {i}");
-        }
+        expect_far_corners(&rt, alloc, &square, points, false)?;
+        expect_far_corners(&rt, alloc, &triangle, points, true)?;
     }
-    let mut places = Vec::new(alloc);
-    for _ in 0..9 {
-        places.extend_from_slice(&DECIMETRE_LIMITS)?;
-        places.push((1, 1))?;
-    }
-    assert_eq!(rt; count_inside(&square, &columns_of(alloc, &places)?), 45);
+    Ok(())
+}
+
+#[test]
+fn the_corners_of_the_greatest_square_and_what_is_within_are_counted(
+    rt: HostRuntime,
+) -> Result<(), Fail> {
+    let square = plain_at(&rt, rt.alloc(), &DECIMETRE_LIMITS)?;
+    let places = [(0, 0), (FAR, 0), (FAR, FAR), (0, FAR), (1, 1)];
+    let cols = repeated(rt.alloc(), &places, 45)?;
+    assert_eq!(rt; count_inside(&square, &cols), 45);
     Ok(())
 }
 

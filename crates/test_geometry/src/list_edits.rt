@@ -2,7 +2,7 @@
 
 ghost use Rattle.std.specs.Prelude.{◌≡◌, ◌<◌, ◌≤◌, length};
 ghost use Rattle.range_pieces.specs.Pieces.{all_points};
-ghost use Rattle.range_pieces.specs.PointList.{Stands, place};
+ghost use Rattle.range_pieces.specs.PointList.{Stands, index};
 
 use range_pieces::{Cursor, PIECE_SIZE, PointList};
 use range_plane::Point;
@@ -22,7 +22,7 @@ fn below(seed: u64, limit: usize) -> usize
 fn cursor_at(chain: &PointList, k: usize) -> Cursor
     requires { k ≤ length (all_points chain.now.pieces) }
     ensures stands { Stands chain.now.pieces result }
-    ensures place { place chain.now.pieces result ≡ k }
+    ensures index { index chain.now.pieces result ≡ k }
 {
     let mut c = chain.start();
     for _ in 0..k {
@@ -95,32 +95,44 @@ fn short_runs_are_those_in_a_list(rt: HostRuntime) -> Result<(), Fail> {
     edit_many(&rt, 1200, 3)
 }
 
-// A chain of four pieces, of which runs of up to three pieces are replaced.
+// Fills a list and a chain, in four pieces, with the same points.
+fn fill(chain: &mut PointList, list: &mut Vec<Point>) -> Result<(), Fail> {
+    chain.reserve(4 * PIECE_SIZE + 1)?;
+    for i in 0..4 * PIECE_SIZE {
+        let p = Point::new(i as i64, 1).ok_or("no point")?;
+        list.push(p)?;
+        if chain.spare() > 0 {
+            let end = chain.end();
+            chain.replace_run(end, end, p);
+        }
+    }
+    Ok(())
+}
+
+// Replaces a run of points of a chain of four pieces, if there is such a run.
+fn expect_replaced(rt: &impl Abort, alloc: Global, from: usize, to: usize) -> Result<(), Fail> {
+    let mut chain = PointList::new(alloc);
+    let mut list = Vec::new(alloc);
+    fill(&mut chain, &mut list)?;
+    assert!(rt; chain.piece_count() == 4);
+    if from <= to && to <= chain.len() && chain.spare() > 0 {
+        let p = Point { e: 7, n: 7 };
+        let start = cursor_at(&chain, from);
+        let end = cursor_at(&chain, to);
+        chain.replace_run(start, end, p);
+        let list = replace_in_list(alloc, &list, from, to, p)?;
+        let points = chain.to_vec(alloc)?;
+        assert!(rt; points.as_slice() == list.as_slice(), "{from} to {to}");
+    }
+    Ok(())
+}
+
+// Runs of up to three pieces.
 #[test]
 fn runs_across_pieces_are_those_in_a_list(rt: HostRuntime) -> Result<(), Fail> {
     for to in [0, 1, 2, 255, 256, 257, 300, 512, 513, 768, 769, 1023, 1024] {
         for from in [0, 1, 2, 128, 255, 256, 257, 511, 600, 768, 1023] {
-            let mut chain = PointList::new(rt.alloc());
-            chain.reserve(4 * PIECE_SIZE + 1)?;
-            let mut list: Vec<Point> = Vec::new(rt.alloc());
-            for i in 0..4 * PIECE_SIZE {
-                let p = Point::new(i as i64, 1).ok_or("no point")?;
-                list.push(p)?;
-                if chain.spare() > 0 {
-                    let end = chain.end();
-                    chain.replace_run(end, end, p);
-                }
-            }
-            assert!(rt; chain.piece_count() == 4);
-            let p = Point::new(7, 7).ok_or("no point")?;
-            if from <= to && to <= chain.len() && chain.spare() > 0 {
-                let start = cursor_at(&chain, from);
-                let end = cursor_at(&chain, to);
-                chain.replace_run(start, end, p);
-                let list = replace_in_list(rt.alloc(), &list, from, to, p)?;
-                let points = chain.to_vec(rt.alloc())?;
-                assert!(rt; points.as_slice() == list.as_slice(), "{from} to {to}");
-            }
+            expect_replaced(&rt, rt.alloc(), from, to)?;
         }
     }
     Ok(())

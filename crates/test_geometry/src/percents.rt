@@ -38,13 +38,25 @@ fn expect_percents(
         assert!(rt; has_row(found, *row), "{found:?}");
     }
     for row in rows {
-        let level = row.0;
-        assert!(rt; level <= 100);
-        let found = percent(alloc, fixes, level)?;
-        assert!(rt; has_row(found, *row), "{found:?}");
-        let found = ranking.row(alloc, level)?;
-        assert!(rt; has_row(found, *row), "{found:?}");
+        expect_percent(rt, alloc, fixes, &ranking, *row)?;
     }
+    Ok(())
+}
+
+// Checks a row by itself and read off a ranking.
+fn expect_percent(
+    rt: &impl Abort,
+    alloc: Global,
+    fixes: &Columns,
+    ranking: &Ranking,
+    row: Row,
+) -> Result<(), Fail> {
+    let level = row.0;
+    assert!(rt; level <= 100 && fixes.len() <= FIX_LIMIT as usize);
+    let found = percent(alloc, fixes, level)?;
+    assert!(rt; has_row(found, row), "{found:?}");
+    let found = ranking.row(alloc, level)?;
+    assert!(rt; has_row(found, row), "{found:?}");
     Ok(())
 }
 

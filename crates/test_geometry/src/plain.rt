@@ -6,7 +6,7 @@ use range_plane::{Point, Polygon};
 use std::alloc::{Allocator, Global};
 use std::process::Abort;
 use std::test::Fail;
-use test_doubles::{MANY_ALLOCATIONS, Refusing};
+use test_doubles::{MANY_ALLOCATIONS, Refusing, are_at};
 
 // The corners of the first 14 points of the lattice, for which a list grows more than once.
 const OCTAGON: [(i64, i64); 8] = [
@@ -45,9 +45,8 @@ fn expect_first_parts(
         let first = &points[..points.len().min(i.saturating_add(1))];
         expect_row(rt, first, &plain_of(rt, alloc, first)?, *row);
     }
-    let corners = points_of(alloc, corners)?;
     let polygon = plain_of(rt, alloc, &points)?;
-    assert!(rt; polygon.corners() == corners.as_slice(), "corners");
+    assert!(rt; are_at(polygon.corners(), corners), "corners");
     Ok(())
 }
 
@@ -132,29 +131,23 @@ fn plain_agrees_with_gift_wrapping(rt: HostRuntime) -> Result<(), Fail> {
 }
 
 // Makes a polygon, again where it is refused. How often it was refused.
-fn plain_again<A: Allocator + Copy>(
-    rt: &impl Abort,
-    alloc: A,
-    points: &[Point],
-    corners: &[Point],
-) -> u32 {
+fn plain_again<A: Allocator + Copy>(rt: &impl Abort, alloc: A, points: &[Point]) -> u32 {
     assert!(rt; points.len() < 100);
     let polygon = Polygon::plain(alloc, points);
     let refusals = u32::from(polygon.is_err());
     let polygon = polygon
         .or_else(|_| Polygon::plain(alloc, points))
         .expect(rt, "again");
-    assert!(rt; polygon.corners() == corners, "corners");
+    assert!(rt; are_at(polygon.corners(), &OCTAGON), "corners");
     refusals
 }
 
 #[test]
 fn plain_fails_only_at_a_refused_allocation(rt: HostRuntime) -> Result<(), Fail> {
     let points = points_of(rt.alloc(), &LATTICE[..14])?;
-    let corners = points_of(rt.alloc(), &OCTAGON)?;
     for number in 1..MANY_ALLOCATIONS {
         let alloc = Refusing::new(rt.alloc(), number);
-        let refusals = plain_again(&rt, &alloc, &points, &corners);
+        let refusals = plain_again(&rt, &alloc, &points);
         if is_last_run(&rt, &alloc, number, refusals, LEAST_ALLOCATIONS) {
             return Ok(());
         }

@@ -5,7 +5,7 @@ use range_plane::{COORDINATE_LIMIT, Columns, FIX_LIMIT, Point, Polygon};
 use std::alloc::{Allocator, Global};
 use std::process::Abort;
 use std::test::Fail;
-use test_doubles::next_random;
+use test_doubles::{are_at, next_random};
 
 pub(crate) const SQUARE: [(i64, i64); 5] = [(0, 0), (10, 0), (10, 10), (0, 10), (5, 5)];
 
@@ -209,12 +209,35 @@ pub(crate) fn hull_of(
     Ok(hull)
 }
 
-// Whether the hull has these corners, in this order.
+// The hull of the points at these places, in turn.
+pub(crate) fn hull_at(
+    rt: &impl Abort,
+    alloc: Global,
+    places: &[(i64, i64)],
+) -> Result<OnlineHull, Fail> {
+    hull_of(rt, alloc, &points_of(alloc, places)?)
+}
+
+// Whether the polygon of the hull can be made, and has these corners, in this order.
 pub(crate) fn has_corners<A: Allocator>(
     alloc: Global,
     hull: &OnlineHull<A>,
     corners: &[Point],
-) -> Result<bool, Fail> {
-    let polygon = hull.polygon(alloc)?;
-    Ok(polygon.corners() == corners && usize::try_from(hull.corner_count()) == Ok(corners.len()))
+) -> bool {
+    usize::try_from(hull.corner_count()) == Ok(corners.len())
+        && hull
+            .polygon(alloc)
+            .is_ok_and(|polygon| polygon.corners() == corners)
+}
+
+// The same, of the corners at these places.
+pub(crate) fn has_corners_at<A: Allocator>(
+    alloc: Global,
+    hull: &OnlineHull<A>,
+    corners: &[(i64, i64)],
+) -> bool {
+    usize::try_from(hull.corner_count()) == Ok(corners.len())
+        && hull
+            .polygon(alloc)
+            .is_ok_and(|polygon| are_at(polygon.corners(), corners))
 }

@@ -37,16 +37,11 @@ fn percent_again<A: Allocator + Copy>(rt: &impl Abort, alloc: A, fixes: &Columns
 #[test]
 fn percent_fails_only_at_a_refused_allocation(rt: HostRuntime) -> Result<(), Fail> {
     let fixes = columns_of(rt.alloc(), &RING)?;
+    let least = RANKING_ALLOCATIONS + HULL_ALLOCATIONS;
     for number in 1..MANY_ALLOCATIONS {
         let alloc = Refusing::new(rt.alloc(), number);
         let refusals = percent_again(&rt, &alloc, &fixes);
-        if is_last_run(
-            &rt,
-            &alloc,
-            number,
-            refusals,
-            RANKING_ALLOCATIONS + HULL_ALLOCATIONS,
-        ) {
+        if is_last_run(&rt, &alloc, number, refusals, least) {
             return Ok(());
         }
     }
@@ -59,16 +54,15 @@ fn ranking_again<A: Allocator + Copy>(
     alloc: Global,
     refusing: A,
     fixes: &Columns,
-) -> Result<u32, Fail> {
+) -> u32 {
     assert!(rt; fixes.len() < 100);
     let ranking = Ranking::new(refusing, fixes, &[50]);
     let refusals = u32::from(ranking.is_err());
     let ranking = ranking
         .or_else(|_| Ranking::new(refusing, fixes, &[50]))
         .expect(rt, "again");
-    let row = ranking.row(alloc, 50)?;
-    assert!(rt; row == HALF_OF_RING, "row");
-    Ok(refusals)
+    assert!(rt; ranking.row(alloc, 50) == Ok(HALF_OF_RING), "row");
+    refusals
 }
 
 #[test]
@@ -76,7 +70,7 @@ fn a_ranking_fails_only_at_a_refused_allocation(rt: HostRuntime) -> Result<(), F
     let fixes = columns_of(rt.alloc(), &RING)?;
     for number in 1..MANY_ALLOCATIONS {
         let alloc = Refusing::new(rt.alloc(), number);
-        let refusals = ranking_again(&rt, rt.alloc(), &alloc, &fixes)?;
+        let refusals = ranking_again(&rt, rt.alloc(), &alloc, &fixes);
         if is_last_run(&rt, &alloc, number, refusals, RANKING_ALLOCATIONS) {
             return Ok(());
         }

@@ -3,7 +3,8 @@
 ghost use Rattle.std.specs.Prelude.{◌≡◌, false, [], ◌∷◌, IfOk};
 ghost use Rattle.range_line.specs.Lines.{AreForFiles, AreOfLine};
 
-use crate::messages::{are_fixes, fixes, is_block, is_mark};
+use crate::blocks::{are_fixes, fixes, is_block};
+use crate::is_mark;
 use range_line::{Feeder, Settled, Taker, open_line, settle};
 use range_options::BLOCK_LIMIT;
 use range_plane::OutOfMemory;

@@ -1,46 +1,21 @@
-// Blocks to send, and what the messages that were taken have to be.
-
-ghost use Rattle.std.specs.Prelude.{◌≡◌, length, IfOk};
+// What a message is that was taken from a line.
 
 use range_line::{Body, Message};
-use range_plane::{Fix, Point};
-use std::alloc::{AllocError, Global};
+use range_plane::Fix;
 
-// `count` fixes of this second.
-pub(crate) fn fixes(alloc: Global, second: u64, count: usize) -> Result<Vec<Fix>, AllocError>
-    ensures { IfOk result (λ v. length v.items ≡ count) }
-{
-    let at = Point { e: 0, n: 0 };
-    Vec::from_elem(alloc, Fix { second, at }, count)
-}
-
-// Whether these are `count` fixes of this second.
-pub(crate) fn are_fixes(fixes: &[Fix], second: u64, count: usize) -> bool {
-    fixes.len() == count && fixes.iter().all(|fix| fix.second == second)
-}
-
-// Whether this is a block at the place, of `count` fixes of this second.
-pub(crate) fn is_block(
-    taken: &Option<Message>,
-    file: u32,
-    place: u64,
-    second: u64,
-    count: usize,
-) -> bool {
+/// For tests alone: the fixes of the message, where it is a block of this file at this place.
+pub fn block_of(taken: &Option<Message>, file: u32, place: u64) -> Option<&[Fix]> {
     match taken {
-        Some(message) => {
-            let fits = match &message.body {
-                Body::Block(block) => are_fixes(block.as_slice(), second, count),
-                Body::Mark => false,
-            };
-            message.file == file && message.place == place && fits
-        }
-        None => false,
+        Some(message) if message.file == file && message.place == place => match &message.body {
+            Body::Block(block) => Some(block.as_slice()),
+            Body::Mark => None,
+        },
+        _ => None,
     }
 }
 
-// Whether this is the mark of the file, after so many fixes.
-pub(crate) fn is_mark(taken: &Option<Message>, file: u32, place: u64) -> bool {
+/// For tests alone: whether the message is the mark of this file, after so many fixes.
+pub fn is_mark(taken: &Option<Message>, file: u32, place: u64) -> bool {
     match taken {
         Some(message) => {
             message.file == file && message.place == place && matches!(message.body, Body::Mark)

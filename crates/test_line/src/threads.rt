@@ -3,7 +3,7 @@
 
 ghost use Rattle.std.specs.Prelude.{◌≡◌, false, true, [], ◌∷◌, IfOk};
 
-use crate::messages::{are_fixes, fixes};
+use crate::blocks::{are_fixes, fixes};
 use range_line::{Body, Feeder, Settled, Taker, open_line, settle};
 use range_plane::{FIX_LIMIT, OutOfMemory};
 use std::alloc::Global;

@@ -1,7 +1,7 @@
 // Tests of the pump over files with each fault of their reader, in one thread.
 
-use crate::pumps::{Expecting, ends, is_mark, open_one};
-use range_line::{Body, Message};
+use crate::pumps::{Expecting, FILE, ends, open_one};
+use range_line::Message;
 use range_plane::{Fix, Scale};
 use range_pump::pump;
 use std::alloc::Global;
@@ -9,6 +9,7 @@ use std::process::Abort;
 use std::sync::Wait;
 use std::test::Fail;
 use test_files::{BadFile, bad_records, files_without_fix, too_many_records};
+use test_line::{block_of, is_mark};
 
 // Whether this is a good fix of a bad file.
 fn is_good(fix: &Fix) -> bool {
@@ -17,21 +18,9 @@ fn is_good(fix: &Fix) -> bool {
 
 // Whether this is the block of `count` good fixes at the place.
 fn is_good_block(taken: &Option<Message>, place: u32, count: u32) -> bool {
-    match taken {
-        Some(
-            Message {
-                place: found,
-                body: Body::Block(block),
-                ..
-            },
-        ) => {
-            let fixes = block.as_slice();
-            *found == u64::from(place)
-                && fixes.len() == count as usize
-                && fixes.iter().all(|fix| is_good(fix))
-        }
-        _ => false,
-    }
+    block_of(taken, FILE, u64::from(place)).is_some_and(|fixes| {
+        fixes.len() == count as usize && fixes.iter().all(|fix| is_good(fix))
+    })
 }
 
 // Checks that a pump answers the fault of the file as it is, with the fixes before it sent in blocks of this
@@ -63,7 +52,7 @@ fn expect_pumped<R: Wait + Abort>(
             "{fault}: the block at {place} of {block}"
         );
     }
-    assert!(rt; is_mark(&taker.take(rt), fixes), "{fault}: the mark");
+    assert!(rt; is_mark(&taker.take(rt), FILE, fixes), "{fault}: the mark");
     Ok(())
 }
 

@@ -3,7 +3,7 @@
 ghost use Rattle.std.specs.Prelude.{◌≡◌, ◌≤◌, false, [], IfOk};
 
 use range_fixes::ReadFault;
-use range_line::{Body, Feeder, Message, Taker, open_line};
+use range_line::{Feeder, Message, Taker, open_line};
 use range_plane::{Fix, Scale};
 use range_pump::{Gate, Pumped, pump};
 use std::alloc::Global;
@@ -13,8 +13,9 @@ use std::sync::atomic::{AtomicU64, AtomicUsize, Ordering};
 use std::test::Fail;
 use test_doubles::{CUT_A, FILE_A, HEADER, SQUARE, ScriptedSource};
 use test_files::is_name;
+use test_line::{block_of, is_mark};
 
-const FILE: u32 = 3;
+pub(crate) const FILE: u32 = 3;
 
 // Counts its calls before a send, and those of them that came at the expected places.
 #[derive(Drop)]
@@ -85,35 +86,8 @@ fn are_square(fixes: &[Fix], place: usize, count: usize) -> bool {
 }
 
 // Whether this is the block of `count` fixes of `SQUARE` from the place on.
-pub(crate) fn is_block(taken: &Option<Message>, place: usize, count: usize) -> bool {
-    match taken {
-        Some(message) => {
-            let fits = match &message.body {
-                Body::Block(block) => are_square(block.as_slice(), place, count),
-                Body::Mark => false,
-            };
-            message.file == FILE && message.place == place as u64 && fits
-        }
-        None => false,
-    }
-}
-
-// Whether this is a block of one fix with this easting.
-fn is_at(body: &Body, easting: i64) -> bool {
-    match body {
-        Body::Block(block) => matches!(block.as_slice(), [fix] if fix.at.e == easting),
-        Body::Mark => false,
-    }
-}
-
-// Whether this is the mark after so many fixes.
-pub(crate) fn is_mark(taken: &Option<Message>, place: u64) -> bool {
-    match taken {
-        Some(message) => {
-            message.file == FILE && message.place == place && matches!(message.body, Body::Mark)
-        }
-        None => false,
-    }
+pub(crate) fn is_square(taken: &Option<Message>, place: usize, count: usize) -> bool {
+    block_of(taken, FILE, place as u64).is_some_and(|fixes| are_square(fixes, place, count))
 }
 
 // Takes the block at the place, of at most two of the first fixes of `SQUARE`, so many, if there is one.
@@ -124,7 +98,7 @@ fn expect_block<R: Wait + Abort>(rt: &R, taker: &mut Taker, fixes: usize, place:
     if place < fixes {
         let count = (fixes - place).min(2);
         assert!(rt;
-            is_block(&taker.take(rt), place, count),
+            is_square(&taker.take(rt), place, count),
             "the block at {place}"
         );
     }
@@ -138,7 +112,7 @@ fn expect_taken<R: Wait + Abort>(rt: &R, taker: &mut Taker, fixes: usize)
     expect_block(rt, taker, fixes, 2);
     expect_block(rt, taker, fixes, 4);
     assert!(rt;
-        is_mark(&taker.take(rt), fixes as u64),
+        is_mark(&taker.take(rt), FILE, fixes as u64),
         "the mark after {fixes}"
     );
 }
@@ -165,8 +139,8 @@ fn no_block_comes_behind_a_last_one_that_is_full(rt: HostRuntime) -> Result<(), 
     let pumped = pump(&rt, rt.alloc(), source, feeder, &gate, 5, Scale::Metre);
     assert!(rt; is_name(&pumped.read, b"A"), "the name");
     assert!(rt; gate.is_met(), "calls");
-    assert!(rt; is_block(&taker.take(&rt), 0, 5), "the block");
-    assert!(rt; is_mark(&taker.take(&rt), 5), "the mark");
+    assert!(rt; is_square(&taker.take(&rt), 0, 5), "the block");
+    assert!(rt; is_mark(&taker.take(&rt), FILE, 5), "the mark");
     Ok(())
 }
 
@@ -197,15 +171,22 @@ fn a_fix_past_the_limit_of_metres_is_sent_in_decimetres(rt: HostRuntime) -> Resu
     let (rec, field) = (1, 2);
     let fault = ReadFault::TooLarge { rec, field, unit };
     assert!(rt; ends(&pumped, 0, true, fault), "metres");
-    assert!(rt; gate.is_met() && is_mark(&taker.take(&rt), 0), "the mark");
+    assert!(rt;
+        gate.is_met() && is_mark(&taker.take(&rt), FILE, 0),
+        "the mark"
+    );
     let (feeder, mut taker) = open_one(rt.alloc(), 4)?;
     let (gate, source) = (Expecting::new(&[0, 1]), ScriptedSource::new(text, 8192));
     let unit = Scale::Decimetre;
     let pumped = pump(&rt, rt.alloc(), source, feeder, &gate, 2, unit);
     assert!(rt; gate.is_met() && is_name(&pumped.read, b"A"), "decimetres");
-    let block = taker.take(&rt).ok_or("no block")?;
-    assert!(rt; is_at(&block.body, 16_777_217), "the block");
-    assert!(rt; is_mark(&taker.take(&rt), 1), "the mark");
+    let block = taker.take(&rt);
+    let at = block_of(&block, FILE, 0);
+    assert!(rt;
+        matches!(at, Some([fix]) if fix.at.e == 16_777_217),
+        "the block"
+    );
+    assert!(rt; is_mark(&taker.take(&rt), FILE, 1), "the mark");
     Ok(())
 }
 

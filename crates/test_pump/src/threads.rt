@@ -2,7 +2,7 @@
 
 ghost use Rattle.std.specs.Prelude.{◌≡◌, false, []};
 
-use crate::pumps::{Expecting, ends, is_block, open_one};
+use crate::pumps::{Expecting, ends, is_square, open_one};
 use range_fixes::ReadFault;
 use range_line::{Feeder, Message, Taker};
 use range_plane::Scale;
@@ -68,7 +68,7 @@ fn a_block_is_handed_back_once_the_taker_has_gone(rt: HostRuntime) -> Result<(),
         let (feeder, taker) = open_one(rt.alloc(), 1)?;
         let gate = Expecting::new(&[0, 1, 2]);
         let (taken, pumped) = take_one(&rt, rt.alloc(), feeder, taker, &gate).ok_or("no thread")?;
-        assert!(rt; is_block(&taken, 0, 1), "the first block in run {run}");
+        assert!(rt; is_square(&taken, 0, 1), "the first block in run {run}");
         let sent = pumped.feeder.sent_fixes();
         assert!(rt; sent == 1 || sent == 2, "{sent} fixes in run {run}");
         assert!(rt;
