@@ -27,14 +27,13 @@ fn expect_stopped(
     estimator: &Estimator<&Refusing<Global>>,
     fixes: &[Fix],
     corners: &[(i64, i64)],
-) -> Result<(), Fail> {
+) {
     assert!(rt; estimator.stopped(), "stopped");
     assert!(rt; holds(estimator, fixes), "fixes");
     assert!(rt; fixes.len() <= 5, "of the square");
     assert!(rt; has_rows(estimator, &SQUARE_ROWS[..fixes.len()]), "rows");
     assert!(rt; estimator.tested() as usize == fixes.len(), "tested");
-    assert!(rt; has_corners(alloc, estimator, corners)?, "corners");
-    Ok(())
+    assert!(rt; has_corners(alloc, estimator, corners), "corners");
 }
 
 // Gives an estimator the fixes of the square before a place, whose polygon has these corners, and then the others
@@ -46,13 +45,13 @@ fn refuse_allocation(
     place: usize,
     corners: &[(i64, i64)],
     number: u32,
-) -> Result<Outcome, Fail> {
+) -> Outcome {
     assert!(rt; place <= fixes.len());
     let (before, block) = fixes.split_at(place);
     let refusing = Refusing::new(alloc, number);
     let mut estimator = Estimator::new(&refusing);
     if !before.is_empty() && !takes(rt, &mut estimator, before) {
-        return Ok(Outcome::RefusedBefore);
+        return Outcome::RefusedBefore;
     }
     let taken = takes(rt, &mut estimator, block);
     assert!(rt; refusing.has_refused() != taken, "at allocation {number}");
@@ -66,10 +65,10 @@ fn refuse_allocation(
             has_rows(&estimator, &SQUARE_ROWS[..fixes.len()]),
             "rows in the end"
         );
-        return Ok(Outcome::Taken);
+        return Outcome::Taken;
     }
-    expect_stopped(rt, alloc, &estimator, before, corners)?;
-    Ok(Outcome::Refused)
+    expect_stopped(rt, alloc, &estimator, before, corners);
+    Outcome::Refused
 }
 
 // Refuses each allocation in turn, up to a run without a refusal, and gives how many allocations of the block there
@@ -80,28 +79,29 @@ fn allocations_of_block(
     fixes: &[Fix],
     place: usize,
     corners: &[(i64, i64)],
-) -> Result<u32, Fail> {
+) -> u32 {
     let mut refused = 0u32;
     for number in 1..MANY_ALLOCATIONS {
-        match refuse_allocation(rt, alloc, fixes, place, corners, number)? {
+        match refuse_allocation(rt, alloc, fixes, place, corners, number) {
             Outcome::RefusedBefore => {}
             Outcome::Refused => refused = refused.wrapping_add(1),
-            Outcome::Taken => return Ok(refused),
+            Outcome::Taken => return refused,
         }
     }
-    Err(Fail::from("no run without a refusal"))
+    assert!(rt; false, "no run without a refusal");
+    refused
 }
 
 #[test]
 fn a_block_is_refused_only_at_a_refused_allocation(rt: HostRuntime) -> Result<(), Fail> {
     let fixes = fixes_of(rt.alloc(), &SQUARE)?;
-    let first = allocations_of_block(&rt, rt.alloc(), &fixes, 0, &[])?;
+    let first = allocations_of_block(&rt, rt.alloc(), &fixes, 0, &[]);
     assert!(rt;
         first >= LEAST_ALLOCATIONS,
         "allocations of the first block"
     );
     let four = fixes_of(rt.alloc(), &SQUARE[..4])?;
-    let second = allocations_of_block(&rt, rt.alloc(), &four, 2, &[(0, 0), (10, 0)])?;
+    let second = allocations_of_block(&rt, rt.alloc(), &four, 2, &[(0, 0), (10, 0)]);
     assert!(rt; second > 0, "allocations of the second block");
     Ok(())
 }

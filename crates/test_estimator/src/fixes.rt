@@ -1,10 +1,11 @@
 // Fixes, and estimators that take them, for the tests.
 
 use range_estimator::Estimator;
-use range_plane::{FIX_LIMIT, Fix, Point, Polygon};
+use range_plane::{FIX_LIMIT, Fix, Point};
 use std::alloc::{Allocator, Global};
 use std::process::Abort;
 use std::test::Fail;
+use test_doubles::are_at;
 
 // The corners and the doubled area of each row of the square.
 pub(crate) const SQUARE_ROWS: [(u32, u128); 5] = [(1, 0), (2, 0), (3, 100), (4, 200), (4, 200)];
@@ -57,21 +58,15 @@ pub(crate) fn has_rows<A: Allocator + Copy>(
             && row.area2 == area2)
 }
 
-// Whether these are the corners of the estimator's polygon, in this order.
+// Whether the estimator's polygon can be made, and has these corners, in this order.
 pub(crate) fn has_corners<A: Allocator + Copy>(
     alloc: Global,
     estimator: &Estimator<A>,
     corners: &[(i64, i64)],
-) -> Result<bool, Fail> {
-    let polygon: Polygon = estimator.polygon(alloc)?;
-    let found = polygon.corners();
-    Ok(
-        found.len() == corners.len()
-            && found
-                .iter()
-                .zip(corners)
-                .all(|(p, &(e, n))| p.e == e && p.n == n),
-    )
+) -> bool {
+    estimator
+        .polygon(alloc)
+        .is_ok_and(|polygon| are_at(polygon.corners(), corners))
 }
 
 // Whether the estimator holds these fixes, and a row for each, of its second.
