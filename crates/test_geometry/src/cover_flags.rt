@@ -1,8 +1,8 @@
 // Tests of cover flags by a hull's polygon, of points that are added to the hull after that.
 
 use crate::points::{columns_of, hull_at, hull_of, parabola, point};
-use range_hull::OnlineHull;
 use range_cover::{CoverCache, add_point};
+use range_hull::OnlineHull;
 use range_plane::FIX_LIMIT;
 use std::process::Abort;
 use std::test::Fail;
