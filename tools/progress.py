@@ -11,7 +11,7 @@ import time
 from pathlib import Path
 
 CRATES = Path(__file__).resolve().parents[1] / "crates"
-GATE_SECONDS = 14_003  # of processors, from nothing: docs/GATE.md
+GATE_SECONDS = 12_685  # of processors, from nothing: docs/GATE.md
 DONE = re.compile("rt: ([a-z_]+)(?:: (its tests are|trying its must-fail edits))?( proved)?")
 FAILED = re.compile("NOT PROVED|BAD EDIT|FAILED|[0-9]+ passed, [0-9]+ failed")
 
