@@ -50,6 +50,8 @@ def plain(source, folder):
 
 def plain_by_csv(source, folder):
     """The same with the feature `csv`, built by `cargo` with the crate of Debian's librust-csv-dev."""
+    if not any(pathlib.Path(REGISTRY).glob("csv-1.*")):
+        raise SystemExit(f"{REGISTRY} has no crate csv: apt-get install librust-csv-dev")
     room = pathlib.Path(folder) / "by_csv"
     room.mkdir()
     name = pathlib.Path(source).stem

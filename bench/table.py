@@ -108,7 +108,7 @@ def time_programs(cases, options, plain, by_csv, folder):
     files = {name for case in cases for name in case.files}
     timing.apart(program.make_files, plain("program_files.rs"), files, folder)
     for case in cases:
-        commands = program.commands_of(case, proved, plain("program_plain.rs"), by_csv("program_plain.rs"))
+        commands = program.commands_of(case, proved, plain("program_plain.rs"), by_csv)
         program.compare(case, commands, folder)
         if options.compare:
             print(case.name, flush=True)
@@ -125,11 +125,11 @@ def main():
     began = timing.now()
     with tempfile.TemporaryDirectory() as folder:
         plain = functools.cache(functools.partial(programs.plain, folder=folder))
+        by_csv = programs.plain_by_csv("program_plain.rs", folder) if whole else None
         print("All ways come to the same in:" if options.compare else HEAD, flush=True)
         if len(whole) < len(wanted):
             timing.apart(time_parts, set(wanted), options, plain)
         if whole:
-            by_csv = functools.cache(functools.partial(programs.plain_by_csv, folder=folder))
             time_programs(whole, options, plain, by_csv, folder)
     if not options.compare:
         print(timing.stolen_since(began))
