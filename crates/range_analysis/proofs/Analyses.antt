@@ -20,12 +20,14 @@ known levels track measured is = record {
   polygon = subst (λ (S : List Position). IsPolygon S measured.animal.polygon) (sym is.points) is.animal.polygon;
 }
 
+-- of each animal that was measured, the box and the polygon are those of its points
 pub all_known : (levels : List ℕ) (tracks : List Track) (measured : List Measured) → AllZip (IsMeasuredOf levels) tracks measured → All IsKnown measured
 all_known levels [] [] each = All-nil IsKnown
 all_known levels [] (m ∷ ms) each = absurd each
 all_known levels (t ∷ ts) [] each = absurd each
 all_known levels (t ∷ ts) (m ∷ ms) each = All-cons IsKnown m ms (known levels t m each.0) (all_known levels ts ms each.1)
 
+-- the animals that were measured are those of the tracks
 pub animals_of : (levels : List ℕ) (tracks : List Track) (measured : List Measured) → AllZip (IsMeasuredOf levels) tracks measured
     → AllZip (IsAnimalOn levels) tracks (map (λ m. m.animal) measured)
 animals_of levels [] [] each = tt
@@ -51,11 +53,13 @@ zip_of_map R f (x ∷ xs) each = (each x, zip_of_map R f xs each)
 overlap_of : (points : List (List Position)) (pair : ℕ × ℕ) → IsOverlap points pair (row_of points pair)
 overlap_of points pair = record { animal = refl; range = refl; count = refl; fixes = refl }
 
+-- the rows of pairs of measured animals are the overlaps of the tracks' points
 pub overlaps_of : (levels : List ℕ) (tracks : List Track) (measured : List Measured) (n : ℕ) → AllZip (IsMeasuredOf levels) tracks measured
     → AllZip (IsOverlap (points_on tracks)) (pairs n) (map (row_of (points_of_each measured)) (pairs n))
 overlaps_of levels tracks measured n each =
     rw (fixes_of levels tracks measured each) (zip_of_map (IsOverlap (points_on tracks)) (row_of (points_on tracks)) (pairs n) (overlap_of (points_on tracks)))
 
 -- ---- the rows are of animals that there are
+-- both indexes of each row are below n
 pub rows_numbered : (fixes : List (List Position)) (n : ℕ) → All (λ (row : OverlapRow). (row.animal < n) × (row.range < n)) (map (row_of fixes) (pairs n))
 rows_numbered fixes n = All-map (λ (row : OverlapRow). (row.animal < n) × (row.range < n)) (row_of fixes) (pairs n) (pairs_below n)

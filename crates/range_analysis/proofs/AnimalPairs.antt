@@ -16,6 +16,7 @@ indices_more n = sym (map-id _) ∙ (map-range_with_len_more (λ (x : ℕ). x) 0
 others_more : (i n : ℕ) → other_animals (n + 1) i ≡ other_animals n i ++ cond (not (i == n)) (n ∷ []) []
 others_more i n = ap (filter (λ j. not (i == j))) (indices_more n) ∙ filter-append (λ j. not (i == j)) (range_with_len 0 n) (n ∷ [])
 
+-- the pairs of index i with the others below n, and then the one with n, are those with the others below n + 1
 pub pair_pushed : (before made : List (ℕ × ℕ)) (i n : ℕ) → n ≢ i → made ≡ before ++ map (λ j. (i, j)) (other_animals n i)
     → made ++ (i, n) ∷ [] ≡ before ++ map (λ j. (i, j)) (other_animals (n + 1) i)
 pair_pushed before made i n differ so_far =
@@ -24,6 +25,7 @@ pair_pushed before made i n differ so_far =
     let pair : ℕ → ℕ × ℕ = λ j. (i, j) in
     rw (so_far, more, map-append pair (other_animals n i) (n ∷ [])) (append_assoc before (map pair (other_animals n i)) (pair n ∷ []))
 
+-- an index makes no pair with itself
 pub pair_left_out : (before made : List (ℕ × ℕ)) (i n : ℕ) → n ≡ i → made ≡ before ++ map (λ j. (i, j)) (other_animals n i)
     → made ≡ before ++ map (λ j. (i, j)) (other_animals (n + 1) i)
 pair_left_out before made i n same so_far =
@@ -35,6 +37,7 @@ pair_left_out before made i n same so_far =
 abbrev pub pairs_before : ℕ → ℕ → List (ℕ × ℕ)
 pairs_before n bound = flat_map (λ i. map (λ j. (i, j)) (other_animals n i)) (range_with_len 0 bound)
 
+-- with the pairs of index i there are those whose first is below i + 1
 pub pairs_pushed : (all after : List (ℕ × ℕ)) (n i : ℕ) → all ≡ pairs_before n i → after ≡ all ++ map (λ j. (i, j)) (other_animals n i)
     → after ≡ pairs_before n (i + 1)
 pairs_pushed all after n i so_far pushed =
@@ -56,6 +59,7 @@ indices_below n = λ k d within. omega (
   get_or-range_with_len 0 n k d (omega (arith, within, length-range_with_len 0 n)),
 )
 
+-- both indexes of each pair are below n
 pub pairs_below : (n : ℕ) → All (λ pair. (pair.0 < n) × (pair.1 < n)) (pairs n)
 pairs_below n =
     let Below = λ (pair : ℕ × ℕ). (pair.0 < n) × (pair.1 < n) in

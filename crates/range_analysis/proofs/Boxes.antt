@@ -44,6 +44,7 @@ counts_none test (x ∷ xs) none =
     let rest = counts_none test xs (λ y m. none y (contains_later x xs y m)) in
     rw first rest
 
+-- of two sets whose boxes lie apart, one covers no points of the other
 pub apart_overlap_is_none : BoxesHoldWhatIsCovered → CoveredIsDecided → (points set : List Position) (a b : Extent) → IsExtent points a → IsExtent set b
     → (are_apart_by_easting a b || are_apart_by_northing a b) ≡ true → overlap points set ≡ 0
 apart_overlap_is_none boxes decided points set a b in_a in_b apart =

@@ -26,6 +26,7 @@ there_at : (b : Bool) (k index : ℕ) → cond b (Some k) None ≡ Some index �
 there_at true k index is = (refl, cc)
 there_at false k index is = cc
 
+-- the index of a member that passes a test is one of the list
 pub index_within : {X : Type 0} (test : X → Bool) (xs : List X) (index : ℕ) → position test xs ≡ Some index → index < length xs
 index_within test xs index is =
     let there = there_at (nat_lt (position_or_len test xs) (length xs)) (position_or_len test xs) index is in

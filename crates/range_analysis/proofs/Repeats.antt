@@ -17,6 +17,7 @@ use Rattle.range_analysis.specs.Names.{DifferBefore}
 abbrev pub Key : Type 0
 Key = Bor (List ℕ)
 
+-- the names themselves
 abbrev pub texts : List Key → List (List ℕ)
 texts keys = map (λ (k : Key). k.now) keys
 
@@ -55,6 +56,7 @@ module _ (same : Key → Key → Bool) (decides : (x y : Key) → Decides (same 
         ap texts pushed ∙ (map-append (λ (k : Key). k.now) keys (key ∷ [])
         ∙ (ap (λ l. l ++ key.now ∷ []) next.seen ∙ (ap (λ n. take index names ++ n ∷ []) next.next ∙ sym (take_more names index [] next.within))))
 
+    -- with a new name at the index no two of the names up to there are the same
     pub differ_more : list_any (same key) keys ≡ false → DifferBefore names index → DifferBefore names (index + 1)
     differ_more new differ i j before below equal = elim (cases_lt j index) [
       | inl under ↦ differ i j before under equal

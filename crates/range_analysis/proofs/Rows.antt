@@ -10,6 +10,7 @@ points_are : (measured : List Measured) (i : ℕ) (m : Measured) → i < length 
     → m.fixes.points ≡ points_at (points_of_each measured) i
 points_are measured i m within is = sym (get_or-map (λ (m : Measured). m.fixes.points) measured i m [] within ∙ ap (λ (m : Measured). m.fixes.points) (sym is))
 
+-- a row with two animals' indexes, the count of their overlap and the number of fixes is that of the pair
 pub row_is : (measured : List Measured) (a r count fixes : ℕ) (animal range : Measured) → a < length measured → r < length measured
     → animal ≡ get_or measured a animal → range ≡ get_or measured r range
     → count ≡ overlap animal.fixes.points range.fixes.points → fixes ≡ length animal.fixes.points

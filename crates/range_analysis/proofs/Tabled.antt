@@ -26,6 +26,7 @@ points_are : (tracks : List Track) → map points_in (entries_in tracks) ≡ poi
 points_are [] = refl
 points_are (t ∷ tracks) = ap (λ (l : List (List Position)). points_of t.estimator.fixes ∷ l) (points_are tracks)
 
+-- the animals and overlaps of tracks whose files had no fault, and whose names differ, are an analysis
 pub tabled : (levels : List ℕ) (unit : Scale) (tracks : List Track) (entries : List Entry) (analysis : Analysis) → entries_in tracks ≡ entries
     → first_fault entries ≡ None → IsFirstRepeat (names_of (entries_in tracks)) None
     → AllZip (IsAnimalOn levels) tracks analysis.animals → AllZip (IsOverlap (points_on tracks)) (pairs (length tracks)) analysis.overlaps

@@ -23,17 +23,21 @@ pub names_in : (tracks : List Track) → names_of (entries_in tracks) ≡ map (�
 names_in [] = refl
 names_in (t ∷ tracks) = ap (λ l. t.name ∷ l) (names_in tracks)
 
+-- there are as many names as tracks
 pub names_count : (tracks : List Track) → length (names_of (entries_in tracks)) ≡ length tracks
 names_count tracks = ap length (names_in tracks) ∙ length-map tracks (λ t. t.name)
 
+-- the name of the track at an index is the name there
 pub name_is : (tracks : List Track) (index : ℕ) (track : Track) → index < length tracks → track ≡ get_or tracks index track
     → track.name ≡ name_at (names_of (entries_in tracks)) index
 name_is tracks index track within is =
     ap (λ t. t.name) is ∙ (sym (get_or-map (λ (t : Track). t.name) tracks index track [] within) ∙ ap (λ l. get_or l index []) (sym (names_in tracks)))
 
+-- there are as many entries as tracks
 pub entries_count : (tracks : List Track) → length (entries_in tracks) ≡ length tracks
 entries_count tracks = length-map tracks (λ t. of_animal t.name t.estimator.fixes)
 
+-- a first repeat is of two tracks that there are
 pub repeat_within : (tracks : List Track) (first second : ℕ) → IsFirstRepeat (names_of (entries_in tracks)) (Some (first, second)) → (first < length tracks)
     × (second < length tracks)
 repeat_within tracks first second repeat =

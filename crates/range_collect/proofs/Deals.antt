@@ -9,6 +9,7 @@ use Rattle.range_collect.specs.Shares.{AreDealt, AreSharesOf}
 use Rattle.range_lemmas.proofs.Indices.{map_length, mapped, mapped_from, of_all, set_or_kept, slice_get_last, there_is}
 
 -- ---- stride
+-- a number is at most another, or above it
 pub at_most_or_more : (a b : ℕ) → (a ≤ b) ⊎ (b < a)
 at_most_or_more zero b = inl (omega arith)
 at_most_or_more (suc a) zero = inr (omega arith)
@@ -46,6 +47,7 @@ rest_left [] (suc t) x rest is = absurd (cc)
 rest_left (y ∷ xs) zero x rest is = ap (drop 1) is
 rest_left (y ∷ xs) (suc t) x rest is = rest_left xs t x rest is
 
+-- where a member is set in a list, its image is set in the image of the list
 pub map_set : {X Y : Type 0} (f : X → Y) (xs : List X) (i : ℕ) (x : X) → map f (set xs i x) ≡ set (map f xs) i (f x)
 map_set f [] i x = refl
 map_set f (y ∷ xs) zero x = refl
@@ -67,6 +69,7 @@ pub share_of : {X : Type 0} (xs : List X) (shares : List (List X)) (i : ℕ) (x 
     → (share : List X) × (slice_get shares (i % length shares) ≡ Some share) × (slice_get share (i / length shares) ≡ Some x)
 share_of xs shares i x dealt some is = let s = there_is shares (i % length shares) (mod-lt i some) in (s.0, s.1, dealt i s.0 s.1 ∙ is)
 
+-- the shares that a list was dealt to have as many members as they have of a list of its length
 pub dealt_sizes : {X : Type 0} (xs : List X) (shares : List (List X)) → AreDealt xs shares → AreSharesOf (length xs) shares
 dealt_sizes xs shares dealt i share is = (
   λ below. let x = there_is share (i / length shares) below in slice_get_within xs i x.0 (sym (dealt i share is) ∙ x.1),
@@ -167,6 +170,7 @@ abbrev pub AreTaken : {X : Type 0} → ℕ → List X → List (List X) → Type
 AreTaken {X} i all shares = (j : ℕ) (share : List X) → j < i → slice_get shares (j % length shares) ≡ Some share
     → slice_get share (j / length shares) ≡ slice_get all j
 
+-- before a member is taken all of each share is left
 pub all_left : {X : Type 0} (left shares : List (List X)) → left ≡ shares → AreLeft 0 left shares
 all_left {X} left shares same k l share in_left in_shares =
     let below = slice_get_within shares k share in_shares in
@@ -193,9 +197,11 @@ module _ {X : Type 0} (i : ℕ) (left shares : List (List X)) (x : X) (l share :
   next_left : x ∷ l ≡ drop (i / length shares) share
   next_left = left_next i left shares (x ∷ l) share are some in_left in_shares
 
+  -- the first that is left of the next share is its member i / n, where there are n shares
   pub next_member : slice_get share (i / length shares) ≡ Some x
   next_member = first_left share (i / length shares) x l (sym next_left)
 
+  -- once it is taken, what is left of the shares is what one more member leaves
   pub left_more : AreLeft (i + 1) (set left (i % length shares) l) shares
   left_more k m other in_set in_others =
       let n : ℕ = length shares in

@@ -27,6 +27,7 @@ pub record IsAt (first step count file : ℕ) : Type 0 where
   pub file_is : file ≡ first + index * step
   pub quotient : (file - first) / step ≡ index
 
+-- a file of a line has an index there
 pub is_at : (first step count file : ℕ) → 1 ≤ step → Contains (files_from first step count) file → IsAt first step count file
 is_at first step count file some contained =
     let p = (files_are_steps_apart first step count file).0 contained in
@@ -42,6 +43,7 @@ own_fixes file number block same = grind (arith, nat_tests)
 no_fixes : (file number : ℕ) (block : List Fix) → file ≢ number → cond (file == number) block [] ≡ []
 no_fixes file number block differ = grind (arith, nat_tests)
 
+-- where the estimator of a message's file takes its fixes, each holds what was taken of its file, the message too
 pub each_holds_more : (first step : ℕ) (taken : List Message) (m : Message) (es : List Estimation) (i : ℕ) (old new : Estimation)
     → 1 ≤ step → m.file ≡ first + i * step → slice_get es i ≡ Some old → ((all : List Fix) → Holds old all → Holds new (all ++ fixes_in m.body))
     → EachHolds first step taken es → EachHolds first step (taken ++ m ∷ []) (set es i new)
@@ -71,10 +73,12 @@ few taken m e lawful holds running =
     let same = ap length (holds.whole running) in omega (arith, room, same)
 
 -- ---- a line that is drained
+-- feeders that have ended stay as they are when they end
 pub ended_twice : (fs : List FeederView) → map ended_feeder (map ended_feeder fs) ≡ map ended_feeder fs
 ended_twice [] = refl
 ended_twice (f ∷ fs) = ap (λ (l : List FeederView). ended_feeder f ∷ l) (ended_twice fs)
 
+-- feeders that have ended are of the files that they were of
 pub ended_files : (fs : List FeederView) → map (λ (f : FeederView). f.file) (map ended_feeder fs) ≡ map (λ (f : FeederView). f.file) fs
 ended_files [] = refl
 ended_files (f ∷ fs) = ap (λ (l : List ℕ). f.file ∷ l) (ended_files fs)

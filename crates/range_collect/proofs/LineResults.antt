@@ -53,11 +53,13 @@ pumped_of first step size sources feeders reads worker line index f is =
     let read = there_is reads index (let count = line.counts.0 in let same = line.counts.1 in omega (arith, within, count, same)) in
     (source.0, read.0, line.pumped index source.0 f read.0 source.1 is read.1)
 
+-- the feeders of a line that has run are of its worker's line
 pub line_of_feeders : (first step size : ℕ) (sources : List (Option Reading)) (feeders : List FeederView) (reads : List ReadResult) (worker : TakerView)
     → IsLineRun first step size sources feeders reads worker → AreOfLine feeders worker.line
 line_of_feeders first step size sources feeders reads worker line =
     all_of (λ (f : FeederView). f.line ≡ worker.line) feeders (λ index f is. (pumped_of first step size sources feeders reads worker line index f is).2.line)
 
+-- and their files are the worker's
 pub files_of_line : (first step size : ℕ) (sources : List (Option Reading)) (feeders : List FeederView) (reads : List ReadResult) (worker : TakerView)
     → IsLineRun first step size sources feeders reads worker
     → map (λ (f : FeederView). f.file) feeders ≡ worker.files
@@ -171,6 +173,7 @@ module _ {F : Type 0} (feeder : F → FeederView) (read : F → ReadResult) (est
       followed_of told (first + index * step) size worker.line before.0 (feeder x) (read x) (estimator x) (marked x) pumped before.2
       (of_all (λ (x : F). IsSeen (feeder x) (marked x)) results index x seen in_results) (holds index (feeder x) (estimator x) in_ended in_es)
 
+  -- the results of a line's feeders are of that line
   pub all_of_line : (line : Line) (feeders ended : List FeederView) (results : List F) → AreOfLine feeders line → ended ≡ map ended_feeder feeders
       → map feeder results ≡ ended → All (λ x. (feeder x).line ≡ line) results
   all_of_line line feeders ended results of_line are of_feeders =

@@ -38,6 +38,7 @@ same_under i j n workers w is below_i below_j same =
     ]
 
 -- ---- one line's results, by other words
+-- one line's results are so for equal numbers, sources and results too
 pub same_line_followed : {A : Type 0} {clone : Ghosts A} (first step block index w size : ℕ) (told sources : List (Option Reading))
     (results followed : List (Followed A clone))
     → first ≡ index → step ≡ w → block ≡ size → told ≡ sources → results ≡ followed → IsLineFollowed first step block told results
@@ -47,6 +48,7 @@ same_line_followed first step block index w size told sources results followed e
 -- ---- the results of all lines
 module _ {A : Type 0} {clone : Ghosts A} (size : ℕ) (sources : List (Option Reading)) (shares : List (List (Option Reading)))
     (results : List (List (Followed A clone))) where
+  -- each line has as many results as sources
   pub shares_alike : AreLinesFollowed size shares results → map length results ≡ map length shares
   shares_alike are = same_indices (map length results) (map length shares) (map_length length results ∙ (are.count ∙ sym (map_length length shares)))
       (λ index x y in_results in_shares.
@@ -54,6 +56,7 @@ module _ {A : Type 0} {clone : Ghosts A} (size : ℕ) (sources : List (Option Re
       let l = mapped_from length shares index y in_shares in
       sym r.2 ∙ ((are.each index l.0 r.0 l.1 r.1).count ∙ l.2))
 
+  -- of all results that were dealt, the one at an index is that of the source there
   pub file_followed : (all : List (Followed A clone)) → AreDealt sources shares → AreDealt all results → AreLinesFollowed size shares results → 0 < length shares
       → (index : ℕ) (source : Option Reading) (f : Followed A clone) → slice_get sources index ≡ Some source → slice_get all index ≡ Some f
       → IsFollowed source index size f
@@ -68,6 +71,7 @@ module _ {A : Type 0} {clone : Ghosts A} (size : ℕ) (sources : List (Option Re
       let followed = (are.each (index % w) share.0 result.0 share.1 in_results).followed (index / w) source f share.2 in_result in
       subst (λ (n : ℕ). IsFollowed source n size f) (mod-add-div' index w) followed
 
+  -- two files are of one line where their indexes leave the same remainder by the number of lines
   pub same_line : (all : List (Followed A clone)) → AreDealt all results → AreLinesFollowed size shares results → 0 < length shares
       → (i j : ℕ) (f g : Followed A clone) → slice_get all i ≡ Some f → slice_get all j ≡ Some g → i % length shares ≡ j % length shares
       → f.feeder.line ≡ g.feeder.line
@@ -99,6 +103,7 @@ module _ {A : Type 0} {clone : Ghosts A} (size : ℕ) (sources : List (Option Re
       let of_line = of_all (λ (x : Followed A clone). x.feeder.line ≡ share.line) a.0 (i / length results) f share.of_line a.2 in
       ap first_file of_line ∙ (share.begins ∙ ap (λ (n : ℕ). i % n) count)
 
+  -- files of one line have indexes that leave the same remainder by the number of lines
   pub same_share : (all : List (Followed A clone)) → AreDealt all results → AreLinesFollowed size shares results → 0 < length shares
       → (i j : ℕ) (f g : Followed A clone) → slice_get all i ≡ Some f → slice_get all j ≡ Some g → f.feeder.line ≡ g.feeder.line
       → i % length shares ≡ j % length shares

@@ -172,6 +172,7 @@ word_line (words.BadWords text) alone = absurd alone
 word_line words.TooManyFiles alone = counted_line (codes "more than ") (codes " files; MORE FILES in the manual page says how to run more") _ refl refl
 word_line (words.BadLevels fault) alone = two (codes "--percent: ") (level_text fault) (words_line (codes "--percent: ") refl) (level_line fault)
 
+-- each refusal is one line, whatever the names of files and animals are
 pub refusal_line : RefusalsAreOneLine
 refusal_line refusals.OutOfMemory alone = words_line (codes "out of memory") refl
 refusal_line (refusals.NotText word) alone = counted_line (codes "word ") (codes " of the command line is not UTF-8") word refl refl
@@ -196,6 +197,7 @@ short_run (runs.Analyse fault) = short_files fault
 short_run runs.OutOfMemory = short_of (codes "out of memory") refl _ refl
 short_run runs.Write = short_of (codes "the report could not be written") refl _ refl
 
+-- what stands for a refusal where there is no memory is one line
 pub short_is_one_line : ShortLinesAreOneLine
 short_is_one_line refusals.OutOfMemory = short_of (codes "out of memory") refl _ refl
 short_is_one_line (refusals.NotText word) = short_of (codes "a word of the command line is not UTF-8") refl _ refl

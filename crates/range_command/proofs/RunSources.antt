@@ -25,6 +25,7 @@ pub may_open_more : (find : List ℕ → Found) (files : List (String Global)) (
 may_open_more find [] file before here = (here, tt)
 may_open_more find (first ∷ files) file before here = (before.0, may_open_more find files file before.1 here)
 
+-- where the first k files may be opened, and the next may be, the first k + 1 may be
 pub may_open_of : (find : List ℕ → Found) (files : List (String Global)) (k : ℕ) (file : String Global) → k < length files → slice_index_or files k file ≡ file
     → AllMayOpen find (take k files) → MayOpen (find (string_bytes file)) → AllMayOpen find (take (k + 1) files)
 may_open_of find files k file within is before here =
@@ -53,6 +54,7 @@ unopened_of_files find files k file (refusals.CommandLine fault) within before i
 unopened_of_files find files k file (refusals.Unwritten reason) within before is told = absurd told
 unopened_of_files find files k file (refusals.Run fs fault reason) within before is told = absurd told
 
+-- why files are not opened is why good words have no report
 pub files_of_run : (read : Words) (w : World) (refusal : Refusal) → IsOfFiles w.find read.files.items refusal → IsOfRun read w refusal
 files_of_run read w refusals.OutOfMemory told = tt
 files_of_run read w (refusals.Unopened path reason) told = told

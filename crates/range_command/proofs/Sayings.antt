@@ -22,6 +22,7 @@ told_in_one said w (refusals.Unopened path reason) told = tt
 told_in_one said w (refusals.Unwritten reason) told = tt
 told_in_one said w (refusals.Run files fault reason) told = tt
 
+-- a refusal of the system is no text of many lines
 pub system_in_one : (refusal : Refusal) → IsOfSystem refusal → IsOfOneLine refusal
 system_in_one refusals.OutOfMemory told = tt
 system_in_one (refusals.NotText word) told = tt

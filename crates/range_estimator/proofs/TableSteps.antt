@@ -16,6 +16,7 @@ use Rattle.range_lemmas.proofs.Indices.{before_or_last, slice_get_before, slice_
 use Rattle.range_estimator.proofs.Sets.{polygon_pushed}
 
 -- ---- fixes by their rows and points
+-- the points of fixes are those that they were made with
 pub points_of_fixes : (rows : List Row) (points : List Position) → length rows ≡ length points → points_of (fixes_of rows points) ≡ points
 points_of_fixes [] [] h = refl
 points_of_fixes [] (p ∷ points) h = cc
@@ -70,6 +71,7 @@ table_pushed fixes rows row p table gives =
     }
 
 -- ---- the estimate of fixes, with a row and a point more
+-- rows and new corners are the estimate of the fixes with one more, where its row has the new corners' number and area
 pub estimate_pushed : SetsCoverTheirMembers → CoveringMembersAreCorners → CornersCoverTheSet
     → (rows : List Row) (points : List Position) (row : Row) (p : Position) (L M : List Position) → length rows ≡ length points
     → IsEstimate (fixes_of rows points) rows L

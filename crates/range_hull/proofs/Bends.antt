@@ -81,10 +81,12 @@ turn_back : (a b : Position) → turn a b a ≡ pos 0
 unfolding turn turn_of
 turn_back a b = ring (a.e ∷ a.n ∷ b.e ∷ b.n ∷ []) (turn_of (var 0) (var 1) (var 2) (var 3) (var 0) (var 1)) (num (pos 0)) tt
 
+-- three points bend the same when they are begun at the second
 pub bend_rotate : (side : Side) (a b c : Position) → bend side a b c ≡ bend side b c a
 bend_rotate Lower a b c = turn_rotate a b c
 bend_rotate Upper a b c = ap neg_ℤ (turn_rotate a b c)
 
+-- with the last two points exchanged the bend changes its sign
 pub bend_flip : (side : Side) (a b c : Position) → bend side a b c ≡ pos 0 -ℤ bend side a c b
 bend_flip Lower a b c = turn_flip a b c
 bend_flip Upper a b c = omega (arith, linear, turn_flip a b c)

@@ -529,6 +529,7 @@ replaced_extends {side} {L} {p} {from} {index} {to} c t = record {
 }
 
 -- ---- what the code reads
+-- where points rise and p comes before the one at `index`, it comes before all from there on
 pub after_index : (L : List Position) (p : Position) (index : ℕ) → IsRising L → (index < length L → rank p <ℤ rank (at L index)) → (i : ℕ) → index ≤ i
     → i < length L → rank p <ℤ rank (at L i)
 after_index L p index c h i g k =

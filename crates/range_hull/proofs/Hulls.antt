@@ -472,6 +472,7 @@ hull_polygon {L} {U} reaching corners h S sub below above =
     (all_turn_left h)
 
 -- ---- a point was added to both chains
+-- once p was added to both chains, their corners are the polygon of p and the corners before
 pub polygon_extended : CoveringIsReaching → CoveringMembersAreCorners → (L U M V : List Position) (p : Position) → IsWithinLimits p → AreChains L U
     → Extends Lower L p M → Extends Upper U p V → IsPolygon (p ∷ corners_of L U) (corners_of M V)
 polygon_extended reaching corners L U M V p hp h a b =
@@ -510,6 +511,7 @@ pub own_polygon : {L U : List Position} → CoveringIsReaching → CoveringMembe
 own_polygon {L} {U} reaching corners h = hull_polygon reaching corners h (corners_of L U) (λ x m. m) (corner_in_lower h) (corner_in_upper h)
 
 -- ---- the corners of the upper chain, one after another
+-- with x, which is k before the end of the upper chain, the corners have one more of the inner corners read backwards
 pub next_corner : (L U corners : List Position) (k : ℕ) (x : Position) → 2 ≤ k → k < length U → x ≡ at U (length U - k)
     → corners ≡ L ++ take (k - 2) (reverse (inner_corners U)) → corners ++ x ∷ [] ≡ L ++ take (k + 1 - 2) (reverse (inner_corners U))
 next_corner L U corners k x least most r e =

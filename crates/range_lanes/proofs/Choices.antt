@@ -16,6 +16,7 @@ pub record Choice (m : ℤ → ℤ → ℤ) : Type 0 where
   pub comm : (a b : ℤ) → m a b ≡ m b a
   pub same : (a : ℤ) → m a a ≡ a
 
+-- the smaller of two numbers is such a choice
 pub min_choice : Choice int_min
 min_choice = record {
   assoc = λ a b c. omega (arith, ints, clamps);
@@ -23,6 +24,7 @@ min_choice = record {
   same = λ a. omega (arith, ints, clamps);
 }
 
+-- the greater of two numbers is such a choice
 pub max_choice : Choice int_max
 max_choice = record {
   assoc = λ a b c. omega (arith, ints, clamps);
@@ -77,5 +79,6 @@ contained [] a r some e h = absurd (omega arith)
 pub least_from_fold : (xs : List ℤ) (a r : ℤ) → 0 < length xs → a ≡ get_or xs 0 (pos 0) → r ≡ fold int_min a xs → IsLeastCoordinate xs r
 least_from_fold xs a r some e h = (contained xs a r some e (fold-int_min_reached a xs r h), (fold-int_min_bounds a xs r h).1)
 
+-- a fold from the first number on that keeps the greater gives the greatest
 pub greatest_from_fold : (xs : List ℤ) (a r : ℤ) → 0 < length xs → a ≡ get_or xs 0 (pos 0) → r ≡ fold int_max a xs → IsGreatest xs r
 greatest_from_fold xs a r some e h = (contained xs a r some e (fold-int_max_reached a xs r h), (fold-int_max_bounds a xs r h).1)

@@ -24,6 +24,7 @@ smaller_kept x y m f g e =
     let stays = kept coordinate_limit (lit< tt) m limits in
     (stays ∙ same, subst IsCoordinate (sym stays) limits)
 
+-- the greater of two coordinates is kept as it is, and is a coordinate
 pub greater_kept : (x y m : ℤ) → IsCoordinate x → IsCoordinate y → m ≡ int_max (to_z w64 (of_z w64 x)) (to_z w64 (of_z w64 y))
     → (to_z w64 (of_z w64 m) ≡ int_max x y) × IsCoordinate (to_z w64 (of_z w64 m))
 greater_kept x y m f g e =

@@ -9,6 +9,7 @@ use Rattle.range_plane.specs.Plane.{Position}
 use Rattle.range_lanes.specs.Lanes.{is_not_negative}
 use Rattle.range_lanes.proofs.Eights.{group_more}
 
+-- as many results of a test are true as members pass it
 pub count_of_map : {A : Type 0} (p : A → Bool) (xs : List A) → count_by (λ b. b) (map p xs) ≡ count_by p xs
 count_of_map p xs = fold-map (λ a b. a + cond b 1 0) p 0 xs
 

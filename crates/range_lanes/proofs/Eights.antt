@@ -21,6 +21,7 @@ pub moved_e : (g : ℤ → ℤ) (es ns : List ℤ) → length es ≡ length ns �
 moved_e g es ns same =
     ap (map g) (sym (firsts_of_zipped position (λ (p : Position). p.e) (λ e n. refl) es ns same)) ∙ map-map g (λ (p : Position). p.e) (zip2 position es ns)
 
+-- a function of the northings, as one of the points with these eastings and northings
 pub moved_n : (g : ℤ → ℤ) (es ns : List ℤ) → length es ≡ length ns → map g ns ≡ map (λ p. g p.n) (zip2 position es ns)
 moved_n g es ns same =
     ap (map g) (sym (seconds_of_zipped position (λ (p : Position). p.n) (λ e n. refl) es ns same)) ∙ map-map g (λ (p : Position). p.n) (zip2 position es ns)
@@ -53,6 +54,7 @@ group_is at ps =
     ∙ ap (zip2 position (map (λ p. p.e) (chunk at 8 ps))) (chunk_map (λ p. p.n) at ps)
     ∙ zipped_back (chunk at 8 ps)
 
+-- each number in a group of eight of a list of coordinates is a coordinate
 pub group_coordinates : (xs : List ℤ) (at : ℕ) → All IsCoordinate xs → Each1 IsCoordinate (chunk at 8 xs)
 group_coordinates xs at h = Each1-chunk IsCoordinate at 8 xs (each_from_all IsCoordinate xs h)
 

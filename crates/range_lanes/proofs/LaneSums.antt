@@ -83,6 +83,7 @@ cast_asks : (z : ℤ) → pos 0 ≤ℤ z → FitsSigned w64 z → T (non_neg z) 
 cast_asks (pos n) h f = (tt, record { fits = omega (arith, f.sfits) })
 cast_asks (negsuc n) h f = absurd (omega (arith, ints))
 
+-- the sum of coordinates fits 64 bits, where there are at most as many as fixes may be
 pub total_fits : (xs : List ℤ) → length xs ≤ fix_limit → All IsCoordinate xs → FitsSigned w64 (total xs)
 total_fits xs few h = few_fit (length xs) (total xs) few (sum_bounds xs h)
 
@@ -100,5 +101,6 @@ pub group_sums : (xs : List ℤ) (at : ℕ) → All IsCoordinate xs → Each1 (I
 group_sums xs at h =
     Each1-chunk (IsSumOf 1) at 8 xs (Each1-weaker IsCoordinate (IsSumOf 1) (λ x f. (f.0, f.1)) xs (each_from_all IsCoordinate xs h))
 
+-- with one coordinate more, a sum as large as n coordinates may make is one as large as n + 1 may make
 pub sum_step : (n : ℕ) (x y : ℤ) → IsSumOf n x → IsSumOf 1 y → IsSumOf (n + 1) (x +ℤ y)
 sum_step n x y f g = (omega (arith, ints), omega (arith, ints))

@@ -47,6 +47,7 @@ top_of_mask true = refl
 top_of_mask false = refl
 
 -- ---- what is true of each lane of a result
+-- what is true of every two lanes' result is true of each lane of the whole result
 pub each_zip : (f : ℤ → ℤ → ℤ) (P Q R : ℤ → Type 0) → ((x y : ℤ) → P x → Q y → R (f x y)) → (xs ys : List ℤ) → Each1 P xs → Each1 Q ys → Each1 R (zip2 f xs ys)
 each_zip f P Q R s [] ys p q = tt
 each_zip f P Q R s (x ∷ xs) [] p q = tt
@@ -63,12 +64,14 @@ pub record Exact (f : ℤ → ℤ → ℤ) (k : ℕ) : Type 0 where
   small : (x : ℤ) → IsBounded k x → FitsSigned w64 x
   fits : (x y : ℤ) → IsBounded k x → IsBounded k y → FitsSigned w64 (f x y)
 
+-- sums of numbers up to the size of a turn fit 64 bits
 pub exact_sum : Exact ◌+ℤ◌ turn_limit
 exact_sum = record {
   small = fits_from_size turn_limit (lit< tt);
   fits = λ x y p q. fits_from_size (turn_limit + turn_limit) (lit< tt) (x +ℤ y) (abs_add x y turn_limit turn_limit p q);
 }
 
+-- differences of numbers up to the size of a turn fit 64 bits
 pub exact_difference : Exact ◌-ℤ◌ turn_limit
 exact_difference = record {
   small = fits_from_size turn_limit (lit< tt);
@@ -78,6 +81,7 @@ exact_difference = record {
 coordinate_size_fits : (x : ℤ) → IsBounded coordinate_limit x → FitsSigned w64 x
 coordinate_size_fits x h = fits_from_size coordinate_limit (lit< tt) x h
 
+-- products of numbers up to the size of a coordinate fit 64 bits
 pub exact_product : Exact ◌*ℤ◌ coordinate_limit
 exact_product = record {
   small = coordinate_size_fits;
@@ -91,14 +95,17 @@ module _ (f : ℤ → ℤ → ℤ) (k : ℕ) (exact : Exact f k) (xs ys : List �
       lanes_ask _ (IsBounded k) (IsBounded k) (λ x y p q. rw (to_z-of_z w64 x (exact.small x p), to_z-of_z w64 y (exact.small y q))
       (exact.fits x y p q)) xs ys p q
 
+  -- the bits that the vector operation gives are read as the results on the numbers
   pub exact_are : map (to_z w64) (zip2 (λ a b. of_z w64 (f (to_z w64 a) (to_z w64 b))) (map (of_z w64) xs) (map (of_z w64) ys)) ≡ zip2 f xs ys
   exact_are =
       lanes_are f _ (IsBounded k) (IsBounded k) (λ x y p q. rw (to_z-of_z w64 x (exact.small x p), to_z-of_z w64 y (exact.small y q))
       (to_z-of_z w64 (f x y) (exact.fits x y p q))) xs ys p q
 
+  -- the results on lanes are lanes
   pub exact_lanes : AreLanes xs → AreLanes ys → AreLanes (zip2 f xs ys)
   exact_lanes a b = lanes_from_each f (IsBounded k) (IsBounded k) exact.fits xs ys a b p q
 
+-- the size of a coordinate is at most the coordinate limit
 pub coordinate_within : (x : ℤ) → IsCoordinate x → IsBounded coordinate_limit x
 coordinate_within x f = abs_up_to coordinate_limit x f
 
@@ -110,6 +117,7 @@ pub each_from_all : (P : ℤ → Type 0) (xs : List ℤ) → All P xs → Each1 
 each_from_all P [] h = tt
 each_from_all P (x ∷ xs) h = (All-head P x xs h, each_from_all P xs (All-tail P x xs h))
 
+-- each of a list of coordinates fits 64 bits
 pub each_fits : (xs : List ℤ) → All IsCoordinate xs → Each1 (FitsSigned w64) xs
 each_fits xs h = Each1-weaker IsCoordinate (FitsSigned w64) coordinate_fits xs (each_from_all IsCoordinate xs h)
 
@@ -157,9 +165,11 @@ either_fits : (t : Bool) (x y : ℤ) → FitsSigned w64 x → FitsSigned w64 y �
 either_fits true x y f g = f
 either_fits false x y f g = g
 
+-- the smaller of two numbers that fit 64 bits fits them too
 pub min_fits : (x y : ℤ) → FitsSigned w64 x → FitsSigned w64 y → FitsSigned w64 (int_min x y)
 min_fits x y f g = either_fits (lt_z y x) y x g f
 
+-- the greater of two numbers that fit 64 bits fits them too
 pub max_fits : (x y : ℤ) → FitsSigned w64 x → FitsSigned w64 y → FitsSigned w64 (int_max x y)
 max_fits x y f g = either_fits (lt_z y x) x y f g
 
@@ -206,6 +216,7 @@ narrow_asks [] h = tt
 narrow_asks (x ∷ xs) h =
     (rw (to_z-of_z w64 x (coordinate_size_fits x h.0)) (narrow_fits x h.0), narrow_asks xs h.1)
 
+-- each of the numbers, read from its 32 bits, fits 64 bits
 pub widen_asks : (xs : List ℤ) → Each1 (IsBounded coordinate_limit) xs
     → Each1 (λ b. FitsSigned w64 (to_z w32 b)) (map (λ b. of_z w32 (to_z w64 b)) (map (of_z w64) xs))
 widen_asks [] h = tt

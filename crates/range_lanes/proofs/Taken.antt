@@ -67,6 +67,7 @@ taken_least (c ∷ L) (a ∷ inner) taken least = λ x member.
     let first : a ≡ c = taken.each 0 c (omega arith) ∙ (λ i. get_or (c ∷ L) (start i) c) in
     subst (λ y. IsAtMost y x) (sym first) (least x (taken_members (c ∷ L) (a ∷ inner) taken x member))
 
+-- corners taken from a polygon at these indices are the polygon of themselves
 pub taken_polygon : (L inner : List Position) → AreTaken L inner → IsPolygon L L → IsPolygon inner inner
 taken_polygon L inner taken polygon =
     covering_members_are_corners inner inner (λ x member. member) (sets_cover_their_members inner) (taken_distinct L inner taken polygon.distinct)

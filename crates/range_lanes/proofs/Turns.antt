@@ -13,6 +13,7 @@ use Rattle.range_lanes.specs.Lanes.{IsBounded, is_not_negative}
 use Rattle.range_lanes.proofs.Signed.{each_zip}
 use Rattle.range_lanes.proofs.Eights.{each_map}
 
+-- two functions with the same values make the same of a list
 pub map_same : {A B : Type 0} (f g : A → B) → ((x : A) → f x ≡ g x) → (xs : List A) → map f xs ≡ map g xs
 map_same f g s [] = refl
 map_same f g s (x ∷ xs) = ap (λ y. y ∷ map f xs) (s x) ∙ ap (λ l. g x ∷ l) (map_same f g s xs)
@@ -71,21 +72,25 @@ scaled_small k xs ys hk h e =
     subst (Each1 (IsBounded product_limit)) (sym e) (each_map (λ x. k *ℤ x) (IsBounded coordinate_limit) (IsBounded product_limit)
     (λ x f. abs_mul k x coordinate_limit coordinate_limit hk f) xs h)
 
+-- the products of two lists of numbers up to the size of a coordinate stay within the limit of products
 pub times_small : (xs ys zs : List ℤ) → Each1 (IsBounded coordinate_limit) xs → Each1 (IsBounded coordinate_limit) ys → zs ≡ zip2 ◌*ℤ◌ xs ys
     → Each1 (IsBounded product_limit) zs
 times_small xs ys zs f g e =
     subst (Each1 (IsBounded product_limit)) (sym e) (each_zip ◌*ℤ◌ (IsBounded coordinate_limit) (IsBounded coordinate_limit) (IsBounded product_limit)
     (λ x y p q. abs_mul x y coordinate_limit coordinate_limit p q) xs ys f g)
 
+-- numbers within the limit of products are within that of turns
 pub product_to_turn : (xs : List ℤ) → Each1 (IsBounded product_limit) xs → Each1 (IsBounded turn_limit) xs
 product_to_turn xs h = Each1-weaker (IsBounded product_limit) (IsBounded turn_limit) (λ x f. omega arith) xs h
 
+-- differences of numbers within the limit of products stay within that of turns
 pub difference_small : (xs ys zs : List ℤ) → Each1 (IsBounded product_limit) xs → Each1 (IsBounded product_limit) ys → zs ≡ zip2 ◌-ℤ◌ xs ys
     → Each1 (IsBounded turn_limit) zs
 difference_small xs ys zs f g e =
     subst (Each1 (IsBounded turn_limit)) (sym e) (each_zip ◌-ℤ◌ (IsBounded product_limit) (IsBounded product_limit) (IsBounded turn_limit)
     (λ x y p q. abs_sub x y product_limit product_limit p q) xs ys f g)
 
+-- sums of numbers within the limit of products stay within that of turns
 pub sum_small : (xs ys zs : List ℤ) → Each1 (IsBounded product_limit) xs → Each1 (IsBounded product_limit) ys → zs ≡ zip2 ◌+ℤ◌ xs ys
     → Each1 (IsBounded turn_limit) zs
 sum_small xs ys zs f g e =
@@ -120,6 +125,7 @@ naught_signs (pos zero) = refl
 naught_signs (pos (suc n)) = grind (arith, ints)
 naught_signs (negsuc n) = grind (arith, ints)
 
+-- margins joined from turns and scalar products are not negative exactly where a point is on the segment from a to b
 pub segment_signs : (a b : Position) (vs : List Position) (t f nt nf m z : List ℤ) → t ≡ map (turn a b) vs → f ≡ map (λ q. scalar_product q a b) vs
     → nt ≡ map (λ x. pos 0 -ℤ x) t → nf ≡ map (λ x. pos 0 -ℤ x) f
     → map is_not_negative m ≡ zip2 ◌&&◌ (map is_not_negative nt) (map is_not_negative t)

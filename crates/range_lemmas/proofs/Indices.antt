@@ -13,6 +13,7 @@ slice_get_before [] y i h = absurd (omega arith)
 slice_get_before (x ∷ xs) y zero h = refl
 slice_get_before (x ∷ xs) y (suc i) h = slice_get_before xs y i (omega arith)
 
+-- a member appended stands at the index that was the length
 pub slice_get_last : {X : Type 0} (xs : List X) (y : X) → slice_get (xs ++ y ∷ []) (length xs) ≡ Some y
 slice_get_last [] y = refl
 slice_get_last (x ∷ xs) y = slice_get_last xs y
@@ -40,6 +41,7 @@ pub all_of : {X : Type 0} (P : X → Type 0) (xs : List X) → ((index : ℕ) (x
 all_of P xs each = λ index d below. each index (get_or xs index d) (slice_get-get_or xs index d below)
 
 -- ---- mapped lists
+-- what stands at an index of a mapped list is f of the member there
 pub mapped : {X Y : Type 0} (f : X → Y) (xs : List X) (index : ℕ) (x : X) → slice_get xs index ≡ Some x → slice_get (map f xs) index ≡ Some (f x)
 mapped f xs index x is = slice_get-map f xs index ∙ ap (option_map f) is
 
@@ -54,10 +56,12 @@ pub map_pushed : {X Y : Type 0} (f : X → Y) (xs : List X) (x : X) → map f (x
 map_pushed f [] x = refl
 map_pushed f (y ∷ xs) x = ap (λ l. f y ∷ l) (map_pushed f xs x)
 
+-- a mapped list is as long as the list
 pub map_length : {X Y : Type 0} (f : X → Y) (xs : List X) → length (map f xs) ≡ length xs
 map_length f [] = refl
 map_length f (x ∷ xs) = ap suc (map_length f xs)
 
+-- to map by g and then by f is to map once, by g and f together
 pub map_map : {X Y Z : Type 0} (f : Y → Z) (g : X → Y) (xs : List X) → map f (map g xs) ≡ map (λ x. f (g x)) xs
 map_map f g [] = refl
 map_map f g (x ∷ xs) = ap (λ l. f (g x) ∷ l) (map_map f g xs)
@@ -71,6 +75,7 @@ range_at f n index x is =
     (below, sym (get_or_from_slice_get _ index x x is) ∙ get_or-map-range_with_len f 0 n index index x below (omega arith))
 
 -- ---- a list in which one member was set
+-- what stands at an index after y was set at index i is y, at i, or what stood there before, elsewhere
 pub set_or_kept : {X : Type 0} (xs : List X) (i : ℕ) (y : X) (index : ℕ) (x : X) → slice_get (set xs i y) index ≡ Some x
     → ((index ≡ i) × (y ≡ x)) ⊎ ((index ≢ i) × (slice_get xs index ≡ Some x))
 set_or_kept [] i y index x is = absurd (none-some x is)
@@ -88,6 +93,7 @@ replaced_length xs x from to order within =
     omega (arith, length-append (take from xs) (x ∷ drop to xs), length-take-le from xs (omega arith), length-drop to xs)
 
 -- ---- two lists, index by index
+-- lists of one length with the same member at each index are one
 pub same_indices : {X : Type 0} (xs ys : List X) → length xs ≡ length ys
     → ((index : ℕ) (x y : X) → slice_get xs index ≡ Some x → slice_get ys index ≡ Some y → x ≡ y) → xs ≡ ys
 same_indices [] [] same each = refl

@@ -2,12 +2,15 @@
 use Rattle.std.proofs.Common.{◌≡◌, refl, sym, subst, ℕ, zero, suc, ◌<◌, List, [], ◌∷◌, length, get_or, Contains, ◌⊎◌, inl, inr, arith, suc-le-suc}
 use Rattle.std.proofs.Common.{le_of_suc-le-suc, not-suc-le-zero}
 
+-- a list has its first member
 pub contains_first : {X : Type 0} (x : X) (xs : List X) → Contains (x ∷ xs) x
 contains_first x xs = (0, omega arith, refl)
 
+-- what the rest of a list has, the list has
 pub contains_later : {X : Type 0} (y : X) (xs : List X) (x : X) → Contains xs x → Contains (y ∷ xs) x
 contains_later y xs x c = (suc c.0, suc-le-suc c.1, c.2)
 
+-- the empty list has no member
 pub empty_contains_nothing : {X : Type 0} (x : X) → Contains [] x → ⊥
 empty_contains_nothing x c = not-suc-le-zero c.1
 

@@ -116,6 +116,7 @@ with_variable_value : (xs : List ℤ) (i : ℕ) (m : Monomial) → monomial_valu
 with_variable_value xs i unit = refl
 with_variable_value xs i (times j m) = put_before_value xs (ltb i j) i j m (with_variable i m) (with_variable_value xs i m)
 
+-- 1 times a number is that number
 pub one_product : (z : ℤ) → pos 1 *ℤ z ≡ z
 one_product (pos n) = omega (arith, ints)
 one_product (negsuc n) = omega (arith, ints)

@@ -26,6 +26,7 @@ abs_sub x y k m f g =
     let yh = abs_above y m g in
     abs_le (x -ℤ y) (k + m) (omega (arith, ints)) (omega (arith, ints))
 
+-- a sum is at most as large as the bounds of both together
 pub abs_add : (x y : ℤ) (k m : ℕ) → unsigned_abs x ≤ k → unsigned_abs y ≤ m → unsigned_abs (x +ℤ y) ≤ k + m
 abs_add x y k m f g =
     let xl = abs_below x k f in
@@ -34,6 +35,7 @@ abs_add x y k m f g =
     let yh = abs_above y m g in
     abs_le (x +ℤ y) (k + m) (omega (arith, ints)) (omega (arith, ints))
 
+-- a product is at most as large as the product of the bounds
 pub abs_mul : (x y : ℤ) (k m : ℕ) → unsigned_abs x ≤ k → unsigned_abs y ≤ m → unsigned_abs (x *ℤ y) ≤ k * m
 abs_mul x y k m f g = omega (arith, unsigned_abs-mul x y, mul-le-mul f g)
 
@@ -45,6 +47,7 @@ fits_from_size m room z h = fits_signed_from_abs w64 z (omega arith)
 abbrev pub IsUpTo : ℕ → ℤ → Type 0
 IsUpTo m x = (pos 0 ≤ℤ x) × (x ≤ℤ pos m)
 
+-- a number from 0 to m has a size of at most m
 pub abs_up_to : (m : ℕ) (x : ℤ) → IsUpTo m x → unsigned_abs x ≤ m
 abs_up_to m x f = abs_le x m (omega (arith, ints)) (omega (arith, ints))
 

@@ -4,6 +4,7 @@ use lib.Lanes.{zip2}
 use Rattle.std.proofs.Math.Nat.{suc_inj}
 
 module _ {X Y Z : Type 0} (pair : X → Y → Z) where
+  -- the firsts of the pairs of two lists of one length are the first list
   pub firsts_of_zipped : (first : Z → X) → ((x : X) (y : Y) → first (pair x y) ≡ x) → (xs : List X) (ys : List Y) → length xs ≡ length ys
       → map first (zip2 pair xs ys) ≡ xs
   firsts_of_zipped first is [] [] h = refl
@@ -12,6 +13,7 @@ module _ {X Y Z : Type 0} (pair : X → Y → Z) where
   firsts_of_zipped first is (x ∷ xs) (y ∷ ys) h =
       ap (λ z. z ∷ map first (zip2 pair xs ys)) (is x y) ∙ ap (λ l. x ∷ l) (firsts_of_zipped first is xs ys (suc_inj h))
 
+  -- and the seconds are the second
   pub seconds_of_zipped : (second : Z → Y) → ((x : X) (y : Y) → second (pair x y) ≡ y) → (xs : List X) (ys : List Y) → length xs ≡ length ys
       → map second (zip2 pair xs ys) ≡ ys
   seconds_of_zipped second is [] [] h = refl

@@ -19,6 +19,7 @@ use Rattle.range_line.specs.Passes.{LinePass, taken_by, transcript_of, after_joi
 use Rattle.range_line.proofs.RuleSteps.{At, not_in_none}
 use Rattle.range_line.proofs.Orderly.{of_file_append, mark_is_last}
 
+-- a read within the list gives the member at its index, whatever the default
 pub at_or : {A : Type 0} (xs : List A) (k : ℕ) (d : A) → k < length xs → At xs k (slice_index_or xs k d)
 at_or [] k d less = absurd (omega arith)
 at_or (x ∷ xs) zero d less = refl
@@ -55,6 +56,7 @@ settles_at [] k f at = absurd (not_in_none k f at)
 settles_at (e ∷ es) zero f at = λ i. ended_feeder (sym (some-injective e f at) i) ∷ es
 settles_at (e ∷ es) (suc k) f at = ap (λ l. ended_feeder e ∷ l) (settles_at es k f at)
 
+-- the feeder at index k, once those before it have ended, is the one that was there
 pub unsettled_at : (fs : List FeederView) (k : ℕ) (f : FeederView) → At (map ended_feeder (take k fs) ++ drop k fs) k f → At fs k f
 unsettled_at [] zero f at = at
 unsettled_at [] (suc k) f at = absurd (not_in_none (suc k) f at)
@@ -66,15 +68,18 @@ take_at [] k x at = absurd (not_in_none k x at)
 take_at (y ∷ ys) zero x at = ap (λ z. z ∷ []) (some-injective y x at)
 take_at (y ∷ ys) (suc k) x at = ap (λ l. y ∷ l) (take_at ys k x at)
 
+-- to take in the feeders before index k and then the one at k is to take in the first k + 1
 pub shows_at : (v : PassView) (fs : List FeederView) (k : ℕ) (f : FeederView) → At fs k f
     → after_joining_all (after_joining_all v (take k fs)) (f ∷ []) ≡ after_joining_all v (take (suc k) fs)
 shows_at v fs k f at = ap (λ (l : List Transcript). let w : PassView = record v { transcripts = l } in w)
     (append_assoc v.transcripts (map transcript_of (take k fs)) (transcript_of f ∷ [])
     ∙ ap (λ l. v.transcripts ++ l) (sym (map-append transcript_of (take k fs) (f ∷ [])) ∙ ap (map transcript_of) (sym (take_at fs k f at))))
 
+-- feeders that all name the line are of it, index by index
 pub all_are : (line : Line) (fs : List FeederView) → All (λ f. f.line ≡ line) fs → AreOf line fs
 all_are line fs all k f at = sym (all k f (at_less fs k f at)) ∙ ap (λ (x : FeederView). x.line) (or_at fs k f f at)
 
+-- once they have ended the feeders are still of the line, index by index
 pub are_settled : (line : Line) (fs : List FeederView) → AreOf line fs → AreOf line (map ended_feeder fs)
 are_settled line fs are k f at = let e = at_settled fs k f at in are k e.0 e.1 ∙ ap (λ (x : FeederView). x.line) e.2
 
@@ -99,6 +104,7 @@ sent_at v items before fs k f c is at = c.sent (length before + k) (transcript_o
     (subst (λ l. At l (length before + k) (transcript_of f)) (sym is)
     (at_after before (map transcript_of fs) k (transcript_of f) (at_map transcript_of fs k f at)))
 
+-- where the rest is known, a beginning of what each feeder sent was taken, and all of it where its mark was
 pub compared : (p : LinePass) (items : List Message) (fs : List FeederView) → IsRest (view p) items → HasTranscripts p fs
     → All (λ f. IsTakenOf (taken_by p) f) fs
 compared p items fs c s k d less = let f = slice_index_or fs k d in
@@ -121,9 +127,11 @@ whole p q (Err _) fs s e = λ k d less.
     ap (λ l. of_file l f.file) (sym (append-nil (taken_by q)) ∙ ap (λ l. taken_by q ++ l) (sym none))
     ∙ sent_at (view q) h.0 s.before fs k f carried s.is (at_or fs k d less)
 
+-- a pass that has taken in those of these feeders has their transcripts, last
 pub has_transcripts : (p q : LinePass) (fs : List FeederView) → view q ≡ after_joining_all (view p) fs → HasTranscripts q fs
 has_transcripts p q fs e = record { before = (view p).transcripts; is = ap (λ (v : PassView). v.transcripts) e }
 
+-- after a receive the pass has the same transcripts, of feeders that have ended
 pub received_transcripts : {E : Type 0} (Z : Type 0) (p q : LinePass) (r : Result Message E) (fs : List FeederView) → HasTranscripts p fs
     → MatchResult r (λ m. Takes (view p) m (view q)) (λ _. (view q ≡ view p) × Z) → HasTranscripts q (map ended_feeder fs)
 received_transcripts Z p q (Ok m) fs s e = record {
@@ -137,6 +145,7 @@ received_transcripts Z p q (Err _) fs s e = record {
       ∙ ap (λ l. s.before ++ l) (sym (transcripts_of_ended fs));
 }
 
+-- once they have ended the feeders are still of the line
 pub ended_of_line : (line : Line) (fs : List FeederView) → AreOfLine fs line → AreOfLine (map ended_feeder fs) line
 ended_of_line line fs all = All-map (λ (f : FeederView). f.line ≡ line) ended_feeder fs all
 
@@ -144,5 +153,6 @@ ended_files : (fs : List FeederView) → map (λ f. f.file) (map ended_feeder fs
 ended_files [] = refl
 ended_files (f ∷ fs) = ap (λ l. f.file ∷ l) (ended_files fs)
 
+-- once they have ended the feeders are still for the same files
 pub ended_for_files : (fs : List FeederView) (files : List ℕ) → AreForFiles fs files → AreForFiles (map ended_feeder fs) files
 ended_for_files fs files all = subst (λ l. IsPermutation l files) (sym (ended_files fs)) all

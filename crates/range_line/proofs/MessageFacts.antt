@@ -12,6 +12,7 @@ use Rattle.range_line.proofs.EndFacts.{at_or}
 contains_at : {A : Type 0} (xs : List A) (x : A) → Contains xs x → (k : ℕ) × At xs k x
 contains_at xs x c = (c.0, subst (At xs c.0) c.2 (at_or xs c.0 x c.1))
 
+-- where the rule holds, what a line's taker has taken and what the channel holds are in order
 pub lines_are_in_order : LinesAreInOrder
 lines_are_in_order items views taker ruled has takes =
     let carried = ruled.carried in
@@ -27,6 +28,7 @@ lines_are_in_order items views taker ruled has takes =
       room = ruled.room;
     }
 
+-- a beginning of a file's lawful messages that holds the mark is all of them
 pub the_mark_is_last : TheMarkIsLast
 the_mark_is_last messages beginning file lawful prefix marked =
     sym (append-nil beginning) ∙ ap (λ l. beginning ++ l) (sym (mark_is_last beginning prefix.0 (subst IsOrderly (sym prefix.1) lawful) marked)) ∙ prefix.1
@@ -35,6 +37,7 @@ joined_if : (b : Bool) (m : Message) → all_fixes (cond b (m ∷ []) []) ≡ co
 joined_if true m = append-nil (fixes_in m.body)
 joined_if false m = refl
 
+-- one more message adds its fixes to those of its file, and none to those of another
 pub messages_add_their_fixes : MessagesAddTheirFixes
 messages_add_their_fixes messages m file =
     ap all_fixes (of_file_append messages (m ∷ []) file) ∙ joined_append (of_file messages file) (of_file (m ∷ []) file)
@@ -44,6 +47,7 @@ not_true : (b : Bool) → (b ≡ true → ⊥) → b ≡ false
 not_true true not_so = absurd (not_so refl)
 not_true false not_so = refl
 
+-- where messages with m last are lawful for its file, m may come next behind the others
 pub last_messages_come_next : LastMessagesComeNext
 last_messages_come_next messages m lawful =
     let before = of_file messages m.file in

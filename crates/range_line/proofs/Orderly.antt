@@ -10,10 +10,12 @@ use Rattle.range_line.specs.declared.message.Body.{Body}
 use Rattle.range_line.specs.declared.message.Body.TheVariants.{Block, Mark}
 use Rattle.range_line.specs.Messages.{of_file, all_fixes, fixes_in, is_mark, has_mark, IsFit, IsPlaced, IsOrderly}
 
+-- the fixes of two lists of messages together are those of the first and then those of the second
 pub joined_append : (xs ys : List Message) → all_fixes (xs ++ ys) ≡ all_fixes xs ++ all_fixes ys
 joined_append [] ys = refl
 joined_append (x ∷ xs) ys = ap (λ l. fixes_in x.body ++ l) (joined_append xs ys) ∙ sym (append_assoc (fixes_in x.body) (all_fixes xs) (all_fixes ys))
 
+-- a file's messages in two lists together are those in the first and then those in the second
 pub of_file_append : (xs ys : List Message) (file : ℕ) → of_file (xs ++ ys) file ≡ of_file xs file ++ of_file ys file
 of_file_append xs ys file = filter-append (λ m. m.file == file) xs ys
 
@@ -21,10 +23,12 @@ of_file_append xs ys file = filter-append (λ m. m.file == file) xs ys
 pub of_file_push : (xs : List Message) (m : Message) → of_file (xs ++ m ∷ []) m.file ≡ of_file xs m.file ++ m ∷ []
 of_file_push xs m = of_file_append xs (m ∷ []) m.file ∙ ap (λ b. of_file xs m.file ++ cond b (m ∷ []) []) (eq-eqb m.file m.file refl)
 
+-- a message of another file adds none to those of this file
 pub of_file_push_other : (xs : List Message) (m : Message) (file : ℕ) → m.file ≢ file → of_file (xs ++ m ∷ []) file ≡ of_file xs file
 of_file_push_other xs m file other = of_file_append xs (m ∷ []) file ∙ ap (λ b. of_file xs file ++ cond b (m ∷ []) []) (ne_eqb m.file file other)
     ∙ append-nil (of_file xs file)
 
+-- a list with a first member is not empty
 pub no_cons : {A : Type 0} (x : A) (xs : List A) → [] ≡ x ∷ xs → ⊥
 no_cons x xs e = absurd (let n : 0 ≡ suc (length xs) = ap length e in omega arith)
 
@@ -54,6 +58,7 @@ snoc_cases {A} (y ∷ ys) m (b ∷ bs) x after e = let h = cons_head _ _ _ _ e i
     (λ (t : (rest : List A) × (ys ≡ bs ++ x ∷ rest) × (after ≡ rest ++ m ∷ [])). inr (t.0, (λ i. h i ∷ t.1 i), t.2))
     (snoc_cases ys m bs x after (cons_tail _ _ _ _ e))
 
+-- the empty list of messages is orderly
 pub orderly_empty : IsOrderly []
 orderly_empty = record {
   room = omega arith;
@@ -66,6 +71,7 @@ fit_prefix (Block b) after ys fit = fit
 fit_prefix Mark [] ys fit = refl
 fit_prefix Mark (x ∷ xs) ys fit = absurd (no_cons x (xs ++ ys) (sym fit))
 
+-- a beginning of orderly messages is orderly
 pub orderly_prefix : (xs ys : List Message) → IsOrderly (xs ++ ys) → IsOrderly xs
 orderly_prefix xs ys run = record {
   room = let r = run.room in omega (arith, ap length (joined_append xs ys), length-append (all_fixes xs) (all_fixes ys));
@@ -101,6 +107,7 @@ pub has_mark_append : (xs ys : List Message) → has_mark (xs ++ ys) ≡ (has_ma
 has_mark_append [] ys = refl
 has_mark_append (x ∷ xs) ys = ap (λ b. is_mark x.body || b) (has_mark_append xs ys) ∙ or_assoc (is_mark x.body) (has_mark xs) (has_mark ys)
 
+-- with m added there is a mark exactly where there was one or m is one
 pub has_mark_push : (xs : List Message) (m : Message) → has_mark (xs ++ m ∷ []) ≡ (has_mark xs || is_mark m.body)
 has_mark_push xs m = has_mark_append xs (m ∷ []) ∙ ap (λ b. has_mark xs || b) (or_false (is_mark m.body))
 
@@ -127,6 +134,7 @@ no_mark_in true before x rest is none =
     absurd (true≢false (sym (or_right (has_mark before)) ∙ ap (λ b. has_mark before || (b || has_mark rest)) (sym is) ∙ sym (has_mark_append before (x ∷ rest))
     ∙ none))
 
+-- orderly messages without a mark stay orderly with one more that is fit to be last, has room, and whose place is the number of their fixes
 pub orderly_push : (xs : List Message) (m : Message) → IsOrderly xs → has_mark xs ≡ false → m.place ≡ length (all_fixes xs) → IsFit m.body []
     → length (all_fixes xs) + length (fixes_in m.body) ≤ fix_limit → IsOrderly (xs ++ m ∷ [])
 orderly_push xs m run open_ place fit room = record {

@@ -23,6 +23,7 @@ use Rattle.range_line.proofs.RuleSteps.{sends, takes, completes, ends, joins, At
 use Rattle.range_line.specs.Lines.{FeederView, TakerView, new_taker, next_message}
 use Rattle.range_line.specs.Passes.{LinePass, first_known, line_of, first_sent, sent_by, may_send, taken_by, files_known, depth_known, IsFeeding, IsTaking}
 
+-- two passes of one channel that show the same first file are of one line
 pub same_line : {Q M L A : Type 0} (c : Rows (Badge (Key Message)) (Doing Message PassView) Q M (Key Message) L A) (a b : LinePass) → IsSeatAt c a
     → IsSeatAt c b → first_known a ≡ first_known b → line_of a ≡ line_of b
 same_line c a b x y same i = ((x.0 ∙ sym y.0) i, (x.1 ∙ sym y.1) i, same i)
@@ -32,6 +33,7 @@ pub seat_of_line : {Q M L A : Type 0} (c : Rows (Badge (Key Message)) (Doing Mes
     → line_of b ≡ line_of a → b.me.1 ≡ [] → IsSeatAt c b
 seat_of_line c a b x same free = (ap (λ l. l.0) same ∙ x.0, ap (λ l. l.1) same ∙ x.1, free, x.3)
 
+-- a pass that shows what a feeder's shows, with orderly messages of its file alone as sent, is that of a feeder
 pub feeding_of : (p : LinePass) (depth first file : ℕ) (sent : List Message) (closed may : Bool) (fixes : ℕ)
     → view p ≡ feeder_pass depth first file sent closed may → of_file sent file ≡ sent → IsOrderly sent → has_mark sent ≡ closed → fixes ≡ length (all_fixes sent)
     → IsFeeding p depth file closed fixes
@@ -52,6 +54,7 @@ seen_as p file closed = record { line = line_of p; file = file; sent = sent_by p
 abbrev pub new_view : LinePass → TakerView
 new_view p = record { line = line_of p; files = files_known p; depth = depth_known p; taken = taken_by p; ended = false }
 
+-- a taker's pass that has taken nothing and taken in no feeder is seen as the taker of a new line
 pub new_taker_view : (p : LinePass) (files : List ℕ) (depth : ℕ) → view p ≡ taker_pass (view p).depth files [] [] → (view p).depth ≡ depth
     → new_view p ≡ new_taker (line_of p) files depth
 new_taker_view p files depth e deep i = record { line = line_of p; files = (e i).files; depth = deep i; taken = (e i).taken; ended = false }
@@ -114,6 +117,7 @@ module _ (p : LinePass) (depth file : ℕ) (closed : Bool) (fixes : ℕ) (f : Fe
       (has_mark_push sent m ∙ ap (λ b. b || is_mark m.body) t.unmarked)
       (omega (arith, ap length (joined_append sent (m ∷ [])), length-append (all_fixes sent) (all_fixes (m ∷ [])), ap length (append-nil (fixes_in m.body)))))
 
+-- a block of at least one fix and at most the limit, for which there is room, may be an open feeder's next message
 pub block_is_next : (p : LinePass) (depth file : ℕ) (closed : Bool) (fixes : ℕ) (f : FeederView) (given block : List Fix) (m : Message)
     → IsFeeding p depth file closed fixes → seen_as p file closed ≡ f
     → (f.closed ≡ false) × (f.ended ≡ false) → (1 ≤ length given) × (length given ≤ block_limit) → length (all_fixes f.sent) + length given ≤ fix_limit
@@ -128,6 +132,7 @@ block_is_next p depth file closed fixes f given block m feeding seen live size r
   room = omega (arith, room, ap length is);
 }
 
+-- the mark may be an open feeder's next message
 pub mark_is_next : (p : LinePass) (depth file : ℕ) (closed : Bool) (fixes : ℕ) (f : FeederView) (m : Message) → IsFeeding p depth file closed fixes
     → seen_as p file closed ≡ f
     → (f.closed ≡ false) × (f.ended ≡ false) → m ≡ next_message f the_mark → IsNext p depth file closed fixes f the_mark m
@@ -145,12 +150,15 @@ abbrev TakesAs : PassView → Type 0
 TakesAs v = (v ≡ taker_pass v.depth v.files v.taken v.transcripts) × ((file : ℕ) → IsLawful v.taken file)
     × ((k : ℕ) (m : Message) → At v.taken k m → Contains v.files m.file)
 
+-- a pass that shows what a taker's shows is that of a taker
 pub taking_of : (p : LinePass) (v : PassView) → view p ≡ v → TakesAs v → IsTaking p
 taking_of p v e t = let u = subst TakesAs (sym e) t in record { shows = u.0; lawful = u.1; of_line = u.2 }
 
+-- a taker's pass may take the message at the front
 pub pops : (p : LinePass) → IsTaking p → Pops IsRuled p.id (view p) (Takes (view p))
 pops p t = let v = view p in subst (λ (u : PassView). Pops IsRuled p.id u (Takes u)) (sym t.shows) (takes p.id v.depth v.files v.taken v.transcripts)
 
+-- a taker's pass learns that what the channel holds is the rest
 pub learns : (p : LinePass) → IsTaking p → Learns IsRuled p.id (view p) (λ items. IsRest (view p) items)
 learns p t = let v = view p in subst (λ (u : PassView). Learns IsRuled p.id u (λ items. IsRest u items)) (sym t.shows)
     (completes p.id v.depth v.files v.taken v.transcripts)
@@ -169,11 +177,13 @@ pub received : {E N : Type 0} (p q : LinePass) (none : N → view q ≡ view p) 
 received p q none (Ok m) t e = popped p q m t e
 received p q none (Err _) t e = taking_of q (view p) (none e) (t.shows, t.lawful, t.of_line)
 
+-- a receive leaves the files of the line as they were
 pub received_files : {E : Type 0} (Z : Type 0) (p q : LinePass) (r : Result Message E)
     → MatchResult r (λ m. Takes (view p) m (view q)) (λ _. (view q ≡ view p) × Z) → files_known q ≡ files_known p
 received_files Z p q (Ok m) e = ap (λ (v : PassView). v.files) e.0
 received_files Z p q (Err _) e = ap (λ (v : PassView). v.files) e.0
 
+-- a message that a receive gives is of a file of the line
 pub received_of_line : {E : Type 0} (N : Type 0) (p q : LinePass) (r : Result Message E) → MatchResult r (λ m. Takes (view p) m (view q)) (λ _. N)
     → IfSome (result_ok r) (λ m. Contains (files_known p) m.file)
 received_of_line N p q (Ok m) e = e.1
@@ -184,16 +194,19 @@ pub ended_of : (p q : LinePass) (depth file : ℕ) (closed : Bool) (fixes : ℕ)
     → view q ≡ feeder_pass depth (first_known p) file (sent_by p) closed false
 ended_of p q depth file closed fixes f e = e ∙ ap after_ending f.shows
 
+-- a feeder's pass may end, with a new pass that shows the same as it then does
 pub forks : (p : LinePass) (depth file : ℕ) (closed : Bool) (fixes : ℕ) → IsFeeding p depth file closed fixes
     → Forks IsRuled p.id (view p) (after_ending (view p)) (after_ending (view p))
 forks p depth file closed fixes f = subst (λ (v : PassView). Forks IsRuled p.id v (after_ending v) (after_ending v)) (sym f.shows)
     (ends p.id depth (first_known p) file (sent_by p) closed (may_send p))
 
+-- a taker's pass may take in that of a feeder that has ended, which is then spent
 pub merges : (p q : LinePass) (depth first file : ℕ) (sent : List Message) (closed : Bool) → IsTaking p
     → view q ≡ feeder_pass depth first file sent closed false → Merges IsRuled p.id (view p) q.id (view q) (after_joining (view p) (view q)) spent_pass
 merges p q depth first file sent closed t e = let v = view p in
     subst (λ (x : PassView × PassView). Merges IsRuled p.id x.0 q.id x.1 (after_joining x.0 x.1) spent_pass) (λ i. (sym t.shows i, sym e i))
     (joins p.id v.depth v.files v.taken v.transcripts q.id depth first file sent closed)
 
+-- a taker's pass that has taken in another is still that of a taker
 pub merged : (p q r : LinePass) → IsTaking p → view r ≡ after_joining (view p) (view q) → IsTaking r
 merged p q r t e = taking_of r (after_joining (view p) (view q)) e (ap (λ v. after_joining v (view q)) t.shows, t.lawful, t.of_line)

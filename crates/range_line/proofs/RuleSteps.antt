@@ -17,12 +17,15 @@ use Rattle.range_line.specs.Rule.{transcript, feeder_pass, taker_pass, first_pas
 use Rattle.range_line.specs.Rule.{after_sending, Takes, IsRest, after_opening}
 use Rattle.range_line.proofs.Orderly.{of_file_append, of_file_push, of_file_push_other, orderly_empty, orderly_prefix, orderly_push, has_mark_push}
 
+-- x is the member at index k
 abbrev pub At : {A : Type 0} → List A → ℕ → A → Type 0
 At xs k x = get_elem? xs k ≡ some x
 
+-- an empty list has no member at any index
 pub not_in_none : {A : Type 0} (k : ℕ) (x : A) → At [] k x → ⊥
 not_in_none k x e = some-ne-none x (sym e)
 
+-- a member of a list with a at its end is one of the list, or a itself at the last index
 pub at_end : {A : Type 0} (xs : List A) (a b : A) (j : ℕ) → At (xs ++ a ∷ []) j b → At xs j b ⊎ ((j ≡ length xs) × (a ≡ b))
 at_end [] a b zero e = inr (refl, some-injective a b e)
 at_end [] a b (suc j) e = absurd (some-ne-none b (sym e))

@@ -53,6 +53,7 @@ sent file all size (suc k) some small few within =
           ∙ sym (take-add (k * size) size all) ∙ ap (λ n. take n all) (sym width);
     }
 
+-- the stream of a file's messages is lawful, and its fixes are all those of the file
 pub streams_are_lawful : StreamsAreLawful
 streams_are_lawful file all size some small few =
     let k = block_count all size in

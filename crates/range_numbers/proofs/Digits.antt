@@ -20,6 +20,7 @@ no_digit x h e =
     let out : (x < 48) ⊎ (57 < x) = search (rules, tests) in
     omega (arith, h, out)
 
+-- in 32 bits, a byte less 48 is the number of a digit, and above 9 for a byte that is none
 pub digit_number : (x : ℕ) → Fits w8 x → IsDigit x (less_48 x)
 digit_number x h = (digit x (h.fits), no_digit x (h.fits))
 

@@ -42,10 +42,12 @@ value_after-append : (n : ℕ) (xs ys : List ℕ) → digits_value_after 10 n (x
 value_after-append n [] ys = refl
 value_after-append n (x ∷ xs) ys = value_after-append (n * 10 + digit_value x) xs ys
 
+-- the value of digits with eight more after them
 pub value_of_both : (xs ys : List ℕ) → length ys ≡ 8 → digits_value 10 (xs ++ ys) ≡ digits_value 10 xs * 100000000 + digits_value 10 ys
 value_of_both xs ys eight =
     value_after-append 0 xs ys ∙ after_value (digits_value 10 xs) ys eight
 
+-- a number with another after it is a number
 pub number_of_both : (xs ys : List ℕ) → is_number xs ≡ true → is_number ys ≡ true → is_number (xs ++ ys) ≡ true
 number_of_both xs ys e f =
     let left = (and_parts (nat_lt 0 (length xs)) (list_all is_ascii_digit xs) e).0 in

@@ -33,12 +33,15 @@ one_piece (b ∷ []) e = append-nil b
 one_piece (b ∷ c ∷ bs) e = absurd (omega (arith, e))
 
 -- ---- cursors
+-- a cursor after the last piece has all points before it
 pub index_at_end : (bs : List (List Position)) (c : Cursor) → Stands bs c → c.piece ≡ length bs → index bs c ≡ length (all_points bs)
 index_at_end bs c s e = omega (arith, offset_all bs c.piece (omega (arith, e)), s.at_end e)
 
+-- the index of a cursor in a piece is less than the number of points
 pub index_before_end : (bs : List (List Position)) (c : Cursor) → Stands bs c → c.piece < length bs → index bs c < length (all_points bs)
 index_before_end bs c s h = omega (arith, s.before_point h, offset_more bs c.piece h, offset_within bs (c.piece + 1))
 
+-- the index of a cursor is at most the number of points
 pub index_within : (bs : List (List Position)) (c : Cursor) → Stands bs c → index bs c ≤ length (all_points bs)
 index_within bs c s =
     elim (eq-or-lt_of_le s.bound) [
@@ -46,6 +49,7 @@ index_within bs c s =
       | inr l ↦ omega (arith, index_before_end bs c s l)
     ]
 
+-- a cursor whose index is less than the number of points stands in a piece
 pub is_in_piece : (bs : List (List Position)) (c : Cursor) → Stands bs c → index bs c < length (all_points bs) → c.piece < length bs
 is_in_piece bs c s h =
     elim (eq-or-lt_of_le s.bound) [
@@ -93,6 +97,7 @@ stand_in_order bs a b s t h =
     ]
 
 -- ---- points that rise
+-- what is read at an index within the list is the point there, whatever the default
 pub read : (L : List Position) (q : Position) (i : ℕ) → i < length L → q ≡ get_or L i q → q ≡ at L i
 read L q i k e = get_or_read L i q k e origin
 
@@ -215,12 +220,14 @@ falls_last L p low size step c h b (inr k) =
     }
 
 -- ---- pieces that rise
+-- the point at index a of piece i is, among all points, a after the offset of the piece
 pub at_joined : (bs : List (List Position)) (i a : ℕ) → i < length bs → a < length (piece bs i) → at (all_points bs) (offset bs i + a) ≡ at (piece bs i) a
 at_joined bs i a h k = get_or_joined bs i a origin h k
 
 pub joined_within : (bs : List (List Position)) (i a : ℕ) → i < length bs → a < length (piece bs i) → offset bs i + a < length (all_points bs)
 joined_within bs i a h k = omega (arith, k, offset_more bs i h, offset_within bs (i + 1))
 
+-- where all points rise, so do those of each piece
 pub piece_rises : (bs : List (List Position)) (i : ℕ) → IsRising (all_points bs) → i < length bs → IsRising (piece bs i)
 piece_rises bs i c h = λ a b ab k.
     subst (λ (x : Position). rank x <ℤ rank (at (piece bs i) b)) (at_joined bs i a h (omega (arith, ab, k)))

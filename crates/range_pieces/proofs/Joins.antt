@@ -18,15 +18,18 @@ pub joined_drop : (bs : List (List Position)) (i : ℕ) → i < length bs → al
 joined_drop bs i h = ap all_points (drop_more bs i [] h)
 
 -- ---- offsets
+-- the offset of the next piece is that of this one and the number of its points
 pub offset_more : (bs : List (List Position)) (i : ℕ) → i < length bs → offset bs (i + 1) ≡ offset bs i + length (piece bs i)
 offset_more bs i h =
     ap (λ (xs : List (List Position)). length (all_points xs)) (take_more bs i [] h)
     ∙ ap length (joined_append (take i bs) (piece bs i ∷ []) ∙ ap (λ (xs : List Position). all_points (take i bs) ++ xs) (append-nil (piece bs i)))
     ∙ length-append (all_points (take i bs)) (piece bs i)
 
+-- after the last piece the offset is the number of all points
 pub offset_all : (bs : List (List Position)) (i : ℕ) → length bs ≤ i → offset bs i ≡ length (all_points bs)
 offset_all bs i h = ap (λ (xs : List (List Position)). length (all_points xs)) (take_all i bs h)
 
+-- an offset is at most the number of all points
 pub offset_within : (bs : List (List Position)) (i : ℕ) → offset bs i ≤ length (all_points bs)
 offset_within bs i = omega (arith, ap length (joined_cut bs i), length-append (all_points (take i bs)) (all_points (drop i bs)))
 

@@ -121,6 +121,7 @@ size_set bs i b h m =
       | inr n ↦ inr (ap length (get_or-set_other bs i m b [] n))
     ]
 
+-- pieces stay cut with a piece in place of one that is no longer than it, where it holds at most piece_size points
 pub cut_grow : (bs : List (List Position)) (i : ℕ) (b : List Position) (lo hi : ℕ) → i < length bs → length (piece bs i) ≤ length b → length b ≤ piece_size
     → IsCut bs lo hi → IsCut (set bs i b) lo hi
 cut_grow bs i b lo hi h le top c = record {
@@ -384,6 +385,7 @@ halved bs M i index j at h full le e o =
     ]
 
 -- ---- what is left where pieces are taken out from between two that changed
+-- with x and y set as pieces i and k, and those between left out, x and y stand between the pieces before i and those after k
 pub set_across : (bs : List (List Position)) (i k : ℕ) (x y : List Position) → i < k → k < length bs
     → take (i + 1) (set (set bs i x) k y) ++ drop k (set (set bs i x) k y) ≡ take i bs ++ x ∷ y ∷ drop (k + 1) bs
 set_across bs i k x y ik h =

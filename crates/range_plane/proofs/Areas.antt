@@ -61,6 +61,7 @@ area2_triangles c [] = refl
 area2_triangles c (a ∷ L) = omega (arith, linear, area2_walk c (a ∷ L), triangles_walk c a L)
 
 -- ---- the triangles one after the other
+-- the first two corners make no triangle
 pub triangles_start : (L : List Position) → triangles (slice_index_or L 0 origin) (take 2 L) ≡ pos 0
 unfolding triangles
 triangles_start [] = refl
@@ -94,6 +95,7 @@ triangles_nonneg c (a ∷ b ∷ L) p = omega (
   p 0 1 c (omega arith) (omega arith),
 )
 
+-- where corners turn left the doubled area is not negative
 pub area2_nonneg : (L : List Position) → TurnsLeft L → pos 0 ≤ℤ area2 L
 area2_nonneg [] t = omega (arith, linear)
 area2_nonneg (c ∷ L) t = omega (arith, linear, area2_triangles c L, triangles_nonneg c L (round_head c L t))

@@ -23,6 +23,7 @@ south : (q s : Position) → pos 0 ≤ℤ advance (position (pos 0) (neg_ℤ (po
 unfolding advance
 south q s h = omega (arith, ints)
 
+-- a box that has each member of a set has all that the set covers
 pub covered_in_box : BoxesHoldWhatIsCovered
 covered_in_box set low high q inside covered =
     let reach = (covers_reaching set q).0 covered in

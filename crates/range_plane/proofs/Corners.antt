@@ -123,6 +123,7 @@ corner_needed (a ∷ b ∷ c ∷ L) t p x m =
     subst (λ z. ¬ (Covers (without z (a ∷ b ∷ c ∷ L)) z)) m.2 (index_needed (a ∷ b ∷ c ∷ L) x t (length L) (omega arith) m.0 m.1 (in_order m.0 (length L + 2)))
 
 -- ---- the polygon of each set that such a list is a part of and covers
+-- members that cover the set, without repeats, from the least and turning left are the corners of its polygon
 pub polygon_by_covering : (S L : List Position) → ((x : Position) → Contains L x → Contains S x) → CoversEach L S → AllPairs (λ a b. a ≢ b) L
     → BeginsWithLeast L → TurnsLeft L → IsPolygon S L
 polygon_by_covering S L sub covers distinct least convex =

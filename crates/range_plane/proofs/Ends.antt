@@ -35,6 +35,7 @@ pub first_least : (L : List Position) → BeginsWithLeast L → (x : Position) �
 first_least [] b x m = absurd (empty_contains_nothing x m)
 first_least (c ∷ L) b x m = b x m
 
+-- of two points a is not after b, or b is before a
 pub at_most_or_before : (a b : Position) → IsAtMost a b ⊎ IsBefore b a
 at_most_or_before a b = go (at_most_one_way a b) (equal_or_apart b a)
   where
@@ -59,6 +60,7 @@ pub is_decided : (L : List Position) (q : Position) (b : Bool) → (IsTrue b →
 is_decided L q true to back = sym ((covered_decided L q).1 (to refl))
 is_decided L q false to back = not_covered L q (λ c. false_apart (back c))
 
+-- the answer for a list of no corners is false
 pub nothing_covered : (L : List Position) (q : Position) → length L ≡ 0 → false ≡ is_covered L q
 nothing_covered [] q e = not_covered [] q (covers_none q)
 nothing_covered (x ∷ L) q e = absurd (omega arith)

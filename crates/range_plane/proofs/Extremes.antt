@@ -15,10 +15,12 @@ use Rattle.range_plane.proofs.Vectors.{dot, from, dot_from, tilted, dot_tilted, 
 abbrev pub CoversEach : List Position → List Position → Type 0
 CoversEach S T = (x : Position) → Contains T x → Covers S x
 
+-- a set covers each of its members
 pub covers_member : (S : List Position) (x : Position) → Contains S x → Covers S x
 covers_member S x m = by_segment x x m m (segment_from x x x (cross_origin x (from x x)) (omega (arith, linear, dot_origin x (from x x))))
 
 -- ---- covering is transitive
+-- a set that covers each member of another covers what the other covers
 pub covers_through : (S T : List Position) (q : Position) → CoversEach S T → Covers T q → Covers S q
 covers_through S T q all c = elim (covered_or_separated S q) [ inl h ↦ h | inr s ↦ absurd (not_both T q s.direction c (λ t m. ahead s t (all t m))) ]
   where
@@ -79,6 +81,7 @@ only_farthest S e p d ahead c h = elim (equal_or_apart p e) [
         )
 
 -- ---- the same covering, the same extreme points
+-- where two sets cover the members of each other, what is extreme in the one is so in the other
 pub extreme_in : (S T : List Position) (e : Position) → CoversEach S T → CoversEach T S → IsExtreme S e → IsExtreme T e
 extreme_in S T e st ts x = elim (covered_or_separated (without e S) e) [
   | inl h ↦ absurd (x.needed h)

@@ -111,6 +111,7 @@ fan_least (c ∷ L) f = each (IsAtMost c) c L (at_most_itself c) (λ x m. subst 
 pub polygon_of_fan : (L : List Position) → IsFan L → IsPolygon L L
 polygon_of_fan L f = polygon_by_covering L L (λ x m. m) (λ x m. covers_member L x m) (fan_distinct L f) (fan_least L f) (fan_convex L f)
 
+-- a list that is the polygon of itself meets the whole test
 pub fan_of_polygon : (L : List Position) → IsPolygon L L → IsFan L
 fan_of_polygon L p = record {
   least = λ i h l. (first_least L p.least_first (at L i) (at_member L i l), p.distinct 0 i origin h l);

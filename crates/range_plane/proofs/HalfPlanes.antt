@@ -14,14 +14,17 @@ use Rattle.range_plane.proofs.Unique.{round_head, in_rest}
 use Rattle.range_plane.proofs.Vectors.{leftward, dot_leftward, turn_swap, turn_cycle, turn_self, turn_end}
 
 -- ---- a covered point lies in each half plane that holds the set
+-- where no member is on the right of the way from a to b, nothing that the set covers is
 pub in_half_plane : (S : List Position) (a b q : Position) → ((x : Position) → Contains S x → pos 0 ≤ℤ turn a b x) → Covers S q → pos 0 ≤ℤ turn a b q
 in_half_plane S a b q h c =
     by_lt_z (turn a b q) (pos 0) (λ k. absurd (not_both S q (leftward a b) c (λ x m. omega (arith, linear, dot_leftward a b q x, h x m)))) (λ k. k)
 
+-- of two numbers one is less than the other, or they are equal
 pub in_order : (m k : ℕ) → (m < k) ⊎ ((m ≡ k) ⊎ (k < m))
 in_order m k = grind arith
 
 -- ---- the triangles from one corner
+-- the turn to q from an edge backwards is that from the edge, negated
 pub turn_back : (a b q : Position) → turn b a q +ℤ turn a b q ≡ pos 0
 turn_back a b q = omega (arith, linear, turn_cycle a b q, turn_cycle b q a, turn_swap q a b, turn_cycle q a b, turn_cycle b a q, turn_cycle a q b)
 

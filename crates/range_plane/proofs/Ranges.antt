@@ -4,6 +4,7 @@ use Rattle.std.proofs.lemmas.List.FromFn.{get_or-range_with_len, length-range_wi
 use Rattle.std.specs.Bool.{MatchBool}
 use Rattle.std.specs.List.{AllWithin, HoldsAt, range_with_len}
 
+-- the answer is true exactly where P holds of each index from a on and below n
 pub all_in_range : (a n : ℕ) (P : ℕ → Type 0) (r : Bool) → MatchBool r (AllWithin P (range_with_len a (n - a)) 0 (length (range_with_len a (n - a))))
     ((k : ℕ) × (k < length (range_with_len a (n - a))) × HoldsAt (λ i. P i → ⊥) (range_with_len a (n - a)) k) → IsTrue r ↔ ((i : ℕ) → a ≤ i → i < n → P i)
 all_in_range a n P true m = (

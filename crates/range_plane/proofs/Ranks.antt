@@ -11,6 +11,7 @@ pub at_most_by_rank : (a b : Position) → IsWithinLimits a → IsWithinLimits b
 unfolding rank
 at_most_by_rank a b h k le = by_one_number rank_base a.e a.n b.e b.n h.1.0 (omega (arith, ints, k.1.1)) le
 
+-- of two points within the limits the one of smaller rank is before the other
 pub before_by_rank : (a b : Position) → IsWithinLimits a → IsWithinLimits b → rank a <ℤ rank b → IsBefore a b
 before_by_rank a b h k lt =
     (at_most_by_rank a b h k (omega (arith, linear)), λ e. let f : rank a ≡ rank b = ap rank e in absurd (omega (arith, linear)))

@@ -26,6 +26,7 @@ pairs_with R y xs f p (suc i) zero d h k = absurd (omega arith)
 pairs_with R y xs f p (suc i) (suc j) d h k = p i j d (le_of_suc-le-suc h) (le_of_suc-le-suc k)
 
 -- ---- the order round c, among points that lie ahead of c
+-- of points ahead of c, z is on the left of x as c sees them where y is on the left of x and z on the left of y
 pub transitive_round : (d c x y z : Position) → pos 0 <ℤ dot d (from c x) → pos 0 <ℤ dot d (from c y) → pos 0 <ℤ dot d (from c z) → pos 0 <ℤ turn c x y
     → pos 0 <ℤ turn c y z → pos 0 <ℤ turn c x z
 transitive_round d c x y z hx hy hz xy yz =

@@ -254,6 +254,7 @@ view [] q = empty (λ x m. empty_contains_nothing x m)
 view (y ∷ S) q = with_member S q y (view S q)
 
 -- ---- one of the two
+-- there is a direction in which each member of S lies ahead of q
 pub record IsSeparated (S : List Position) (q : Position) : Type 0 where
   pub direction : Position
   pub ahead : IsAhead S q direction

@@ -10,6 +10,7 @@ use Rattle.range_plane.proofs.HalfPlanes.{turn_back}
 use Rattle.range_plane.proofs.Vectors.{from, scalar_product_is, dot_origin, turn_self, turn_end, turn_swap, positive_apart}
 use Rattle.range_plane.proofs.Without.{equal_or_apart}
 
+-- no point is covered by no points
 pub covers_none : (q : Position) → ¬ (Covers [] q)
 covers_none q (by_segment a b ma mb s) = empty_contains_nothing a ma
 covers_none q (by_triangle a b c ma mb mc t) = empty_contains_nothing a ma
@@ -23,9 +24,11 @@ no_flat_triangle q a b c (inl e) t = let h : pos 0 <ℤ turn b b c = subst (λ z
 no_flat_triangle q a b c (inr (inl e)) t = let h : pos 0 <ℤ turn a c c = subst (λ z. pos 0 <ℤ turn a z c) e t.proper in omega (arith, linear, turn_end a c)
 no_flat_triangle q a b c (inr (inr e)) t = let h : pos 0 <ℤ turn c b c = subst (λ z. pos 0 <ℤ turn z b c) e t.proper in omega (arith, linear, turn_self c b)
 
+-- a member of a list of one is that one
 pub one_of_one : (a x : Position) → Contains (a ∷ []) x → x ≡ a
 one_of_one a x m = elim (contained a [] x m) [ inl e ↦ e | inr k ↦ absurd (empty_contains_nothing x k) ]
 
+-- one point covers itself alone
 pub covers_one : (a q : Position) → Covers (a ∷ []) q ↔ (q ≡ a)
 covers_one a q = (to, λ e. subst (Covers (a ∷ [])) (sym e) (covers_member (a ∷ []) a (contains_first a [])))
   where
@@ -49,6 +52,7 @@ turned_about q a b s =
 at_first : (a b : Position) → IsOnSegment a a b
 at_first a b = record { straight = turn_self a b; between = omega (arith, linear, same_scalar_product a a b, scalar_product_is a b a, dot_origin a (from a b)) }
 
+-- two points cover the segment between them
 pub covers_two : (a b q : Position) → Covers (a ∷ b ∷ []) q ↔ IsOnSegment q a b
 covers_two a b q = (to, λ s. by_segment a b (contains_first a (b ∷ [])) (contains_later a (b ∷ []) b (contains_first b [])) s)
   where

@@ -83,6 +83,7 @@ covered_between L q a b c e ma mb mc me low high h k = (covers_every_way L q).1 
         (omega (arith, linear, turn_back c e q))))
         (λ le. spanning_reaches L q f a b r ma mb low (nonneg_product (cross f r.direction) (turn a b q) le h))
 
+-- the corner at an index of the list is a member
 pub at_member : (L : List Position) (i : ℕ) → i < length L → Contains L (at L i)
 at_member L i h = (i, h, get_or_default L i (at L i) origin h)
 
@@ -124,8 +125,10 @@ two_edges L t q i k hi hk low high = (
       (next_member L k hk) low high h.0 h.1,
 )
 
+-- a point not after one that is before c is before c
 pub before_through : (a b c : Position) → IsAtMost a b → IsBefore b c → IsBefore a c
 before_through a b c h k = (through_most a b c h k.0, λ e. k.1 (least_alone b c k.0 (subst (λ z. IsAtMost z b) e h)))
 
+-- a point before one that is not after c is before c
 pub through_before : (a b c : Position) → IsBefore a b → IsAtMost b c → IsBefore a c
 through_before a b c h k = (through_most a b c h.0 k, λ e. h.1 (least_alone a b h.0 (subst (IsAtMost b) (sym e) k)))

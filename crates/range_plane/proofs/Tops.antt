@@ -144,10 +144,12 @@ top_of_few [] h = record { within = λ k. k; greatest = λ x m. absurd (empty_co
 top_of_few (c ∷ []) h = record { within = λ k. k; greatest = λ x m. subst (λ z. IsAtMost z c) (sym (one_of_one c x m)) (at_most_itself c) }
 top_of_few (c ∷ d ∷ L) h = absurd (omega arith)
 
+-- neither of the first two corners is after the second
 pub second_not_before : (L : List Position) → BeginsWithLeast L → 1 < length L → (i : ℕ) → i ≤ 1 → IsAtMost (at L i) (at L 1)
 second_not_before L b h zero k = first_least L b (at L 1) (at_member L 1 h)
 second_not_before L b h (suc zero) k = at_most_itself (at L 1)
 second_not_before L b h (suc (suc i)) k = absurd (omega arith)
 
+-- no corner from the last on is after the last
 pub last_itself : (L : List Position) (i : ℕ) → length L - 1 ≤ i → i < length L → IsAtMost (at L i) (at L (length L - 1))
 last_itself L i h k = subst (λ n. IsAtMost (at L i) (at L n)) (let e : i ≡ length L - 1 = omega arith in e) (at_most_itself (at L i))

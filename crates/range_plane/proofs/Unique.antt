@@ -8,6 +8,7 @@ use Rattle.range_plane.proofs.Vectors.{turn_swap}
 use Rattle.range_plane.proofs.Without.{both_coordinates}
 
 -- ---- every pair, by the head and the rest
+-- what is true of each two members is true of the first and each later one
 pub from_head : {X : Type 0} (R : X → X → Type 0) (y : X) (xs : List X) → AllPairs R (y ∷ xs) → (x : X) → Contains xs x → R y x
 from_head R y xs h x m = subst (R y) m.2 (h 0 (suc m.0) x (omega arith) (suc-le-suc m.1))
 
@@ -43,6 +44,7 @@ module _ {X : Type 0} (R : X → X → Type 0) (asymmetric : (x y : X) → R x y
       ap₂ (λ a l. a ∷ l) e (same_order xs ys (in_rest R x xs h) (in_rest R y ys k) (members_after x y xs ys h e f) (members_after y x ys xs k (sym e) g))
 
 -- ---- one polygon
+-- two points of which neither is after the other are one
 pub least_alone : (a b : Position) → IsAtMost a b → IsAtMost b a → a ≡ b
 least_alone a b (inl h) (inl k) = absurd (omega (arith, linear))
 least_alone a b (inl h) (inr k) = absurd (omega (arith, linear))
@@ -62,6 +64,7 @@ same_rest S c L M p q =
     (rest_members c L M p.distinct (λ x m. (q.corners x).1 ((p.corners x).0 m)))
     (rest_members c M L q.distinct (λ x m. (p.corners x).1 ((q.corners x).0 m)))
 
+-- a set has at most one polygon
 pub one_polygon : (S L M : List Position) → IsPolygon S L → IsPolygon S M → L ≡ M
 one_polygon S [] [] p q = refl
 one_polygon S [] (b ∷ M) p q = absurd (empty_contains_nothing b ((p.corners b).1 ((q.corners b).0 (contains_first b M))))

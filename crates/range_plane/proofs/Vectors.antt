@@ -30,6 +30,7 @@ cross_of a a' b b' = a ⊗ b' ⊖ a' ⊗ b
 dot_of : Expr → Expr → Expr → Expr → Expr
 dot_of a a' b b' = a ⊗ b ⊕ a' ⊗ b'
 
+-- the cross product the other way round is negated
 pub cross_flip : (u v : Position) → cross v u ≡ neg_ℤ (cross u v)
 unfolding cross cross_of
 cross_flip u v =
@@ -37,6 +38,7 @@ cross_flip u v =
     (num (pos 0) ⊖ cross_of (var 0) (var 1) (var 2) (var 3)) tt in
     omega (arith, linear)
 
+-- the cross product of a vector with itself is 0
 pub cross_self : (u : Position) → cross u u ≡ pos 0
 unfolding cross cross_of
 cross_self u = ring (u.e ∷ u.n ∷ []) (cross_of (var 0) (var 1) (var 0) (var 1)) (num (pos 0)) tt
@@ -71,6 +73,7 @@ lagrange p q =
     ring (p.e ∷ p.n ∷ q.e ∷ q.n ∷ []) (dot_of d d' u u' ⊗ dot_of d d' u u' ⊕ cross_of d d' u u' ⊗ cross_of d d' u u') (dot_of d d' d d' ⊗ dot_of u u' u u') tt
 
 -- ---- a turn in the vectors from q
+-- a turn is the sum of the three cross products of its points, one after the other, seen from any point q
 pub turn_from : (q a b c : Position) → turn a b c ≡ cross (from q a) (from q b) +ℤ cross (from q b) (from q c) +ℤ cross (from q c) (from q a)
 unfolding cross cross_of from turn
 turn_from s p q r =
@@ -78,17 +81,20 @@ turn_from s p q r =
     ring (p.e ∷ p.n ∷ q.e ∷ q.n ∷ r.e ∷ r.n ∷ s.e ∷ s.n ∷ []) (cross_of (b ⊖ a) (b' ⊖ a') (c ⊖ a) (c' ⊖ a'))
     (cross_of (a ⊖ o) (a' ⊖ o') (b ⊖ o) (b' ⊖ o') ⊕ cross_of (b ⊖ o) (b' ⊖ o') (c ⊖ o) (c' ⊖ o') ⊕ cross_of (c ⊖ o) (c' ⊖ o') (a ⊖ o) (a' ⊖ o')) tt
 
+-- the turn from a by b to q is the cross product of a and b as q sees them
 pub turn_at : (q a b : Position) → turn a b q ≡ cross (from q a) (from q b)
 unfolding cross cross_of from turn
 turn_at r p q =
     let a = var 0 in let a' = var 1 in let b = var 2 in let b' = var 3 in let c = var 4 in let c' = var 5 in
     ring (p.e ∷ p.n ∷ q.e ∷ q.n ∷ r.e ∷ r.n ∷ []) (cross_of (b ⊖ a) (b' ⊖ a') (c ⊖ a) (c' ⊖ a')) (cross_of (a ⊖ c) (a' ⊖ c') (b ⊖ c) (b' ⊖ c')) tt
 
+-- the scalar product at q is that of the vectors from q
 pub scalar_product_is : (q a b : Position) → scalar_product q a b ≡ dot (from q a) (from q b)
 unfolding scalar_product dot from
 scalar_product_is q a b = refl
 
 -- ---- signs
+-- no vector has a negative scalar product with itself
 pub nonneg_norm : (u : Position) → pos 0 ≤ℤ dot u u
 unfolding dot
 nonneg_norm u = omega (arith, linear, nonneg_square u.e, nonneg_square u.n)
@@ -178,6 +184,7 @@ ahead_along u d y flat same du =
     ))
 
 -- ---- vectors between points
+-- how far x is past t along d is how far it is past q, less how far t is past q
 pub dot_from : (d q t x : Position) → dot d (from t x) ≡ dot d (from q x) -ℤ dot d (from q t)
 unfolding dot dot_of from
 dot_from s o p r =
@@ -188,16 +195,19 @@ dot_from s o p r =
 unfoldable pub tilted : ℤ → Position → Position → Position
 tilted k d w = record { e = k *ℤ d.e +ℤ w.e; n = k *ℤ d.n +ℤ w.n }
 
+-- the scalar product with k times d and w is k times that with d, and that with w
 pub dot_tilted : (k : ℤ) (d w z : Position) → dot (tilted k d w) z ≡ k *ℤ dot d z +ℤ dot w z
 unfolding dot dot_of tilted
 dot_tilted k d w z =
     ring (k ∷ d.e ∷ d.n ∷ w.e ∷ w.n ∷ z.e ∷ z.n ∷ []) (dot_of (var 0 ⊗ var 1 ⊕ var 3) (var 0 ⊗ var 2 ⊕ var 4) (var 5) (var 6))
     (var 0 ⊗ dot_of (var 1) (var 2) (var 5) (var 6) ⊕ dot_of (var 3) (var 4) (var 5) (var 6)) tt
 
+-- the vector from a point to itself has the scalar product 0 with each
 pub dot_origin : (q d : Position) → dot d (from q q) ≡ pos 0
 unfolding dot dot_of from
 dot_origin q d = ring (q.e ∷ q.n ∷ d.e ∷ d.n ∷ []) (dot_of (var 2) (var 3) (var 0 ⊖ var 0) (var 1 ⊖ var 1)) (num (pos 0)) tt
 
+-- and the cross product 0
 pub cross_origin : (q d : Position) → cross (from q q) d ≡ pos 0
 unfolding cross cross_of from
 cross_origin q d = ring (q.e ∷ q.n ∷ d.e ∷ d.n ∷ []) (cross_of (var 0 ⊖ var 0) (var 1 ⊖ var 1) (var 2) (var 3)) (num (pos 0)) tt
@@ -232,6 +242,7 @@ unfolding turn turn_of
 turn_cycle a b c = ring (a.e ∷ a.n ∷ b.e ∷ b.n ∷ c.e ∷ c.n ∷ []) (turn_of (var 2) (var 3) (var 4) (var 5) (var 0) (var 1))
     (turn_of (var 0) (var 1) (var 2) (var 3) (var 4) (var 5)) tt
 
+-- a lies on the straight way from a to b
 pub turn_self : (a b : Position) → turn a b a ≡ pos 0
 unfolding turn turn_of
 turn_self a b = ring (a.e ∷ a.n ∷ b.e ∷ b.n ∷ []) (turn_of (var 0) (var 1) (var 2) (var 3) (var 0) (var 1)) (num (pos 0)) tt
@@ -247,6 +258,7 @@ dot_leftward a b q x =
     ring (a.e ∷ a.n ∷ b.e ∷ b.n ∷ q.e ∷ q.n ∷ x.e ∷ x.n ∷ []) (dot_of (var 1 ⊖ var 3) (var 2 ⊖ var 0) (var 6 ⊖ var 4) (var 7 ⊖ var 5))
     (turn_of (var 0) (var 1) (var 2) (var 3) (var 6) (var 7) ⊖ turn_of (var 0) (var 1) (var 2) (var 3) (var 4) (var 5)) tt
 
+-- b lies on the straight way from a to b
 pub turn_end : (a b : Position) → turn a b b ≡ pos 0
 turn_end a b = turn_cycle b a b ∙ turn_self b a
 
@@ -266,6 +278,7 @@ scalar_product_round c x y =
 unfoldable pub reverse_of : Position → Position
 reverse_of d = record { e = neg_ℤ d.e; n = neg_ℤ d.n }
 
+-- b is past a, backwards along d, by as much as a is past b along d
 pub dot_reverse : (d a b : Position) → dot (reverse_of d) (from a b) ≡ dot d (from b a)
 unfolding dot from reverse_of
 dot_reverse d a b =

@@ -24,6 +24,7 @@ from_coordinates a b false t p q = different (λ e. true≢false (sym (p.1 (ap (
 pub compared : (a b : Position) → Compared a b (same_position a b)
 compared a b = from_coordinates a b (int_eq a.e b.e) (int_eq a.n b.n) (signed_Decides a.e b.e) (signed_Decides a.n b.n)
 
+-- two points are one or differ
 pub equal_or_apart : (a b : Position) → (a ≡ b) ⊎ (a ≢ b)
 equal_or_apart a b = go (same_position a b) (compared a b)
   where
@@ -73,10 +74,12 @@ shorter_case : (p s : Position) (S : List Position) (t : Bool) → Compared s p 
 shorter_case p s S true (equal e) f m = omega (arith, length_without p S)
 shorter_case p s S false (different a) f m = elim (contained s S p m) [ inl h ↦ absurd (a (sym h)) | inr k ↦ omega (arith, f k) ]
 
+-- without a member there are fewer
 pub shorter_without : (p : Position) (S : List Position) → Contains S p → length (without p S) < length S
 shorter_without p [] m = absurd (empty_contains_nothing p m)
 shorter_without p (s ∷ S) m = shorter_case p s S (same_position s p) (compared s p) (shorter_without p S) m
 
+-- a point is a member or it is not
 pub find_member : (p : Position) (S : List Position) → Contains S p ⊎ ¬ (Contains S p)
 find_member p [] = inr (λ m. empty_contains_nothing p m)
 find_member p (s ∷ S) = go (equal_or_apart p s) (find_member p S)

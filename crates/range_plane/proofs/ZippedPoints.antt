@@ -12,6 +12,7 @@ use Rattle.range_plane.specs.Plane.{Position, IsCoordinate, position}
 pub length_of_zipped : (es ns : List ℤ) → length es ≡ length ns → length (zip2 position es ns) ≡ length es
 length_of_zipped es ns h = length-zip2 position es ns h
 
+-- positions made of two columns of one length have the first for eastings
 pub eastings_of_zipped : (es ns : List ℤ) → length es ≡ length ns → map (λ (p : Position). p.e) (zip2 position es ns) ≡ es
 eastings_of_zipped es ns h = firsts_of_zipped position (λ (p : Position). p.e) (λ x y. refl) es ns h
 
@@ -35,6 +36,7 @@ zipped_at es ns i e n same in_e he hn =
     slice_get_read (zip2 position es ns) (length es) i (position e n) (sym (length-zip2 position es ns same)) in_e
     (both ∙ sym (get_or-zip2 position es ns i e n (position e n) in_e in_n))
 
+-- one easting and one northing more, in columns of one length, are one position more
 pub zipped_push : (es ns : List ℤ) (e n : ℤ) → length es ≡ length ns → zip2 position (es ++ e ∷ []) (ns ++ n ∷ []) ≡ zip2 position es ns ++ position e n ∷ []
 zipped_push [] [] e n h = refl
 zipped_push [] (y ∷ ys) e n h = cc

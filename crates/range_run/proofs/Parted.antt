@@ -12,9 +12,11 @@ use Rattle.range_run.specs.Output.{AppendsPrefix}
 abbrev pub WritesBefore : List ℕ → List ℕ → Option (List ℕ) → Option (List ℕ) → Type 0
 WritesBefore rest text old new = (written : List ℕ) × Appends old new written × (written ++ rest ≡ text)
 
+-- before anything is written the whole text is the rest
 pub none_written : (rest text : List ℕ) (old : Option (List ℕ)) → rest ≡ text → WritesBefore rest text old old
 none_written rest text old all = ([], Appends-nil old, all)
 
+-- once the next part is written, what comes after it is the rest
 pub part_written : (part rest text : List ℕ) (old mid new : Option (List ℕ)) → WritesBefore (part ++ rest) text old mid → Appends mid new part
     → WritesBefore rest text old new
 part_written part rest text old mid new before appended =

@@ -21,6 +21,7 @@ Entry = ℕ × ℕ
 before_itself : (a : Entry) → comes_before a a ≡ false
 before_itself a = grind (arith, nat_tests)
 
+-- whether two entries have the same index
 abbrev pub same_index : Entry → Entry → Bool
 same_index a b = eqb a.1 b.1
 

@@ -45,6 +45,7 @@ module _ (larger : LargerSetsCoverMore) (one : OneCoversItself) (corners : Corne
         counted = added.counted ∙ sym (length_permutation (part ++ before) (take kept ranked) moved);
       }
 
+  -- where points are ranked, the row of the first of them at an asked level, at most 100, is that of its percent polygon
   pub percent_row : (points : List Position) (levels : List ℕ) (ranked : List Position) → IsRanking points levels ranked → (level : ℕ) → level ≤ 100
       → Contains levels level → (row : PercentRow) → IsFirstRow ranked level row
       → IsPercentRow points level row
@@ -67,6 +68,7 @@ module _ (larger : LargerSetsCoverMore) (one : OneCoversItself) (corners : Corne
         );
       }
 
+  -- where points are ranked, the rows of the first of them at the levels, all at most 100, are those of the percent polygons
   pub percent_rows : (points : List Position) (levels : List ℕ) (ranked : List Position) → IsRanking points levels ranked → All (λ level. level ≤ 100) levels
       → (rows : List PercentRow) → AllZip (IsFirstRow ranked) levels rows → AllZip (IsPercentRow points) levels rows
   percent_rows points levels ranked ranking low rows first =

@@ -38,6 +38,7 @@ within_from f a zero m le = tt
 within_from f a (suc n) m le = (omega arith, within_from f (a + 1) n m (omega arith))
 
 -- ---- keys
+-- the key of each point's entry
 abbrev pub keys : List Position → List ℕ
 keys points = map (λ i. key_of (entry points i)) (indices points)
 

@@ -8,6 +8,7 @@ use Rattle.range_plane.specs.Plane.{Position}
 use Rattle.range_plane.specs.Polygon.{IsPolygon}
 
 module _ (larger : LargerSetsCoverMore) (one : OneCoversItself) (corners : CornersCoverTheSet) (covering : CoveringMembersAreCorners) where
+  -- the polygon of points is that of the same points in another order
   pub polygon_of_permutation : (S T L : List Position) → IsPermutation S T → IsPolygon S L → IsPolygon T L
   polygon_of_permutation S T L moved polygon =
       covering T L

@@ -15,13 +15,16 @@ AreSeen cs = list_all (λ c. not (is_unseen c)) cs ≡ true
 seen_append : (xs ys : List ℕ) → AreSeen xs → AreSeen ys → AreSeen (xs ++ ys)
 seen_append xs ys a b = list_all-append (λ c. not (is_unseen c)) xs ys ∙ ap₂ (λ (x y : Bool). x && y) a b
 
+-- two lines, one after the other, are one line
 pub joined : (a b : List ℕ) → IsOneLine a → IsOneLine b → IsOneLine (a ++ b)
 joined a b (xs, first, x_seen) (ys, second, y_seen) =
     (xs ++ ys, encodes-append xs ys ∙ ap₂ (λ (x y : List ℕ). x ++ y) first second, seen_append xs ys x_seen y_seen)
 
+-- bytes that ASCII prints are one line
 pub printable : (text : List ℕ) → list_all is_printable text ≡ true → IsOneLine text
 printable text e = let both = printable_line text e in (text, both.0, both.1)
 
+-- a number's decimal digits are one line
 pub number : (n : ℕ) → IsOneLine (decimal n)
 number n = printable (decimal n) (decimal_prints n)
 
@@ -39,6 +42,7 @@ seen_chars doubles [] = refl
 seen_chars doubles (c ∷ cs) =
     seen_append (shown_char doubles c) (flat_map (shown_char doubles) cs) (seen_char (doubles && c == 92) c) (seen_chars doubles cs)
 
+-- a text as it is shown is one line, whatever its bytes
 pub shown_line : (doubles : Bool) (text : List ℕ) → IsOneLine (shown_text doubles text)
 shown_line doubles text = (flat_map (shown_char doubles) (chars text), refl, seen_chars doubles (chars text))
 
@@ -51,5 +55,6 @@ name_as : (utf8 : Bool) (name : List ℕ) → IsOneLine (if utf8 then shown_text
 name_as true name = shown_line true name
 name_as false name = (flat_map escape_ascii name, refl, seen_bytes name)
 
+-- a name as it is shown is one line, whatever its bytes
 pub name_line : (name : List ℕ) → IsOneLine (shown_name name)
 name_line name = name_as (is_utf8 name) name

@@ -145,6 +145,7 @@ unicode_prints c =
 pub escape_default_prints : (c : ℕ) → list_all is_printable (escape_default c) ≡ true
 escape_default_prints c = (escape_or_prints c (escape_unicode c) (unicode_prints c)).all
 
+-- a byte as Rust writes it is bytes that ASCII prints
 pub escape_ascii_prints : (b : ℕ) → list_all is_printable (escape_ascii b) ≡ true
 escape_ascii_prints b =
     (escape_or_prints b _ (print_cons 92 _ refl (print_cons 120 _ refl (print_hex 0x10 b _ (print_hex 1 b _ print_none))))).all
@@ -159,6 +160,7 @@ digits_print (suc k) n more rest =
     let next = print_cons (digit_glyph false (n % 10)) more (digit_prints (n % 10) (omega arith)) rest in
     in_cond Prints (n / 10 == 0) _ _ (λ e. next) (λ e. digits_print k (n / 10) _ next)
 
+-- the decimal digits of a number are bytes that ASCII prints
 pub decimal_prints : (n : ℕ) → list_all is_printable (decimal n) ≡ true
 unfolding digits
 decimal_prints n = (digits_print 64 n [] print_none).all

@@ -114,12 +114,15 @@ number_of name k limit number c m is p =
     let none : groups_of p.built ≡ [] = (p.from.same_groups (names_no_group c is)).1 ∙ (plain c is).groups in
     number_found p.built (found_of m) name limit values none (other_text name [] number.named) (are_numbers c m is p name k limit number)
 
+-- the text that is read of `--block` is a number from 1 to its limit
 pub block_number : (c : Command) (m : ArgMatches) → app_of c ≡ homerange → IsParsedFrom c m → HasNumber (codes "block") block_limit m
 block_number = number_of (codes "block") 1 block_limit block_is
 
+-- and so is that of `--depth`
 pub depth_number : (c : Command) (m : ArgMatches) → app_of c ≡ homerange → IsParsedFrom c m → HasNumber (codes "depth") depth_limit m
 depth_number = number_of (codes "depth") 2 depth_limit depth_is
 
+-- and that of `--workers`
 pub workers_number : (c : Command) (m : ArgMatches) → app_of c ≡ homerange → IsParsedFrom c m → HasNumber (codes "workers") worker_limit m
 workers_number = number_of (codes "workers") 3 worker_limit workers_is
 
@@ -131,9 +134,11 @@ free : is_simple_and_free homerange ≡ true
 unfolding clap_on_literals
 free = refl
 
+-- what the matches of the words have is what `clap` finds in them
 pub rows_found : (a : App) (words : List Text) (m : ArgMatches) → a ≡ homerange → HasMatchesOf a words m → rows_of (found_of m) ≡ found_in words
 rows_found a words m is h = (h (ap is_simple is ∙ simple)).0 ∙ ap (λ (b : App). matches_of b words) is
 
+-- where the app is that of homerange, a refusal is by what `clap` has against its words
 pub fails_by : {T : Type 0} (a : App) (words : List Text) (r : Result T Error) → a ≡ homerange → (is_simple_and_free a ≡ true → FailsBy (fault_of a words) r)
     → FailsBy (fault_of homerange words) r
 fails_by a words r is h = subst (λ (b : App). FailsBy (fault_of b words) r) is (h (ap is_simple_and_free is ∙ free))

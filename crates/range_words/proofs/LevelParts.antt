@@ -12,13 +12,16 @@ use Rattle.range_options.specs.Limits.{level_count_limit, level_limit}
 use Rattle.range_words.specs.LevelList.{AreLevelsBefore, IsRefusedFor, level_in, part_at, parts}
 use Rattle.range_words.specs.declared.level.LevelFault.TheVariants.{OutOfMemory, BadLevel, TooMany}
 
+-- each text has a part
 pub some_part : (text : List ℕ) → 1 ≤ length (parts text)
 some_part text = omega (arith, length-slice_split (λ (byte : ℕ). byte == 44) text)
 
+-- a part that is no number writes no level
 pub no_number : (part : List ℕ) → is_number part ≡ false → level_in part ≡ None
 unfolding level_in
 no_number part other = rw other refl
 
+-- a number from 1 to the limit is the level that its part writes
 pub good_level : (part : List ℕ) → is_number part ≡ true → 1 ≤ digits_value 10 part → digits_value 10 part ≤ level_limit
     → level_in part ≡ Some (digits_value 10 part)
 unfolding level_in
@@ -26,6 +29,7 @@ good_level part number some few =
     let test : (nat_le 1 (digits_value 10 part) && nat_le (digits_value 10 part) level_limit) ≡ true = grind (arith, nat_tests) in
     rw (number, test) refl
 
+-- a number that is below 1 or above the limit is no level
 pub bad_level : (part : List ℕ) → is_number part ≡ true → (1 ≤ digits_value 10 part → level_limit < digits_value 10 part) → level_in part ≡ None
 unfolding level_in
 bad_level part number outside =
@@ -45,9 +49,11 @@ level_in_range part v e =
     let found = passed (is_number part && (nat_le 1 (digits_value 10 part) && nat_le (digits_value 10 part) level_limit)) (digits_value 10 part) v e in
     subst IsLevel found.1 (within_range (is_number part) (digits_value 10 part) found.0)
 
+-- where each part writes a level there are as many levels as parts
 pub as_many : (all : List (List ℕ)) (values : List ℕ) → map level_in all ≡ map Some values → length values ≡ length all
 as_many all values same = omega (arith, ap length same, length-map all level_in, length-map {A = ℕ} values Some)
 
+-- and each of them is a percentage above 0
 pub levels_in_range : (all : List (List ℕ)) (values : List ℕ) → map level_in all ≡ map Some values → All IsLevel values
 levels_in_range all values same i d within =
     let long = as_many all values same in
@@ -63,19 +69,23 @@ levels_before parts n values same few i before =
     ∙ ap (λ l. get_or l i None) same ∙ get_or-map Some values i 0 None (omega arith) in
     subst IsSome (sym value) refl
 
+-- where as many parts as there may be write levels, and there are more, the parts are too many
 pub too_many : (all : List (List ℕ)) (n : ℕ) (values : List ℕ) → n < length all → n ≡ level_count_limit → map level_in (take n all) ≡ map Some values
     → IsRefusedFor TooMany all
 too_many all n values within full same = (omega arith, subst (AreLevelsBefore all) full (levels_before all n values same (omega arith)))
 
+-- where a part writes no level, and all before it do, it is the bad one
 pub bad_part : (all : List (List ℕ)) (n : ℕ) (values part : List ℕ) → n < length all → part ≡ get_or all n part → n < level_count_limit → level_in part ≡ None
     → map level_in (take n all) ≡ map Some values
     → IsRefusedFor (BadLevel n) all
 bad_part all n values part within is few bad same =
     (few, within, ap level_in (get_or_default all n [] part within ∙ sym is) ∙ bad, levels_before all n values same (omega arith))
 
+-- where all parts write levels, and are not too many, memory alone may be wanted
 pub no_memory : (all : List (List ℕ)) (values : List ℕ) → length all ≤ level_count_limit → map level_in all ≡ map Some values → IsRefusedFor OutOfMemory all
 no_memory all values few same = (few, levels_before all (length all) values (ap (map level_in) (take_all (length all) all (omega arith)) ∙ same) (omega arith))
 
+-- where the next part writes a level, which is set next, the levels so far are those of the parts so far
 pub one_more : (all : List (List ℕ)) (n : ℕ) (part levels : List ℕ) (level : ℕ) → n < length all → part ≡ get_or all n part → n < length levels
     → level_in part ≡ Some level
     → map level_in (take n all) ≡ map Some (take n levels) → map level_in (take (n + 1) all) ≡ map Some (take (n + 1) (set levels n level))

@@ -35,6 +35,7 @@ number_is {E} G limit (Some text) r default small only none some passed =
     let got = signed_reads E G 32 1 limit text r (subst (λ (t : List ℕ). ReadsOne G t r) (sym plain) read) only small (passed text refl) in
     number_read G limit text r got.0 default only read got.1
 
+-- the text of an option, or of its default where it has none
 pub text_or : (o : Option (Bor (List ℕ))) (default : Bor (List ℕ)) (x : Option (List ℕ)) → option_map (λ (s : Bor (List ℕ)). s.now) o ≡ x
     → (unwrap_or o default).now ≡ unwrap_or x default.now
 text_or None default x e = ap (λ (y : Option (List ℕ)). unwrap_or y default.now) e
@@ -43,10 +44,12 @@ text_or (Some s) default x e = ap (λ (y : Option (List ℕ)). unwrap_or y defau
 abbrev texts_of : Bor (List (Bor (List ℕ))) → List (List ℕ)
 texts_of s = map (λ (v : Bor (List ℕ)). v.now) s.now
 
+-- where no texts are found there are none
 pub no_texts : (o : Option (Bor (List (Bor (List ℕ))))) (x : Option (List (List ℕ))) → option_map texts_of o ≡ x → o ≡ None → [] ≡ unwrap_or x []
 no_texts None x e is = ap (λ (y : Option (List (List ℕ))). unwrap_or y []) e
 no_texts (Some s) x e is = cc
 
+-- where texts are found they are those
 pub some_texts : (o : Option (Bor (List (Bor (List ℕ))))) (s : Bor (List (Bor (List ℕ)))) (x : Option (List (List ℕ))) → option_map texts_of o ≡ x → o ≡ Some s
     → texts_of s ≡ unwrap_or x []
 some_texts o s x e is = ap (λ (y : Option (List (List ℕ))). unwrap_or y []) (ap (option_map texts_of) (sym is) ∙ e)

@@ -21,6 +21,7 @@ use Rattle.clap.specs.declared.parser.matches.Found.{Found}
 use Rattle.clap.specs.declared.parser.matches.MatchedArg.{MatchedArg}
 use Rattle.clap.proofs.CallerLemmas.{entry_by_id}
 
+-- the parser of a number from 1 to the limit
 abbrev pub number_parser : ℕ → ValueParser
 number_parser limit = value_parser.Signed (pos 1) (pos limit)
 
@@ -34,6 +35,7 @@ without_none : (t : List ℕ) → starts_with_minus t ≡ false → without_minu
 without_none [] e = refl
 without_none (x ∷ xs) e = rw e refl
 
+-- of a text that passed a range from 1 on there is no minus to take away
 pub no_minus : (limit : ℕ) (text : List ℕ) → IsSignedIn (pos 1) (pos limit) text → without_minus text ≡ text
 no_minus limit text passed = go (starts_with_minus text) refl
   where
@@ -88,6 +90,7 @@ number_of_entry c id limit x e text none named numbers read same_x key pass =
     number_of_value c id limit x.reading first.0.now text numbers
     (subst (λ (w : Bor (List ℕ)). PassesArg c id w.now) (sym first.2) (all 0 first.0 first.1)) how first.3
 
+-- where all arguments with an id take numbers up to the limit, the one text found of it is such a number
 pub number_found : (c : Command) (f : Found) (id : List ℕ) (limit : ℕ) → ValuesPass c f → groups_of c ≡ [] → (id ≡ [] → ⊥) → AreNumbers c id limit
     → (text : List ℕ) → one_text f id ≡ Some text → IsSignedIn (pos 1) (pos limit) text
 number_found c f id limit values none named numbers text = go (matched_of f id) refl
