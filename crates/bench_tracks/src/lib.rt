@@ -18,7 +18,7 @@ const MIDDLE: i64 = SIDE / 2;
 // How far the spiral begins from the middle, in metres: its end then is some 7,500 km from there.
 const SPIRAL_START: i64 = 2500;
 
-// A spiral's place is kept in parts of a metre, 2^20 of them.
+// A spiral's position is kept in parts of a metre, 2^20 of them.
 const SPIRAL_BITS: u32 = 20;
 
 // The next number of Knuth's generator for MMIX.
@@ -136,12 +136,12 @@ mod tests {
         };
         assert_eq!(rt; points.len(), TRACK_POINTS);
         let ends = [points[0], points[1], points[TRACK_POINTS - 1]];
-        for (end, place) in ends.iter().zip(expected) {
-            assert!(rt; *end == point(rt, place), "{place:?}");
+        for (end, position) in ends.iter().zip(expected) {
+            assert!(rt; *end == point(rt, position), "{position:?}");
         }
     }
 
-    // The places are those that the same steps in Python come to.
+    // The positions are those that the same steps in Python come to.
     #[test]
     fn tracks_begin_and_end_where_they_should(rt: HostRuntime) {
         let cloud_ends = [

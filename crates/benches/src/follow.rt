@@ -5,11 +5,9 @@ use itoa::Buffer;
 use range_collect::{Followed, follow};
 use range_options::{FILE_LIMIT, Plan};
 use range_plane::{Point, Scale};
-use range_pump::FreeGate;
+use range_pump::{FreeGate, ThreadRuntime};
 use std::alloc::{AllocError, Global};
 use std::rt::Runtime;
-use std::sync::Wait;
-use std::thread::Threads;
 use std::time::Instant;
 
 const FILES: usize = 8;
@@ -59,7 +57,7 @@ fn sum_of(all: &[Followed]) -> Option<(u64, u64, u128)> {
 }
 
 // Follows the files by so many workers.
-fn time_workers<R: Runtime + Wait + Threads + Sync>(
+fn time_workers<R: Runtime + ThreadRuntime>(
     rt: &R,
     alloc: Global,
     name: &str,
@@ -86,7 +84,7 @@ fn time_workers<R: Runtime + Wait + Threads + Sync>(
     Ok(())
 }
 
-fn time_file<R: Runtime + Wait + Threads + Sync>(
+fn time_file<R: Runtime + ThreadRuntime>(
     rt: &R,
     alloc: Global,
     name: &str,
@@ -100,7 +98,7 @@ fn time_file<R: Runtime + Wait + Threads + Sync>(
     Ok(())
 }
 
-fn time_files<R: Runtime + Wait + Threads + Sync>(
+fn time_files<R: Runtime + ThreadRuntime>(
     rt: &R,
     alloc: Global,
     name: &str,
@@ -119,7 +117,7 @@ fn time_files<R: Runtime + Wait + Threads + Sync>(
 /// Times a file each of 2^20 fixes of a walk, a cloud and a spiral, one of the points that the text has, in their
 /// order and shuffled, and eight files of 131,072 fixes of the walk. Prints how many fixes, corners and which
 /// doubled area the files have together in the end, and says how many microseconds each took.
-pub(crate) fn time_follow<R: Runtime + Wait + Threads + Sync>(
+pub(crate) fn time_follow<R: Runtime + ThreadRuntime>(
     rt: &R,
     alloc: Global,
     text: &str,

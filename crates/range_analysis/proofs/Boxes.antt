@@ -4,7 +4,7 @@ use Rattle.std.proofs.lemmas.Bool.{false_from_ne_true}
 use Rattle.std.proofs.lemmas.Int.{ints}
 use Rattle.std.proofs.lemmas.List.{get_or-map, length-map}
 use Rattle.std.specs.Prelude.{◌||◌}
-use Rattle.range_plane.specs.Covering.{is_covered}
+use Rattle.range_plane.specs.ConvexCover.{is_covered}
 use Rattle.range_plane.specs.Laws.{BoxesHoldWhatIsCovered, CoveredIsDecided}
 use Rattle.range_plane.specs.Plane.{IsInBox, Position, position}
 use Rattle.range_lemmas.proofs.Members.{contains_first, contains_later}

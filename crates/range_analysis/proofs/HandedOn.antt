@@ -5,13 +5,13 @@ use Rattle.std.specs.List.{AllZip}
 use Rattle.std.specs.declared.clone.Clone.{Ghosts}
 use Rattle.range_plane.specs.Fix.{fix_limit}
 use Rattle.range_plane.specs.declared.fix.Fix.{Fix}
-use Rattle.range_fixes.specs.declared.fault.ReadFault.{ReadFault}
-use Rattle.range_fixes.specs.declared.fault.ReadFault.TheVariants as reads
+use Rattle.range_fixes.specs.declared.read_fault.ReadFault.{ReadFault}
+use Rattle.range_fixes.specs.declared.read_fault.ReadFault.TheVariants as reads
 use Rattle.range_fixes.specs.Progress.{is_of_text}
 use Rattle.range_fixes.specs.Reading.{Reading}
 use Rattle.range_line.proofs.ForCallers.{last_messages_come_next, streams_are_lawful}
 use Rattle.range_options.specs.Limits.{block_limit}
-use Rattle.range_line.specs.Lines.{FeederView}
+use Rattle.range_line.specs.LineEnds.{FeederView}
 use Rattle.range_line.specs.Messages.{IsLawful, block_count, blocks, fixes, message, stream, the_mark}
 use Rattle.range_estimator.specs.Estimation.{Estimation}
 use Rattle.range_collect.specs.Follow.{IsFollowedAs, IsResult}

@@ -7,7 +7,7 @@ use Rattle.std.proofs.lemmas.Bool.{not-false, or_parts}
 use Rattle.range_collect.specs.declared.followed.Followed.{Followed}
 use Rattle.range_analysis.specs.Entries.{is_cut, lacks_memory, loss_of, wants_memory}
 use Rattle.range_analysis.proofs.Positions.{passes_nowhere}
-use Rattle.range_analysis.specs.declared.fault.AnalyseFault.TheVariants.{OutOfMemory, LineCut}
+use Rattle.range_analysis.specs.declared.analyse_fault.AnalyseFault.TheVariants.{OutOfMemory, LineCut}
 
 none_lost : (b : Bool) (file : Option ℕ) → (if b then Some OutOfMemory else option_map LineCut file) ≡ None → (b ≡ false) × (file ≡ None)
 none_lost true file none = cc

@@ -1,6 +1,7 @@
 pub mod Analyses
 pub mod AnimalPairs
 pub mod Boxes
+pub mod FileTracks
 pub mod HandedOn
 pub mod Kept
 pub mod Outcomes
@@ -8,4 +9,3 @@ pub mod Positions
 pub mod Repeats
 pub mod Rows
 pub mod Tabled
-pub mod Tracking

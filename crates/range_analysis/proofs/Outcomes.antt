@@ -14,8 +14,8 @@ use Rattle.range_analysis.proofs.Positions.{index_within}
 use Rattle.range_analysis.specs.Analysis.{HasNoAnalysis, IsAnalysis}
 use Rattle.range_analysis.specs.Entries.{entries_of, is_cut, lacks_memory, loss_of}
 use Rattle.range_analysis.specs.Sources.{Gives, HasNoAnalysisOf, IsAnalysisOf}
-use Rattle.range_analysis.specs.declared.fault.AnalyseFault.{AnalyseFault}
-use Rattle.range_analysis.specs.declared.fault.AnalyseFault.TheVariants.{OutOfMemory, LineCut, File, SameAnimal}
+use Rattle.range_analysis.specs.declared.analyse_fault.AnalyseFault.{AnalyseFault}
+use Rattle.range_analysis.specs.declared.analyse_fault.AnalyseFault.TheVariants.{OutOfMemory, LineCut, File, SameAnimal}
 
 -- there are as many results as sources
 pub same_count : {X Y : Type 0} (R : ℕ → X → Y → Type 0) (number : ℕ) (xs : List X) (ys : List Y) → PairedFrom R number xs ys → length ys ≡ length xs

@@ -13,7 +13,7 @@ use Rattle.range_analysis.specs.Analysis.{IsAnalysis, IsAnimalOf}
 use Rattle.range_analysis.specs.Entries.{Entry, first_fault, names_of, points_in}
 use Rattle.range_analysis.specs.Names.{IsFirstRepeat}
 use Rattle.range_analysis.specs.Tracks.{entries_in}
-use Rattle.range_analysis.proofs.Tracking.{entries_count}
+use Rattle.range_analysis.proofs.FileTracks.{entries_count}
 
 animals_of : (levels : List ℕ) (tracks : List Track) (animals : List Animal) → AllZip (IsAnimalOn levels) tracks animals
     → AllZip (IsAnimalOf levels) (entries_in tracks) animals

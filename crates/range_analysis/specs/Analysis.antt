@@ -8,8 +8,8 @@ use Rattle.range_analysis.specs.declared.analysis.Analysis.{Analysis}
 use Rattle.range_analysis.specs.declared.animal.Animal.{Animal}
 use Rattle.range_analysis.specs.Entries.{Entry, of_animal, of_fault, first_fault, names_of, points_in}
 use Rattle.range_analysis.specs.Names.{IsFirstRepeat}
-use Rattle.range_analysis.specs.declared.fault.AnalyseFault.{AnalyseFault}
-use Rattle.range_analysis.specs.declared.fault.AnalyseFault.TheVariants.{OutOfMemory, LineCut, File, SameAnimal}
+use Rattle.range_analysis.specs.declared.analyse_fault.AnalyseFault.{AnalyseFault}
+use Rattle.range_analysis.specs.declared.analyse_fault.AnalyseFault.TheVariants.{OutOfMemory, LineCut, File, SameAnimal}
 
 -- the animal of a file
 abbrev pub IsAnimalOf : List ℕ → Entry → Animal → Type 0

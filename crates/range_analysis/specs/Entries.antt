@@ -5,12 +5,12 @@ use Rattle.std.specs.declared.clone.Clone.{Ghosts}
 use Rattle.range_plane.specs.Plane.{Position}
 use Rattle.range_plane.specs.Row.{points_of}
 use Rattle.range_plane.specs.declared.fix.Fix.{Fix}
-use Rattle.range_fixes.specs.declared.fault.ReadFault.{ReadFault}
-use Rattle.range_fixes.specs.declared.fault.ReadFault.TheVariants as reads
+use Rattle.range_fixes.specs.declared.read_fault.ReadFault.{ReadFault}
+use Rattle.range_fixes.specs.declared.read_fault.ReadFault.TheVariants as reads
 use Rattle.range_pump.specs.Pump.{ReadResult}
 use Rattle.range_collect.specs.declared.followed.Followed.{Followed}
-use Rattle.range_analysis.specs.declared.fault.AnalyseFault.{AnalyseFault}
-use Rattle.range_analysis.specs.declared.fault.AnalyseFault.TheVariants.{OutOfMemory, LineCut, File}
+use Rattle.range_analysis.specs.declared.analyse_fault.AnalyseFault.{AnalyseFault}
+use Rattle.range_analysis.specs.declared.analyse_fault.AnalyseFault.TheVariants.{OutOfMemory, LineCut, File}
 
 pub data Entry : Type 0 where
   of_animal : List ℕ → List Fix → Entry

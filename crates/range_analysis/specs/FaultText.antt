@@ -1,8 +1,8 @@
 -- What is said of files that have no analysis.
 use Rattle.std.specs.Prelude.{ℕ, List, codes}
 use Rattle.range_fixes.specs.FaultText.{fault_text}
-use Rattle.range_analysis.specs.declared.fault.AnalyseFault.{AnalyseFault}
-use Rattle.range_analysis.specs.declared.fault.AnalyseFault.TheVariants as analyses
+use Rattle.range_analysis.specs.declared.analyse_fault.AnalyseFault.{AnalyseFault}
+use Rattle.range_analysis.specs.declared.analyse_fault.AnalyseFault.TheVariants as analyses
 
 -- without the files that it is wrong with
 abbrev pub analyse_text : AnalyseFault → List ℕ

@@ -3,14 +3,14 @@ use Rattle.std.specs.Prelude.{◌≡◌, ◌≢◌, ◌<◌, ℕ, ⊤, List, len
 use Rattle.std.specs.List.{AllZip}
 use Rattle.range_plane.specs.declared.fix.Fix.{Fix}
 use Rattle.range_plane.specs.declared.scale.Scale.{Scale}
-use Rattle.range_fixes.specs.declared.fault.ReadFault.TheVariants as reads
+use Rattle.range_fixes.specs.declared.read_fault.ReadFault.TheVariants as reads
 use Rattle.range_fixes.specs.Progress.{is_of_text}
 use Rattle.range_fixes.specs.Reading.{Reading}
 use Rattle.range_analysis.specs.declared.analysis.Analysis.{Analysis}
 use Rattle.range_analysis.specs.Analysis.{HasNoAnalysis, IsAnalysis}
 use Rattle.range_analysis.specs.Entries.{Entry, of_animal, of_fault}
-use Rattle.range_analysis.specs.declared.fault.AnalyseFault.{AnalyseFault}
-use Rattle.range_analysis.specs.declared.fault.AnalyseFault.TheVariants.{OutOfMemory, LineCut}
+use Rattle.range_analysis.specs.declared.analyse_fault.AnalyseFault.{AnalyseFault}
+use Rattle.range_analysis.specs.declared.analyse_fault.AnalyseFault.TheVariants.{OutOfMemory, LineCut}
 
 -- the reading goes to the end of its file, with this animal and these fixes
 pub record IsWhole (r : Reading) (name : List ℕ) (fixes : List Fix) : Type 0 where

@@ -9,7 +9,7 @@ ghost use Rattle.range_analysis.specs.Tracks.{IsAnimalOn, IsMeasuredOf, points_o
 use crate::animal::{Animals, Overlaps};
 use crate::measured::Measured;
 use crate::measurement::measure;
-use crate::overlaps::count_overlaps;
+use crate::overlap_rows::count_overlaps;
 use crate::track::Track;
 use range_options::Levels;
 use range_plane::{OutOfMemory, Scale};

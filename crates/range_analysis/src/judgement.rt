@@ -7,8 +7,8 @@ ghost use Rattle.range_analysis.specs.Entries.{of_fault, entries_of, entry_of, f
 ghost use Rattle.range_analysis.specs.Names.{IsFirstRepeat};
 ghost use Rattle.range_analysis.specs.Tracks.{entries_in};
 
+use crate::analyse_fault::AnalyseFault;
 use crate::analysis::{Analysis, analysis_of};
-use crate::fault::AnalyseFault;
 use crate::losses::loss_of;
 use crate::names::first_repeat;
 use crate::track::Track;

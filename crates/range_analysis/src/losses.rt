@@ -5,7 +5,7 @@ ghost use Rattle.std.specs.List.{list_any, position};
 ghost use Rattle.range_options.specs.Limits.{file_limit};
 ghost use Rattle.range_analysis.specs.Entries.{is_cut, lacks_memory, loss_of};
 
-use crate::fault::AnalyseFault;
+use crate::analyse_fault::AnalyseFault;
 use range_collect::Followed;
 use range_fixes::ReadFault;
 

@@ -5,8 +5,8 @@ ghost use Rattle.range_fixes.specs.Reading.{readings};
 ghost use Rattle.range_options.specs.Limits.{file_limit};
 ghost use Rattle.range_analysis.specs.Sources.{HasNoAnalysisOf, IsAnalysisOf};
 
+use crate::analyse_fault::AnalyseFault;
 use crate::analysis::Analysis;
-use crate::fault::AnalyseFault;
 use crate::judgement::judge;
 use range_collect::follow;
 use range_options::{Levels, Plan};

@@ -1,4 +1,4 @@
 pub mod Deals
-pub mod Holding
+pub mod EstimatorStates
 pub mod LineResults
 pub mod Results

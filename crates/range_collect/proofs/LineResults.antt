@@ -10,7 +10,7 @@ use Rattle.range_plane.specs.declared.scale.Scale.{Scale}
 use Rattle.range_options.specs.declared.plan.Plan.{Plan}
 use Rattle.range_fixes.specs.Reading.{Reading}
 use Rattle.range_line.specs.declared.message.Message.{Message}
-use Rattle.range_line.specs.Lines.{ended_feeder, files_from, new_feeder, AreOfLine, FeederView, Line, TakerView}
+use Rattle.range_line.specs.LineEnds.{ended_feeder, files_from, new_feeder, AreOfLine, FeederView, Line, TakerView}
 use Rattle.range_line.specs.Messages.{block, block_count, all_fixes, of_file, stream, IsLawful}
 use Rattle.range_estimator.specs.Estimation.{Estimation}
 use Rattle.range_collect.specs.Follow.{Holds, IsFollowedAs, IsResult}

@@ -5,7 +5,7 @@ use Rattle.std.proofs.Math.Nat.{mod-add-div', mod-eq_of_lt}
 use Rattle.std.proofs.lemmas.Option.{same_Some, slice_get_within}
 use Rattle.std.specs.declared.clone.Clone.{Ghosts}
 use Rattle.range_fixes.specs.Reading.{Reading}
-use Rattle.range_line.specs.Lines.{first_file}
+use Rattle.range_line.specs.LineEnds.{first_file}
 use Rattle.range_collect.specs.Results.{IsFollowed}
 use Rattle.range_collect.specs.LineFiles.{AreLinesFollowed, IsLineFollowed}
 use Rattle.range_collect.specs.Shares.{AreDealt}

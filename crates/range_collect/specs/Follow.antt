@@ -2,9 +2,9 @@
 use Rattle.std.specs.Prelude.{◌≡◌, ℕ, ◌<◌, List, length, Option, Bool, true, false, Err, IsOk}
 use mathlib.Core.List.{IsPrefix}
 use Rattle.range_plane.specs.declared.fix.Fix.{Fix}
-use Rattle.range_fixes.specs.declared.fault.ReadFault.TheVariants.{Gone}
+use Rattle.range_fixes.specs.declared.read_fault.ReadFault.TheVariants.{Gone}
 use Rattle.range_fixes.specs.Reading.{Reading}
-use Rattle.range_line.specs.Lines.{FeederView}
+use Rattle.range_line.specs.LineEnds.{FeederView}
 use Rattle.range_line.specs.Messages.{IsLawful, fixes}
 use Rattle.range_estimator.specs.Estimation.{Estimation, IsEstimate}
 use Rattle.range_pump.specs.Pump.{IsPumpedFrom, ReadResult}

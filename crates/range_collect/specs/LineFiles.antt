@@ -3,7 +3,7 @@ use Rattle.std.specs.Prelude.{◌≡◌, ℕ, ◌+◌, ◌*◌, ◌<◌, ◌≤�
 use Rattle.std.specs.declared.clone.Clone.{Ghosts}
 use Rattle.range_options.specs.Limits.{file_limit}
 use Rattle.range_fixes.specs.Reading.{Reading}
-use Rattle.range_line.specs.Lines.{files_from, first_file, new_feeder, FeederView, Line, TakerView}
+use Rattle.range_line.specs.LineEnds.{files_from, first_file, new_feeder, FeederView, Line, TakerView}
 use Rattle.range_line.specs.Messages.{of_file, IsLawful}
 use Rattle.range_collect.specs.Results.{IsFollowed}
 use Rattle.range_pump.specs.Pump.{IsPumped, ReadResult}

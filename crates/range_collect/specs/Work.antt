@@ -1,7 +1,7 @@
 -- What the estimators of a line hold.
 use Rattle.std.specs.Prelude.{◌≡◌, ℕ, ◌+◌, ◌*◌, List, [], ◌∷◌, ◌++◌, length, slice_get, Some, Contains}
 use Rattle.range_line.specs.declared.message.Message.{Message}
-use Rattle.range_line.specs.Lines.{files_from}
+use Rattle.range_line.specs.LineEnds.{files_from}
 use Rattle.range_line.specs.Messages.{fixes, IsLawful}
 use Rattle.range_estimator.specs.Estimation.{Estimation}
 use Rattle.range_collect.specs.Follow.{Holds}

@@ -1,7 +1,7 @@
 // What is known of each file of a line that has ended, put together.
 
 ghost use Rattle.std.specs.Prelude.{◌≡◌, ℕ, All, map, slice_get, Some, IfOk, vec_len};
-ghost use Rattle.range_line.specs.Lines.{FeederView};
+ghost use Rattle.range_line.specs.LineEnds.{FeederView};
 ghost use Rattle.range_estimator.specs.Estimation.{Estimation};
 ghost use Rattle.range_collect.specs.Follow.{IsResult};
 ghost use Rattle.range_collect.specs.LineFiles.{IsSeen};

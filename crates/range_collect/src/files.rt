@@ -7,7 +7,7 @@ ghost use Rattle.range_collect.specs.Results.{AreFollowed};
 
 use crate::context::Context;
 use crate::followed::Followed;
-use crate::lines::follow_lines;
+use crate::line_threads::follow_lines;
 use crate::shares::{deal, merge};
 use range_options::Plan;
 use range_plane::OutOfMemory;

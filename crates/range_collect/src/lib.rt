@@ -7,7 +7,7 @@ mod file_results;
 mod files;
 mod followed;
 mod line_run;
-mod lines;
+mod line_threads;
 mod pumps;
 mod shares;
 mod stack;

@@ -3,7 +3,7 @@
 ghost use Rattle.std.specs.Prelude.{◌≡◌, ℕ, ◌≤◌, [], All, IfOk, OnOk, Some, map, slice_get, vec_len, vec_capacity};
 ghost use Rattle.range_fixes.specs.Reading.{reading_from};
 ghost use Rattle.range_options.specs.Limits.{block_limit};
-ghost use Rattle.range_line.specs.Lines.{FeederView};
+ghost use Rattle.range_line.specs.LineEnds.{FeederView};
 ghost use Rattle.range_collect.specs.Fresh.{IsNew};
 ghost use Rattle.range_pump.specs.Pump.{IsPumped, ReadResult};
 

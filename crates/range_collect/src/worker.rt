@@ -4,7 +4,7 @@ ghost use Rattle.std.specs.Prelude.{◌≡◌, ℕ, ◌+◌, ◌≤◌, List, []
 ghost use Rattle.range_plane.specs.Fix.{fix_limit};
 ghost use Rattle.range_plane.specs.declared.fix.Fix.{Fix};
 ghost use Rattle.range_line.specs.declared.message.Message.{Message};
-ghost use Rattle.range_line.specs.Lines.{ended_feeder, files_from, AreOfLine, FeederView};
+ghost use Rattle.range_line.specs.LineEnds.{ended_feeder, files_from, AreOfLine, FeederView};
 ghost use Rattle.range_line.specs.Messages.{fixes_in, all_fixes};
 ghost use Rattle.range_estimator.specs.Estimation.{Estimation};
 ghost use Rattle.range_collect.specs.Follow.{Holds};
@@ -29,7 +29,7 @@ pub(crate) struct Worker<A: Allocator + Clone + Copy> {
 
 impl<A: Allocator + Clone + Copy> Model for Worker<A> {
     ghost use Rattle.std.specs.Prelude.{◌≡◌, vec_len};
-    ghost use Rattle.range_line.specs.Lines.{files_from, TakerView};
+    ghost use Rattle.range_line.specs.LineEnds.{files_from, TakerView};
     ghost use Rattle.range_collect.specs.Work.{EachHolds};
 
     ghost Value = { TakerView };

@@ -1,3 +1,3 @@
-pub mod Lines
+pub mod OneLine
 pub mod RunSources
 pub mod Sayings

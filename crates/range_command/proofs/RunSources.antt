@@ -9,7 +9,7 @@ use Rattle.range_plane.specs.declared.scale.Scale.{Scale}
 use Rattle.range_words.specs.WordList.{AreWordsOf}
 use Rattle.range_words.specs.declared.words.Words.{Words}
 use Rattle.range_run.specs.Run.{Explains, WritesReport}
-use Rattle.range_run.specs.declared.fault.RunFault.{RunFault}
+use Rattle.range_run.specs.declared.run_fault.RunFault.{RunFault}
 use Rattle.range_command.specs.Command.{AskFor, IsOfFiles, IsOfReply, IsOfRun, IsTold, IsUnopened, Reports, World, said_in, sources_of, sources_over}
 use Rattle.range_command.specs.Opener.{Found, IsFirstRefused, MayOpen, MayRefuse, bytes_in}
 use Rattle.range_command.specs.declared.refusal.Refusal.{Refusal}

@@ -9,7 +9,7 @@ use Rattle.range_command.specs.Output.{Outlet}
 use Rattle.range_command.specs.RefusalText.{IsOfOneLine, IsTelling, line_of, refusal_text}
 use Rattle.range_command.specs.declared.refusal.Refusal.{Refusal}
 use Rattle.range_command.specs.declared.refusal.Refusal.TheVariants as refusals
-use Rattle.range_command.proofs.Lines.{refusal_line, short_is_one_line}
+use Rattle.range_command.proofs.OneLine.{refusal_line, short_is_one_line}
 use Rattle.clap.specs.Words.{Text}
 
 -- what words are told is no text of many lines

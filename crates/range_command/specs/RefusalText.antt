@@ -5,14 +5,14 @@ use Rattle.std.specs.Global.{Global}
 use Rattle.std.specs.Io.KnownBytes.{Appends}
 use Rattle.range_texts.specs.Seen.{IsOneLine, shown_text, shown_name}
 use Rattle.range_fixes.specs.FaultText.{fault_text}
-use Rattle.range_fixes.specs.declared.fault.ReadFault.{ReadFault}
-use Rattle.range_fixes.specs.declared.fault.ReadFault.TheVariants as faults
+use Rattle.range_fixes.specs.declared.read_fault.ReadFault.{ReadFault}
+use Rattle.range_fixes.specs.declared.read_fault.ReadFault.TheVariants as faults
 use Rattle.range_analysis.specs.FaultText.{analyse_text}
-use Rattle.range_analysis.specs.declared.fault.AnalyseFault.{AnalyseFault}
-use Rattle.range_analysis.specs.declared.fault.AnalyseFault.TheVariants as analyses
+use Rattle.range_analysis.specs.declared.analyse_fault.AnalyseFault.{AnalyseFault}
+use Rattle.range_analysis.specs.declared.analyse_fault.AnalyseFault.TheVariants as analyses
 use Rattle.range_run.specs.FaultText.{run_text}
-use Rattle.range_run.specs.declared.fault.RunFault.{RunFault}
-use Rattle.range_run.specs.declared.fault.RunFault.TheVariants as runs
+use Rattle.range_run.specs.declared.run_fault.RunFault.{RunFault}
+use Rattle.range_run.specs.declared.run_fault.RunFault.TheVariants as runs
 use Rattle.range_words.specs.FaultText.{word_text}
 use Rattle.range_words.specs.declared.words.WordFault.TheVariants as words
 use Rattle.range_command.specs.Command.{IsToldAlone}

@@ -1,5 +1,5 @@
 -- How the program ends where it is refused.
-use Rattle.std.specs.Prelude.{ℕ, Result, Ok, Err}
+use Rattle.std.specs.Prelude.{ℕ, Err}
 use Rattle.range_run.specs.Status.{status_of}
 use Rattle.range_words.specs.declared.words.WordFault.TheVariants as words
 use Rattle.range_command.specs.declared.refusal.Refusal.{Refusal}
@@ -14,8 +14,3 @@ refusal_status (refusals.CommandLine fault) = 2
 refusal_status (refusals.Unopened path reason) = 1
 refusal_status (refusals.Unwritten reason) = 4
 refusal_status (refusals.Run files fault reason) = status_of (Err fault)
-
--- the same after what may have been obeyed
-abbrev pub outcome_status : Result (Unit {0}) Refusal → ℕ
-outcome_status (Ok _) = 0
-outcome_status (Err refusal) = refusal_status refusal

@@ -8,10 +8,10 @@ ghost use Rattle.range_command.specs.Status.{refusal_status};
 ghost use Rattle.range_command.specs.RefusalText.{IsTelling};
 ghost use Rattle.range_command.specs.declared.refusal.Refusal.{Refusal};
 
-use crate::command::obey;
 use crate::command_line::command_words;
 use crate::opener::Opener;
 use crate::output::Output;
+use crate::program::obey;
 use crate::refusal::Refusal;
 use range_pump::{FileSource, FreeGate, ThreadRuntime};
 use std::alloc::Global;

@@ -5,7 +5,7 @@ ghost use Rattle.range_options.specs.Limits.{file_limit};
 ghost use Rattle.range_command.specs.Command.{IsOfRun, Reports, world};
 ghost use Rattle.range_command.specs.Status.{refusal_status};
 
-use crate::files::open_all;
+use crate::opened_files::open_all;
 use crate::opener::Opener;
 use crate::output::Output;
 use crate::reason::known_reason;

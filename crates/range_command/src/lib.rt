@@ -3,24 +3,24 @@
 #![tactic(auto)]
 
 mod bad_words;
-mod command;
 mod command_line;
 mod confirmed;
 mod exit_status;
 mod file_run;
-mod files;
+mod opened_files;
 mod opener;
 mod output;
+mod program;
 mod reason;
 mod refusal;
 mod refusal_text;
 mod retry;
 mod source;
 
-pub use command::obey;
 pub use confirmed::Confirmed;
 pub use exit_status::{answer, answer_to};
 pub use opener::{OpenFault, Opener, SystemFiles};
 pub use output::Output;
+pub use program::obey;
 pub use refusal::Refusal;
 pub use refusal_text::refusals_are_one_line;

@@ -1,6 +1,6 @@
 -- What stays covered where a set grows.
 use Rattle.std.specs.Prelude.{IsTrue, List, Contains}
-use Rattle.range_plane.specs.Covering.{is_covered}
+use Rattle.range_plane.specs.ConvexCover.{is_covered}
 use Rattle.range_plane.specs.Plane.{Position}
 use Rattle.range_plane.specs.Polygon.{IsPolygon}
 

@@ -1,7 +1,7 @@
 // A point that is added to a hull, where a cover flag says whether it is covered.
 
 ghost use Rattle.std.specs.Prelude.{◌≡◌, ◌+◌, ◌<◌, ◌≤◌, ◌∷◌, List, IsTrue, true, if◌then◌else◌};
-ghost use Rattle.range_plane.specs.Covering.{is_covered};
+ghost use Rattle.range_plane.specs.ConvexCover.{is_covered};
 ghost use Rattle.range_plane.specs.Fix.{fix_limit};
 ghost use Rattle.range_plane.specs.Plane.{Position};
 ghost use Rattle.range_plane.specs.Polygon.{IsPolygon};

@@ -1,7 +1,7 @@
 // Cover flags of points, by a copy of a hull's polygon or by the hull.
 
 ghost use Rattle.std.specs.Prelude.{◌≡◌, None, IfSome, OnOk, map};
-ghost use Rattle.range_plane.specs.Covering.{is_covered};
+ghost use Rattle.range_plane.specs.ConvexCover.{is_covered};
 ghost use Rattle.range_cover.specs.CoverCache.{CoverCacheView};
 
 use range_hull::OnlineHull;

@@ -1,4 +1,4 @@
-pub mod Beginning
+pub mod EmptyTable
 pub mod FlaggedBlocks
 pub mod Sets
 pub mod TableSteps

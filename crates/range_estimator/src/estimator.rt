@@ -1,13 +1,13 @@
 // The estimator of a file.
 
 ghost use Rattle.std.specs.Prelude.{◌≡◌, ◌+◌, ◌≤◌, ◌++◌, [], false, true, IfOk, OnErr, OnOk, count_by, length, not};
-ghost use Rattle.range_plane.specs.Covering.{is_covered};
+ghost use Rattle.range_plane.specs.ConvexCover.{is_covered};
 ghost use Rattle.range_plane.specs.Fix.{fix_limit};
 ghost use Rattle.range_plane.specs.Polygon.{IsPolygon};
 ghost use Rattle.range_plane.specs.Row.{points_of};
 ghost use Rattle.range_estimator.specs.Estimation.{IsEstimate};
 
-use crate::block::load;
+use crate::block_points::load;
 use crate::row::Row;
 use crate::table::Table;
 use range_cover::CoverCache;

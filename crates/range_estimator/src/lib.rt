@@ -2,7 +2,7 @@
 //! the table of incremental area analysis.
 #![tactic(auto)]
 
-mod block;
+mod block_points;
 mod estimator;
 mod row;
 mod table;

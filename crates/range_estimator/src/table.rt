@@ -1,7 +1,7 @@
 // The table of incremental area analysis, which grows by a fix at a time.
 
 ghost use Rattle.std.specs.Prelude.{◌≡◌, ◌+◌, ◌<◌, ◌≤◌, ◌∷◌, ◌++◌, [], true, IsTrue, OnOk, count_by, if◌then◌else◌, length, map, not};
-ghost use Rattle.range_plane.specs.Covering.{is_covered};
+ghost use Rattle.range_plane.specs.ConvexCover.{is_covered};
 ghost use Rattle.range_plane.specs.Fix.{fix_limit};
 ghost use Rattle.range_plane.specs.Row.{points_of};
 ghost use Rattle.range_estimator.specs.Table.{IsSoundTable, fixes_in, spare_of};

@@ -5,8 +5,8 @@ use Rattle.std.proofs.lemmas.Bool.{cases_lt}
 use Rattle.range_plane.specs.Fix.{fix_limit}
 use Rattle.range_plane.specs.declared.scale.Scale.{Scale}
 use Rattle.range_fixes.specs.declared.checks.CheckedRecord.{CheckedRecord}
-use Rattle.range_fixes.specs.declared.fault.ReadFault.{ReadFault}
-use Rattle.range_fixes.specs.declared.fault.ReadFault.TheVariants.{TooManyFixes}
+use Rattle.range_fixes.specs.declared.read_fault.ReadFault.{ReadFault}
+use Rattle.range_fixes.specs.declared.read_fault.ReadFault.TheVariants.{TooManyFixes}
 use Rattle.range_fixes.specs.Check.{checked_in}
 use Rattle.range_fixes.specs.Field.{Record, first_field, header_of}
 use Rattle.range_fixes.specs.Law.{IsExact, IsExactBelow, ReadsExactly, animal_of, check_at}

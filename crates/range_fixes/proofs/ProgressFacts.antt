@@ -5,7 +5,7 @@ use Rattle.std.specs.Option.{option_map}
 use Rattle.range_plane.specs.declared.fix.Fix.{Fix}
 use Rattle.range_plane.specs.declared.scale.Scale.{Scale}
 use Rattle.range_fixes.specs.declared.checks.CheckedRecord.{CheckedRecord}
-use Rattle.range_fixes.specs.declared.fault.ReadFault.{ReadFault}
+use Rattle.range_fixes.specs.declared.read_fault.ReadFault.{ReadFault}
 use Rattle.range_fixes.specs.declared.reader.Stage.TheVariants.{Going}
 use Rattle.range_fixes.specs.CheckedList.{CheckedList}
 use Rattle.range_fixes.specs.CheckedRecords.{GivesRecord, used_ahead, used_of}

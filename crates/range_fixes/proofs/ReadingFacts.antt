@@ -10,8 +10,8 @@ use Rattle.range_plane.specs.Scale.{limit}
 use Rattle.range_plane.specs.declared.scale.Scale.{Scale}
 use Rattle.range_plane.specs.declared.fix.Fix.{Fix}
 use Rattle.range_fixes.specs.declared.checks.CheckedRecord.{CheckedRecord}
-use Rattle.range_fixes.specs.declared.fault.ReadFault.{ReadFault}
-use Rattle.range_fixes.specs.declared.fault.ReadFault.TheVariants.{BadName, OtherAnimal, NotNumber, TooLarge, SecondFalls, BadUse, TooManyFixes, Gone}
+use Rattle.range_fixes.specs.declared.read_fault.ReadFault.{ReadFault}
+use Rattle.range_fixes.specs.declared.read_fault.ReadFault.TheVariants.{BadName, OtherAnimal, NotNumber, TooLarge, SecondFalls, BadUse, TooManyFixes, Gone}
 use Rattle.range_fixes.specs.Check.{animal_in, checked_in, checks_of, is_earlier, fix_in, is_other, number_in, used_in, ◌>>=◌}
 use Rattle.range_numbers.specs.Number.{is_number}
 use Rattle.range_fixes.specs.Field.{Record, first_field, is_name}

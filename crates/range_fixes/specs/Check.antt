@@ -8,8 +8,8 @@ use Rattle.range_plane.specs.Scale.{limit}
 use Rattle.range_plane.specs.declared.fix.Fix.{Fix}
 use Rattle.range_plane.specs.declared.scale.Scale.{Scale}
 use Rattle.range_fixes.specs.declared.checks.CheckedRecord.{CheckedRecord}
-use Rattle.range_fixes.specs.declared.fault.ReadFault.{ReadFault}
-use Rattle.range_fixes.specs.declared.fault.ReadFault.TheVariants.{WrongFieldCount, BadName, OtherAnimal, NotNumber, TooLarge, SecondFalls, BadUse}
+use Rattle.range_fixes.specs.declared.read_fault.ReadFault.{ReadFault}
+use Rattle.range_fixes.specs.declared.read_fault.ReadFault.TheVariants.{WrongFieldCount, BadName, OtherAnimal, NotNumber, TooLarge, SecondFalls, BadUse}
 use Rattle.range_numbers.specs.Number.{is_number}
 use Rattle.range_fixes.specs.Field.{Record, is_name, width}
 use Rattle.range_fixes.specs.Previous.{Previous}

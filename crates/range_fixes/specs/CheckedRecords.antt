@@ -5,7 +5,7 @@ use Rattle.range_plane.specs.Fix.{fix_limit}
 use Rattle.range_plane.specs.declared.scale.Scale.{Scale}
 use Rattle.range_fixes.specs.declared.checked_records.CheckedRecords.TheInside.{Inside}
 use Rattle.range_fixes.specs.declared.checks.CheckedRecord.{CheckedRecord}
-use Rattle.range_fixes.specs.declared.fault.ReadFault.{ReadFault}
+use Rattle.range_fixes.specs.declared.read_fault.ReadFault.{ReadFault}
 use Rattle.range_fixes.specs.CheckedList.{CheckedList}
 use Rattle.range_fixes.specs.Field.{Record, header_of}
 use Rattle.range_fixes.specs.Previous.{IsWithin, Previous, animal_so_far}

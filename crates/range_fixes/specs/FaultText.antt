@@ -5,8 +5,8 @@ use Rattle.range_plane.specs.declared.scale.Scale.{Scale}
 use Rattle.range_plane.specs.Fix.{fix_limit, second_limit}
 use Rattle.range_plane.specs.Scale.{limit, unit_name}
 use Rattle.range_fixes.specs.declared.checks.TheConstants.{NAME_LIMIT}
-use Rattle.range_fixes.specs.declared.fault.ReadFault.{ReadFault}
-use Rattle.range_fixes.specs.declared.fault.ReadFault.TheVariants as faults
+use Rattle.range_fixes.specs.declared.read_fault.ReadFault.{ReadFault}
+use Rattle.range_fixes.specs.declared.read_fault.ReadFault.TheVariants as faults
 
 -- what a field is called
 abbrev pub field_name : ℕ → List ℕ

@@ -3,8 +3,8 @@ use Rattle.std.specs.Prelude.{◌≡◌, ◌+◌, ◌<◌, ◌≤◌, ℕ, zero,
 use Rattle.range_plane.specs.Fix.{fix_limit}
 use Rattle.range_plane.specs.declared.scale.Scale.{Scale}
 use Rattle.range_fixes.specs.declared.checks.CheckedRecord.{CheckedRecord}
-use Rattle.range_fixes.specs.declared.fault.ReadFault.{ReadFault}
-use Rattle.range_fixes.specs.declared.fault.ReadFault.TheVariants.{BadHeader, NoHeader, TooManyFixes}
+use Rattle.range_fixes.specs.declared.read_fault.ReadFault.{ReadFault}
+use Rattle.range_fixes.specs.declared.read_fault.ReadFault.TheVariants.{BadHeader, NoHeader, TooManyFixes}
 use Rattle.range_fixes.specs.Check.{checked_in}
 use Rattle.range_fixes.specs.Field.{Record, first_field, header_of}
 use Rattle.range_fixes.specs.Previous.{Previous, then_previous}

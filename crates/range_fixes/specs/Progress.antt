@@ -2,8 +2,8 @@
 use Rattle.std.specs.Prelude.{◌≡◌, ◌⊎◌, ◌≤◌, ◌<◌, ◌+◌, ℕ, Bool, true, false, List, length, drop, slice_get, Option, Some, None, Result, Ok, Err, IsSome, IfSome}
 use Rattle.std.specs.Prelude.{IsSomeAnd, ⊤, ◌≢◌, ◌==◌, if◌then◌else◌}
 use Rattle.range_plane.specs.declared.fix.Fix.{Fix}
-use Rattle.range_fixes.specs.declared.fault.ReadFault.{ReadFault}
-use Rattle.range_fixes.specs.declared.fault.ReadFault.TheVariants as faults
+use Rattle.range_fixes.specs.declared.read_fault.ReadFault.{ReadFault}
+use Rattle.range_fixes.specs.declared.read_fault.ReadFault.TheVariants as faults
 use Rattle.range_fixes.specs.declared.reader.Stage.{Stage}
 use Rattle.range_fixes.specs.declared.reader.Stage.TheVariants.{Going, Ended, Failed}
 use Rattle.range_fixes.specs.Reading.{Reading}

@@ -2,7 +2,7 @@
 use Rattle.std.specs.Prelude.{◌≢◌, ◌≤◌, ◌<◌, ◌+◌, ℕ, Option, Some, None, IsSome, option_map}
 use Rattle.std.specs.Prelude.{◌==◌, if◌then◌else◌}
 use Rattle.range_plane.specs.Fix.{fix_limit}
-use Rattle.range_fixes.specs.declared.fault.ReadFault.TheVariants.{Gone}
+use Rattle.range_fixes.specs.declared.read_fault.ReadFault.TheVariants.{Gone}
 use Rattle.range_fixes.specs.declared.reader.Stage.{Stage}
 use Rattle.range_fixes.specs.declared.reader.Stage.TheVariants.{Going, Ended, Failed}
 use Rattle.range_fixes.specs.declared.reader.FixReader.TheInside.{Inside}

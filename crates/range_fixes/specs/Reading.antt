@@ -4,8 +4,8 @@ use Rattle.csv.specs.Reading.{default_config, records, strip_bom}
 use Rattle.range_plane.specs.Fix.{fix_limit}
 use Rattle.range_plane.specs.declared.fix.Fix.{Fix}
 use Rattle.range_plane.specs.declared.scale.Scale.{Scale}
-use Rattle.range_fixes.specs.declared.fault.ReadFault.{ReadFault}
-use Rattle.range_fixes.specs.declared.fault.ReadFault.TheVariants.{NoHeader, BadHeader, NoFixes, TooManyFixes}
+use Rattle.range_fixes.specs.declared.read_fault.ReadFault.{ReadFault}
+use Rattle.range_fixes.specs.declared.read_fault.ReadFault.TheVariants.{NoHeader, BadHeader, NoFixes, TooManyFixes}
 use Rattle.range_fixes.specs.declared.checks.CheckedRecord.{CheckedRecord}
 use Rattle.range_fixes.specs.Check.{checked_in}
 use Rattle.range_fixes.specs.Field.{Record, first_field, header_of}

@@ -9,8 +9,8 @@ ghost use Rattle.range_fixes.specs.Reading.{passed_of};
 ghost use Rattle.range_fixes.specs.Records.{records_in};
 
 use crate::checks::{CheckedRecord, checked_in, header_of, name_of};
-use crate::fault::ReadFault;
 use crate::previous::{Previous, note};
+use crate::read_fault::ReadFault;
 use crate::records::Records;
 use range_plane::{FIX_LIMIT, Scale};
 use std::alloc::Global;

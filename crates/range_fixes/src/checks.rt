@@ -6,8 +6,8 @@ ghost use Rattle.range_fixes.specs.Check.{IsSplit, animal_in, checked_in, is_ear
 ghost use Rattle.range_fixes.specs.Previous.{IsWithin};
 ghost use Rattle.range_fixes.specs.Field.{first_field, header_of, is_name, is_name_byte, names_animal, width};
 
-use crate::fault::ReadFault;
 use crate::previous::Previous;
+use crate::read_fault::ReadFault;
 use csv::ByteRecord;
 use range_numbers::{VALUE_LIMIT, value_of};
 use range_plane::{Fix, Point, SECOND_LIMIT, Scale};

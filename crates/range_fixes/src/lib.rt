@@ -8,14 +8,14 @@
 
 mod checked_records;
 mod checks;
-mod fault;
 mod law;
 mod name;
 mod previous;
+mod read_fault;
 mod reader;
 mod records;
 
-pub use fault::ReadFault;
 pub use law::{limits_are_these, reads_exactly};
 pub use name::Name;
+pub use read_fault::ReadFault;
 pub use reader::FixReader;

@@ -3,7 +3,7 @@
 ghost use Rattle.std.specs.Prelude.{◌≡◌, Some, None, IfErr, OnErr, OnOk};
 ghost use Rattle.range_fixes.specs.Previous.{then_previous};
 
-use crate::fault::ReadFault;
+use crate::read_fault::ReadFault;
 use std::alloc::Global;
 use std::marker::Model;
 

@@ -7,7 +7,7 @@ ghost use Rattle.range_fixes.specs.Progress.{Answers, HasCause, Leaves, Moves, R
 ghost use Rattle.range_fixes.specs.Reading.{Reading, reading_from};
 
 use crate::checked_records::CheckedRecords;
-use crate::fault::ReadFault;
+use crate::read_fault::ReadFault;
 use range_plane::{Fix, Scale};
 use std::alloc::Global;
 use std::io::Read;

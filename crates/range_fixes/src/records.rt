@@ -5,7 +5,7 @@ ghost use Rattle.csv.specs.Reading.{error_kind, is_io};
 ghost use Rattle.csv.specs.Records.{fields_of};
 ghost use Rattle.range_fixes.specs.Records.{TakesRecord, records_in};
 
-use crate::fault::ReadFault;
+use crate::read_fault::ReadFault;
 use csv::{ByteRecord, Error, Reader, ReaderBuilder};
 use std::alloc::Global;
 use std::io::Read;

@@ -3,7 +3,7 @@ use Rattle.std.proofs.Common.{◌≡◌, sym, subst, ℕ, ◌+◌, ◌-◌, ◌<
 use Rattle.std.proofs.Common.{true, false}
 use Rattle.std.proofs.lemmas.Bool.{OnFalse_at, OnTrue_at, cases_lt}
 use Rattle.std.specs.Bool.{OnFalse, OnTrue}
-use Rattle.range_plane.specs.Covering.{advance, is_covered}
+use Rattle.range_plane.specs.ConvexCover.{advance, is_covered}
 use Rattle.range_plane.specs.Edges.{at}
 use Rattle.range_plane.specs.Order.{rank, rank_base}
 use Rattle.range_plane.specs.Plane.{Position, position, turn}

@@ -6,7 +6,7 @@ use Rattle.std.proofs.lemmas.Bool.{cases_lt}
 use Rattle.std.proofs.lemmas.Int.{by_lt_z, ints}
 use Rattle.std.proofs.lemmas.List.{get_or_append_left, get_or-take, get_or-drop, get_or-append_right, get_or-reverse, length-take-le, length-reverse}
 use Rattle.std.proofs.lemmas.List.{get_or_default, take_more}
-use Rattle.range_plane.specs.Covering.{advance}
+use Rattle.range_plane.specs.ConvexCover.{advance}
 use Rattle.range_plane.specs.Edges.{at}
 use Rattle.range_plane.specs.Order.{rank, rank_base}
 use Rattle.range_plane.specs.Plane.{Position, IsAtMost, IsWithinLimits, origin, turn}

@@ -1,14 +1,14 @@
 // The hull of points that come one at a time.
 
 ghost use Rattle.std.specs.Prelude.{◌≡◌, ◌+◌, ◌*◌, ◌<◌, ◌≤◌, pos, List, [], ◌∷◌, length, IfOk, IsOk, IsTrue, OnOk};
-ghost use Rattle.range_plane.specs.Covering.{is_covered};
+ghost use Rattle.range_plane.specs.ConvexCover.{is_covered};
 ghost use Rattle.range_plane.specs.Fix.{fix_limit};
 ghost use Rattle.range_plane.specs.Plane.{Position};
 ghost use Rattle.range_plane.specs.Polygon.{IsPolygon, area2};
 
 use crate::chain::{extend, lies_within, push_back};
-use crate::search::spots_of;
 use crate::side::Side;
+use crate::spot_search::spots_of;
 use crate::tally::Tally;
 use range_pieces::PointList;
 use range_plane::{OutOfMemory, Point, Polygon};

@@ -3,9 +3,9 @@
 
 mod chain;
 mod hull;
-mod search;
 mod side;
 mod spot;
+mod spot_search;
 mod tally;
 
 pub use hull::OnlineHull;

@@ -4,7 +4,7 @@ use lib.Lanes.{chunk}
 use Rattle.std.proofs.lemmas.List.{get_or-map, length-map}
 use Rattle.std.proofs.lemmas.Option.{get_or_from_slice_get, slice_get_cases}
 use Rattle.std.proofs.lemmas.Simd.{get_or-chunk, length-chunk}
-use Rattle.range_plane.specs.Covering.{is_covered}
+use Rattle.range_plane.specs.ConvexCover.{is_covered}
 use Rattle.range_plane.specs.Plane.{Position}
 use Rattle.range_plane.proofs.ForCallers.{covered_is_decided, larger_sets_cover_more}
 use Rattle.range_lanes.specs.Lanes.{is_not_negative}

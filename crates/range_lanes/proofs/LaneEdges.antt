@@ -5,8 +5,8 @@ use borrow.Author.Count.{below_more}
 use Rattle.std.specs.Bool.{Decides}
 use Rattle.std.proofs.lemmas.Int.{ints}
 use Rattle.std.proofs.lemmas.Bool.Decides.{Decides-and, Decides-like, same_from_decides}
-use Rattle.range_plane.specs.Covering.{IsLeftOfEdges, is_covered, is_on_segment}
-use Rattle.range_plane.specs.Covering.Covers.{by_segment}
+use Rattle.range_plane.specs.ConvexCover.{IsLeftOfEdges, is_covered, is_on_segment}
+use Rattle.range_plane.specs.ConvexCover.Covers.{by_segment}
 use Rattle.range_plane.specs.Edges.{at}
 use Rattle.range_plane.specs.Plane.{Position, origin, turn}
 use Rattle.range_plane.specs.Polygon.{IsPolygon}

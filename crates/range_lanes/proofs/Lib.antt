@@ -1,11 +1,11 @@
-pub mod Eights
 pub mod Choices
 pub mod CornerBoxes
 pub mod Counts
+pub mod EdgeSides
+pub mod Eights
 pub mod Known
 pub mod LaneEdges
-pub mod Lines
-pub mod Signed
 pub mod LaneSums
+pub mod Signed
 pub mod Taken
 pub mod Turns

@@ -6,7 +6,7 @@ use Rattle.std.proofs.lemmas.Int.{ints}
 use Rattle.std.proofs.lemmas.Simd.{map-map, zip2-map, Each1-weaker}
 use Rattle.range_plane.specs.Plane.{IsCoordinate, Position, turn, coordinate_limit, product_limit, turn_limit}
 use Rattle.std.specs.Ordering.{int_eq}
-use Rattle.range_plane.specs.Covering.{scalar_product, is_on_segment}
+use Rattle.range_plane.specs.ConvexCover.{scalar_product, is_on_segment}
 use Rattle.range_lemmas.proofs.Integers.{linear, neg_product, product_comm}
 use Rattle.range_lemmas.proofs.Sizes.{abs_add, abs_difference, abs_mul, abs_sub, difference_kept}
 use Rattle.range_lanes.specs.Lanes.{IsBounded, is_not_negative}

@@ -2,7 +2,7 @@
 
 ghost use Rattle.std.specs.Prelude.{◌≡◌, ◌+◌, ◌*◌, ◌<◌, ◌≤◌, ◌^◌, ◌++◌, ℕ, ℤ, Contains, IfSome, Some, count_by, length, map, slice_get, take, true};
 ghost use Rattle.std.specs.Simd.Lanes.{chunk};
-ghost use Rattle.range_plane.specs.Covering.{is_covered};
+ghost use Rattle.range_plane.specs.ConvexCover.{is_covered};
 ghost use Rattle.range_plane.specs.Plane.{IsInBox, Position};
 ghost use Rattle.range_plane.specs.Polygon.{IsPolygon};
 ghost use Rattle.range_lanes.specs.Lanes.{is_not_negative};

@@ -2,7 +2,7 @@
 
 ghost use Rattle.std.specs.Prelude.{◌≡◌, ◌<◌, ◌≤◌, length, map};
 ghost use Rattle.std.specs.Simd.Lanes.{Each1};
-ghost use Rattle.range_plane.specs.Covering.{scalar_product, is_covered, is_on_segment};
+ghost use Rattle.range_plane.specs.ConvexCover.{scalar_product, is_covered, is_on_segment};
 ghost use Rattle.range_plane.specs.Plane.{turn, turn_limit};
 ghost use Rattle.range_plane.specs.Polygon.{IsPolygon};
 ghost use Rattle.range_lanes.specs.EdgeLines.{AreLinesOf};

@@ -14,7 +14,7 @@ use Rattle.range_line.specs.declared.rule.Transcript.{Transcript}
 use Rattle.range_line.specs.declared.rule.PassView.{PassView}
 use Rattle.range_line.specs.Messages.{of_file, IsOrderly}
 use Rattle.range_line.specs.Rule.{Takes, IsRest}
-use Rattle.range_line.specs.Lines.{Line, FeederView, ended_feeder, AreForFiles, AreOfLine, IsTakenOf}
+use Rattle.range_line.specs.LineEnds.{Line, FeederView, ended_feeder, AreForFiles, AreOfLine, IsTakenOf}
 use Rattle.range_line.specs.Passes.{LinePass, taken_by, transcript_of, after_joining_all, AreOf, HasTranscripts}
 use Rattle.range_line.proofs.RuleSteps.{At, not_in_none}
 use Rattle.range_line.proofs.Orderly.{of_file_append, mark_is_last}

@@ -3,7 +3,7 @@ use Rattle.std.proofs.Common.{◌≡◌, ℕ, zero, suc, ◌+◌, ◌*◌, ◌<�
 use Rattle.std.specs.Prelude.{Contains}
 use Rattle.std.proofs.lemmas.List.FromFn.{length-map-range_with_len, get_or-map-range_with_len, map-range_with_len_more}
 use Rattle.range_line.specs.Laws.{FilesAreStepsApart}
-use Rattle.range_line.specs.Lines.{files_from}
+use Rattle.range_line.specs.LineEnds.{files_from}
 
 -- the files of a line are those that are fewer steps than their count after the first
 pub files_are_steps_apart : FilesAreStepsApart

@@ -20,7 +20,7 @@ use Rattle.crossbeam_channel.specs.Fifo.{Pushes, Pops, Forks, Merges, Learns}
 use Rattle.std.proofs.lemmas.List.{append-nil}
 use Rattle.range_line.proofs.Orderly.{joined_append, of_file_push, orderly_push, has_mark_push}
 use Rattle.range_line.proofs.RuleSteps.{sends, takes, completes, ends, joins, At, at_end}
-use Rattle.range_line.specs.Lines.{FeederView, TakerView, new_taker, next_message}
+use Rattle.range_line.specs.LineEnds.{FeederView, TakerView, new_taker, next_message}
 use Rattle.range_line.specs.Passes.{LinePass, first_known, line_of, first_sent, sent_by, may_send, taken_by, files_known, depth_known, IsFeeding, IsTaking}
 
 -- two passes of one channel that show the same first file are of one line

@@ -8,7 +8,7 @@ use Rattle.range_line.specs.declared.message.Message.{Message}
 use Rattle.range_line.specs.declared.rule.Transcript.{Transcript}
 use Rattle.range_line.specs.declared.rule.PassView.{PassView}
 use Rattle.range_line.specs.Messages.{of_file, fixes_in, fixes, has_mark, stream, IsFit, IsLawful}
-use Rattle.range_line.specs.Lines.{files_from}
+use Rattle.range_line.specs.LineEnds.{files_from}
 use Rattle.range_line.specs.Rule.{IsRuled}
 
 -- what a line's taker has taken, what the channel holds and what the passes show

@@ -1,5 +1,5 @@
-pub mod Messages
-pub mod Rule
-pub mod Lines
-pub mod Passes
 pub mod Laws
+pub mod LineEnds
+pub mod Messages
+pub mod Passes
+pub mod Rule

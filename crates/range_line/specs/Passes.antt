@@ -8,7 +8,7 @@ use Rattle.range_line.specs.declared.rule.Transcript.{Transcript}
 use Rattle.range_line.specs.declared.rule.PassView.{PassView}
 use Rattle.range_line.specs.Messages.{of_file, all_fixes, has_mark, IsOrderly, IsLawful}
 use Rattle.range_line.specs.Rule.{transcript, feeder_pass, taker_pass}
-use Rattle.range_line.specs.Lines.{Line, FeederView}
+use Rattle.range_line.specs.LineEnds.{Line, FeederView}
 
 abbrev pub LinePass : Type 0
 LinePass = Pass Message PassView

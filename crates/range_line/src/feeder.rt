@@ -5,7 +5,7 @@ ghost use Rattle.crossbeam_channel.specs.Claims.{view, IsSeatAt};
 ghost use Rattle.crossbeam_channel.specs.Ends.{sends_on, ruled_capacity};
 ghost use Rattle.range_plane.specs.Fix.{fix_limit};
 ghost use Rattle.range_options.specs.Limits.{block_limit};
-ghost use Rattle.range_line.specs.Lines.{after_send, ended_feeder, new_feeder, next_message};
+ghost use Rattle.range_line.specs.LineEnds.{after_send, ended_feeder, new_feeder, next_message};
 ghost use Rattle.range_line.specs.Messages.{block_of, has_mark, all_fixes, of_file, the_mark, IsLawful};
 ghost use Rattle.range_line.specs.Passes.{after_joining_all, line_from, line_of, IsTaking};
 ghost use Rattle.range_line.specs.Rule.{after_opening, feeder_pass, taker_pass, IsRest};
@@ -37,7 +37,7 @@ pub struct Feeder<A: Allocator + Clone = Global> {
 }
 
 impl<A: Allocator + Clone> Model for Feeder<A> {
-    ghost use Rattle.range_line.specs.Lines.{FeederView};
+    ghost use Rattle.range_line.specs.LineEnds.{FeederView};
 
     ghost Value = { FeederView };
 

@@ -2,7 +2,7 @@
 
 ghost use Rattle.std.specs.Prelude.{◌≡◌, ℕ, [], map, All, Contains, IfNone, IfSome};
 ghost use Rattle.crossbeam_channel.specs.Claims.{view};
-ghost use Rattle.range_line.specs.Lines.{ended_feeder, ended_taker, AreForFiles, AreOfLine, IsAllTaken, IsTakenOf};
+ghost use Rattle.range_line.specs.LineEnds.{ended_feeder, ended_taker, AreForFiles, AreOfLine, IsAllTaken, IsTakenOf};
 ghost use Rattle.range_line.specs.Messages.{IsLawful};
 ghost use Rattle.range_line.specs.Passes.{after_joining_all, line_of, taken_by, AreOf, HasTranscripts, IsTaking};
 

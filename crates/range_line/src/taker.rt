@@ -3,7 +3,7 @@
 ghost use Rattle.std.specs.Prelude.{◌≡◌, ℕ, ◌<◌, ◌≤◌, false, map, Contains, IfOk, IfSome};
 ghost use Rattle.std.specs.Option.{MatchOption};
 ghost use Rattle.range_options.specs.Limits.{depth_limit, file_limit};
-ghost use Rattle.range_line.specs.Lines.{after_take, files_from, first_file, new_feeder, new_taker};
+ghost use Rattle.range_line.specs.LineEnds.{after_take, files_from, first_file, new_feeder, new_taker};
 ghost use Rattle.range_line.specs.Messages.{IsLawful};
 
 use crate::channel::take;
@@ -30,7 +30,7 @@ pub struct Taker<A: Allocator + Clone = Global> {
 }
 
 impl<A: Allocator + Clone> Model for Taker<A> {
-    ghost use Rattle.range_line.specs.Lines.{TakerView};
+    ghost use Rattle.range_line.specs.LineEnds.{TakerView};
 
     ghost Value = { TakerView };
 

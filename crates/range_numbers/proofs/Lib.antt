@@ -1,4 +1,4 @@
-pub mod Counting
+pub mod DigitWeights
 pub mod Digits
 pub mod Long
 pub mod Pairs

@@ -10,7 +10,7 @@ use Rattle.std.proofs.lemmas.Simd.{Each1-chunk}
 use Rattle.std.proofs.lemmas.Str.{digit_value_digit}
 use Rattle.range_numbers.specs.Groups.{AreDigits, IsDigit, are_small, weighted_sum, last_weights, weights_before}
 use Rattle.range_numbers.specs.Number.{is_number}
-use Rattle.range_numbers.proofs.Counting.{head_small, tail_small}
+use Rattle.range_numbers.proofs.DigitWeights.{head_small, tail_small}
 
 -- each byte is a digit
 abbrev AllAre : List ℕ → Type 0

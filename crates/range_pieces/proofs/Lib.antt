@@ -1,4 +1,4 @@
-pub mod PieceCuts
 pub mod Joins
-pub mod Falling
+pub mod PieceCuts
+pub mod PieceIndices
 pub mod Shelves

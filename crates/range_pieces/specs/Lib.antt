@@ -1,4 +1,4 @@
 pub mod Pieces
 pub mod PointList
-pub mod Rising
+pub mod RisingPoints
 pub mod Shelf

@@ -5,7 +5,7 @@ ghost use Rattle.range_plane.specs.Order.{rank};
 ghost use Rattle.range_plane.specs.Plane.{Position};
 ghost use Rattle.range_pieces.specs.Pieces.{IsCut, all_points};
 ghost use Rattle.range_pieces.specs.PointList.{FallsAt, IsRising};
-ghost use Rattle.range_pieces.specs.Rising.{IsBetween, Rises, first_of};
+ghost use Rattle.range_pieces.specs.RisingPoints.{IsBetween, Rises, first_of};
 
 use crate::shelf::Shelf;
 use range_plane::{Point, rank};
@@ -64,7 +64,7 @@ struct Firsts<'a, A: Allocator> {
 
 impl<A: Allocator> Rising for Firsts<'_, A> {
     ghost use Rattle.std.specs.Prelude.{length};
-    ghost use Rattle.range_pieces.specs.Rising.{first_of};
+    ghost use Rattle.range_pieces.specs.RisingPoints.{first_of};
 
     ghost count = { λ f. length f.shelf.now.pieces };
 

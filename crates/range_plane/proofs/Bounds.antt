@@ -4,7 +4,7 @@ use mir.Val.{to_z, of_z}
 use Rattle.std.proofs.lemmas.Int.{to_z-of_z}
 use Rattle.range_lemmas.proofs.Sizes.{abs_add, abs_difference, abs_mul, abs_sub, difference_kept, fits_from_size, kept}
 use Rattle.range_plane.specs.Plane.{Position, IsCoordinate, IsWithinLimits, coordinate_limit, product_limit, turn_limit, turn}
-use Rattle.range_plane.specs.Covering.{scalar_product}
+use Rattle.range_plane.specs.ConvexCover.{scalar_product}
 
 -- how large a product of two differences of coordinates may be
 pub abs_product : (a b c d : ℤ) → IsCoordinate a → IsCoordinate b → IsCoordinate c → IsCoordinate d → unsigned_abs ((a -ℤ b) *ℤ (c -ℤ d)) ≤ product_limit

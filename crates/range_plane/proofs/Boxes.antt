@@ -1,7 +1,7 @@
 -- What a set covers lies in each box that has its members.
 use Rattle.std.proofs.Common.{pos, neg_ℤ, ◌≤ℤ◌, arith}
 use Rattle.std.proofs.lemmas.Int.{ints}
-use Rattle.range_plane.specs.Covering.{advance}
+use Rattle.range_plane.specs.ConvexCover.{advance}
 use Rattle.range_plane.specs.Laws.{BoxesHoldWhatIsCovered}
 use Rattle.range_plane.specs.Plane.{Position, position}
 use Rattle.range_plane.proofs.Separation.{covers_reaching}

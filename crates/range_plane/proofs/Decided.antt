@@ -5,8 +5,8 @@ use Rattle.std.specs.Prelude.{int_le, int_lt}
 use Rattle.std.specs.Cmp.{signed_Decides}
 use Rattle.std.specs.List.{list_any}
 use Rattle.std.proofs.lemmas.Bool.Decides.{Decides-and, Decides-like, Decides-or}
-use Rattle.range_plane.specs.Covering.{Covers, IsInTriangle, IsOnSegment, scalar_product, is_covered, is_in_triangle, is_on_segment}
-use Rattle.range_plane.specs.Covering.Covers.{by_segment, by_triangle}
+use Rattle.range_plane.specs.ConvexCover.{Covers, IsInTriangle, IsOnSegment, scalar_product, is_covered, is_in_triangle, is_on_segment}
+use Rattle.range_plane.specs.ConvexCover.Covers.{by_segment, by_triangle}
 use Rattle.range_plane.specs.Plane.{Position, turn}
 use Rattle.range_plane.specs.Polygon.{same_position}
 use Rattle.range_lemmas.proofs.Members.{contains_first, contains_later, empty_contains_nothing, contained}

@@ -2,18 +2,18 @@
 use Rattle.std.proofs.Common.{◌≡◌, ◌≢◌, refl, sym, subst, ℕ, ◌<◌, pos, ◌<ℤ◌, ◌⊎◌, inl, inr, Bool, true, false, not, IsTrue, List, [], ◌∷◌, length, Contains}
 use Rattle.std.proofs.Common.{arith}
 use Rattle.std.specs.Bool.{OnFalse, OnTrue}
-use Rattle.range_plane.specs.Covering.{Covers, is_covered}
+use Rattle.range_plane.specs.ConvexCover.{Covers, is_covered}
 use Rattle.range_plane.specs.Edges.{at, IsTop}
 use Rattle.range_plane.specs.Plane.{Position, IsAtMost, IsBefore}
 use Rattle.range_plane.specs.Polygon.{BeginsWithLeast}
 use Rattle.range_plane.proofs.Decided.{covered_decided}
 use Rattle.range_plane.proofs.Extremes.{covers_member}
 use Rattle.range_lemmas.proofs.Members.{contains_first, contains_later, empty_contains_nothing}
-use Rattle.range_plane.proofs.Rising.{rising}
+use Rattle.range_plane.proofs.RisingDirection.{rising}
 use Rattle.range_plane.proofs.AtMost.{at_most_one_way, at_most_itself, through_most}
 use Rattle.range_plane.proofs.Separation.{not_both}
 use Rattle.range_plane.proofs.SmallSets.{covers_none}
-use Rattle.range_plane.proofs.Spanning.{at_member}
+use Rattle.range_plane.proofs.SpanningEdges.{at_member}
 use Rattle.range_plane.proofs.Unique.{least_alone}
 use Rattle.range_plane.proofs.Vectors.{dot_reverse, reverse_of}
 use Rattle.range_plane.proofs.Without.{equal_or_apart}

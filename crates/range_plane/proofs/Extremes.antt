@@ -1,10 +1,10 @@
 -- Two sets that cover the same points have the same extreme points, and the extreme points cover what the set covers.
 use Rattle.std.proofs.Common.{◌≡◌, ◌≢◌, sym, subst, ℕ, zero, suc, ◌<◌, length, ℤ, pos, ◌+ℤ◌, ◌-ℤ◌, ◌≤ℤ◌, ◌<ℤ◌, List, [], ◌∷◌, Contains, ◌⊎◌, inl, inr, arith}
 use Rattle.std.proofs.lemmas.Int.{by_lt_z}
-use Rattle.range_plane.specs.Covering.{Covers}
+use Rattle.range_plane.specs.ConvexCover.{Covers}
 use Rattle.range_plane.specs.Plane.{Position}
 use Rattle.range_plane.specs.Polygon.{IsExtreme, without}
-use Rattle.range_plane.specs.Covering.Covers.{by_segment}
+use Rattle.range_plane.specs.ConvexCover.Covers.{by_segment}
 use Rattle.range_lemmas.proofs.Integers.{linear, at_least_product, nonneg_product}
 use Rattle.range_lemmas.proofs.Members.{contains_first, contains_later, empty_contains_nothing, each}
 use Rattle.range_plane.proofs.Without.{equal_or_apart, without_keeps, without_has, shorter_without, find_member}

@@ -11,10 +11,10 @@ use Rattle.range_plane.proofs.Ends.{first_least}
 use Rattle.range_plane.proofs.Extremes.{covers_member}
 use Rattle.range_lemmas.proofs.Integers.{linear}
 use Rattle.range_lemmas.proofs.Members.{each}
-use Rattle.range_plane.proofs.Rising.{rising}
+use Rattle.range_plane.proofs.RisingDirection.{rising}
 use Rattle.range_plane.proofs.AtMost.{at_most_itself}
 use Rattle.range_plane.proofs.RoundLeast.{transitive_round}
-use Rattle.range_plane.proofs.Spanning.{at_member}
+use Rattle.range_plane.proofs.SpanningEdges.{at_member}
 use Rattle.range_plane.proofs.Vectors.{dot, from, leftward, dot_leftward, turn_cycle, turn_end}
 
 -- the whole test

@@ -3,10 +3,10 @@ use Rattle.std.proofs.Common.{◌≡◌, refl, sym, ◌∙◌, subst, ℕ, suc, 
 use Rattle.std.proofs.Common.{inl, inr, arith}
 use Rattle.std.proofs.lemmas.List.{get_or_default}
 use Rattle.std.proofs.lemmas.Int.{by_lt_z}
-use Rattle.range_plane.specs.Covering.{Covers, IsLeftOfEdges}
+use Rattle.range_plane.specs.ConvexCover.{Covers, IsLeftOfEdges}
 use Rattle.range_plane.specs.Plane.{Position, turn}
 use Rattle.range_plane.specs.Polygon.{TurnsLeft}
-use Rattle.range_plane.specs.Covering.Covers.{by_triangle}
+use Rattle.range_plane.specs.ConvexCover.Covers.{by_triangle}
 use Rattle.range_lemmas.proofs.Integers.{linear}
 use Rattle.range_lemmas.proofs.Members.{contains_first, contains_later}
 use Rattle.range_plane.proofs.Separation.{not_both}

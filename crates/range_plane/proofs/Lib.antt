@@ -2,6 +2,7 @@ pub mod Areas
 pub mod AtMost
 pub mod Bounds
 pub mod Boxes
+pub mod CornerSearch
 pub mod Corners
 pub mod Decided
 pub mod Ends
@@ -14,13 +15,12 @@ pub mod Others
 pub mod Polygons
 pub mod Ranges
 pub mod Ranks
-pub mod Rising
+pub mod RisingDirection
 pub mod Round
 pub mod RoundLeast
-pub mod Searching
 pub mod Separation
 pub mod SmallSets
-pub mod Spanning
+pub mod SpanningEdges
 pub mod Tops
 pub mod Unique
 pub mod Vectors

@@ -1,7 +1,7 @@
 -- Tests over the members other than one, by tests that pass it over.
 use Rattle.std.proofs.Common.{◌≡◌, refl, sym, ap, Bool, true, false, cond, List, [], ◌∷◌, ◌&&◌, ◌||◌, not}
 use Rattle.std.specs.List.{list_any}
-use Rattle.range_plane.specs.Covering.{is_covered, is_in_triangle, is_on_segment}
+use Rattle.range_plane.specs.ConvexCover.{is_covered, is_in_triangle, is_on_segment}
 use Rattle.range_plane.specs.Plane.{Position}
 use Rattle.range_plane.specs.Polygon.{any_other, same_position, without}
 

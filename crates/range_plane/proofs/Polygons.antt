@@ -1,6 +1,6 @@
 -- What a polygon covers, and which sets have the same polygon.
 use Rattle.std.proofs.Common.{◌↔◌, List, ◌∷◌}
-use Rattle.range_plane.specs.Covering.{Covers}
+use Rattle.range_plane.specs.ConvexCover.{Covers}
 use Rattle.range_plane.specs.Plane.{Position}
 use Rattle.range_plane.specs.Polygon.{IsPolygon}
 use Rattle.range_lemmas.proofs.Members.{contains_first, contains_later, each}

@@ -6,11 +6,11 @@ use Rattle.std.proofs.lemmas.Int.{by_lt_z}
 use Rattle.std.proofs.lemmas.List.{get_or_default, get_or_read}
 use Rattle.std.proofs.lemmas.List.Elements.{Contains-get_or}
 use Rattle.range_plane.specs.Plane.{Position, origin, turn, IsAtMost}
-use Rattle.range_plane.specs.Covering.{Covers}
+use Rattle.range_plane.specs.ConvexCover.{Covers}
 use Rattle.range_plane.specs.Polygon.{IsExtreme, IsLeast, IsPolygon, without}
 use Rattle.range_lemmas.proofs.Integers.{linear}
 use Rattle.range_lemmas.proofs.Members.{contains_first, contains_later, empty_contains_nothing, contained, each}
-use Rattle.range_plane.proofs.Rising.{rising}
+use Rattle.range_plane.proofs.RisingDirection.{rising}
 use Rattle.range_plane.proofs.AtMost.{at_most_itself, at_most_one_way, through_most}
 use Rattle.range_plane.proofs.RoundLeast.{ahead, one_before, pairs_with, polygon_round, transitive_round}
 use Rattle.range_plane.proofs.Separation.{IsSeparated, covered_or_separated, not_both}

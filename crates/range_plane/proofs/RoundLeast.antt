@@ -3,15 +3,15 @@ use Rattle.std.proofs.Common.{◌≡◌, ◌≢◌, sym, ap, ◌∙◌, subst, �
 use Rattle.std.proofs.Common.{AllPairs, ◌⊎◌, inl, inr, arith, le_of_suc-le-suc}
 use Rattle.std.proofs.lemmas.Int.{by_lt_z}
 use Rattle.std.proofs.lemmas.List.Elements.{Contains-get_or}
-use Rattle.range_plane.specs.Covering.{IsOnSegment}
+use Rattle.range_plane.specs.ConvexCover.{IsOnSegment}
 use Rattle.range_plane.specs.Plane.{Position, turn}
 use Rattle.range_plane.specs.Polygon.{IsLeast, IsExtreme, without, TurnsLeft, IsPolygon}
-use Rattle.range_plane.specs.Covering.Covers.{by_segment, by_triangle}
+use Rattle.range_plane.specs.ConvexCover.Covers.{by_segment, by_triangle}
 use Rattle.range_lemmas.proofs.Integers.{linear, Sign, sign, positive_product, nonneg_product, positive_factor, product_comm}
 use Rattle.range_lemmas.proofs.Integers.Sign.{negative, naught, positive}
 use Rattle.range_lemmas.proofs.Members.{contains_first, contains_later, each}
 use Rattle.range_plane.proofs.Separation.{not_both}
-use Rattle.range_plane.proofs.Rising.{rising}
+use Rattle.range_plane.proofs.RisingDirection.{rising}
 use Rattle.range_lemmas.proofs.Ring.{var, ◌⊖◌, ◌⊗◌, ring}
 use Rattle.range_plane.proofs.Vectors.{cross, dot, from, across, along, turn_round, scalar_product_round, nonneg_norm, turn_swap, turn_cycle, turn_self}
 use Rattle.range_plane.proofs.Vectors.{turn_end}

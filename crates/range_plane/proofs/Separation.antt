@@ -3,10 +3,10 @@ use Rattle.std.proofs.Common.{◌≡◌, sym, ap, ◌∙◌, subst, ℤ, pos, �
 use Rattle.std.proofs.lemmas.Int.{by_lt_z}
 use Rattle.range_plane.proofs.Vectors.{cross, dot, from, inward, cross_flip, cross_self, cramer, along, dot_from, dot_inward, dot_origin, dot_reverse}
 use Rattle.range_plane.proofs.Vectors.{reverse_of, turn_from, turn_at, scalar_product_is, positive_norm, ahead_within, ahead_along, right_of, left_of}
-use Rattle.range_plane.specs.Covering.{IsOnSegment, IsInTriangle, Covers, advance}
+use Rattle.range_plane.specs.ConvexCover.{IsOnSegment, IsInTriangle, Covers, advance}
 use Rattle.range_plane.specs.Laws.{ReachesEveryWay}
 use Rattle.range_plane.specs.Plane.{Position, turn}
-use Rattle.range_plane.specs.Covering.Covers.{by_segment, by_triangle}
+use Rattle.range_plane.specs.ConvexCover.Covers.{by_segment, by_triangle}
 use Rattle.range_lemmas.proofs.Integers.{linear, Sign, sign, at_least_product, positive_product, nonpos_product, product_comm}
 use Rattle.range_lemmas.proofs.Integers.Sign.{negative, naught, positive}
 use lib.IntN.{zero-*ℤ}

@@ -1,8 +1,8 @@
 -- What no point, one point and two points cover.
 use Rattle.std.proofs.Common.{◌≡◌, sym, ◌∙◌, subst, pos, ◌-ℤ◌, ◌≤ℤ◌, ◌<ℤ◌, ◌↔◌, [], ◌∷◌, Contains, ◌⊎◌, inl, inr, arith}
-use Rattle.range_plane.specs.Covering.{scalar_product, Covers, IsOnSegment, IsInTriangle}
+use Rattle.range_plane.specs.ConvexCover.{scalar_product, Covers, IsOnSegment, IsInTriangle}
 use Rattle.range_plane.specs.Plane.{Position, turn}
-use Rattle.range_plane.specs.Covering.Covers.{by_segment, by_triangle}
+use Rattle.range_plane.specs.ConvexCover.Covers.{by_segment, by_triangle}
 use Rattle.range_lemmas.proofs.Integers.{linear, product_comm}
 use Rattle.range_lemmas.proofs.Members.{contains_first, contains_later, empty_contains_nothing, contained}
 use Rattle.range_plane.proofs.Extremes.{covers_member}

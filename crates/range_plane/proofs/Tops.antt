@@ -9,10 +9,10 @@ use Rattle.range_plane.specs.Polygon.{TurnsLeft, BeginsWithLeast}
 use Rattle.range_plane.proofs.Ends.{at_most_or_before, first_least}
 use Rattle.range_lemmas.proofs.Integers.{linear, nonneg_product, nonpos_product, positive_product}
 use Rattle.range_lemmas.proofs.Members.{empty_contains_nothing}
-use Rattle.range_plane.proofs.Rising.{rising, IsRising}
+use Rattle.range_plane.proofs.RisingDirection.{rising, IsRising}
 use Rattle.range_plane.proofs.AtMost.{at_most_itself, through_most}
 use Rattle.range_plane.proofs.SmallSets.{one_of_one}
-use Rattle.range_plane.proofs.Spanning.{at_member, not_behind}
+use Rattle.range_plane.proofs.SpanningEdges.{at_member, not_behind}
 use Rattle.range_plane.proofs.Vectors.{dot, from, dot_from, dot_origin, turn_four}
 
 nonpos_factor : (a x : ℤ) → pos 0 <ℤ a → (a *ℤ x) ≤ℤ pos 0 → x ≤ℤ pos 0

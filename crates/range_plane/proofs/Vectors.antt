@@ -2,7 +2,7 @@
 use Rattle.std.proofs.Common.{◌≡◌, ◌≢◌, refl, ap, ◌∙◌, ℤ, pos, ◌+ℤ◌, ◌-ℤ◌, ◌*ℤ◌, neg_ℤ, ◌≤ℤ◌, ◌<ℤ◌, [], ◌∷◌, arith}
 use Rattle.std.proofs.lemmas.Int.{by_lt_z}
 use lib.IntN.{zero-*ℤ}
-use Rattle.range_plane.specs.Covering.{scalar_product}
+use Rattle.range_plane.specs.ConvexCover.{scalar_product}
 use Rattle.range_plane.specs.Plane.{Position, turn}
 use Rattle.range_lemmas.proofs.Integers.{linear, at_least_product, nonneg_product, nonneg_square, square_naught, positive_product, nonpos_nonpos}
 use Rattle.range_lemmas.proofs.Integers.{positive_factor, product_comm, neg_product}

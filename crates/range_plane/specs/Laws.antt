@@ -1,6 +1,6 @@
 -- Laws of what sets cover and of polygons, each the contract of a function of `src/laws.rt`.
 use Rattle.std.specs.Prelude.{◌<◌, pos, ◌≤ℤ◌, ◌≡◌, ◌≢◌, ◌↔◌, AllPairs, IsTrue, List, [], ◌∷◌, length, Contains}
-use Rattle.range_plane.specs.Covering.{Covers, advance, IsLeftOfEdges, IsOnSegment, is_covered, is_on_segment}
+use Rattle.range_plane.specs.ConvexCover.{Covers, advance, IsLeftOfEdges, IsOnSegment, is_covered, is_on_segment}
 use Rattle.range_plane.specs.Plane.{IsInBox, Position}
 use Rattle.range_plane.specs.Polygon.{BeginsWithLeast, IsPolygon, TurnsLeft, area2}
 

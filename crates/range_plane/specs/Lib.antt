@@ -1,5 +1,5 @@
 pub mod Columns
-pub mod Covering
+pub mod ConvexCover
 pub mod Edges
 pub mod Fix
 pub mod Laws

@@ -3,7 +3,7 @@ use Rattle.std.specs.Prelude.{ℕ, ◌<◌, ℤ, pos, ◌+ℤ◌, ◌-ℤ◌, �
 use Rattle.std.specs.Prelude.{if◌then◌else◌, ◌&&◌, not}
 use Rattle.std.specs.List.{list_any}
 use Rattle.std.specs.Ordering.{int_eq}
-use Rattle.range_plane.specs.Covering.{Covers}
+use Rattle.range_plane.specs.ConvexCover.{Covers}
 use Rattle.range_plane.specs.Plane.{Position, turn, IsAtMost}
 
 abbrev pub same_position : Position → Position → Bool

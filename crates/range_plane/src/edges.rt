@@ -1,7 +1,7 @@
 // The two edges of a polygon that a point falls between, by binary search.
 
 ghost use Rattle.std.specs.Prelude.{◌≡◌, ◌<◌, if◌then◌else◌, pos, ◌≤ℤ◌, ◌↔◌, IsTrue, length};
-ghost use Rattle.range_plane.specs.Covering.{is_covered};
+ghost use Rattle.range_plane.specs.ConvexCover.{is_covered};
 ghost use Rattle.range_plane.specs.Edges.{at, next, IsTop, Spans};
 ghost use Rattle.range_plane.specs.Plane.{turn, IsBefore};
 ghost use Rattle.range_plane.specs.Polygon.{IsPolygon};

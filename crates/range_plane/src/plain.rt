@@ -1,7 +1,7 @@
 // The corners of a set, straight from the definitions.
 
 ghost use Rattle.std.specs.Prelude.{ℕ, ◌≡◌, ◌<◌, ◌≤◌, ◌≤ℤ◌, ◌<ℤ◌, int_le, int_lt, pos, IfOk, IfSome, IsNone, [], length};
-ghost use Rattle.range_plane.specs.Covering.{is_covered, is_in_triangle, is_on_segment};
+ghost use Rattle.range_plane.specs.ConvexCover.{is_covered, is_in_triangle, is_on_segment};
 ghost use Rattle.range_plane.specs.Edges.{at};
 ghost use Rattle.range_plane.specs.Plane.{turn};
 ghost use Rattle.range_plane.specs.Polygon.{IsLeast, IsPolygon, any_other, without};

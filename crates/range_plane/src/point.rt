@@ -2,7 +2,7 @@
 
 ghost use Rattle.std.specs.Int.RustNames.{unsigned_abs};
 ghost use Rattle.std.specs.Prelude.{◌≡◌, ◌≤◌, SomeIff};
-ghost use Rattle.range_plane.specs.Covering.{scalar_product};
+ghost use Rattle.range_plane.specs.ConvexCover.{scalar_product};
 ghost use Rattle.range_plane.specs.Plane.{IsCoordinate, position, turn, turn_limit};
 
 use std::marker::Model;

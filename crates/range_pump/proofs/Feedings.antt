@@ -6,12 +6,12 @@ use Rattle.std.proofs.lemmas.Grind.{flat_map-append}
 use Rattle.std.proofs.lemmas.List.{append-nil, take_all, take-append-drop}
 use mathlib.Core.List.{IsPrefix}
 use Rattle.range_plane.specs.declared.Fix.{Fix}
-use Rattle.range_fixes.specs.declared.fault.ReadFault.{ReadFault}
-use Rattle.range_fixes.specs.declared.fault.ReadFault.TheVariants.{Gone, OutOfMemory}
+use Rattle.range_fixes.specs.declared.read_fault.ReadFault.{ReadFault}
+use Rattle.range_fixes.specs.declared.read_fault.ReadFault.TheVariants.{Gone, OutOfMemory}
 use Rattle.range_fixes.specs.Progress.{Progress, Reads, is_of_text}
 use Rattle.range_fixes.specs.Reading.{Reading}
 use Rattle.range_line.specs.declared.message.Message.{Message}
-use Rattle.range_line.specs.Lines.{FeederView, after_send}
+use Rattle.range_line.specs.LineEnds.{FeederView, after_send}
 use Rattle.range_line.specs.Messages.{block_count, block_of, blocks, fixes_in, all_fixes, message, the_mark}
 use Rattle.range_pump.specs.Blocks.{EndsAfter, GivesNext, IsFed, after_block}
 use Rattle.range_pump.specs.Pump.{IsPumped, IsReadAs, ReadResult}

@@ -1,11 +1,11 @@
 -- What a reader gives for a block, and what was sent of a file before its mark.
 use Rattle.std.specs.Prelude.{◌≡◌, ◌≢◌, ℕ, ◌+◌, ◌++◌, List, [], ◌∷◌, length, take, Option, false, Err}
 use Rattle.range_plane.specs.declared.fix.Fix.{Fix}
-use Rattle.range_fixes.specs.declared.fault.ReadFault.{ReadFault}
-use Rattle.range_fixes.specs.declared.fault.ReadFault.TheVariants.{Gone}
+use Rattle.range_fixes.specs.declared.read_fault.ReadFault.{ReadFault}
+use Rattle.range_fixes.specs.declared.read_fault.ReadFault.TheVariants.{Gone}
 use Rattle.range_fixes.specs.Progress.{Progress, Reads}
 use Rattle.range_fixes.specs.Reading.{Reading}
-use Rattle.range_line.specs.Lines.{FeederView, after_send}
+use Rattle.range_line.specs.LineEnds.{FeederView, after_send}
 use Rattle.range_line.specs.Messages.{block_of, all_fixes}
 use Rattle.range_pump.specs.Pump.{IsPumped, ReadResult}
 

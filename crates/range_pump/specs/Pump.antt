@@ -2,11 +2,11 @@
 use Rattle.std.specs.Prelude.{◌≡◌, ◌≢◌, ℕ, ◌<◌, List, length, Option, Some, None, true, false, Result, Ok, Err, IsOk, IfSome}
 use mathlib.Core.List.{IsPrefix}
 use Rattle.range_plane.specs.declared.fix.Fix.{Fix}
-use Rattle.range_fixes.specs.declared.fault.ReadFault.{ReadFault}
-use Rattle.range_fixes.specs.declared.fault.ReadFault.TheVariants.{Gone}
+use Rattle.range_fixes.specs.declared.read_fault.ReadFault.{ReadFault}
+use Rattle.range_fixes.specs.declared.read_fault.ReadFault.TheVariants.{Gone}
 use Rattle.range_fixes.specs.Progress.{is_of_text}
 use Rattle.range_fixes.specs.Reading.{Reading}
-use Rattle.range_line.specs.Lines.{FeederView}
+use Rattle.range_line.specs.LineEnds.{FeederView}
 use Rattle.range_line.specs.Messages.{blocks, block_count, stream}
 
 -- what a pump says of its file: the animal's name, or the first fault

@@ -1,5 +1,5 @@
-pub mod Cutting
 pub mod LastDigit
 pub mod ListFacts
 pub mod NumberedLines
+pub mod PartCuts
 pub mod Texts

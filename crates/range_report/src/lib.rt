@@ -2,8 +2,8 @@
 #![tactic(auto)]
 
 mod laws;
-mod lines;
 mod parts;
+mod report_lines;
 mod report_text;
 
 pub use laws::sizes_are_these;

@@ -5,12 +5,13 @@ ghost use Rattle.std.specs.List.{AllZip, flat_map};
 ghost use Rattle.range_report.specs.Parts.{part_lines, tail_text, text_of};
 ghost use Rattle.range_report.specs.Report.{animal_text, report_text, unit_line};
 
-use crate::lines::{
+use crate::parts::{Lines, PART_LINES, Part, parts_of};
+use crate::report_lines::{
     push_box, push_corners, push_end, push_head, push_overlaps, push_percents, push_rows,
 };
-use crate::parts::{Lines, PART_LINES, Part, parts_of};
 use range_analysis::{Analysis, Animal};
 use range_plane::{OutOfMemory, Scale};
+use range_pump::ThreadAllocator;
 use rayon::prelude::*;
 use std::alloc::{AllocError, Allocator};
 use std::thread::Threads;
@@ -101,7 +102,7 @@ fn part_text<A: Allocator + Copy>(alloc: A, part: &Part<'_>) -> Result<Vec<u8, A
 }
 
 // The lines of each part. Several are written at once, where there are many lines.
-fn part_texts<R: Threads + Sync, A: Allocator + Clone + Copy + Send + Sync>(
+fn part_texts<R: Threads + Sync, A: ThreadAllocator + Copy>(
     rt: &R,
     alloc: A,
     parts: &[Part<'_>],
@@ -121,7 +122,7 @@ fn part_texts<R: Threads + Sync, A: Allocator + Clone + Copy + Send + Sync>(
 }
 
 // The lines of animals, in parts that several threads write.
-fn animal_texts<R: Threads + Sync, A: Allocator + Clone + Copy + Send + Sync>(
+fn animal_texts<R: Threads + Sync, A: ThreadAllocator + Copy>(
     rt: &R,
     alloc: A,
     animals: &[Animal],
@@ -154,7 +155,7 @@ fn push_text<A: Allocator>(
 }
 
 // Appends the lines of animals that are taken at once.
-fn push_round<R: Threads + Sync, A: Allocator + Clone + Copy + Send + Sync>(
+fn push_round<R: Threads + Sync, A: ThreadAllocator + Copy>(
     rt: &R,
     alloc: A,
     texts: &mut Vec<Vec<u8, A>, A>,
@@ -170,7 +171,7 @@ fn push_round<R: Threads + Sync, A: Allocator + Clone + Copy + Send + Sync>(
 }
 
 // Appends the lines of animals. Some at a time are let go, once their lines are there.
-fn push_animals<R: Threads + Sync, A: Allocator + Clone + Copy + Send + Sync>(
+fn push_animals<R: Threads + Sync, A: ThreadAllocator + Copy>(
     rt: &R,
     alloc: A,
     texts: &mut Vec<Vec<u8, A>, A>,
@@ -231,7 +232,7 @@ fn push_texts<A: Allocator>(
 ///
 /// `OutOfMemory`, where an allocation failed.
 #[tactic(auto, unfolding(crate::specs::Report::report_text))]
-pub fn report_parts<R: Threads + Sync, A: Allocator + Clone + Copy + Send + Sync>(
+pub fn report_parts<R: Threads + Sync, A: ThreadAllocator + Copy>(
     rt: &R,
     alloc: A,
     analysis: Analysis,
@@ -261,7 +262,7 @@ pub fn report_parts<R: Threads + Sync, A: Allocator + Clone + Copy + Send + Sync
 ///   in B's polygon, and how many fixes A has.
 /// - Last `end,ANIMALS`, the number of animals.
 #[tactic(auto, unfolding(crate::specs::Report::report_text))]
-pub fn report<R: Threads + Sync, A: Allocator + Clone + Copy + Send + Sync>(
+pub fn report<R: Threads + Sync, A: ThreadAllocator + Copy>(
     rt: &R,
     alloc: A,
     analysis: &Analysis,

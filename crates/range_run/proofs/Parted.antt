@@ -6,7 +6,7 @@ use Rattle.std.specs.List.{flat_map}
 use Rattle.std.proofs.KnownBytes.{Appends-kept, Appends-nil, Appends-trans}
 use Rattle.std.proofs.Math.Seq.{take-append_seam, take-length}
 use Rattle.std.proofs.lemmas.List.{append-nil, nil_from_length}
-use Rattle.range_run.specs.Output.{AppendsPrefix}
+use Rattle.range_run.specs.WrittenPrefix.{AppendsPrefix}
 
 -- known bytes grew by the beginning of a text, of which this is the rest
 abbrev pub WritesBefore : List ℕ → List ℕ → Option (List ℕ) → Option (List ℕ) → Type 0

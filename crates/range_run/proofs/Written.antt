@@ -8,10 +8,10 @@ use Rattle.range_plane.specs.declared.scale.Scale.{Scale}
 use Rattle.range_fixes.specs.Reading.{Reading}
 use Rattle.range_analysis.specs.Sources.{IsAnalysisOf}
 use Rattle.range_report.specs.Report.{report_text}
-use Rattle.range_run.specs.Output.{AppendsPrefix}
+use Rattle.range_run.specs.WrittenPrefix.{AppendsPrefix}
 use Rattle.range_run.specs.Run.{Explains, WritesPrefix, WritesReport}
-use Rattle.range_run.specs.declared.fault.RunFault.{RunFault}
-use Rattle.range_run.specs.declared.fault.RunFault.TheVariants as runs
+use Rattle.range_run.specs.declared.run_fault.RunFault.{RunFault}
+use Rattle.range_run.specs.declared.run_fault.RunFault.TheVariants as runs
 
 -- where the text that was written is that of an analysis of the sources, its report was written
 pub writes_report : {T E : Type 0} (sources : List (Option Reading)) (levels given text : List ℕ) (unit : Scale) (old new : Option (List ℕ))

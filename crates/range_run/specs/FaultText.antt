@@ -1,8 +1,8 @@
 -- What is said of a run that has no report.
 use Rattle.std.specs.Prelude.{ℕ, List, codes}
 use Rattle.range_analysis.specs.FaultText.{analyse_text}
-use Rattle.range_run.specs.declared.fault.RunFault.{RunFault}
-use Rattle.range_run.specs.declared.fault.RunFault.TheVariants as runs
+use Rattle.range_run.specs.declared.run_fault.RunFault.{RunFault}
+use Rattle.range_run.specs.declared.run_fault.RunFault.TheVariants as runs
 
 abbrev pub run_text : RunFault → List ℕ
 run_text (runs.Analyse fault) = analyse_text fault

@@ -1,4 +1,4 @@
 pub mod FaultText
-pub mod Output
 pub mod Run
 pub mod Status
+pub mod WrittenPrefix

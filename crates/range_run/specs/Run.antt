@@ -6,9 +6,9 @@ use Rattle.range_plane.specs.declared.scale.Scale.{Scale}
 use Rattle.range_fixes.specs.Reading.{Reading}
 use Rattle.range_analysis.specs.Sources.{HasNoAnalysisOf, IsAnalysisOf}
 use Rattle.range_report.specs.Report.{report_text}
-use Rattle.range_run.specs.Output.{AppendsPrefix}
-use Rattle.range_run.specs.declared.fault.RunFault.{RunFault}
-use Rattle.range_run.specs.declared.fault.RunFault.TheVariants as runs
+use Rattle.range_run.specs.WrittenPrefix.{AppendsPrefix}
+use Rattle.range_run.specs.declared.run_fault.RunFault.{RunFault}
+use Rattle.range_run.specs.declared.run_fault.RunFault.TheVariants as runs
 
 -- the report of an analysis of the sources was written, and nothing else
 abbrev pub WritesReport : List (Option Reading) → List ℕ → Scale → Option (List ℕ) → Option (List ℕ) → Type 0

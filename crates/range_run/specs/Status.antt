@@ -1,8 +1,8 @@
 -- How the program ends after a run.
 use Rattle.std.specs.Prelude.{ℕ, Result, Ok, Err}
-use Rattle.range_analysis.specs.declared.fault.AnalyseFault.TheVariants as analyses
-use Rattle.range_run.specs.declared.fault.RunFault.{RunFault}
-use Rattle.range_run.specs.declared.fault.RunFault.TheVariants as runs
+use Rattle.range_analysis.specs.declared.analyse_fault.AnalyseFault.TheVariants as analyses
+use Rattle.range_run.specs.declared.run_fault.RunFault.{RunFault}
+use Rattle.range_run.specs.declared.run_fault.RunFault.TheVariants as runs
 
 abbrev pub fault_status : RunFault → ℕ
 fault_status (runs.Analyse (analyses.File file fault)) = 1

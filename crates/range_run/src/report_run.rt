@@ -5,8 +5,8 @@ ghost use Rattle.range_fixes.specs.Reading.{readings};
 ghost use Rattle.range_options.specs.Limits.{file_limit};
 ghost use Rattle.range_run.specs.Run.{Explains, WritesPrefix, WritesReport};
 
-use crate::fault::RunFault;
-use crate::output::write_parts;
+use crate::run_fault::RunFault;
+use crate::written_text::write_parts;
 use range_analysis::analyse;
 use range_options::Options;
 use range_pump::{FileSource, FreeGate, Gate, ThreadRuntime};

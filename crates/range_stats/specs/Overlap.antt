@@ -1,6 +1,6 @@
 -- The overlap of one animal's fixes with the range of another.
 use Rattle.std.specs.Prelude.{ℕ, List, count_by}
-use Rattle.range_plane.specs.Covering.{is_covered}
+use Rattle.range_plane.specs.ConvexCover.{is_covered}
 use Rattle.range_plane.specs.Plane.{Position}
 
 -- how many of the points the set covers, repeats counted

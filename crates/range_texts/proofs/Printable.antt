@@ -3,7 +3,6 @@ use Rattle.std.proofs.Common.{◌≡◌, ℕ, ◌+◌, ◌/◌, ◌%◌, ◌<◌
 use Rattle.std.proofs.lemmas.Bool.{and_parts}
 use Rattle.std.proofs.lemmas.Grind.{common_steps}
 use Rattle.std.proofs.lemmas.Str.{encode_ascii}
-use Rattle.std.proofs.lemmas.List.Folds.{list_all-append}
 use lib.Dec.{T}
 use Rattle.std.specs.List.{list_all}
 use Rattle.std.specs.Fmt.{decimal, digit_glyph, digits, digits_onto}
@@ -97,10 +96,6 @@ print_none = record { all = refl }
 
 print_cons : (c : ℕ) (text : List ℕ) → is_printable c ≡ true → Prints text → Prints (c ∷ text)
 print_cons c text a b = record { all = ap₂ (λ (x y : Bool). x && y) a b.all }
-
-print_append : (a b : List ℕ) → Prints a → Prints b → Prints (a ++ b)
-print_append a b first second =
-    record { all = list_all-append is_printable a b ∙ ap₂ (λ (x y : Bool). x && y) first.all second.all }
 
 print_hex : (p c : ℕ) (text : List ℕ) → Prints text → Prints (hex_digit_at p c ∷ text)
 print_hex p c text rest = print_cons (hex_digit_at p c) text (hex p c) rest

@@ -14,7 +14,7 @@ pub(crate) const FILE_A: &[u8] =
 const FILE_B: &[u8] = b"animal,second,easting,northing\nB,0,5,5\nB,60,10,5\nB,120,20,5\n";
 
 /// Both files.
-pub(crate) fn sources(alloc: Global) -> Result<Vec<&'static [u8]>, OutOfMemory>
+pub(crate) fn both_sources(alloc: Global) -> Result<Vec<&'static [u8]>, OutOfMemory>
     ensures { IfOk result (λ sources. vec_len sources ≡ 2) }
 {
     let mut sources = Vec::with_capacity(alloc, 2)?;

@@ -5,13 +5,13 @@
 #![tactic(auto)]
 
 mod files;
-mod following;
-mod pumping;
-mod reading;
+mod follow_calls;
+mod pump_call;
+mod read_call;
 
-use following::{analyse_files, follow_files};
-use pumping::pump_file;
-use reading::read_file;
+use follow_calls::{analyse_files, follow_files};
+use pump_call::pump_file;
+use read_call::read_file;
 use std::io;
 
 fn main(rt: HostRuntime) -> io::Result<()> {

@@ -7,12 +7,10 @@ use range_estimator::Estimator;
 use range_fixes::ReadFault;
 use range_line::open_line;
 use range_plane::Scale;
-use range_pump::{FreeGate, pump};
+use range_pump::{FreeGate, ThreadRuntime, pump};
 use std::alloc::Global;
 use std::process::Abort;
-use std::sync::Wait;
 use std::test::Fail;
-use std::thread::Threads;
 use test_doubles::{HEADER, ScriptedSource};
 use test_files::{bad_records, files_without_fix};
 
@@ -30,21 +28,21 @@ const EMPTY: Said = Err(ReadFault::NoFixes);
 const MEMORY: Said = Err(ReadFault::OutOfMemory);
 
 // Why files of one fix have no analysis, of which their readers say this, and whose marks are sent or not.
-fn fault_of<R: Wait + Threads + Sync + Abort>(
+fn fault_of<R: ThreadRuntime + Abort>(
     rt: &R,
     alloc: Global,
     files: &[(Said, bool)],
 ) -> Result<Option<AnalyseFault>, Fail> {
     let mut all = Vec::new(alloc);
     for &(said, mark) in files {
-        let places = &[(0, 1, 2)];
-        all.push(File { said, places, mark })?;
+        let fixes = &[(0, 1, 2)];
+        all.push(File { said, fixes, mark })?;
     }
     Ok(judged(rt, alloc, &all, &[])?.err())
 }
 
 // Checks that files of one fix have no analysis for this reason.
-fn expect_fault<R: Wait + Threads + Sync + Abort>(
+fn expect_fault<R: ThreadRuntime + Abort>(
     rt: &R,
     alloc: Global,
     files: &[(Said, bool)],
@@ -87,7 +85,7 @@ fn faults_are_judged_by_how_far_they_reach(rt: HostRuntime) -> Result<(), Fail> 
 
 // Checks that the fault of one of eight files is answered as that file's, whichever it is, also where the last
 // has another fault.
-fn expect_of_file<R: Wait + Threads + Sync + Abort>(
+fn expect_of_file<R: ThreadRuntime + Abort>(
     rt: &R,
     alloc: Global,
     fault: ReadFault,
@@ -95,9 +93,9 @@ fn expect_of_file<R: Wait + Threads + Sync + Abort>(
     let names = [b"A".as_slice(), b"B", b"C", b"D", b"E", b"F", b"G", b"H"];
     for (file, last) in [(0u32, A), (3, BAD_HEADER), (6, EMPTY), (7, Err(fault))] {
         let mut files = Vec::new(alloc);
-        for (place, name) in names.iter().enumerate() {
-            let said = match place {
-                _ if place == file as usize => Err(fault),
+        for (index, name) in names.iter().enumerate() {
+            let said = match index {
+                _ if index == file as usize => Err(fault),
                 7 => last,
                 _ => Ok(*name),
             };

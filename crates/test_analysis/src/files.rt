@@ -1,6 +1,6 @@
 // Files that were followed, made by hand.
 
-ghost use Rattle.range_fixes.specs.declared.fault.ReadFault.TheVariants.{Gone};
+ghost use Rattle.range_fixes.specs.declared.read_fault.ReadFault.TheVariants.{Gone};
 ghost use Rattle.std.specs.Prelude.{◌≢◌, ◌≤◌, Err, IfOk, length};
 
 use range_analysis::{AnalyseFault, Analysis, judge};
@@ -10,18 +10,18 @@ use range_fixes::{Name, ReadFault};
 use range_line::{Feeder, open_line};
 use range_options::{FILE_LIMIT, Levels};
 use range_plane::{Fix, Point, Scale};
+use range_pump::ThreadRuntime;
 use std::alloc::Global;
 use std::process::Abort;
 use std::sync::Wait;
 use std::test::Fail;
-use std::thread::Threads;
 
 // A file: what its reader says, its fixes by their seconds, eastings and northings, and whether its mark
 // is sent.
 #[derive(Clone, Copy)]
 pub(crate) struct File {
     pub(crate) said: Result<&'static [u8], ReadFault>,
-    pub(crate) places: &'static [(u64, i64, i64)],
+    pub(crate) fixes: &'static [(u64, i64, i64)],
     pub(crate) mark: bool,
 }
 
@@ -43,12 +43,12 @@ pub(crate) fn same_animal(
 // More fixes than a file here has.
 const MANY_FIXES: usize = 100;
 
-// The estimator of fixes at these places.
-fn estimator(alloc: Global, places: &[(u64, i64, i64)]) -> Result<Estimator, Fail>
+// The estimator of these fixes.
+fn estimator_of(alloc: Global, records: &[(u64, i64, i64)]) -> Result<Estimator, Fail>
     ensures { IfOk result (λ e. 1 ≤ length e.fixes) }
 {
     let mut fixes = Vec::new(alloc);
-    for &(second, e, n) in places {
+    for &(second, e, n) in records {
         let at = Point::new(e, n).ok_or("no point")?;
         fixes.push(Fix { second, at })?;
     }
@@ -61,7 +61,7 @@ fn estimator(alloc: Global, places: &[(u64, i64, i64)]) -> Result<Estimator, Fai
 }
 
 // The feeder of a file, after its mark where that is sent.
-fn feeder<R: Wait + Abort>(rt: &R, alloc: Global, mark: bool) -> Result<Feeder, Fail> {
+fn feeder_of<R: Wait + Abort>(rt: &R, alloc: Global, mark: bool) -> Result<Feeder, Fail> {
     let (mut feeders, _taker) = open_line(alloc, 0, 1, 1, 1)?;
     let mut feeder = feeders.pop().ok_or("no feeder")?;
     if mark {
@@ -71,7 +71,10 @@ fn feeder<R: Wait + Abort>(rt: &R, alloc: Global, mark: bool) -> Result<Feeder, 
 }
 
 // What a reader said that handed every block on.
-fn read(alloc: Global, said: Result<&[u8], ReadFault>) -> Result<Result<Name, ReadFault>, Fail>
+fn read_result(
+    alloc: Global,
+    said: Result<&[u8], ReadFault>,
+) -> Result<Result<Name, ReadFault>, Fail>
     ensures { IfOk result (λ read. read ≢ Err Gone) }
 {
     match said {
@@ -83,10 +86,10 @@ fn read(alloc: Global, said: Result<&[u8], ReadFault>) -> Result<Result<Name, Re
 
 // What is known of a file.
 fn followed<R: Wait + Abort>(rt: &R, alloc: Global, file: File) -> Result<Followed, Fail> {
-    let feeder = feeder(rt, alloc, file.mark)?;
+    let feeder = feeder_of(rt, alloc, file.mark)?;
     let marked = feeder.closed();
-    let estimator = estimator(alloc, file.places)?;
-    let read = read(alloc, file.said)?;
+    let estimator = estimator_of(alloc, file.fixes)?;
+    let read = read_result(alloc, file.said)?;
     Ok(Followed {
         feeder,
         read,
@@ -102,7 +105,7 @@ pub(crate) fn levels_of(alloc: Global, levels: &[u8]) -> Result<Levels, Fail> {
 }
 
 // What these files come to.
-pub(crate) fn judged<R: Wait + Threads + Sync + Abort>(
+pub(crate) fn judged<R: ThreadRuntime + Abort>(
     rt: &R,
     alloc: Global,
     files: &[File],

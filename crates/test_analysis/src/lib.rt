@@ -4,7 +4,7 @@
 #![tactic(auto)]
 
 #[cfg(test)]
-mod analysing;
+mod analyses;
 #[cfg(test)]
 mod faults;
 #[cfg(test)]

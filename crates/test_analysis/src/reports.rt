@@ -41,9 +41,9 @@ pub(crate) fn percent(level: u8, kept: u32, corners: u32, area2: u128) -> Percen
     }
 }
 
-pub(crate) fn polygon(alloc: Global, places: &[(i64, i64)]) -> Result<Polygon, Fail> {
+pub(crate) fn polygon(alloc: Global, positions: &[(i64, i64)]) -> Result<Polygon, Fail> {
     let mut points = Vec::new(alloc);
-    for (e, n) in places {
+    for (e, n) in positions {
         points.push(Point::new(*e, *n).ok_or("a point")?)?;
     }
     Ok(

@@ -4,33 +4,32 @@ use crate::files::{File, judged};
 use crate::reports::percent;
 use range_analysis::{Analysis, Animal, OverlapRow};
 use range_plane::Scale;
+use range_pump::ThreadRuntime;
 use std::alloc::Global;
 use std::process::Abort;
-use std::sync::Wait;
 use std::test::Fail;
-use std::thread::Threads;
 use test_doubles::{SQUARE, are_at};
 
 // A square and a fix within it, a line that ends at its corner, and one fix far from both.
 const FOX: File = File {
     said: Ok(b"fox"),
-    places: &SQUARE,
+    fixes: &SQUARE,
     mark: true,
 };
 
 const HARE: File = File {
     said: Ok(b"hare"),
-    places: &[(0, 5, 5), (60, 10, 5), (120, 20, 5)],
+    fixes: &[(0, 5, 5), (60, 10, 5), (120, 20, 5)],
     mark: true,
 };
 
 const OWL: File = File {
     said: Ok(b"owl"),
-    places: &[(7, 1000, 2000)],
+    fixes: &[(7, 1000, 2000)],
     mark: true,
 };
 
-fn analysis_of<R: Wait + Threads + Sync + Abort>(
+fn analysis_of<R: ThreadRuntime + Abort>(
     rt: &R,
     alloc: Global,
     files: &[File],

@@ -1,18 +1,16 @@
 // Tests of worked files that are analysed in several plans, by a few bytes a read and by all.
 
-use crate::analysing::analysed;
+use crate::analyses::analysed;
 use crate::files::same_animal;
 use crate::tables::{A_TABLES, expect_animals};
 use range_analysis::{AnalyseFault, Analysis};
 use range_fixes::ReadFault;
 use range_options::{BLOCK_LIMIT, DEPTH_LIMIT, Plan, WORKER_LIMIT};
 use range_plane::Scale;
-use range_pump::FreeGate;
+use range_pump::{FreeGate, ThreadRuntime};
 use std::alloc::Global;
 use std::process::Abort;
-use std::sync::Wait;
 use std::test::Fail;
-use std::thread::Threads;
 use test_doubles::{
     CUT_A, FILE_A, FILE_B, HEADER, MARKED_A, MARKED_AND_QUOTED_A, QUOTED_A, ScriptedSource,
 };
@@ -28,7 +26,7 @@ const PLANS: [(u32, u32, u32); 3] = [
 ];
 
 // What these files come to by this plan, at so many bytes a read.
-fn analysis_of<R: Wait + Threads + Sync + Abort>(
+fn analysis_of<R: ThreadRuntime + Abort>(
     rt: &R,
     alloc: Global,
     texts: &[&[u8]],
@@ -45,7 +43,7 @@ fn analysis_of<R: Wait + Threads + Sync + Abort>(
 }
 
 // Checks that these files have no analysis for this reason.
-fn expect_refused<R: Wait + Threads + Sync + Abort>(
+fn expect_refused<R: ThreadRuntime + Abort>(
     rt: &R,
     alloc: Global,
     texts: &[&[u8]],

@@ -1,19 +1,17 @@
 // What the program answers to whole command lines: its status, its report and its line of fault.
 
-use crate::failing::{Failures, Output};
+use crate::failures::{Failures, Output};
 use crate::options::{LEVELS_WORD, UNIT_WORD};
 use crate::runs::REPORT_A;
-use crate::started::Line;
-use range_command::{SystemFiles, answer};
+use crate::started::status_of;
+use range_pump::ThreadRuntime;
 use std::fs::File;
 use std::process::Abort;
 use std::rt::Files;
-use std::sync::Wait;
-use std::thread::Threads;
 use test_doubles::FILE_A;
 
 /// A command line over an input is answered by this status and this line, and by file A's report where it is whole.
-pub(crate) fn expect<R: Wait + Threads + Sync + Files<File = File> + AllocGlobal + Abort>(
+pub(crate) fn expect<R: ThreadRuntime + Files<File = File> + AllocGlobal + Abort>(
     rt: &R,
     words: &[&[u8]],
     input: &[u8],
@@ -23,8 +21,7 @@ pub(crate) fn expect<R: Wait + Threads + Sync + Files<File = File> + AllocGlobal
     let alloc = rt.alloc();
     let mut out = range_command::Output::new(Vec::new(alloc));
     let mut errors = range_command::Output::new(Vec::new(alloc));
-    let files = SystemFiles::new(rt);
-    let answered = answer(rt, &Line(words), &files, input, &mut out, &mut errors);
+    let answered = status_of(rt, words, input, &mut out, &mut errors);
     assert!(rt; answered == status, "{answered}");
     assert!(rt; errors.writer().as_slice() == line.as_bytes());
     let report = if status == 0 { REPORT_A } else { b"" };
@@ -97,8 +94,7 @@ fn an_output_that_fails_is_told_but_not_a_closed_pipe(rt: HostRuntime) {
             let failures = Failures::one_after(1, number);
             let mut out = range_command::Output::new(Output::new(Vec::new(alloc), 8, failures));
             let mut errors = range_command::Output::new(Vec::new(alloc));
-            let files = SystemFiles::new(&rt);
-            let status = answer(&rt, &Line(words), &files, FILE_A, &mut out, &mut errors);
+            let status = status_of(&rt, words, FILE_A, &mut out, &mut errors);
             assert!(rt; status == 4 && errors.writer().as_slice() == line.as_bytes());
         }
     }

@@ -1,28 +1,21 @@
 // Runs over files with each fault of their reader but too many records, which runs over sources without end have.
 
-use crate::line::line;
-use crate::refusals::expect_told;
+use crate::commands::expect_ended;
 use crate::runs::run_in;
 use range_analysis::AnalyseFault;
-use range_command::{Output, SystemFiles, obey};
+use range_command::Output;
 use range_plane::Scale;
-use range_pump::FreeGate;
+use range_pump::ThreadRuntime;
 use range_run::{RunFault, status};
 use std::alloc::Global;
 use std::fs::File;
 use std::process::Abort;
 use std::rt::Files;
-use std::sync::Wait;
 use std::test::Fail;
-use std::thread::Threads;
 use test_files::{BadFile, bad_records, files_without_fix};
 
 // A run over the file is refused with its fault, and nothing is written.
-fn expect_fault<R: Wait + Threads + Sync + Abort>(
-    rt: &R,
-    alloc: Global,
-    bad: BadFile,
-) -> Result<(), Fail> {
+fn expect_fault<R: ThreadRuntime + Abort>(rt: &R, alloc: Global, bad: BadFile) -> Result<(), Fail> {
     let (file, fault) = (0, bad.fault);
     let mut out = Vec::new(alloc);
     let outcome = run_in(rt, alloc, bad.source(), Scale::Decimetre, &mut out)?;
@@ -33,19 +26,18 @@ fn expect_fault<R: Wait + Threads + Sync + Abort>(
 }
 
 // Words over the file as the input are refused with the text of its fault, and nothing is written.
-fn expect_refused<R: Wait + Threads + Sync + Files<File = File> + AllocGlobal + Abort>(
+fn expect_refused<R: ThreadRuntime + Files<File = File> + AllocGlobal + Abort>(
     rt: &R,
     bad: BadFile,
 ) -> Result<(), Fail> {
     let alloc = rt.alloc();
     let fault = bad.fault;
-    let (words, files) = (line(alloc, &["--unit", "dm"])?, SystemFiles::new(rt));
-    let (source, mut out) = (bad.source(), Output::new(Vec::new(alloc)));
-    let refused = obey(rt, &files, words.as_slice(), source, &FreeGate, &mut out);
-    let refusal = refused.err().ok_or("no refusal")?;
-    assert!(rt; out.writer().is_empty(), "{fault}");
     let text = format!(in alloc; "standard input: {fault}")?;
-    expect_told(rt, alloc, &refusal, 1, text.as_str())
+    let (source, mut out) = (bad.source(), Output::new(Vec::new(alloc)));
+    let ended = (1, text.as_str());
+    expect_ended(rt, &["--unit", "dm"], source, &mut out, ended)?;
+    assert!(rt; out.writer().is_empty(), "{fault}");
+    Ok(())
 }
 
 #[test]

@@ -1,15 +1,14 @@
 // Runs whose source or output fails at each of its calls, and a source without an end.
 
-use crate::failing::{Failures, Output};
+use crate::failures::{Failures, Output};
 use crate::runs::{REPORT_A, run_over};
 use range_analysis::AnalyseFault;
 use range_fixes::ReadFault;
+use range_pump::ThreadRuntime;
 use range_run::{RunFault, status, write_text};
 use std::alloc::Global;
 use std::process::Abort;
-use std::sync::Wait;
 use std::test::Fail;
-use std::thread::Threads;
 use test_doubles::{FILE_A, HEADER, ScriptedSource};
 
 // The number of a failure that the system gives.
@@ -22,7 +21,7 @@ fn refusal(fault: ReadFault) -> Result<(), RunFault> {
 
 // Whether a run is whole whose source of so many bytes a read fails after so many reads. If not, it answers the
 // failed read, and nothing is written.
-fn is_whole<R: Wait + Threads + Sync + Abort>(
+fn is_whole<R: ThreadRuntime + Abort>(
     rt: &R,
     alloc: Global,
     most: usize,

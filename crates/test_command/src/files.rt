@@ -1,15 +1,13 @@
 // Runs over files that words name, in the order of the words.
 
-use crate::line::line;
-use range_command::{Output, SystemFiles, obey};
-use range_pump::FreeGate;
+use crate::commands::expect_ended;
+use range_command::Output;
+use range_pump::ThreadRuntime;
 use std::fs;
 use std::fs::File;
 use std::process::Abort;
 use std::rt::Files;
-use std::sync::Wait;
 use std::test::Fail;
-use std::thread::Threads;
 use test_doubles::{FILE_A, FILE_B};
 
 const LINES_A: &[u8] =
@@ -26,7 +24,7 @@ const B_FIRST: &[u8] = b"overlap,B,A,2,3\noverlap,A,B,1,5\nend,2\n";
 const MEMORY: &str = "/proc/self/mem";
 
 // The words write these parts, or are refused with status 1 by this text, and then write nothing.
-fn expect<R: Wait + Threads + Sync + Files<File = File> + AllocGlobal + Abort>(
+fn expect<R: ThreadRuntime + Files<File = File> + AllocGlobal + Abort>(
     rt: &R,
     words: &[&str],
     parts: &[&[u8]],
@@ -37,29 +35,15 @@ fn expect<R: Wait + Threads + Sync + Files<File = File> + AllocGlobal + Abort>(
     for part in parts {
         report.extend_from_slice(part)?;
     }
-    let words = line(alloc, words)?;
     let mut out = Output::new(Vec::new(alloc));
-    let told = match obey(
-        rt,
-        &SystemFiles::new(rt),
-        words.as_slice(),
-        b"".as_slice(),
-        &FreeGate,
-        &mut out,
-    ) {
-        Ok(()) => String::new(alloc),
-        Err(refusal) => {
-            assert!(rt; refusal.status() == 1);
-            format!(in alloc; "{refusal}")?
-        }
-    };
-    assert!(rt; told.as_str() == text, "{told}");
+    let status = u8::from(!text.is_empty());
+    expect_ended(rt, words, b"".as_slice(), &mut out, (status, text))?;
     assert!(rt; out.writer().as_slice() == report.as_slice());
     Ok(())
 }
 
 // The words over the files of the folder write these parts, or are refused by this text.
-fn expect_each<R: Wait + Threads + Sync + Files<File = File> + AllocGlobal + Abort>(
+fn expect_each<R: ThreadRuntime + Files<File = File> + AllocGlobal + Abort>(
     rt: &R,
 ) -> Result<(), Fail> {
     let same = "a.csv and a.csv have the same animal, A";

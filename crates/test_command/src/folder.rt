@@ -5,11 +5,10 @@ ghost use Rattle.std.specs.Str.{bytes_eq};
 
 use crate::line::line;
 use range_command::{OpenFault, Opener, Output, answer_to};
+use range_pump::ThreadRuntime;
 use std::alloc::Global;
 use std::process::Abort;
-use std::sync::Wait;
 use std::test::Fail;
-use std::thread::Threads;
 use test_doubles::FILE_A;
 
 // A path and the bytes of its file.
@@ -48,7 +47,7 @@ impl<'a> Opener for Folder<'a> {
 const FOX: &[u8] = b"animal,second,easting,northing\nfox,0,3,4\n";
 
 // Words over the folder of file A and the fox are answered by this status, this line, and a report that begins so.
-fn expect<R: Wait + Threads + Sync + AllocGlobal + Abort>(
+fn expect<R: ThreadRuntime + AllocGlobal + Abort>(
     rt: &R,
     words: &[&str],
     status: u8,

@@ -1,15 +1,14 @@
 // One animal, two and five in many plans.
 
-use crate::options::{LEVELS, options};
+use crate::options::{LEVELS, options_of};
 use crate::runs::REPORT_A;
 use range_options::{BLOCK_LIMIT, DEPTH_LIMIT, WORKER_LIMIT};
 use range_plane::Scale;
+use range_pump::ThreadRuntime;
 use range_run::run;
 use std::alloc::Global;
 use std::process::Abort;
-use std::sync::Wait;
 use std::test::Fail;
-use std::thread::Threads;
 use test_doubles::{FILE_A, FILE_B};
 
 const FILES: [&[u8]; 5] = [
@@ -29,7 +28,7 @@ const REPORT_OF_TWO: &[u8] =
     b"animal,A,fixes,5\nbox,A,0,0,10,10\nrow,A,1,0,1,0\nrow,A,2,60,2,0\nrow,A,3,120,3,100\nrow,A,4,180,4,200\nrow,A,5,240,4,200\ncorner,A,1,0,0\ncorner,A,2,10,0\ncorner,A,3,10,10\ncorner,A,4,0,10\npercent,A,50,3,3,50\npercent,A,95,5,4,200\npercent,A,100,5,4,200\nanimal,B,fixes,3\nbox,B,5,5,20,5\nrow,B,1,0,1,0\nrow,B,2,60,2,0\nrow,B,3,120,2,0\ncorner,B,1,5,5\ncorner,B,2,20,5\npercent,B,50,2,2,0\npercent,B,95,3,2,0\npercent,B,100,3,2,0\noverlap,A,B,1,5\noverlap,B,A,2,3\nend,2\n";
 
 // The files have this report, whatever the workers, the blocks and their lines: in forty plans.
-fn expect_report<R: Wait + Threads + Sync + Abort>(
+fn expect_report<R: ThreadRuntime + Abort>(
     rt: &R,
     alloc: Global,
     files: &[&'static [u8]],
@@ -45,7 +44,7 @@ fn expect_report<R: Wait + Threads + Sync + Abort>(
             (BLOCK_LIMIT, DEPTH_LIMIT),
         ] {
             let plan = (block, depth, workers);
-            let options = options(alloc, &LEVELS, plan, Scale::Metre)?;
+            let options = options_of(alloc, &LEVELS, plan, Scale::Metre)?;
             let sources = Vec::from_slice(alloc, files)?;
             let mut out = Vec::new(alloc);
             assert!(rt; run(rt, alloc, sources, &options, &mut out) == Ok(()));

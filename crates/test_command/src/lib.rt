@@ -8,9 +8,11 @@ mod answers;
 #[cfg(test)]
 mod bad_runs;
 #[cfg(test)]
-mod failing;
+mod commands;
 #[cfg(test)]
 mod failing_runs;
+#[cfg(test)]
+mod failures;
 #[cfg(test)]
 mod files;
 #[cfg(test)]

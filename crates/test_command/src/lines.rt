@@ -1,7 +1,7 @@
 // The line of a refusal goes out in one write, and whole.
 
-use crate::started::Line;
-use range_command::{Output, SystemFiles, answer};
+use crate::started::status_of;
+use range_command::Output;
 use std::io;
 use std::io::Write;
 use std::test::Fail;
@@ -48,9 +48,7 @@ fn a_refusal_goes_out_in_one_write(rt: HostRuntime) -> Result<(), Fail> {
             };
             let mut errors = Output::new(counted);
             let mut out = Output::new(Vec::new(alloc));
-            let files = SystemFiles::new(&rt);
-            let input = b"".as_slice();
-            let status = answer(&rt, &Line(&words), &files, input, &mut out, &mut errors);
+            let status = status_of(&rt, &words, b"", &mut out, &mut errors);
             let said = errors.writer();
             assert!(rt; status == 1 || status == 2);
             assert!(rt; said.held.starts_with(b"homerange: ") && said.held.ends_with(b"\n"));

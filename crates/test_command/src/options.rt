@@ -15,7 +15,7 @@ pub(crate) const LEVELS_WORD: &[u8] = b"50,95,100";
 pub(crate) const UNIT_WORD: &[u8] = b"m";
 
 /// Options with these levels, with a plan of blocks, depth and workers, and with this unit.
-pub(crate) fn options(
+pub(crate) fn options_of(
     alloc: Global,
     levels: &[u8],
     plan: (u32, u32, u32),

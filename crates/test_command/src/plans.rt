@@ -2,19 +2,17 @@
 // them, as a gate hears of them. Each wait ends after so many turns, and then the test fails.
 
 use crate::line::line;
-use crate::options::options;
+use crate::options::options_of;
 use range_command::{Output, SystemFiles, obey};
 use range_plane::Scale;
-use range_pump::Gate;
+use range_pump::{Gate, ThreadRuntime};
 use range_run::run_with_gate;
 use std::fs::File;
 use std::process::Abort;
 use std::rt::Files;
-use std::sync::Wait;
 use std::sync::atomic::{AtomicU64, Ordering};
 use std::test::Fail;
 use std::thread;
-use std::thread::Threads;
 
 const MOST_TURNS: u64 = 10_000_000;
 
@@ -80,15 +78,15 @@ impl Gate for Holding {
     }
 
     fn after_take(&self, file: u32, _place: u64) {
-        let place = usize::from(file > 0);
-        if self.taken[place].fetch_add(1, Ordering::SeqCst) == 0 && file == 0 {
+        let index = usize::from(file > 0);
+        if self.taken[index].fetch_add(1, Ordering::SeqCst) == 0 && file == 0 {
             self.hold();
         }
     }
 }
 
 // So many messages are to be sent before the first is let go, and so many in all, where nine fixes go in this plan.
-fn expect_obeyed<R: Wait + Threads + Sync + Files<File = File> + AllocGlobal + Abort>(
+fn expect_obeyed<R: ThreadRuntime + Files<File = File> + AllocGlobal + Abort>(
     rt: &R,
     words: &[&str],
     held: u64,
@@ -133,7 +131,7 @@ fn blocks_and_lines_are_as_long_as_the_words_say(rt: HostRuntime) -> Result<(), 
 fn two_workers_take_messages_at_once(rt: HostRuntime) -> Result<(), Fail> {
     let alloc = rt.alloc();
     let gate = Holding::new(1, 1);
-    let options = options(alloc, &[50], (1, 1, 2), Scale::Metre)?;
+    let options = options_of(alloc, &[50], (1, 1, 2), Scale::Metre)?;
     let sources = vec![in alloc; NINE, OTHER]?;
     let mut out = Vec::new(alloc);
     let outcome = run_with_gate(&rt, alloc, sources, &gate, &options, &mut out);

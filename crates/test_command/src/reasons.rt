@@ -1,16 +1,13 @@
 // What the program says where the system fails, and failures that pass.
 
-use crate::failing::{Failures, Output, Source};
-use crate::line::line;
+use crate::commands::expect_ended;
+use crate::failures::{Failures, Output, Source};
 use crate::runs::REPORT_A;
-use range_command::{SystemFiles, obey};
-use range_pump::FreeGate;
+use range_pump::ThreadRuntime;
 use std::fs::File;
 use std::process::Abort;
 use std::rt::Files;
-use std::sync::Wait;
 use std::test::Fail;
-use std::thread::Threads;
 use test_doubles::{FILE_A, ScriptedSource};
 
 // The numbers of failures that the system gives.
@@ -22,29 +19,20 @@ const NO_SPACE: i32 = 28;
 
 const BROKEN_PIPE: i32 = 32;
 
-// These words, over file A in pieces of eight bytes whose reads and whose writes fail so, are refused by this status
-// and this text, if they are, and so many bytes are written, of the report where there are no words. Whether the
-// output's reader has gone.
-fn is_left<R: Wait + Threads + Sync + Files<File = File> + AllocGlobal + Abort>(
+// These words, over file A in pieces of eight bytes whose reads and whose writes fail so, end with this status and this
+// text, and so many bytes are written, of the report where there are no words. Whether the output's reader has gone.
+fn is_left<R: ThreadRuntime + Files<File = File> + AllocGlobal + Abort>(
     rt: &R,
     words: &[&str],
     failures: (Failures, Failures),
-    told: Option<(u8, &str)>,
+    ended: (u8, &str),
     written: usize,
 ) -> Result<bool, Fail> {
-    let alloc = rt.alloc();
     let (failures, writes) = failures;
     let pieces = ScriptedSource::new(FILE_A, 8);
     let source = Source { pieces, failures };
-    let mut out = range_command::Output::new(Output::new(Vec::new(alloc), 8, writes));
-    let (line, files) = (line(alloc, words)?, SystemFiles::new(rt));
-    match obey(rt, &files, line.as_slice(), source, &FreeGate, &mut out) {
-        Ok(()) => assert!(rt; told.is_none(), "a refusal"),
-        Err(refusal) => {
-            let text = format!(in alloc; "{refusal}")?;
-            assert!(rt; told == Some((refusal.status(), text.as_str())), "{text}");
-        }
-    }
+    let mut out = range_command::Output::new(Output::new(Vec::new(rt.alloc()), 8, writes));
+    expect_ended(rt, words, source, &mut out, ended)?;
     let held = out.writer().held.as_slice();
     assert!(rt; held.len() == written, "{written} bytes");
     assert!(rt; !words.is_empty() || REPORT_A.starts_with(held));
@@ -61,7 +49,7 @@ fn a_failed_read_is_told_by_its_reason(rt: HostRuntime) -> Result<(), Fail> {
     for (number, text) in cases {
         for before in 0..12 {
             let failures = (Failures::one_after(before, number), Failures::none());
-            assert!(rt; !is_left(&rt, &[], failures, Some((1, text)), 0)?);
+            assert!(rt; !is_left(&rt, &[], failures, (1, text), 0)?);
         }
     }
     Ok(())
@@ -79,7 +67,7 @@ fn a_failed_write_is_told_by_its_reason(rt: HostRuntime) -> Result<(), Fail> {
             for before in [0, 1, REPORT_A.len() / 8] {
                 let failures = (Failures::none(), Failures::one_after(before, number));
                 let written = before.saturating_mul(8);
-                let left = is_left(&rt, words, failures, Some((4, text)), written)?;
+                let left = is_left(&rt, words, failures, (4, text), written)?;
                 assert!(rt; left == has_gone);
             }
         }
@@ -90,24 +78,11 @@ fn a_failed_write_is_told_by_its_reason(rt: HostRuntime) -> Result<(), Fail> {
 // The reason of a flush that failed, after all was written.
 #[test]
 fn a_failed_flush_is_told_by_its_reason(rt: HostRuntime) -> Result<(), Fail> {
-    let alloc = rt.alloc();
-    let mut full = Output::new(Vec::new(alloc), 8, Failures::none());
+    let mut full = Output::new(Vec::new(rt.alloc()), 8, Failures::none());
     full.can_flush = false;
     let mut out = range_command::Output::new(full);
-    let words = line(alloc, &[])?;
-    let refusal = obey(
-        &rt,
-        &SystemFiles::new(&rt),
-        words.as_slice(),
-        FILE_A,
-        &FreeGate,
-        &mut out,
-    )
-    .err();
-    let refusal = refusal.ok_or("no refusal")?;
-    assert!(rt; refusal.status() == 4);
-    let text = format!(in alloc; "{refusal}")?;
-    assert!(rt; text.as_str() == "standard output: No space left on device");
+    let text = "standard output: No space left on device";
+    expect_ended(&rt, &[], FILE_A, &mut out, (4, text))?;
     assert!(rt; out.writer().held.as_slice() == REPORT_A && out.writer().flushes == 1);
     Ok(())
 }
@@ -131,13 +106,13 @@ fn fifteen_interruptions_are_as_none_and_sixteen_are_a_failure(
                 (REPORT_A.len(), REPORT_A.len())
             };
             let text = "standard input: Interrupted system call";
-            let told = if are_failed { Some((1, text)) } else { None };
+            let ended = if are_failed { (1, text) } else { (0, "") };
             let reads = (failures, Failures::none());
-            assert!(rt; !is_left(&rt, &[], reads, told, read)?);
+            assert!(rt; !is_left(&rt, &[], reads, ended, read)?);
             let text = "standard output: Interrupted system call";
-            let told = if are_failed { Some((4, text)) } else { None };
+            let ended = if are_failed { (4, text) } else { (0, "") };
             let writes = (Failures::none(), failures);
-            assert!(rt; !is_left(&rt, &[], writes, told, written)?);
+            assert!(rt; !is_left(&rt, &[], writes, ended, written)?);
         }
     }
     Ok(())

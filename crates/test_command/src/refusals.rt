@@ -1,22 +1,21 @@
 // The line that says why there is no report, and the status.
 
-use crate::line::{line, texts};
+use crate::commands::expect_ended;
+use crate::line::texts;
 use range_analysis::AnalyseFault;
-use range_command::{Output, Refusal, SystemFiles, obey};
+use range_command::{Output, Refusal};
 use range_fixes::{Name, ReadFault};
 use range_options::FILE_LIMIT;
-use range_pump::FreeGate;
+use range_pump::ThreadRuntime;
 use range_run::RunFault;
 use std::alloc::Global;
 use std::fs::File;
 use std::process::Abort;
 use std::rt::Files;
-use std::sync::Wait;
 use std::test::Fail;
-use std::thread::Threads;
 
 // A refusal is told by this text and this status.
-pub(crate) fn expect_told<R: Abort>(
+fn expect_told<R: Abort>(
     rt: &R,
     alloc: Global,
     refusal: &Refusal,
@@ -30,24 +29,14 @@ pub(crate) fn expect_told<R: Abort>(
 }
 
 // Words are refused by this text and this status, and nothing is written.
-fn expect_refused<R: Wait + Threads + Sync + Files<File = File> + AllocGlobal + Abort>(
+fn expect_refused<R: ThreadRuntime + Files<File = File> + AllocGlobal + Abort>(
     rt: &R,
     words: &[&str],
     status: u8,
     text: &str,
 ) -> Result<(), Fail> {
-    let alloc = rt.alloc();
-    let words = line(alloc, words)?;
-    let mut out = Output::new(Vec::new(alloc));
-    let refused = obey(
-        rt,
-        &SystemFiles::new(rt),
-        words.as_slice(),
-        b"".as_slice(),
-        &FreeGate,
-        &mut out,
-    );
-    expect_told(rt, alloc, &refused.err().ok_or("no refusal")?, status, text)?;
+    let mut out = Output::new(Vec::new(rt.alloc()));
+    expect_ended(rt, words, b"".as_slice(), &mut out, (status, text))?;
     assert!(rt; out.writer().is_empty());
     Ok(())
 }
@@ -149,17 +138,14 @@ fn a_file_more_than_the_most_is_refused(rt: HostRuntime) -> Result<(), Fail> {
 }
 
 // Words are obeyed by a text that begins and ends so.
-fn expect_written<R: Wait + Threads + Sync + Files<File = File> + AllocGlobal + Abort>(
+fn expect_written<R: ThreadRuntime + Files<File = File> + AllocGlobal + Abort>(
     rt: &R,
     words: &[&str],
     first: &[u8],
     last: &[u8],
 ) -> Result<(), Fail> {
-    let alloc = rt.alloc();
-    let (line, files) = (line(alloc, words)?, SystemFiles::new(rt));
-    let (input, mut out) = (b"".as_slice(), Output::new(Vec::new(alloc)));
-    let obeyed = obey(rt, &files, line.as_slice(), input, &FreeGate, &mut out);
-    assert!(rt; obeyed.is_ok());
+    let mut out = Output::new(Vec::new(rt.alloc()));
+    expect_ended(rt, words, b"".as_slice(), &mut out, (0, ""))?;
     assert!(rt; out.writer().starts_with(first) && out.writer().ends_with(last));
     Ok(())
 }
@@ -271,28 +257,22 @@ fn a_help_that_is_not_taken_is_told_by_its_reason(rt: HostRuntime) -> Result<(),
 #[test]
 fn a_name_has_at_most_the_bytes_that_the_help_tells(rt: HostRuntime) -> Result<(), Fail> {
     let alloc = rt.alloc();
-    let words = line(alloc, &[])?;
+    let text =
+        "standard input: record 1: animal is not a name of 1 to 32 bytes with no comma, double quote or control character";
     let cases = [
         (
             b"animal,second,easting,northing\nxxxxxxxxxxxxxxxxxxxxxxxxxxxxxxxx,0,0,0\n".as_slice(),
-            true,
+            (0, ""),
         ),
         (
             b"animal,second,easting,northing\nxxxxxxxxxxxxxxxxxxxxxxxxxxxxxxxxx,0,0,0\n".as_slice(),
-            false,
+            (1, text),
         ),
     ];
-    for (text, is_read) in cases {
+    for (file, ended) in cases {
         let mut out = Output::new(Vec::new(alloc));
-        let outcome = obey(
-            &rt,
-            &SystemFiles::new(&rt),
-            words.as_slice(),
-            text,
-            &FreeGate,
-            &mut out,
-        );
-        assert!(rt; outcome.is_ok() == is_read && out.writer().is_empty() != is_read);
+        expect_ended(&rt, &[], file, &mut out, ended)?;
+        assert!(rt; out.writer().is_empty() == (ended.0 == 1));
     }
     Ok(())
 }

@@ -1,16 +1,15 @@
 // What a run writes, and the status it ends with.
 
-use crate::options::{LEVELS, PLAN, options};
+use crate::options::{LEVELS, PLAN, options_of};
 use range_analysis::AnalyseFault;
 use range_fixes::{Name, ReadFault};
 use range_plane::Scale;
+use range_pump::{FileSource, ThreadRuntime};
 use range_run::{RunFault, run, status};
 use std::alloc::Global;
-use std::io::{Read, Write};
+use std::io::Write;
 use std::process::Abort;
-use std::sync::Wait;
 use std::test::Fail;
-use std::thread::Threads;
 use test_doubles::{CUT_A, FILE_A, FILE_B, HEADER, QUOTED_A, ScriptedSource};
 
 pub(crate) const REPORT_A: &[u8] =
@@ -20,7 +19,7 @@ pub(crate) const REPORT_A: &[u8] =
 const READS: [usize; 3] = [1, 3, 8192];
 
 /// Runs over one source with the options that are there where words give none.
-pub(crate) fn run_over<R: Wait + Threads + Sync + Abort, S: Read + Send + Drop, W: Write>(
+pub(crate) fn run_over<R: ThreadRuntime + Abort, S: FileSource, W: Write>(
     rt: &R,
     alloc: Global,
     source: S,
@@ -30,21 +29,21 @@ pub(crate) fn run_over<R: Wait + Threads + Sync + Abort, S: Read + Send + Drop, 
 }
 
 // The same with coordinates in this unit.
-pub(crate) fn run_in<R: Wait + Threads + Sync + Abort, S: Read + Send + Drop, W: Write>(
+pub(crate) fn run_in<R: ThreadRuntime + Abort, S: FileSource, W: Write>(
     rt: &R,
     alloc: Global,
     source: S,
     unit: Scale,
     out: &mut W,
 ) -> Result<Result<(), RunFault>, Fail> {
-    let options = options(alloc, &LEVELS, PLAN, unit)?;
+    let options = options_of(alloc, &LEVELS, PLAN, unit)?;
     let mut sources = Vec::new(alloc);
     sources.push(source)?;
     Ok(run(rt, alloc, sources, &options, out))
 }
 
 // Runs in this unit over each text, and over it behind a byte order mark, by a few bytes a read and by all.
-fn expect_reports<R: Wait + Threads + Sync + Abort>(
+fn expect_reports<R: ThreadRuntime + Abort>(
     rt: &R,
     alloc: Global,
     unit: Scale,
@@ -60,7 +59,7 @@ fn expect_reports<R: Wait + Threads + Sync + Abort>(
     Ok(())
 }
 
-fn expect_report<R: Wait + Threads + Sync + Abort>(
+fn expect_report<R: ThreadRuntime + Abort>(
     rt: &R,
     alloc: Global,
     unit: Scale,
@@ -166,7 +165,7 @@ fn a_report_in_decimetres_begins_with_its_unit(rt: HostRuntime) -> Result<(), Fa
 #[test]
 fn the_unit_of_two_animals_stands_once(rt: HostRuntime) -> Result<(), Fail> {
     let alloc = rt.alloc();
-    let options = options(alloc, &[], PLAN, Scale::Decimetre)?;
+    let options = options_of(alloc, &[], PLAN, Scale::Decimetre)?;
     let first = b"animal,second,easting,northing\nA,0,16777217,0\n".as_slice();
     let second = b"animal,second,easting,northing\nB,0,16777217,0\n".as_slice();
     let sources = vec![in alloc; first, second]?;
@@ -212,7 +211,7 @@ fn coordinates_past_the_limit_of_their_unit_are_refused(rt: HostRuntime) -> Resu
 }
 
 // A run over a text answers this fault with status 1 and writes nothing, by a few bytes a read and by all.
-fn expect_fault<R: Wait + Threads + Sync + Abort>(
+fn expect_fault<R: ThreadRuntime + Abort>(
     rt: &R,
     alloc: Global,
     text: &[u8],
@@ -295,7 +294,7 @@ fn two_files_have_a_report_with_overlaps_or_the_first_fault(rt: HostRuntime) -> 
     ];
     for (files, expected) in cases {
         for plan in [PLAN, (1, 1, 8)] {
-            let options = options(alloc, &[100, 50], plan, Scale::Metre)?;
+            let options = options_of(alloc, &[100, 50], plan, Scale::Metre)?;
             let sources = vec![in alloc; files[0], files[1]]?;
             let mut out = Vec::new(alloc);
             let outcome = run(&rt, alloc, sources, &options, &mut out);

@@ -2,18 +2,18 @@
 
 use crate::answers::expect;
 use range_command::{Output, SystemFiles, answer};
+use range_pump::ThreadRuntime;
 use std::env::{Env, FillError};
 use std::fs::File;
+use std::io::Write;
 use std::process::Abort;
 use std::rt::Files;
-use std::sync::Wait;
 use std::test::Fail;
-use std::thread::Threads;
 use test_doubles::FILE_A;
 
 // A command line of these words, of which the first is the program's name.
 #[derive(Drop)]
-pub(crate) struct Line<'a>(pub(crate) &'a [&'a [u8]]);
+struct Line<'a>(&'a [&'a [u8]]);
 
 impl Env for Line<'_> {
     fn arg(&self, i: usize, buf: &mut [u8]) -> Result<usize, FillError> {
@@ -34,6 +34,17 @@ impl Env for Line<'_> {
     fn var_at(&self, _i: usize, _buf: &mut [u8]) -> Result<usize, FillError> {
         Err(FillError::NotPresent)
     }
+}
+
+/// The status that these words over an input are answered with.
+pub(crate) fn status_of<R: ThreadRuntime + Files<File = File> + AllocGlobal, W: Write, E: Write>(
+    rt: &R,
+    words: &[&[u8]],
+    input: &[u8],
+    out: &mut Output<W>,
+    errors: &mut Output<E>,
+) -> u8 {
+    answer(rt, &Line(words), &SystemFiles::new(rt), input, out, errors)
 }
 
 #[test]
@@ -61,14 +72,11 @@ fn the_first_word_that_is_no_text_is_told_by_its_number(rt: HostRuntime) {
 }
 
 // A file that is missing is told by its whole path, whatever the reason.
-fn expect_told<R: Wait + Threads + Sync + Files<File = File> + AllocGlobal + Abort>(
-    rt: &R,
-    path: &[u8],
-) {
+fn expect_told<R: ThreadRuntime + Files<File = File> + AllocGlobal + Abort>(rt: &R, path: &[u8]) {
     let mut out = Output::new(Vec::new(rt.alloc()));
     let mut errors = Output::new(Vec::new(rt.alloc()));
-    let (line, files) = ([b"homerange".as_slice(), path], SystemFiles::new(rt));
-    let status = answer(rt, &Line(&line), &files, FILE_A, &mut out, &mut errors);
+    let words = [b"homerange".as_slice(), path];
+    let status = status_of(rt, &words, FILE_A, &mut out, &mut errors);
     assert!(rt; out.writer().is_empty() && status == 1);
     let rest = errors.writer().as_slice().strip_prefix(b"homerange: ");
     let rest = rest.and_then(|rest| rest.strip_prefix(path));

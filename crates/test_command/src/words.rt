@@ -20,12 +20,12 @@ fn expect<R: Abort>(
     said: (usize, &[u8], (u32, u32, u32)),
 ) -> Result<(), Fail> {
     let (files, levels, plan) = said;
-    let read = read(alloc, words)??;
-    let found = read.options.plan;
-    assert!(rt; read.files.len() == files);
-    assert!(rt; read.options.levels.as_slice() == levels);
-    assert!(rt; (found.block, found.depth, found.workers) == plan);
-    assert!(rt; found.unit == Scale::Metre);
+    let found = read(alloc, words)??;
+    let asked = found.options.plan;
+    assert!(rt; found.files.len() == files);
+    assert!(rt; found.options.levels.as_slice() == levels);
+    assert!(rt; (asked.block, asked.depth, asked.workers) == plan);
+    assert!(rt; asked.unit == Scale::Metre);
     Ok(())
 }
 
@@ -71,8 +71,8 @@ fn words_say_the_unit(rt: HostRuntime) -> Result<(), Fail> {
         (&["x.csv", "--unit", "dm", "--block", "1"], Scale::Decimetre),
     ];
     for (words, unit) in cases {
-        let read = read(alloc, words)??;
-        assert!(rt; read.options.plan.unit == unit, "{words:?}");
+        let found = read(alloc, words)??;
+        assert!(rt; found.options.plan.unit == unit, "{words:?}");
     }
     Ok(())
 }
@@ -80,8 +80,8 @@ fn words_say_the_unit(rt: HostRuntime) -> Result<(), Fail> {
 #[test]
 fn paths_are_kept(rt: HostRuntime) -> Result<(), Fail> {
     let alloc = rt.alloc();
-    let read = read(alloc, &["b.csv", "a b.csv", "b.csv"])??;
-    let files = read.files.as_slice();
+    let found = read(alloc, &["b.csv", "a b.csv", "b.csv"])??;
+    let files = found.files.as_slice();
     assert!(rt; files.len() == 3 && files[0].as_str() == "b.csv");
     assert!(rt; files[1].as_str() == "a b.csv" && files[2].as_str() == "b.csv");
     Ok(())
@@ -158,8 +158,8 @@ fn a_file_more_than_the_most_is_refused_before_bad_levels(rt: HostRuntime) -> Re
         assert!(rt; matches!(&refused, Err(WordFault::TooManyFiles)));
     }
     let words = vec![in alloc; "x"; FILE_LIMIT as usize]?;
-    let read = read(alloc, words.as_slice())??;
-    assert!(rt; read.files.len() == FILE_LIMIT as usize);
+    let found = read(alloc, words.as_slice())??;
+    assert!(rt; found.files.len() == FILE_LIMIT as usize);
     Ok(())
 }
 

@@ -2,12 +2,12 @@
 //! worked tracks, and where points are. They are for tests alone.
 #![tactic(auto)]
 
-mod places;
+mod positions;
 mod random;
 mod scripted;
 mod tracks;
 
-pub use places::are_at;
+pub use positions::are_at;
 pub use random::next_random;
 pub use scripted::ScriptedSource;
 use std::alloc::{AllocError, Allocator};

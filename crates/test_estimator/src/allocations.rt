@@ -36,18 +36,18 @@ fn expect_stopped(
     assert!(rt; has_corners(alloc, estimator, corners), "corners");
 }
 
-// Gives an estimator the fixes of the square before a place, whose polygon has these corners, and then the others
-// as a block, while the allocation of this number is refused.
+// Gives an estimator so many fixes of the square, whose polygon has these corners, and then the others as
+// a block, while the allocation of this number is refused.
 fn refuse_allocation(
     rt: &impl Abort,
     alloc: Global,
     fixes: &[Fix],
-    place: usize,
+    first: usize,
     corners: &[(i64, i64)],
     number: u32,
 ) -> Outcome {
-    assert!(rt; place <= fixes.len());
-    let (before, block) = fixes.split_at(place);
+    assert!(rt; first <= fixes.len());
+    let (before, block) = fixes.split_at(first);
     let refusing = Refusing::new(alloc, number);
     let mut estimator = Estimator::new(&refusing);
     if !before.is_empty() && !takes(rt, &mut estimator, before) {
@@ -77,12 +77,12 @@ fn allocations_of_block(
     rt: &impl Abort,
     alloc: Global,
     fixes: &[Fix],
-    place: usize,
+    first: usize,
     corners: &[(i64, i64)],
 ) -> u32 {
     let mut refused = 0u32;
     for number in 1..MANY_ALLOCATIONS {
-        match refuse_allocation(rt, alloc, fixes, place, corners, number) {
+        match refuse_allocation(rt, alloc, fixes, first, corners, number) {
             Outcome::RefusedBefore => {}
             Outcome::Refused => refused = refused.wrapping_add(1),
             Outcome::Taken => return refused,

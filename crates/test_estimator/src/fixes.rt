@@ -10,9 +10,9 @@ use test_doubles::are_at;
 // The corners and the doubled area of each row of the square.
 pub(crate) const SQUARE_ROWS: [(u32, u128); 5] = [(1, 0), (2, 0), (3, 100), (4, 200), (4, 200)];
 
-pub(crate) fn fixes_of(alloc: Global, places: &[(u64, i64, i64)]) -> Result<Vec<Fix>, Fail> {
+pub(crate) fn fixes_of(alloc: Global, records: &[(u64, i64, i64)]) -> Result<Vec<Fix>, Fail> {
     let mut fixes = Vec::new(alloc);
-    for &(second, e, n) in places {
+    for &(second, e, n) in records {
         let at = Point::new(e, n).ok_or("no point")?;
         fixes.push(Fix { second, at })?;
     }

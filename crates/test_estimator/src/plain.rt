@@ -73,13 +73,13 @@ fn the_rows_of_random_fixes_are_those_by_definition(rt: HostRuntime) -> Result<(
 
 // Fixes that all stay corners, more than blocks of up to five fixes are flagged by a copy of, and then others.
 fn curve(alloc: Global) -> Result<Vec<Fix>, Fail> {
-    let mut places = Vec::new(alloc);
+    let mut records = Vec::new(alloc);
     for i in 0..28_u8 {
         let e = i64::from(i);
-        places.push((u64::from(i), e, e * e))?;
+        records.push((u64::from(i), e, e * e))?;
     }
-    places.extend_from_slice(&LATER)?;
-    fixes_of(alloc, &places)
+    records.extend_from_slice(&LATER)?;
+    fixes_of(alloc, &records)
 }
 
 #[test]

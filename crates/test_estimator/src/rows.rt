@@ -12,11 +12,11 @@ use test_doubles::SQUARE;
 fn expect_rows(
     rt: &impl Abort,
     alloc: Global,
-    places: &[(u64, i64, i64)],
+    records: &[(u64, i64, i64)],
     rows: &[(u32, u128)],
     corners: &[(i64, i64)],
 ) -> Result<(), Fail> {
-    let fixes = fixes_of(alloc, places)?;
+    let fixes = fixes_of(alloc, records)?;
     assert!(rt; fixes.len() == rows.len() && rows.len() < 10, "rows");
     for size in 1..=rows.len() {
         let estimator = estimator_of(rt, alloc, &fixes, size);
@@ -75,7 +75,7 @@ fn corners_go_where_later_fixes_cover_them(rt: HostRuntime) -> Result<(), Fail> 
 
 #[test]
 fn the_greatest_square_has_these_rows(rt: HostRuntime) -> Result<(), Fail> {
-    let places = [
+    let records = [
         (0, 0, 0),
         (0, 16_777_216, 0),
         (0, 16_777_216, 16_777_216),
@@ -93,14 +93,14 @@ fn the_greatest_square_has_these_rows(rt: HostRuntime) -> Result<(), Fail> {
         (16_777_216, 16_777_216),
         (0, 16_777_216),
     ];
-    expect_rows(&rt, rt.alloc(), &places, &rows, &corners)
+    expect_rows(&rt, rt.alloc(), &records, &rows, &corners)
 }
 
 #[test]
 fn fixes_that_the_polygon_before_their_block_covers_are_not_tested(
     rt: HostRuntime,
 ) -> Result<(), Fail> {
-    let places = [
+    let records = [
         (0, 0, 0),
         (0, 10, 0),
         (0, 10, 10),
@@ -119,8 +119,8 @@ fn fixes_that_the_polygon_before_their_block_covers_are_not_tested(
         (5, 300),
     ];
     let corners = [(0, 0), (10, 0), (20, 5), (10, 10), (0, 10)];
-    expect_rows(&rt, rt.alloc(), &places, &rows, &corners)?;
-    let fixes = fixes_of(rt.alloc(), &places)?;
+    expect_rows(&rt, rt.alloc(), &records, &rows, &corners)?;
+    let fixes = fixes_of(rt.alloc(), &records)?;
     for (size, tested) in [(1, 6), (4, 6), (7, 7)] {
         let estimator = estimator_of(&rt, rt.alloc(), &fixes, size);
         assert!(rt; estimator.tested() == tested, "in blocks of {size}");
@@ -128,13 +128,13 @@ fn fixes_that_the_polygon_before_their_block_covers_are_not_tested(
     Ok(())
 }
 
-// As many fixes as a file may have, all at one place: the first block alone is tested.
+// As many fixes as a file may have, all at one point: the first block alone is tested.
 #[test]
 fn an_estimator_takes_as_many_fixes_as_a_file_may_have(rt: HostRuntime) -> Result<(), Fail> {
-    let place = Point::new(7, 7).ok_or("no point")?;
+    let point = Point::new(7, 7).ok_or("no point")?;
     let fix = Fix {
         second: 0,
-        at: place,
+        at: point,
     };
     let block = vec![in rt.alloc(); fix; 1024]?;
     let mut estimator = Estimator::new(rt.alloc());

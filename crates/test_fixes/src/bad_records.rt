@@ -1,4 +1,4 @@
-// A bad record, at the first place and at later ones, in files of both headers.
+// A bad record, the first and later ones, in files of both headers.
 
 use crate::files::{expect, too_large};
 use range_fixes::ReadFault;
@@ -51,7 +51,7 @@ fn text_of(alloc: Global, form: Form, before: u32, record: &[u8]) -> Result<Vec<
     Ok(text)
 }
 
-// Checks that each bad record is told by its place, and that the fixes before it are given.
+// Checks that each bad record is told by its number, and that the fixes before it are given.
 fn expect_bad_records(rt: &impl Abort, alloc: Global, form: Form) -> Result<(), Fail> {
     for before in [0u32, 1, 4] {
         let records = bad_records(before.saturating_add(1), form.fields);

@@ -323,8 +323,8 @@ fn fixes_before_failure(rt: &impl Abort, alloc: Global, most: usize, reads: usiz
     assert!(rt; fault == Some(ReadFault::Read), "after {reads} reads");
     assert!(rt; count <= whole, "after {reads} reads by {most} bytes");
     assert!(rt; most > 1 || count == whole, "after {reads} bytes");
-    let place = count.checked_sub(1).map(|place| place as usize);
-    let point = place.and_then(|place| POINTS.get(place).copied());
+    let last_index = count.checked_sub(1).map(|index| index as usize);
+    let point = last_index.and_then(|index| POINTS.get(index).copied());
     assert!(rt; last == point, "after {reads} reads by {most} bytes");
     Some(count)
 }
@@ -364,13 +364,13 @@ fn fixes_come_in_turn_with_name_and_count(rt: HostRuntime) -> Result<(), Fail> {
         let source = ScriptedSource::new(FILE_A, most);
         let mut reader = FixReader::new(rt.alloc(), source, Scale::Metre);
         assert!(rt; reader.name().is_none() && reader.count() == 0);
-        for (place, fix) in fixes.iter().enumerate() {
+        for (index, fix) in fixes.iter().enumerate() {
             assert!(rt;
                 reader.next() == Ok(Some(*fix)),
-                "fix {place} by {most} bytes"
+                "fix {index} by {most} bytes"
             );
             assert!(rt; reader.name() == Some(b"A".as_slice()), "the name");
-            assert!(rt; reader.count() as usize == place + 1, "so many fixes");
+            assert!(rt; reader.count() as usize == index + 1, "so many fixes");
         }
         assert!(rt; reader.next() == Ok(None), "the end");
         assert!(rt;

@@ -1,4 +1,4 @@
-//! Tests of the reader of fixes: whole, cut, hostile and failing files, bad records by their place, records
+//! Tests of the reader of fixes: whole, cut, hostile and failing files, bad records by their number, records
 //! that are left out, numbers, what is read past the limit, both units, and the texts of faults.
 #![tactic(auto)]
 

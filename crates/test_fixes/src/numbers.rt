@@ -89,15 +89,15 @@ fn falling_digits_of_each_length_have_their_value(rt: HostRuntime) {
     }
 }
 
-// Digits of each length, in which this byte stands at one place: whether any of these texts is a number, and whether all
+// Digits of each length, one of which is this byte: whether any of these texts is a number, and whether all
 // are.
 fn numbers_with(byte: u8) -> (bool, bool) {
     let mut any = false;
     let mut all = true;
-    for place in 0..18usize {
+    for index in 0..18usize {
         let mut bytes = *b"123456789012345678";
-        bytes[place] = byte;
-        for length in place + 1..19 {
+        bytes[index] = byte;
+        for length in index + 1..19 {
             let is_number = value_of(&bytes[..length], VALUE_LIMIT - 1).is_some();
             any |= is_number;
             all &= is_number;

@@ -43,7 +43,7 @@ fn fixes_of_records_that_are_not_used_are_left_out(rt: HostRuntime) -> Result<()
     Ok(())
 }
 
-// Checks the fault of each of these records, and that so many fixes at one place come before it.
+// Checks the fault of each of these records, and that so many fixes at one point come before it.
 fn expect_faults(
     rt: &impl Abort,
     alloc: Global,

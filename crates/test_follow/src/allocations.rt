@@ -1,16 +1,14 @@
 // A test of failed allocations.
 
-use crate::checks::{begin_with, plan};
+use crate::checks::{begin_with, plan_of};
 use crate::files::{Case, LINE, SQUARE, sources_of};
 use range_collect::{Followed, follow};
 use range_options::Plan;
-use range_pump::Gate;
+use range_pump::{Gate, ThreadRuntime};
 use std::alloc::Global;
 use std::process::Abort;
-use std::sync::Wait;
 use std::sync::atomic::{AtomicUsize, Ordering};
 use std::test::Fail;
-use std::thread::Threads;
 use test_doubles::{MANY_ALLOCATIONS, Refusing};
 use test_files::is_name;
 
@@ -84,7 +82,7 @@ fn has_stopped_late(all: &[Followed<&Refusing<Global>>]) -> bool {
 
 // In a run that is refused an allocation, either there are no results, or one estimator has stopped; both come.
 // Whether that of the second file has stopped with two fixes in some run.
-fn expect_refusals<R: Wait + Threads + Sync + Abort>(
+fn expect_refusals<R: ThreadRuntime + Abort>(
     rt: &R,
     alloc: Global,
     plan: Plan,
@@ -129,7 +127,7 @@ fn expect_refusals<R: Wait + Threads + Sync + Abort>(
 #[test]
 fn a_refused_allocation_stops_one_estimator_or_all(rt: HostRuntime) -> Result<(), Fail> {
     for (block, depth, workers) in [(2, 4, 2), (1, 1, 1)] {
-        let _ = expect_refusals(&rt, rt.alloc(), plan(block, depth, workers)?)?;
+        let _ = expect_refusals(&rt, rt.alloc(), plan_of(block, depth, workers)?)?;
     }
     Ok(())
 }
@@ -139,7 +137,7 @@ fn a_refused_allocation_stops_one_estimator_or_all(rt: HostRuntime) -> Result<()
 #[test]
 fn an_estimator_may_stop_behind_its_first_block(rt: HostRuntime) -> Result<(), Fail> {
     for _ in 0..MANY_TIMES {
-        if expect_refusals(&rt, rt.alloc(), plan(2, 4, 2)?)? {
+        if expect_refusals(&rt, rt.alloc(), plan_of(2, 4, 2)?)? {
             return Ok(());
         }
     }

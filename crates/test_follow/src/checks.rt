@@ -6,22 +6,19 @@ use range_estimator::Row;
 use range_fixes::ReadFault;
 use range_options::{FILE_LIMIT, Plan};
 use range_plane::{Polygon, Scale};
-use range_pump::Gate;
+use range_pump::{FileSource, Gate, ThreadRuntime};
 use std::alloc::Global;
-use std::io::Read;
 use std::process::Abort;
-use std::sync::Wait;
 use std::test::Fail;
-use std::thread::Threads;
 use test_doubles::are_at;
 use test_files::is_name;
 
-pub(crate) fn plan(block: u32, depth: u32, workers: u32) -> Result<Plan, Fail> {
+pub(crate) fn plan_of(block: u32, depth: u32, workers: u32) -> Result<Plan, Fail> {
     Ok(Plan::new(block, depth, workers, Scale::Metre).ok_or("no plan")?)
 }
 
 // Follows sources side by side, and gives a result for each.
-pub(crate) fn follow_all<R: Wait + Threads + Sync + Abort, S: Read + Send + Drop, G: Gate>(
+pub(crate) fn follow_all<R: ThreadRuntime + Abort, S: FileSource, G: Gate>(
     rt: &R,
     alloc: Global,
     sources: Vec<S>,

@@ -1,18 +1,16 @@
 // Tests of faults: files with each fault of their reader beside others, and sources that fail.
 
-use crate::checks::{begin_with, expect_whole, follow_all, is_cut, plan};
+use crate::checks::{begin_with, expect_whole, follow_all, is_cut, plan_of};
 use crate::files::{LINE, SQUARE};
 use crate::plans::follow_one;
 use range_collect::Followed;
 use range_fixes::ReadFault;
 use range_options::{BLOCK_LIMIT, DEPTH_LIMIT, Plan, WORKER_LIMIT};
 use range_plane::{Polygon, Scale};
-use range_pump::FreeGate;
+use range_pump::{FreeGate, ThreadRuntime};
 use std::alloc::Global;
 use std::process::Abort;
-use std::sync::Wait;
 use std::test::Fail;
-use std::thread::Threads;
 use test_doubles::{CUT_A, ScriptedSource, are_at};
 use test_files::{BadFile, bad_records, files_without_fix, is_name};
 
@@ -28,7 +26,7 @@ fn expect_bad(rt: &impl Abort, followed: &Followed, file: BadFile) {
 }
 
 // Follows a bad file between two good ones, which are as they would be alone.
-fn expect_between<R: Wait + Threads + Sync + Abort>(
+fn expect_between<R: ThreadRuntime + Abort>(
     rt: &R,
     alloc: Global,
     file: BadFile,
@@ -47,7 +45,7 @@ fn expect_between<R: Wait + Threads + Sync + Abort>(
 }
 
 // Follows two bad files with a good one between them, each of which has its own fault.
-fn expect_around<R: Wait + Threads + Sync + Abort>(
+fn expect_around<R: ThreadRuntime + Abort>(
     rt: &R,
     alloc: Global,
     first: BadFile,
@@ -118,7 +116,7 @@ fn the_fixes_before_a_cut_record_are_taken_and_the_mark(rt: HostRuntime) -> Resu
     ] {
         for most in [1, 3, 8192] {
             let source = ScriptedSource::new(CUT_A, most);
-            let followed = follow_one(&rt, alloc, source, plan(block, depth, workers)?)?;
+            let followed = follow_one(&rt, alloc, source, plan_of(block, depth, workers)?)?;
             assert!(rt; is_cut(&followed, fault, 4), "in blocks of {block}");
             let estimator = &followed.estimator;
             assert!(rt; begin_with(SQUARE.rows, estimator.rows()), "the rows");
@@ -136,7 +134,7 @@ fn the_fixes_before_a_failed_read_are_taken_and_the_mark(rt: HostRuntime) -> Res
         let mut before = 0;
         for reads in 0..100 {
             let source = ScriptedSource::failing(SQUARE.text, most, reads);
-            let followed = follow_one(&rt, rt.alloc(), source, plan(2, 4, 2)?)?;
+            let followed = follow_one(&rt, rt.alloc(), source, plan_of(2, 4, 2)?)?;
             if is_name(&followed.read, SQUARE.name) {
                 break;
             }

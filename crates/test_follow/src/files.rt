@@ -36,8 +36,8 @@ pub(crate) const LINE: Case = Case {
     corners: &[(5, 5), (20, 5)],
 };
 
-// The same place three times.
-pub(crate) const PLACE: Case = Case {
+// The same point three times.
+pub(crate) const STILL: Case = Case {
     text: b"animal,second,easting,northing\nC,0,7,7\nC,0,7,7\nC,0,7,7\n",
     name: b"C",
     rows: &[(0, 1, 0), (0, 1, 0), (0, 1, 0)],

@@ -1,18 +1,16 @@
 // Tests of threads that run at once: calls of a gate that return only once another was called, which one
 // thread cannot do. Each waits at most so many turns, and then fails. All calls are heard, in their order.
 
-use crate::checks::{expect_whole, follow_all, is_whole, plan};
+use crate::checks::{expect_whole, follow_all, is_whole, plan_of};
 use crate::files::{Case, LINE, SQUARE, sources_of};
 use range_options::{BLOCK_LIMIT, DEPTH_LIMIT, Plan};
 use range_plane::FIX_LIMIT;
-use range_pump::Gate;
+use range_pump::{Gate, ThreadRuntime};
 use std::alloc::Global;
 use std::io::Read;
 use std::process::Abort;
-use std::sync::Wait;
 use std::sync::atomic::{AtomicBool, AtomicU64, Ordering};
 use std::test::Fail;
-use std::thread::Threads;
 use std::{io, thread};
 use test_doubles::{HEADER, ScriptedSource};
 
@@ -164,7 +162,7 @@ impl Gate for Meeting {
 
 // Checks that the calls met while the files were followed, whose rows are those of the files, and that each
 // call of the gate came.
-fn expect_meeting<R: Wait + Threads + Sync + Abort>(
+fn expect_meeting<R: ThreadRuntime + Abort>(
     rt: &R,
     alloc: Global,
     cases: &[Case],
@@ -190,7 +188,7 @@ fn two_pumps_run_at_once(rt: HostRuntime) -> Result<(), Fail> {
     for workers in [1, 2] {
         for block in [1, 2, 5, BLOCK_LIMIT] {
             let calls = [Call::BeforeSend(0, 0), Call::BeforeSend(1, 0)];
-            let plan = plan(block, 4, workers)?;
+            let plan = plan_of(block, 4, workers)?;
             expect_meeting(&rt, rt.alloc(), &[SQUARE, LINE], calls, plan)?;
         }
     }
@@ -203,7 +201,7 @@ fn a_pump_and_its_worker_run_at_once(rt: HostRuntime) -> Result<(), Fail> {
     for workers in [1, 2] {
         for (depth, place) in [(1, 1), (1, 2), (3, 4), (4, 5)] {
             let calls = [Call::BeforeSend(0, place), Call::AfterTake(0, 0)];
-            let plan = plan(1, depth, workers)?;
+            let plan = plan_of(1, depth, workers)?;
             expect_meeting(&rt, rt.alloc(), &[SQUARE], calls, plan)?;
         }
     }
@@ -211,11 +209,7 @@ fn a_pump_and_its_worker_run_at_once(rt: HostRuntime) -> Result<(), Fail> {
 }
 
 // Checks that a pump comes as far ahead of a worker that is at its first message as this plan's line is deep.
-fn expect_ahead<R: Wait + Threads + Sync + Abort>(
-    rt: &R,
-    alloc: Global,
-    plan: Plan,
-) -> Result<(), Fail> {
+fn expect_ahead<R: ThreadRuntime + Abort>(rt: &R, alloc: Global, plan: Plan) -> Result<(), Fail> {
     let fixes = 100;
     let ahead = u64::from(plan.depth.saturating_add(1));
     let calls = [Call::BeforeSend(0, ahead), Call::AfterTake(0, 0)];
@@ -235,7 +229,7 @@ fn expect_ahead<R: Wait + Threads + Sync + Abort>(
 #[test]
 fn a_pump_goes_ahead_by_the_depth_of_its_line(rt: HostRuntime) -> Result<(), Fail> {
     for depth in [1, 5, DEPTH_LIMIT - 1, DEPTH_LIMIT] {
-        expect_ahead(&rt, rt.alloc(), plan(1, depth, 1)?)?;
+        expect_ahead(&rt, rt.alloc(), plan_of(1, depth, 1)?)?;
     }
     Ok(())
 }
@@ -243,7 +237,7 @@ fn a_pump_goes_ahead_by_the_depth_of_its_line(rt: HostRuntime) -> Result<(), Fai
 #[test]
 fn two_workers_run_at_once(rt: HostRuntime) -> Result<(), Fail> {
     let calls = [Call::AfterTake(0, 0), Call::AfterTake(1, 0)];
-    let plan = plan(1, 4, 2)?;
+    let plan = plan_of(1, 4, 2)?;
     expect_meeting(&rt, rt.alloc(), &[SQUARE, LINE], calls, plan)
 }
 
@@ -295,7 +289,7 @@ fn a_worker_runs_while_its_source_is_read(rt: HostRuntime) -> Result<(), Fail> {
         gate: &gate,
     };
     sources.push(held)?;
-    let all = follow_all(&rt, alloc, sources, &gate, plan(256, 4, 1)?)?;
+    let all = follow_all(&rt, alloc, sources, &gate, plan_of(256, 4, 1)?)?;
     for followed in &all {
         assert!(rt; is_whole(followed, FIX_LIMIT as usize), "the end");
     }

@@ -1,17 +1,15 @@
 // Tests of plans, each of which gives the same rows, and of files that are not followed to their end.
 
-use crate::checks::{expect_whole, follow_all, is_cut, is_whole, plan};
-use crate::files::{Case, EAST, LIMITS, LINE, OUTWARD, PLACE, SLOPE, SQUARE, WEST, sources_of};
+use crate::checks::{expect_whole, follow_all, is_cut, is_whole, plan_of};
+use crate::files::{Case, EAST, LIMITS, LINE, OUTWARD, SLOPE, SQUARE, STILL, WEST, sources_of};
 use range_collect::Followed;
 use range_fixes::ReadFault;
 use range_options::{BLOCK_LIMIT, DEPTH_LIMIT, FILE_LIMIT, Plan, WORKER_LIMIT};
 use range_plane::{FIX_LIMIT, Scale};
-use range_pump::FreeGate;
+use range_pump::{FreeGate, ThreadRuntime};
 use std::alloc::Global;
 use std::process::Abort;
-use std::sync::Wait;
 use std::test::Fail;
-use std::thread::Threads;
 use test_doubles::{HEADER, MARKED_A, MARKED_AND_QUOTED_A, QUOTED_A, ScriptedSource};
 
 // The least and the greatest blocks and depths, and blocks that do not hold a whole file.
@@ -25,7 +23,7 @@ const BLOCKS_AND_DEPTHS: [(u32, u32); 6] = [
 ];
 
 // Follows one source.
-pub(crate) fn follow_one<R: Wait + Threads + Sync + Abort>(
+pub(crate) fn follow_one<R: ThreadRuntime + Abort>(
     rt: &R,
     alloc: Global,
     source: ScriptedSource<'static>,
@@ -38,7 +36,7 @@ pub(crate) fn follow_one<R: Wait + Threads + Sync + Abort>(
 }
 
 // Follows the files side by side, and checks each.
-fn expect_all<R: Wait + Threads + Sync + Abort>(
+fn expect_all<R: ThreadRuntime + Abort>(
     rt: &R,
     alloc: Global,
     cases: &[Case],
@@ -54,10 +52,10 @@ fn expect_all<R: Wait + Threads + Sync + Abort>(
 
 #[test]
 fn one_file_has_the_same_rows_in_each_plan(rt: HostRuntime) -> Result<(), Fail> {
-    for case in [SQUARE, LINE, PLACE, SLOPE, WEST, EAST, LIMITS, OUTWARD] {
+    for case in [SQUARE, LINE, STILL, SLOPE, WEST, EAST, LIMITS, OUTWARD] {
         for workers in [1, WORKER_LIMIT] {
             for (block, depth) in BLOCKS_AND_DEPTHS {
-                let plan = plan(block, depth, workers)?;
+                let plan = plan_of(block, depth, workers)?;
                 expect_all(&rt, rt.alloc(), &[case], plan)?;
             }
         }
@@ -69,7 +67,7 @@ fn one_file_has_the_same_rows_in_each_plan(rt: HostRuntime) -> Result<(), Fail> 
 fn two_files_have_the_same_rows_in_each_plan(rt: HostRuntime) -> Result<(), Fail> {
     for workers in [1, 2, WORKER_LIMIT] {
         for (block, depth) in BLOCKS_AND_DEPTHS {
-            let plan = plan(block, depth, workers)?;
+            let plan = plan_of(block, depth, workers)?;
             expect_all(&rt, rt.alloc(), &[SQUARE, LINE], plan)?;
         }
     }
@@ -80,8 +78,8 @@ fn two_files_have_the_same_rows_in_each_plan(rt: HostRuntime) -> Result<(), Fail
 fn five_files_have_the_same_rows_with_each_number_of_workers(rt: HostRuntime) -> Result<(), Fail> {
     for workers in 1..=WORKER_LIMIT {
         for (block, depth) in [(1, 1), (256, 4)] {
-            let plan = plan(block, depth, workers)?;
-            expect_all(&rt, rt.alloc(), &[SQUARE, LINE, PLACE, SLOPE, WEST], plan)?;
+            let plan = plan_of(block, depth, workers)?;
+            expect_all(&rt, rt.alloc(), &[SQUARE, LINE, STILL, SLOPE, WEST], plan)?;
         }
     }
     Ok(())
@@ -92,7 +90,7 @@ fn quotes_and_a_byte_order_mark_change_nothing(rt: HostRuntime) -> Result<(), Fa
     for text in [MARKED_A, QUOTED_A, MARKED_AND_QUOTED_A] {
         for workers in [1, WORKER_LIMIT] {
             let cases = [Case { text, ..SQUARE }, LINE];
-            expect_all(&rt, rt.alloc(), &cases, plan(2, 4, workers)?)?;
+            expect_all(&rt, rt.alloc(), &cases, plan_of(2, 4, workers)?)?;
         }
     }
     Ok(())
@@ -105,7 +103,7 @@ fn as_many_files_as_there_may_be_are_followed(rt: HostRuntime) -> Result<(), Fai
             &rt,
             rt.alloc(),
             &[OUTWARD; FILE_LIMIT as usize],
-            plan(1, 1, workers)?,
+            plan_of(1, 1, workers)?,
         )?;
     }
     Ok(())
@@ -120,7 +118,7 @@ fn fixes_that_the_polygon_before_their_block_covers_are_not_tested(
             &rt,
             rt.alloc(),
             ScriptedSource::new(OUTWARD.text, 8192),
-            plan(block, 4, 1)?,
+            plan_of(block, 4, 1)?,
         )?;
         assert!(rt;
             followed.estimator.tested() == tested,
@@ -138,7 +136,7 @@ fn repeated(times: u64, rest: &'static [u8]) -> ScriptedSource<'static> {
 #[test]
 fn as_many_fixes_as_a_file_may_have_are_taken(rt: HostRuntime) -> Result<(), Fail> {
     let source = repeated(u64::from(FIX_LIMIT), b"");
-    let followed = follow_one(&rt, rt.alloc(), source, plan(256, 4, 1)?)?;
+    let followed = follow_one(&rt, rt.alloc(), source, plan_of(256, 4, 1)?)?;
     assert!(rt; is_whole(&followed, FIX_LIMIT as usize), "the end");
     assert!(rt; followed.estimator.tested() == 256, "tested");
     Ok(())
@@ -153,7 +151,7 @@ fn a_fix_more_than_the_most_is_refused_behind_all_others(rt: HostRuntime) -> Res
         (u64::MAX, b""),
     ] {
         let source = repeated(times, rest);
-        let followed = follow_one(&rt, rt.alloc(), source, plan(BLOCK_LIMIT, 4, 1)?)?;
+        let followed = follow_one(&rt, rt.alloc(), source, plan_of(BLOCK_LIMIT, 4, 1)?)?;
         let fault = ReadFault::TooManyFixes;
         assert!(rt; is_cut(&followed, fault, FIX_LIMIT as usize), "the fault");
     }

@@ -13,8 +13,8 @@ fn expect_corners(
     cases: &[(&[(i64, i64)], &str)],
     are: bool,
 ) -> Result<(), Fail> {
-    for &(places, name) in cases {
-        let points = points_of(alloc, places)?;
+    for &(positions, name) in cases {
+        let points = points_of(alloc, positions)?;
         assert!(rt; are_corners(&points) == are, "{name}");
     }
     Ok(())

@@ -7,20 +7,20 @@ use range_plane::FIX_LIMIT;
 use std::process::Abort;
 use std::test::Fail;
 
-const PLACES: [(i64, i64); 5] = [(5, 5), (10, 5), (11, 5), (0, 0), (5, 12)];
+const POSITIONS: [(i64, i64); 5] = [(5, 5), (10, 5), (11, 5), (0, 0), (5, 12)];
 
-// Flags the places, adds each to the hull, whose polygon covers those with these flags, and flags them again.
+// Flags the points there, adds each to the hull, whose polygon covers those with these flags, and flags them again.
 fn expect_added(
     rt: &(impl Abort + AllocGlobal),
     hull: &mut OnlineHull,
     expected: [bool; 5],
 ) -> Result<(), Fail> {
-    let cols = columns_of(rt.alloc(), &PLACES)?;
+    let cols = columns_of(rt.alloc(), &POSITIONS)?;
     let mut cache = CoverCache::new(rt.alloc());
     cache.flag(hull, &cols)?;
     assert!(rt; cache.flags() == expected.as_slice(), "flags");
-    for (place, covered) in PLACES.iter().zip(expected) {
-        let p = point(*place)?;
+    for (position, covered) in POSITIONS.iter().zip(expected) {
+        let p = point(*position)?;
         hull.reserve(1)?;
         assert!(rt; hull.points() < FIX_LIMIT, "few");
         assert!(rt; !covered || hull.covers(p), "covered");

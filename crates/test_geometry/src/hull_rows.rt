@@ -22,15 +22,15 @@ fn expect_row(rt: &impl Abort, hull: &mut OnlineHull, p: Point, (corners, area2)
 fn expect_rows(
     rt: &impl Abort,
     alloc: Global,
-    places: &[(i64, i64)],
+    positions: &[(i64, i64)],
     rows: &[(u32, u128)],
     corners: &[(i64, i64)],
 ) -> Result<(), Fail> {
     let mut hull = OnlineHull::new(alloc);
-    hull.reserve(places.len())?;
-    assert!(rt; places.len() == rows.len(), "rows");
-    for (place, row) in places.iter().zip(rows) {
-        expect_row(rt, &mut hull, point(*place)?, *row);
+    hull.reserve(positions.len())?;
+    assert!(rt; positions.len() == rows.len(), "rows");
+    for (position, row) in positions.iter().zip(rows) {
+        expect_row(rt, &mut hull, point(*position)?, *row);
     }
     assert!(rt; has_corners_at(alloc, &hull, corners), "corners");
     Ok(())
@@ -38,8 +38,8 @@ fn expect_rows(
 
 #[test]
 fn each_insert_gives_these_corners_and_this_area(rt: HostRuntime) -> Result<(), Fail> {
-    for (places, rows, corners) in WORKED {
-        expect_rows(&rt, rt.alloc(), places, rows, corners)?;
+    for (positions, rows, corners) in WORKED {
+        expect_rows(&rt, rt.alloc(), positions, rows, corners)?;
     }
     Ok(())
 }

@@ -1,4 +1,4 @@
-// Tests of marks, counts, boxes and sums.
+// Tests of cover flags, counts, boxes and sums.
 
 use crate::points::{
     DECIMETRE_LIMITS, METRE_LIMITS, columns_of, parabola, plain_at, plain_of, point,
@@ -20,18 +20,18 @@ fn line(rt: &impl Abort, alloc: Global, points: u8, start: i64, rise: u8) -> Res
     Ok(cols)
 }
 
-// The marks of the points. Their count is that of `count_inside`.
-fn marks(
+// The cover flags of the points. Their count is that of `count_inside`.
+fn cover_flags(
     rt: &impl Abort,
     alloc: Global,
     corners: &Polygon,
     cols: &Columns,
 ) -> Result<Vec<bool>, Fail> {
-    let mut marks = vec![in alloc; false; cols.len()]?;
-    mark_inside(corners, cols, &mut marks);
-    let count = marks.iter().filter(|mark| **mark).count();
+    let mut flags = vec![in alloc; false; cols.len()]?;
+    mark_inside(corners, cols, &mut flags);
+    let count = flags.iter().filter(|flag| **flag).count();
     assert!(rt; u64::try_from(count) == Ok(count_inside(corners, cols)));
-    Ok(marks)
+    Ok(flags)
 }
 
 const FAR: i64 = COORDINATE_LIMIT;
@@ -104,8 +104,8 @@ fn extremes_and_sums_are_those_of_the_points(rt: HostRuntime) -> Result<(), Fail
             (2 * FAR as u64, FAR as u64),
         ),
     ];
-    for (places, extent, expected) in cases {
-        let cols = columns_of(rt.alloc(), places)?;
+    for (positions, extent, expected) in cases {
+        let cols = columns_of(rt.alloc(), positions)?;
         expect_box(&rt, &cols, extent, expected);
     }
     Ok(())
@@ -144,12 +144,12 @@ fn extremes_and_sums_are_the_same_from_either_end(rt: HostRuntime) -> Result<(),
 }
 
 #[test]
-fn points_up_to_the_corner_of_a_square_are_marked(rt: HostRuntime) -> Result<(), Fail> {
+fn points_up_to_the_corner_of_a_square_are_covered(rt: HostRuntime) -> Result<(), Fail> {
     let square = plain_at(&rt, rt.alloc(), &[(0, 0), (10, 0), (10, 10), (0, 10)])?;
     let cols = line(&rt, rt.alloc(), 17, 0, 1)?;
-    let marks = marks(&rt, rt.alloc(), &square, &cols)?;
-    for (i, mark) in marks.iter().enumerate() {
-        assert_eq!(rt; *mark, i <= 10, "{i}");
+    let flags = cover_flags(&rt, rt.alloc(), &square, &cols)?;
+    for (i, flag) in flags.iter().enumerate() {
+        assert_eq!(rt; *flag, i <= 10, "{i}");
     }
     assert_eq!(rt; count_inside(&square, &cols), 11);
     Ok(())
@@ -173,7 +173,7 @@ fn a_triangle_at_the_limits_covers_its_diagonal_and_not_the_one_above(
 }
 
 #[test]
-fn marks_are_exact_at_the_limits(rt: HostRuntime) -> Result<(), Fail> {
+fn cover_flags_are_exact_at_the_limits(rt: HostRuntime) -> Result<(), Fail> {
     let triangle = plain_at(&rt, rt.alloc(), &FAR_TRIANGLE)?;
     let cols = columns_of(
         rt.alloc(),
@@ -189,23 +189,23 @@ fn marks_are_exact_at_the_limits(rt: HostRuntime) -> Result<(), Fail> {
             (0, 1),
         ],
     )?;
-    let marks = marks(&rt, rt.alloc(), &triangle, &cols)?;
+    let flags = cover_flags(&rt, rt.alloc(), &triangle, &cols)?;
     let expected = [true, false, true, true, false, true, false, true, false];
-    assert!(rt; marks.as_slice() == expected.as_slice());
+    assert!(rt; flags.as_slice() == expected.as_slice());
     assert_eq!(rt; extremes(&cols), Some(extent(0, 0, FAR, FAR)));
     Ok(())
 }
 
-// So many points, at these places in turn.
-fn repeated(alloc: Global, places: &[(i64, i64)], points: u8) -> Result<Columns, Fail> {
+// So many points, at these positions in turn.
+fn repeated(alloc: Global, positions: &[(i64, i64)], points: u8) -> Result<Columns, Fail> {
     let mut cols = Columns::new(alloc);
-    for place in places.iter().cycle().take(usize::from(points)) {
-        cols.push(point(*place)?)?;
+    for position in positions.iter().cycle().take(usize::from(points)) {
+        cols.push(point(*position)?)?;
     }
     Ok(cols)
 }
 
-// Checks the marks of so many corners of the greatest square in decimetres, in turn: each but the fourth ones, where the
+// Checks the cover flags of so many corners of the greatest square in decimetres, in turn: each but the fourth ones, where the
 // polygon lacks that corner.
 fn expect_far_corners(
     rt: &impl Abort,
@@ -216,10 +216,10 @@ fn expect_far_corners(
 ) -> Result<(), Fail> {
     let cols = repeated(alloc, &DECIMETRE_LIMITS, points)?;
     assert!(rt; cols.len() == usize::from(points));
-    let inside = marks(rt, alloc, polygon, &cols)?;
-    for (i, mark) in inside.iter().enumerate() {
+    let flags = cover_flags(rt, alloc, polygon, &cols)?;
+    for (i, flag) in flags.iter().enumerate() {
         let covered = !lacks_fourth || i % 4 != 3;
-        assert!(rt; *mark == covered, "{points} {i}");
+        assert!(rt; *flag == covered, "{points} {i}");
     }
     Ok(())
 }
@@ -242,8 +242,8 @@ fn the_corners_of_the_greatest_square_and_what_is_within_are_counted(
     rt: HostRuntime,
 ) -> Result<(), Fail> {
     let square = plain_at(&rt, rt.alloc(), &DECIMETRE_LIMITS)?;
-    let places = [(0, 0), (FAR, 0), (FAR, FAR), (0, FAR), (1, 1)];
-    let cols = repeated(rt.alloc(), &places, 45)?;
+    let positions = [(0, 0), (FAR, 0), (FAR, FAR), (0, FAR), (1, 1)];
+    let cols = repeated(rt.alloc(), &positions, 45)?;
     assert_eq!(rt; count_inside(&square, &cols), 45);
     Ok(())
 }
@@ -255,9 +255,9 @@ fn is_in_parabola(corners: u8, e: u8, n: u16) -> bool {
 }
 
 // For each easting the northings at both ends of what they cover, and some past these.
-fn places_near_parabola(alloc: Global, corners: u8) -> Result<Vec<(u8, u16)>, Fail> {
+fn positions_near_parabola(alloc: Global, corners: u8) -> Result<Vec<(u8, u16)>, Fail> {
     let last = u16::from(corners.saturating_sub(1));
-    let mut places = Vec::new(alloc);
+    let mut positions = Vec::new(alloc);
     for e in 0..corners.saturating_add(1) {
         let low = u16::from(e) * u16::from(e);
         let high = last * u16::from(e);
@@ -268,26 +268,26 @@ fn places_near_parabola(alloc: Global, corners: u8) -> Result<Vec<(u8, u16)>, Fa
             high,
             high.saturating_add(1),
         ] {
-            places.push((e, n))?;
+            positions.push((e, n))?;
         }
     }
-    Ok(places)
+    Ok(positions)
 }
 
-// Checks the marks of each first part of the places near so many corners.
+// Checks the cover flags of each first part of the positions near so many corners.
 fn expect_near_parabola(rt: &impl Abort, alloc: Global, corners: u8) -> Result<(), Fail> {
     let polygon = plain_of(rt, alloc, &parabola(alloc, u16::from(corners))?)?;
     assert!(rt; polygon.corners().len() == usize::from(corners));
     let mut cols = Columns::new(alloc);
     let mut expected = Vec::new(alloc);
-    for (e, n) in &places_near_parabola(alloc, corners)? {
+    for (e, n) in &positions_near_parabola(alloc, corners)? {
         let q = point((i64::from(*e), i64::from(*n)))?;
         let inside = is_in_parabola(corners, *e, *n);
         assert!(rt; polygon.covers(q) == inside, "{e} {n}");
         cols.push(q)?;
         expected.push(inside)?;
         assert!(rt;
-            marks(rt, alloc, &polygon, &cols)? == expected,
+            cover_flags(rt, alloc, &polygon, &cols)? == expected,
             "up to {e} {n}"
         );
     }
@@ -295,7 +295,7 @@ fn expect_near_parabola(rt: &impl Abort, alloc: Global, corners: u8) -> Result<(
 }
 
 #[test]
-fn marks_are_exact_next_to_the_edges_of_parabolas(rt: HostRuntime) -> Result<(), Fail> {
+fn cover_flags_are_exact_next_to_the_edges_of_parabolas(rt: HostRuntime) -> Result<(), Fail> {
     for corners in [0, 1, 2, 3, 12, 13, 16, 35, 36, 37] {
         expect_near_parabola(&rt, rt.alloc(), corners)?;
     }
@@ -314,12 +314,15 @@ fn expect_across_parabola(rt: &impl Abort, alloc: Global, corners: u8) -> Result
         cols.push(q)?;
         expected.push(is_in_parabola(corners, e, n))?;
     }
-    assert!(rt; marks(rt, alloc, &polygon, &cols)? == expected, "{corners}");
+    assert!(rt;
+        cover_flags(rt, alloc, &polygon, &cols)? == expected,
+        "{corners}"
+    );
     Ok(())
 }
 
 #[test]
-fn marks_are_exact_across_parabolas(rt: HostRuntime) -> Result<(), Fail> {
+fn cover_flags_are_exact_across_parabolas(rt: HostRuntime) -> Result<(), Fail> {
     for corners in [12, 13, 24, 36, 37, 50] {
         expect_across_parabola(&rt, rt.alloc(), corners)?;
     }

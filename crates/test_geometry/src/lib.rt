@@ -12,11 +12,9 @@ mod corners;
 #[cfg(test)]
 mod cover_flags;
 #[cfg(test)]
-mod covering;
-#[cfg(test)]
 mod hull_allocations;
 #[cfg(test)]
-mod hull_covering;
+mod hull_cover;
 #[cfg(test)]
 mod hull_polygons;
 #[cfg(test)]
@@ -39,5 +37,7 @@ mod percents;
 mod plain;
 #[cfg(test)]
 mod points;
+#[cfg(test)]
+mod polygon_cover;
 #[cfg(test)]
 mod stats_allocations;

@@ -18,7 +18,7 @@ fn below(seed: u64, limit: usize) -> usize
     ((seed >> 33) as usize) % limit
 }
 
-// The place after the first `k` points.
+// The cursor after the first `k` points.
 fn cursor_at(chain: &PointList, k: usize) -> Cursor
     requires { k ≤ length (all_points chain.now.pieces) }
     ensures stands { Stands chain.now.pieces result }
@@ -31,7 +31,7 @@ fn cursor_at(chain: &PointList, k: usize) -> Cursor
     c
 }
 
-// Puts `p` in the place of the points from `from` up to `to`.
+// Puts `p` in place of the points from `from` up to `to`.
 fn replace_in_list(
     alloc: Global,
     list: &[Point],

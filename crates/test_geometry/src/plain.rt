@@ -37,10 +37,10 @@ fn expect_row(rt: &impl Abort, points: &[Point], polygon: &Polygon, (corners, ar
 fn expect_first_parts(
     rt: &impl Abort,
     alloc: Global,
-    (places, rows, corners): Worked,
+    (positions, rows, corners): Worked,
 ) -> Result<(), Fail> {
-    let points = points_of(alloc, places)?;
-    assert!(rt; places.len() == rows.len(), "rows");
+    let points = points_of(alloc, positions)?;
+    assert!(rt; positions.len() == rows.len(), "rows");
     for (i, row) in rows.iter().enumerate() {
         let first = &points[..points.len().min(i.saturating_add(1))];
         expect_row(rt, first, &plain_of(rt, alloc, first)?, *row);

@@ -123,18 +123,18 @@ pub(crate) fn point((e, n): (i64, i64)) -> Result<Point, Fail> {
     Ok(Point::new(e, n).ok_or("no point")?)
 }
 
-pub(crate) fn points_of(alloc: Global, places: &[(i64, i64)]) -> Result<Vec<Point>, Fail> {
+pub(crate) fn points_of(alloc: Global, positions: &[(i64, i64)]) -> Result<Vec<Point>, Fail> {
     let mut points = Vec::new(alloc);
-    for place in places {
-        points.push(point(*place)?)?;
+    for position in positions {
+        points.push(point(*position)?)?;
     }
     Ok(points)
 }
 
-pub(crate) fn columns_of(alloc: Global, places: &[(i64, i64)]) -> Result<Columns, Fail> {
+pub(crate) fn columns_of(alloc: Global, positions: &[(i64, i64)]) -> Result<Columns, Fail> {
     let mut columns = Columns::new(alloc);
-    for place in places {
-        columns.push(point(*place)?)?;
+    for position in positions {
+        columns.push(point(*position)?)?;
     }
     Ok(columns)
 }
@@ -160,13 +160,13 @@ pub(crate) fn plain_of(rt: &impl Abort, alloc: Global, points: &[Point]) -> Resu
     Ok(Polygon::plain(alloc, points)?)
 }
 
-// The polygon of the points at few places.
+// The polygon of the points at few positions.
 pub(crate) fn plain_at(
     rt: &impl Abort,
     alloc: Global,
-    places: &[(i64, i64)],
+    positions: &[(i64, i64)],
 ) -> Result<Polygon, Fail> {
-    plain_of(rt, alloc, &points_of(alloc, places)?)
+    plain_of(rt, alloc, &points_of(alloc, positions)?)
 }
 
 // The points `(i, i * i)`, for i from 0 on.
@@ -209,13 +209,13 @@ pub(crate) fn hull_of(
     Ok(hull)
 }
 
-// The hull of the points at these places, in turn.
+// The hull of the points at these positions, in turn.
 pub(crate) fn hull_at(
     rt: &impl Abort,
     alloc: Global,
-    places: &[(i64, i64)],
+    positions: &[(i64, i64)],
 ) -> Result<OnlineHull, Fail> {
-    hull_of(rt, alloc, &points_of(alloc, places)?)
+    hull_of(rt, alloc, &points_of(alloc, positions)?)
 }
 
 // Whether the polygon of the hull can be made, and has these corners, in this order.
@@ -230,7 +230,7 @@ pub(crate) fn has_corners<A: Allocator>(
             .is_ok_and(|polygon| polygon.corners() == corners)
 }
 
-// The same, of the corners at these places.
+// The same, of the corners at these positions.
 pub(crate) fn has_corners_at<A: Allocator>(
     alloc: Global,
     hull: &OnlineHull<A>,

@@ -1,7 +1,7 @@
 // Tests of the ends of a line, in one thread.
 
 ghost use Rattle.std.specs.Prelude.{◌≡◌, false, [], ◌∷◌, IfOk};
-ghost use Rattle.range_line.specs.Lines.{AreForFiles, AreOfLine};
+ghost use Rattle.range_line.specs.LineEnds.{AreForFiles, AreOfLine};
 
 use crate::blocks::{are_fixes, fixes, is_block};
 use crate::is_mark;

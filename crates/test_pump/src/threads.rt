@@ -6,17 +6,16 @@ use crate::pumps::{Expecting, ends, is_square, open_one};
 use range_fixes::ReadFault;
 use range_line::{Feeder, Message, Taker};
 use range_plane::Scale;
-use range_pump::{Pumped, pump};
+use range_pump::{Pumped, ThreadRuntime, pump};
 use std::alloc::Global;
-use std::sync::Wait;
 use std::test::Fail;
 use std::thread;
-use std::thread::{Scope, Threads};
+use std::thread::Scope;
 use test_doubles::{FILE_A, ScriptedSource};
 
 // Pumps the file in a thread of the scope, takes one message and drops the taker. What was taken, and what
 // the pump gives back; `None` where no thread was started.
-fn take_one_in<'s, E, R: Wait + Threads + Sync>(
+fn take_one_in<'s, E, R: ThreadRuntime>(
     rt: &'s R,
     scope: &'s Scope<'s, E>,
     alloc: Global,
@@ -40,7 +39,7 @@ fn take_one_in<'s, E, R: Wait + Threads + Sync>(
     Some((taken, pumping.join(rt)))
 }
 
-fn take_one<R: Wait + Threads + Sync>(
+fn take_one<R: ThreadRuntime>(
     rt: &R,
     alloc: Global,
     feeder: Feeder,

@@ -1,5 +1,5 @@
 use Rattle.std.proofs.Common.{arith, sym, ◌∙◌}
-use Rattle.range_analysis.proofs.Tracking.{name_is, repeat_within}
+use Rattle.range_analysis.proofs.FileTracks.{name_is, repeat_within}
 use Rattle.range_analysis.proofs.judgement.same_animal.Goals as goal
 
 pub swap_remove-animal-requires : goal.swap_remove-animal-requires

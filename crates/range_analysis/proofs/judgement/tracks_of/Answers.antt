@@ -3,7 +3,7 @@ use Rattle.std.specs.Vec.Iter.{into_iter_items}
 use Rattle.range_analysis.specs.Entries.{entries_of, entry_of, first_fault_from}
 use Rattle.range_analysis.specs.Tracks.{entries_in}
 use Rattle.range_analysis.proofs.Kept.{first_kept}
-use Rattle.range_analysis.proofs.Tracking.{fault_behind, entries_moved}
+use Rattle.range_analysis.proofs.FileTracks.{fault_behind, entries_moved}
 use Rattle.range_analysis.proofs.judgement.tracks_of.Goals as goal
 
 pub loop-followed-init : goal.loop-followed-init

@@ -5,7 +5,7 @@ use Rattle.std.proofs.lemmas.Slice.Eq.{bytes_eq-Decides}
 use Rattle.range_analysis.specs.Entries.{names_of}
 use Rattle.range_analysis.specs.Tracks.{entries_in}
 use Rattle.range_analysis.proofs.Repeats.{Key, IsNext, repeat_found, seen_more, differ_more}
-use Rattle.range_analysis.proofs.Tracking.{name_is, names_count}
+use Rattle.range_analysis.proofs.FileTracks.{name_is, names_count}
 use Rattle.range_analysis.proofs.names.first_repeat.Goals as goal
 use Rattle.range_analysis.proofs.names.first_repeat.Goals.{In_ok-first}
 

@@ -2,7 +2,7 @@ use Rattle.std.proofs.Common.{◌≡◌, ℕ, ◌+◌, ◌*◌, length, map, ap,
 use Rattle.std.proofs.lemmas.List.Elements.{All-map}
 use Rattle.std.proofs.lemmas.List.FromFn.{length-map-range_with_len}
 use Rattle.range_fixes.specs.Reading.{reading_from, readings}
-use Rattle.range_line.specs.Lines.{files_from, first_file, new_feeder, Line, TakerView}
+use Rattle.range_line.specs.LineEnds.{files_from, first_file, new_feeder, Line, TakerView}
 use Rattle.range_collect.specs.Fresh.{IsNew}
 use Rattle.range_collect.proofs.LineResults.{pumped_at}
 use Rattle.range_lemmas.proofs.Indices.{map_length}

@@ -1,7 +1,7 @@
 use Rattle.std.proofs.Common.{◌≡◌, ℕ, ◌+◌, ◌≤◌, ◌++◌, List, Some, slice_get, vec_len, vec_capacity, length}
 use Rattle.std.specs.Vec.Iter.{into_iter_items}
 use Rattle.range_fixes.specs.Reading.{reading_from}
-use Rattle.range_line.specs.Lines.{FeederView}
+use Rattle.range_line.specs.LineEnds.{FeederView}
 use Rattle.range_pump.specs.Pump.{IsPumped, ReadResult}
 use Rattle.range_collect.proofs.pumps.join_pumps.Given as goal
 

@@ -3,7 +3,7 @@ use Rattle.std.proofs.lemmas.Option.{slice_get_read}
 use Rattle.range_estimator.specs.Estimation.{Estimation}
 use Rattle.range_collect.specs.Follow.{Holds}
 use Rattle.range_line.specs.Messages.{fixes}
-use Rattle.range_collect.proofs.Holding.{each_holds_more, few, is_at}
+use Rattle.range_collect.proofs.EstimatorStates.{each_holds_more, few, is_at}
 use Rattle.range_collect.proofs.worker.give.Goals as goal
 
 pub overflow_sub-index : goal.overflow_sub-index

@@ -1,4 +1,4 @@
-use Rattle.range_command.proofs.Lines.{refusal_line, short_is_one_line}
+use Rattle.range_command.proofs.OneLine.{refusal_line, short_is_one_line}
 use Rattle.range_command.proofs.refusal_text.refusals_are_one_line.Goals as goal
 
 pub returns-clause-whole : goal.returns-clause-whole

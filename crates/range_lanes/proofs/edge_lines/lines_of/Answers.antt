@@ -3,7 +3,7 @@ use Rattle.std.proofs.lemmas.List.{get_or_read, length-set}
 use Rattle.range_plane.specs.Edges.{at}
 use Rattle.range_plane.specs.Plane.{origin}
 use Rattle.range_lanes.specs.EdgeLines.{IsLineOf, corner_before}
-use Rattle.range_lanes.proofs.Lines.{lines_more}
+use Rattle.range_lanes.proofs.EdgeSides.{lines_more}
 use Rattle.range_lanes.proofs.edge_lines.lines_of.Goals as goal
 
 pub loop-i-preserved : goal.loop-i-preserved

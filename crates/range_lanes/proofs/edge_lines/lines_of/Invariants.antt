@@ -1,6 +1,6 @@
 use Rattle.std.proofs.Common.{◌≡◌, length}
 use Rattle.range_lanes.specs.EdgeLines.{corner_before}
-use Rattle.range_lanes.proofs.Lines.{AreFirstLines}
+use Rattle.range_lanes.proofs.EdgeSides.{AreFirstLines}
 use Rattle.range_lanes.proofs.edge_lines.lines_of.Given as goal
 
 abbrev pub invariant-loop-i : goal.invariant-loop-i

@@ -1,6 +1,6 @@
 use Rattle.std.proofs.Common.{◌≡◌, ◌+◌, ◌*◌, count_by, ap, ◌∙◌, arith}
 use lib.Lanes.{chunk}
-use Rattle.range_plane.specs.Covering.{is_covered}
+use Rattle.range_plane.specs.ConvexCover.{is_covered}
 use Rattle.range_lanes.proofs.Counts.{count_more}
 use Rattle.range_lanes.proofs.inside.count_by_edges.Goals as goal
 

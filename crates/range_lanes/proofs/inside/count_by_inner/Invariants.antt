@@ -1,5 +1,5 @@
 use Rattle.std.proofs.Common.{◌≡◌, ◌*◌, take, count_by}
-use Rattle.range_plane.specs.Covering.{is_covered}
+use Rattle.range_plane.specs.ConvexCover.{is_covered}
 use Rattle.range_lanes.proofs.inside.count_by_inner.Given as goal
 
 abbrev pub invariant-loop-group : goal.invariant-loop-group

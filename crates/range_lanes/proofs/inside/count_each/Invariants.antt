@@ -1,6 +1,6 @@
 use Rattle.std.proofs.Common.{◌≡◌, count_by}
 use lib.Lanes.{chunk}
-use Rattle.range_plane.specs.Covering.{is_covered}
+use Rattle.range_plane.specs.ConvexCover.{is_covered}
 use Rattle.range_lanes.proofs.inside.count_each.Given as goal
 
 abbrev pub invariant-loop-index : goal.invariant-loop-index

@@ -1,7 +1,7 @@
 use Rattle.std.proofs.Common.{◌≡◌, count_by, length, map, ap, ◌∙◌, sym}
 use lib.Lanes.{chunk}
 use Rattle.std.proofs.lemmas.Simd.{length-chunk}
-use Rattle.range_plane.specs.Covering.{is_covered}
+use Rattle.range_plane.specs.ConvexCover.{is_covered}
 use Rattle.range_lanes.specs.Lanes.{is_not_negative}
 use Rattle.range_lanes.proofs.CornerBoxes.{none_covered}
 use Rattle.range_lanes.proofs.Counts.{all_pass, count_of_map, count_signs}

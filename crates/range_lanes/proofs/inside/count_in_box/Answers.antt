@@ -1,5 +1,5 @@
 use Rattle.std.proofs.Common.{◌∙◌, sym}
-use Rattle.range_plane.specs.Covering.{is_covered}
+use Rattle.range_plane.specs.ConvexCover.{is_covered}
 use Rattle.range_lanes.proofs.CornerBoxes.{none_covered}
 use Rattle.range_lanes.proofs.Counts.{count_signs}
 use Rattle.range_lanes.proofs.inside.count_in_box.Goals as goal

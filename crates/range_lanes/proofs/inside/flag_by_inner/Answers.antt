@@ -2,7 +2,7 @@ use Rattle.std.proofs.Common.{◌≡◌, ◌+◌, ◌++◌, ◌*◌, map, take, 
 use lib.Lanes.{chunk}
 use Rattle.std.proofs.Math.Seq.{take-add}
 use Rattle.std.proofs.lemmas.List.{map-append}
-use Rattle.range_plane.specs.Covering.{is_covered}
+use Rattle.range_plane.specs.ConvexCover.{is_covered}
 use Rattle.range_lanes.proofs.inside.flag_by_inner.Goals as goal
 use Rattle.range_lanes.proofs.inside.flag_by_inner.Goals.{then-tries-eq0, else-tries-eq0+then-flag_group, else-tries-eq0+else-flag_group}
 

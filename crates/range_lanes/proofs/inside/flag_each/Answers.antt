@@ -1,7 +1,7 @@
 use Rattle.std.proofs.Common.{◌≡◌, ◌+◌, ◌<◌, ◌++◌, ◌∷◌, [], length, map, take, set, sym, ap, ◌∙◌, append_assoc, arith}
 use lib.Lanes.{chunk}
 use Rattle.std.proofs.lemmas.List.{length-set, take_more_set}
-use Rattle.range_plane.specs.Covering.{is_covered}
+use Rattle.range_plane.specs.ConvexCover.{is_covered}
 use Rattle.range_lanes.proofs.Eights.{group_more}
 use Rattle.range_lanes.proofs.inside.flag_each.Goals as goal
 

@@ -1,6 +1,6 @@
 use Rattle.std.proofs.Common.{◌≡◌, ◌+◌, ◌++◌, length, map, take}
 use lib.Lanes.{chunk}
-use Rattle.range_plane.specs.Covering.{is_covered}
+use Rattle.range_plane.specs.ConvexCover.{is_covered}
 use Rattle.range_lanes.proofs.inside.flag_each.Given as goal
 
 abbrev pub invariant-loop-i : goal.invariant-loop-i

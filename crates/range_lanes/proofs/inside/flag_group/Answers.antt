@@ -1,7 +1,7 @@
 use Rattle.std.proofs.Common.{◌≡◌, ◌++◌, length, map, take, sym, ap, ◌∙◌}
 use lib.Lanes.{chunk}
 use Rattle.std.proofs.lemmas.Simd.{length-chunk}
-use Rattle.range_plane.specs.Covering.{is_covered}
+use Rattle.range_plane.specs.ConvexCover.{is_covered}
 use Rattle.range_lanes.specs.Lanes.{is_not_negative}
 use Rattle.range_lanes.proofs.Counts.{all_pass, count_signs}
 use Rattle.range_lanes.proofs.Known.{passes_where_not_negative, within_covered}

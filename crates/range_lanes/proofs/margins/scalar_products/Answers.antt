@@ -1,5 +1,5 @@
 use Rattle.std.proofs.Common.{◌-ℤ◌, map, ap, ◌∙◌, lit<}
-use Rattle.range_plane.specs.Covering.{scalar_product}
+use Rattle.range_plane.specs.ConvexCover.{scalar_product}
 use Rattle.range_plane.specs.Plane.{coordinate_limit, Position, position}
 use Rattle.range_lemmas.proofs.Sizes.{kept}
 use Rattle.range_lanes.proofs.Turns.{scalar_products_value, product_to_turn, sum_small, times_small}

@@ -1,7 +1,7 @@
 use Rattle.std.proofs.Common.{◌≡◌, suc, ◌+◌, [], ◌∷◌, ◌++◌, map, take, drop, set, ap, ◌∙◌, subst, arith}
 use Rattle.std.specs.Prelude.{slice_index_or}
 use Rattle.crossbeam_channel.specs.Claims.{view}
-use Rattle.range_line.specs.Lines.{ended_feeder}
+use Rattle.range_line.specs.LineEnds.{ended_feeder}
 use Rattle.range_line.specs.Passes.{after_joining_all}
 use Rattle.range_line.proofs.RuleSteps.{At}
 use Rattle.range_line.proofs.EndFacts.{at_or, settles_at, unsettled_at, shows_at}

@@ -1,6 +1,6 @@
 use Rattle.std.proofs.Common.{◌≡◌, [], ◌++◌, map, take, drop}
 use Rattle.crossbeam_channel.specs.Claims.{view}
-use Rattle.range_line.specs.Lines.{ended_feeder}
+use Rattle.range_line.specs.LineEnds.{ended_feeder}
 use Rattle.range_line.specs.Passes.{after_joining_all, line_of, IsTaking}
 use Rattle.range_line.proofs.settled.end_all.Given as goal
 

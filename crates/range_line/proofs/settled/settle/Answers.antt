@@ -4,7 +4,7 @@ use Rattle.crossbeam_channel.specs.Claims.{view}
 use Rattle.crossbeam_channel.specs.Ends.{receives_on}
 use Rattle.range_line.specs.declared.rule.PassView.{PassView}
 use Rattle.range_line.specs.Messages.{of_file, IsLawful}
-use Rattle.range_line.specs.Lines.{Line, FeederView, TakerView, AreForFiles, AreOfLine, IsTakenOf}
+use Rattle.range_line.specs.LineEnds.{Line, FeederView, TakerView, AreForFiles, AreOfLine, IsTakenOf}
 use Rattle.range_line.specs.Passes.{taken_by, files_known, HasTranscripts}
 use Rattle.range_line.proofs.RuleSteps.{At}
 use Rattle.range_line.proofs.Passes.{pops, learns, received, received_files, received_of_line, same_line, seat_of_line, taking_of}

@@ -4,7 +4,7 @@ use Rattle.crossbeam_channel.specs.Claims.{view}
 use Rattle.crossbeam_channel.specs.Ends.{sends_on, ruled_capacity}
 use Rattle.range_line.specs.declared.rule.PassView.{PassView}
 use Rattle.range_line.specs.Rule.{taker_pass, after_opening}
-use Rattle.range_line.specs.Lines.{new_feeder, new_taker, files_from}
+use Rattle.range_line.specs.LineEnds.{new_feeder, new_taker, files_from}
 use Rattle.range_line.specs.Passes.{LinePass, first_known, line_from, line_of}
 use Rattle.range_line.proofs.Orderly.{orderly_empty}
 use Rattle.range_line.proofs.RuleSteps.{begins, not_in_none}

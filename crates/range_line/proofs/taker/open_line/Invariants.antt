@@ -3,7 +3,7 @@ use Rattle.std.specs.Vec.{vec_len, vec_capacity}
 use Rattle.crossbeam_channel.specs.Claims.{view, IsSeatAt}
 use Rattle.crossbeam_channel.specs.Ends.{sends_on, ruled_capacity}
 use Rattle.range_line.specs.Rule.{taker_pass}
-use Rattle.range_line.specs.Lines.{new_feeder, files_from}
+use Rattle.range_line.specs.LineEnds.{new_feeder, files_from}
 use Rattle.range_line.specs.Passes.{line_from}
 use Rattle.range_line.proofs.taker.open_line.Given as goal
 

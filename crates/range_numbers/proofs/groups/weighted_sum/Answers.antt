@@ -1,5 +1,5 @@
 use Rattle.std.proofs.Common.{◌+◌, ◌∙◌, ap, arith}
-use Rattle.range_numbers.proofs.Counting.{AreBefore, products_fit, before_and_ending_fit, sums_fit, sum_is_weighted, last_weights_small, weights_are_before}
+use Rattle.range_numbers.proofs.DigitWeights.{AreBefore, products_fit, before_and_ending_fit, sums_fit, sum_is_weighted, last_weights_small, weights_are_before}
 use Rattle.range_numbers.specs.Groups.{weighted_sum, last_weights}
 use Rattle.range_numbers.proofs.groups.weighted_sum.Goals as goal
 

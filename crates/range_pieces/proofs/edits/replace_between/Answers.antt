@@ -2,7 +2,7 @@ use Rattle.std.proofs.Common.{◌≡◌, ◌∙◌, ap, ℕ, ◌+◌, ◌≤◌,
 use Rattle.range_pieces.specs.Pieces.{piece, all_points, offset, exchange}
 use Rattle.range_pieces.specs.PointList.{index}
 use Rattle.std.proofs.Common.{eq-or-lt_of_le}
-use Rattle.range_pieces.proofs.Falling.{stand_in_order}
+use Rattle.range_pieces.proofs.PieceIndices.{stand_in_order}
 use Rattle.range_pieces.proofs.edits.replace_between.Goals as goal
 
 pub replace_within-requires-clause-piece : goal.replace_within-requires-clause-piece

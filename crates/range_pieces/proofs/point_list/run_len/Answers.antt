@@ -2,7 +2,7 @@ use Rattle.std.proofs.Common.{◌≡◌, ap, ◌+◌, ◌<◌, ◌≤◌, inl, i
 use Rattle.range_pieces.specs.Pieces.{all_points, offset}
 use Rattle.range_pieces.specs.PointList.{index}
 use Rattle.range_pieces.proofs.Joins.{offset_more, offset_within}
-use Rattle.range_pieces.proofs.Falling.{index_within, stand_in_order}
+use Rattle.range_pieces.proofs.PieceIndices.{index_within, stand_in_order}
 use Rattle.range_pieces.proofs.point_list.run_len.Goals as goal
 
 pub len_of-requires : goal.len_of-requires

@@ -1,6 +1,6 @@
 use Rattle.std.proofs.Common.{◌<◌, length, arith}
 use Rattle.range_plane.specs.Edges.{at}
-use Rattle.range_pieces.proofs.Falling.{counted, falls_last, read}
+use Rattle.range_pieces.proofs.PieceIndices.{counted, falls_last, read}
 use Rattle.range_pieces.proofs.search.index_in.Goals as goal
 
 pub returns : goal.returns

@@ -1,6 +1,6 @@
 use Rattle.std.proofs.Common.{ℕ, ◌+◌, ◌/◌, length, arith}
 use Rattle.range_plane.specs.Edges.{at}
-use Rattle.range_pieces.proofs.Falling.{counted, falls_last, halved_or_done, read}
+use Rattle.range_pieces.proofs.PieceIndices.{counted, falls_last, halved_or_done, read}
 use Rattle.range_pieces.proofs.search.indices_in_both.Goals as goal
 
 pub loop-first_size-preserved : goal.loop-first_size-preserved

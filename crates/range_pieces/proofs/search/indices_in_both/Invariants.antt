@@ -1,6 +1,6 @@
 use Rattle.std.proofs.Common.{◌+◌, length}
 use Rattle.range_plane.specs.Edges.{at}
-use Rattle.range_pieces.specs.Rising.{IsBetween}
+use Rattle.range_pieces.specs.RisingPoints.{IsBetween}
 use Rattle.range_pieces.proofs.search.indices_in_both.Given as goal
 
 abbrev pub invariant-loop-first_size : goal.invariant-loop-first_size

@@ -1,6 +1,6 @@
 use Rattle.std.proofs.Common.{ℕ, ◌+◌, ◌*◌, ◌/◌, ◌<◌, arith}
 use Rattle.range_plane.specs.Plane.{Position}
-use Rattle.range_pieces.proofs.Falling.{counted, halved, quartered}
+use Rattle.range_pieces.proofs.PieceIndices.{counted, halved, quartered}
 use Rattle.range_pieces.proofs.search.last_before.Goals as goal
 
 pub loop-size-preserved : goal.loop-size-preserved

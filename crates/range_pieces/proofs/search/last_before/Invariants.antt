@@ -1,4 +1,4 @@
-use Rattle.range_pieces.specs.Rising.{IsBetween}
+use Rattle.range_pieces.specs.RisingPoints.{IsBetween}
 use Rattle.range_pieces.proofs.search.last_before.Given as goal
 
 abbrev pub invariant-loop-size : goal.invariant-loop-size

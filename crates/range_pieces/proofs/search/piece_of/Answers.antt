@@ -1,6 +1,6 @@
 use Rattle.std.proofs.Common.{ℕ, subst, sym}
-use Rattle.range_pieces.specs.Rising.{Rises, first_of}
-use Rattle.range_pieces.proofs.Falling.{firsts_rise}
+use Rattle.range_pieces.specs.RisingPoints.{Rises, first_of}
+use Rattle.range_pieces.proofs.PieceIndices.{firsts_rise}
 use Rattle.range_pieces.proofs.search.piece_of.Goals as goal
 
 pub last_before-requires-clause-rising : goal.last_before-requires-clause-rising

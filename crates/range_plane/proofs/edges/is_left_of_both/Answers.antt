@@ -1,6 +1,6 @@
 use Rattle.std.proofs.Common.{◌≡◌, ◌∙◌, refl, false, true}
 use Rattle.range_plane.proofs.Ends.{is_decided, not_covered}
-use Rattle.range_plane.proofs.Spanning.{two_edges, left_of_each}
+use Rattle.range_plane.proofs.SpanningEdges.{two_edges, left_of_each}
 use Rattle.range_plane.proofs.edges.is_left_of_both.Goals as goal
 
 pub returns-then-is_left_of_edge : goal.returns-then-is_left_of_edge

@@ -5,8 +5,8 @@ use Rattle.std.proofs.lemmas.List.{get_or_read}
 use Rattle.range_plane.specs.Edges.{at}
 use Rattle.range_plane.specs.Plane.{Position, origin, IsAtMost, IsBefore}
 use Rattle.range_plane.proofs.AtMost.{through_most}
-use Rattle.range_plane.proofs.Searching.{around, halved}
-use Rattle.range_plane.proofs.Spanning.{before_through, through_before}
+use Rattle.range_plane.proofs.CornerSearch.{around, halved}
+use Rattle.range_plane.proofs.SpanningEdges.{before_through, through_before}
 use Rattle.range_plane.proofs.Tops.{falls_from_top, rises_to_top}
 use Rattle.range_plane.proofs.edges.spanning_edges.Goals as goal
 

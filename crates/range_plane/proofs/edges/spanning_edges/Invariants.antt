@@ -1,6 +1,6 @@
 use Rattle.std.proofs.Common.{◌+◌, length}
 use Rattle.range_plane.specs.Plane.{IsAtMost, IsBefore}
-use Rattle.range_plane.proofs.Searching.{IsBetween}
+use Rattle.range_plane.proofs.CornerSearch.{IsBetween}
 use Rattle.range_plane.proofs.edges.spanning_edges.Given as goal
 
 abbrev pub invariant-loop-lower_size : goal.invariant-loop-lower_size

@@ -1,6 +1,6 @@
 use Rattle.std.proofs.Common.{◌⊎◌, inl, inr, Contains, sym, ◌∙◌}
 use Rattle.std.proofs.lemmas.Bool.{false≢true}
-use Rattle.range_plane.specs.Covering.{Covers}
+use Rattle.range_plane.specs.ConvexCover.{Covers}
 use Rattle.range_plane.specs.Polygon.{without}
 use Rattle.range_plane.proofs.Decided.{covered_decided, member_decided}
 use Rattle.range_plane.proofs.Round.{goes_all, goes_next, goes_same, goes_some, goes_start}

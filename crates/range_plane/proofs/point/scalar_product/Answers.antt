@@ -2,7 +2,7 @@ use Rattle.range_plane.proofs.Bounds.{scalar_product_fits, abs_product, product_
 use Rattle.std.proofs.Common.{◌-ℤ◌, ◌*ℤ◌, w64}
 use Rattle.std.proofs.lemmas.Int.{to_z-of_z}
 use Rattle.range_plane.specs.Plane.{position}
-use Rattle.range_plane.specs.Covering.{scalar_product}
+use Rattle.range_plane.specs.ConvexCover.{scalar_product}
 use Rattle.range_plane.proofs.point.scalar_product.Goals as goal
 
 pub overflow_mul-result : goal.overflow_mul-result

@@ -1,6 +1,6 @@
 use Rattle.std.proofs.Common.{◌*◌, refl}
 use Rattle.range_report.specs.Parts.{part_lines, part_text, text_of}
-use Rattle.range_report.proofs.Cutting.{one_part_more}
+use Rattle.range_report.proofs.PartCuts.{one_part_more}
 use Rattle.range_report.proofs.parts.push_numbered.Goals as goal
 
 pub loop-i-preserved : goal.loop-i-preserved

@@ -5,7 +5,7 @@ use Rattle.range_report.specs.declared.parts.Lines.{Lines}
 use Rattle.range_report.specs.declared.parts.Lines.TheVariants.{Corners, Rows}
 use Rattle.range_report.specs.Parts.{part_count, part_lines, part_text, text_of}
 use Rattle.range_report.specs.Report.{animal_text, corner_line, row_line}
-use Rattle.range_report.proofs.Cutting.{four_texts, numbered_cut}
+use Rattle.range_report.proofs.PartCuts.{four_texts, numbered_cut}
 use Rattle.range_report.proofs.parts.push_parts.Goals as goal
 
 -- the parts of so many rows or corners

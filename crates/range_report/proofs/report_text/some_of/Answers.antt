@@ -1,4 +1,4 @@
-use Rattle.range_report.proofs.Cutting.{members_from}
+use Rattle.range_report.proofs.PartCuts.{members_from}
 use Rattle.range_report.proofs.report_text.some_of.Goals as goal
 
 pub returns-clause-members : goal.returns-clause-members

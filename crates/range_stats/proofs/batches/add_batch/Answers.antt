@@ -1,6 +1,6 @@
 use Rattle.std.proofs.Common.{◌≡◌, ℕ, zero, suc, ◌++◌, Bool, List, [], ◌∷◌, Some, false, true, map, get_or, slice_get, ap, subst, sym, ◌∙◌}
 use Rattle.range_hull.specs.Hull.{Hull}
-use Rattle.range_plane.specs.Covering.{is_covered}
+use Rattle.range_plane.specs.ConvexCover.{is_covered}
 use Rattle.range_plane.specs.Plane.{Position}
 use Rattle.range_plane.specs.Polygon.{IsPolygon}
 use Rattle.range_stats.proofs.batches.add_batch.Goals as goal

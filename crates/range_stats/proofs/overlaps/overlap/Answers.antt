@@ -1,6 +1,6 @@
 use Rattle.std.proofs.Common.{◌≡◌, Bool, true, false, count_by, refl, rules, sym, ◌∙◌}
 use Rattle.std.specs.Prelude.{IsTrue, ◌↔◌}
-use Rattle.range_plane.specs.Covering.{is_covered}
+use Rattle.range_plane.specs.ConvexCover.{is_covered}
 use Rattle.range_plane.specs.Plane.{Position}
 use Rattle.range_plane.proofs.ForCallers.{corners_cover_the_set, covered_is_decided}
 use Rattle.range_stats.proofs.overlaps.overlap.Goals as goal

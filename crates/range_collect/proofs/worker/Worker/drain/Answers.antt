@@ -3,10 +3,10 @@ use Rattle.std.proofs.lemmas.List.FromFn.{length-map-range_with_len}
 use Rattle.std.proofs.lemmas.List.Sorted.{IsPermutation-refl}
 use Rattle.std.specs.List.Sorted.{IsPermutation}
 use Rattle.range_line.specs.declared.message.Message.{Message}
-use Rattle.range_line.specs.Lines.{ended_feeder, ended_taker, files_from, AreOfLine, FeederView, IsAllTaken, TakerView}
+use Rattle.range_line.specs.LineEnds.{ended_feeder, ended_taker, files_from, AreOfLine, FeederView, IsAllTaken, TakerView}
 use Rattle.range_line.specs.Messages.{of_file, IsLawful}
 use Rattle.range_collect.specs.Work.{EachHolds}
-use Rattle.range_collect.proofs.Holding.{ended_files, ended_twice, holds_sent}
+use Rattle.range_collect.proofs.EstimatorStates.{ended_files, ended_twice, holds_sent}
 use Rattle.range_lemmas.proofs.Indices.{map_length, of_all}
 use Rattle.range_collect.proofs.worker.Worker.drain.Goals as goal
 

@@ -1,5 +1,5 @@
 use Rattle.std.proofs.Common.{◌≡◌, map, vec_len}
-use Rattle.range_line.specs.Lines.{ended_feeder, files_from, AreOfLine}
+use Rattle.range_line.specs.LineEnds.{ended_feeder, files_from, AreOfLine}
 use Rattle.range_collect.specs.Work.{EachHolds}
 use Rattle.range_collect.proofs.worker.Worker.drain.Given as goal
 

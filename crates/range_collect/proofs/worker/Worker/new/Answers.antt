@@ -1,7 +1,7 @@
 use Rattle.std.proofs.Common.{◌++◌, [], ap, sym, ◌∙◌, arith, subst, List}
 use Rattle.std.proofs.lemmas.List.Elements.{All-push}
 use Rattle.range_line.specs.declared.message.Message.{Message}
-use Rattle.range_line.specs.Lines.{files_from}
+use Rattle.range_line.specs.LineEnds.{files_from}
 use Rattle.range_estimator.specs.Estimation.{Estimation}
 use Rattle.range_collect.specs.Follow.{Holds}
 use Rattle.range_collect.specs.Work.{EachHolds}

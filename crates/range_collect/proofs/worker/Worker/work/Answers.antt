@@ -1,6 +1,6 @@
 use Rattle.std.proofs.Common.{◌≡◌, ℕ, List, Contains, sym, subst, ap, ◌∙◌}
 use Rattle.range_line.specs.declared.message.Message.{Message}
-use Rattle.range_line.specs.Lines.{files_from, TakerView}
+use Rattle.range_line.specs.LineEnds.{files_from, TakerView}
 use Rattle.range_line.specs.Messages.{IsLawful}
 use Rattle.range_collect.specs.Work.{EachHolds}
 use Rattle.range_collect.proofs.worker.Worker.work.Given as given

@@ -1,5 +1,5 @@
 use Rattle.std.proofs.Common.{◌≡◌, false, vec_len}
-use Rattle.range_line.specs.Lines.{files_from}
+use Rattle.range_line.specs.LineEnds.{files_from}
 use Rattle.range_collect.specs.Work.{EachHolds}
 use Rattle.range_collect.proofs.worker.Worker.work.Given as goal
 

@@ -1,5 +1,5 @@
 use Rattle.std.proofs.Common.{◌≡◌, ◌+◌, ◌≤◌, length, map, take, vec_capacity, vec_len}
-use Rattle.range_plane.specs.Covering.{is_covered}
+use Rattle.range_plane.specs.ConvexCover.{is_covered}
 use Rattle.range_cover.proofs.cover_cache.CoverCache.flag_uncopied.Given as goal
 
 abbrev pub invariant-loop-i : goal.invariant-loop-i

@@ -1,5 +1,5 @@
 use Rattle.std.proofs.Common.{rules}
-use Rattle.range_estimator.proofs.Beginning.{none_is_sound}
+use Rattle.range_estimator.proofs.EmptyTable.{none_is_sound}
 use Rattle.range_estimator.proofs.estimator.Estimator.new.Goals as goal
 
 pub returns-clause-value : goal.returns-clause-value

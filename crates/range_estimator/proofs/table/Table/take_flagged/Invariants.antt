@@ -1,5 +1,5 @@
 use Rattle.std.proofs.Common.{◌≡◌, ◌+◌, ◌≤◌, ◌++◌, count_by, not, take}
-use Rattle.range_plane.specs.Covering.{is_covered}
+use Rattle.range_plane.specs.ConvexCover.{is_covered}
 use Rattle.range_plane.specs.Row.{points_of}
 use Rattle.range_estimator.specs.Table.{IsSoundTable, fixes_in, spare_of}
 use Rattle.range_estimator.proofs.table.Table.take_flagged.Given as goal

@@ -1,5 +1,5 @@
 use Rattle.std.proofs.Common.{◌≡◌, ◌∙◌, subst, false}
-use Rattle.range_plane.specs.Covering.{is_covered}
+use Rattle.range_plane.specs.ConvexCover.{is_covered}
 use Rattle.range_plane.proofs.ForCallers.{covered_is_decided, covering_is_reaching}
 use Rattle.range_hull.specs.Hull.{Hull}
 use Rattle.range_hull.proofs.Beyond.{covered_by_upper, covered_none}

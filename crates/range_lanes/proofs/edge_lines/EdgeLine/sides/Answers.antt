@@ -1,7 +1,7 @@
 use Rattle.std.proofs.Common.{◌+ℤ◌, ◌*ℤ◌, map, ap, ◌∙◌, lit<}
 use Rattle.range_plane.specs.Plane.{coordinate_limit, turn_limit}
 use Rattle.range_lanes.proofs.Turns.{difference_small, product_to_turn, scaled_small}
-use Rattle.range_lanes.proofs.Lines.{sides_value, size_kept}
+use Rattle.range_lanes.proofs.EdgeSides.{sides_value, size_kept}
 use Rattle.range_lanes.proofs.edge_lines.EdgeLine.sides.Goals as goal
 
 pub minus-requires-clause-left : goal.minus-requires-clause-left

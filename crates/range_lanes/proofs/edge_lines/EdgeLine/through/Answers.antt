@@ -2,7 +2,7 @@ use Rattle.std.proofs.Common.{◌≡◌, subst, sym, ap, ◌∙◌, lit<, to_z, 
 use Rattle.range_lemmas.proofs.Sizes.{difference_kept}
 use Rattle.range_plane.specs.Plane.{coordinate_limit, turn_limit, origin, position, turn}
 use Rattle.range_lanes.specs.Lanes.{IsBounded}
-use Rattle.range_lanes.proofs.Lines.{line_through, size_kept}
+use Rattle.range_lanes.proofs.EdgeSides.{line_through, size_kept}
 use Rattle.range_lanes.proofs.edge_lines.EdgeLine.through.Goals as goal
 
 pub returns : goal.returns

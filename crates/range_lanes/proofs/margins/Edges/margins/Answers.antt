@@ -1,6 +1,6 @@
 use Rattle.std.proofs.Common.{◌≡◌, ◌-◌, ◌∙◌, ap, arith, length, map}
 use Rattle.std.proofs.lemmas.List.{get_or_read}
-use Rattle.range_plane.specs.Covering.{is_covered, is_on_segment}
+use Rattle.range_plane.specs.ConvexCover.{is_covered, is_on_segment}
 use Rattle.range_plane.specs.Edges.{at}
 use Rattle.range_plane.specs.Plane.{origin}
 use Rattle.range_lanes.proofs.LaneEdges.{few_cover}

@@ -1,7 +1,7 @@
 use Rattle.std.proofs.Common.{get_or, sym, ap, ◌∙◌}
 use Rattle.crossbeam_channel.specs.Ends.{sends_on}
 use Rattle.range_line.specs.declared.rule.PassView.{PassView}
-use Rattle.range_line.specs.Lines.{first_file, FeederView}
+use Rattle.range_line.specs.LineEnds.{first_file, FeederView}
 use Rattle.range_line.proofs.Passes.{same_line, ended_of, forks, merges, merged}
 use Rattle.range_line.proofs.feeder.Feeder.end.Goals as goal
 

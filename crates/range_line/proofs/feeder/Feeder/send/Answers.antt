@@ -1,6 +1,6 @@
 use Rattle.std.proofs.Common.{◌≡◌, ◌+◌, ◌∙◌, Bool, ℕ, length, ap, sym, subst, arith, rules}
 use Rattle.crossbeam_channel.specs.Ends.{sends_on, ruled_capacity}
-use Rattle.range_line.specs.Lines.{FeederView}
+use Rattle.range_line.specs.LineEnds.{FeederView}
 use Rattle.range_line.specs.Passes.{IsFeeding}
 use Rattle.range_line.proofs.Passes.{block_is_next, pushes, pushed}
 use Rattle.range_line.proofs.feeder.Feeder.send.Goals as goal

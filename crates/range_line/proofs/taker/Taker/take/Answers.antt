@@ -1,5 +1,5 @@
 use Rattle.std.proofs.Common.{ap, rules}
-use Rattle.range_line.specs.Lines.{TakerView}
+use Rattle.range_line.specs.LineEnds.{TakerView}
 use Rattle.range_line.proofs.Passes.{pops, learns, received, received_of_line}
 use Rattle.range_line.proofs.taker.Taker.take.Goals as goal
 

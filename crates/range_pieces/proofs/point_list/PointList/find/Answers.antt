@@ -2,7 +2,7 @@ use Rattle.std.proofs.Common.{◌≡◌, sym, ap, subst, ℕ, ◌+◌, ◌<◌, 
 use Rattle.range_plane.specs.Plane.{Position}
 use Rattle.range_pieces.specs.Pieces.{piece, all_points, offset}
 use Rattle.range_pieces.specs.PointList.{Content, FallsAt, IsRising}
-use Rattle.range_pieces.proofs.Falling.{piece_rises, falls_joined}
+use Rattle.range_pieces.proofs.PieceIndices.{piece_rises, falls_joined}
 use Rattle.range_pieces.proofs.point_list.PointList.find.Goals as goal
 
 pub index_in-within-requires-clause-rising : goal.index_in-within-requires-clause-rising

@@ -3,7 +3,7 @@ use Rattle.range_plane.specs.Edges.{at}
 use Rattle.range_plane.specs.Plane.{Position}
 use Rattle.range_pieces.specs.Pieces.{piece}
 use Rattle.range_pieces.specs.PointList.{Content}
-use Rattle.range_pieces.proofs.Falling.{at_joined, is_in_piece, read}
+use Rattle.range_pieces.proofs.PieceIndices.{at_joined, is_in_piece, read}
 use Rattle.range_pieces.proofs.point_list.PointList.get.Goals as goal
 
 pub returns : goal.returns

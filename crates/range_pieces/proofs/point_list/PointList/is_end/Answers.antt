@@ -1,7 +1,7 @@
 use Rattle.std.proofs.Common.{◌≡◌, ◌∙◌, sym, ap, inl, inr, eq-or-lt_of_le, length}
 use Rattle.range_pieces.specs.PointList.{Content}
 use Rattle.std.proofs.lemmas.Bool.{OnFalse_from, eq-eqb, eqb-false, eqb-true}
-use Rattle.range_pieces.proofs.Falling.{is_last, index_at_end, index_before_end}
+use Rattle.range_pieces.proofs.PieceIndices.{is_last, index_at_end, index_before_end}
 use Rattle.range_pieces.proofs.point_list.PointList.is_end.Goals as goal
 
 pub returns-clause-value : goal.returns-clause-value

@@ -3,7 +3,7 @@ use Rattle.range_plane.specs.Plane.{Position}
 use Rattle.range_pieces.specs.Pieces.{IsCut}
 use Rattle.range_pieces.specs.PointList.{Content}
 use Rattle.std.proofs.lemmas.Bool.{eqb-true}
-use Rattle.range_pieces.proofs.Falling.{is_first}
+use Rattle.range_pieces.proofs.PieceIndices.{is_first}
 use Rattle.range_pieces.proofs.point_list.PointList.is_start.Goals as goal
 
 pub returns-else-c-eq0 : goal.returns-else-c-eq0

@@ -4,7 +4,7 @@ use Rattle.range_pieces.specs.Pieces.{IsCut, piece, offset}
 use Rattle.range_pieces.specs.PointList.{Content}
 use Rattle.std.proofs.lemmas.Bool.{cases_lt}
 use Rattle.range_pieces.proofs.Joins.{offset_more}
-use Rattle.range_pieces.proofs.Falling.{index_within}
+use Rattle.range_pieces.proofs.PieceIndices.{index_within}
 use Rattle.range_pieces.proofs.point_list.PointList.previous.Goals as goal
 
 pub returns-else-c-gt0-clause-index : goal.returns-else-c-gt0-clause-index

@@ -3,7 +3,7 @@ use Rattle.range_plane.specs.Plane.{Position}
 use Rattle.range_lemmas.proofs.Indices.{replaced_length}
 use Rattle.range_pieces.specs.Pieces.{capacity_of, all_points}
 use Rattle.range_pieces.specs.PointList.{Content, Stands, index}
-use Rattle.range_pieces.proofs.Falling.{index_within}
+use Rattle.range_pieces.proofs.PieceIndices.{index_within}
 use Rattle.range_pieces.proofs.point_list.PointList.replace_run.Goals as goal
 
 pub overflow_sub-self : goal.overflow_sub-self

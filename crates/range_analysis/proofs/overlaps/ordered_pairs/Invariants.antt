@@ -1,6 +1,0 @@
-use Rattle.std.proofs.Common.{◌≡◌}
-use Rattle.range_analysis.proofs.AnimalPairs.{pairs_before}
-use Rattle.range_analysis.proofs.overlaps.ordered_pairs.Given as goal
-
-abbrev pub invariant-loop-animal : goal.invariant-loop-animal
-invariant-loop-animal l = l.all.items ≡ pairs_before l.count l.animal

@@ -1,0 +1,7 @@
+use Rattle.range_report.proofs.ListFacts.{seven_parts}
+use Rattle.range_report.proofs.report_lines.push_overlap.Goals as goal
+
+pub returns : goal.returns
+returns g c =
+    seven_parts _ _ _ _ _ _ _ _ _ _ _ _ _ _ _ c.in_ok-extend_from_slice.ensures.items c.in_ok-push_name.ensures c.in_ok-extend_from_slice-2.ensures.items
+    c.in_ok-push_name-2.ensures c.in_ok-push_field.ensures c.in_ok-push_field-2.ensures c.in_ok-extend_from_slice-3.ensures.items
