@@ -87,15 +87,13 @@ fn words_in(alloc: Global, matches: &ArgMatches) -> Result<Words, WordFault>
 {
     let unit = unit_of(alloc, matches)?;
     let files = files_of(alloc, matches)?;
-    let levels = match levels(
-        alloc,
-        text_of(matches, "percent", DEFAULT_LEVELS).as_bytes(),
-    ) {
-        Ok(levels) => levels,
+    let list = text_of(matches, "percent", DEFAULT_LEVELS);
+    let percents = match levels(alloc, list.as_bytes()) {
+        Ok(percents) => percents,
         Err(LevelFault::OutOfMemory) => return Err(WordFault::OutOfMemory),
         Err(fault) => return Err(WordFault::BadLevels(fault)),
     };
-    let levels = Levels::new(levels).unwrap();
+    let levels = Levels::new(percents).unwrap();
     let plan = Plan {
         block: number_of(matches, "block", BLOCK_LIMIT, DEFAULT_BLOCK),
         depth: number_of(matches, "depth", DEPTH_LIMIT, DEFAULT_DEPTH),

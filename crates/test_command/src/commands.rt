@@ -16,8 +16,8 @@ pub(crate) fn expect_ended<
     W: Write,
 >(rt: &R, words: &[&str], input: S, out: &mut Output<W>, ended: (u8, &str)) -> Result<(), Fail> {
     let alloc = rt.alloc();
-    let (line, files) = (line(alloc, words)?, SystemFiles::new(rt));
-    let (status, text) = match obey(rt, &files, line.as_slice(), input, &FreeGate, out) {
+    let (words, files) = (line(alloc, words)?, SystemFiles::new(rt));
+    let (status, text) = match obey(rt, &files, words.as_slice(), input, &FreeGate, out) {
         Ok(()) => (0, String::new(alloc)),
         Err(refusal) => (refusal.status(), format!(in alloc; "{refusal}")?),
     };
