@@ -34,7 +34,7 @@ FAR = scattered(250, 0xFF_FFFF)
 TESTS = {
     "a_square_has_these_percent_polygons": [[(0, 0), (10, 0), (10, 10), (0, 10), (5, 5)]],
     "fixes_in_line_have_percent_polygons_without_area": [[(5, 5), (10, 5), (20, 5)]],
-    "fixes_at_one_place_have_one_corner_at_each_level": [[(7, 7)] * 3],
+    "fixes_at_one_point_have_one_corner_at_each_level": [[(7, 7)] * 3],
     "one_fix_is_kept_at_each_level": [[(3, 4)]],
     "without_a_fix_no_corner_is_kept": [[]],
     "of_fixes_as_far_from_the_mean_the_first_are_kept": [[(10, 5), (0, 5), (8, 9), (2, 1), (9, 2), (1, 8)]],

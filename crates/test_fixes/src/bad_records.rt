@@ -66,7 +66,7 @@ fn expect_bad_records(rt: &impl Abort, alloc: Global, form: Form) -> Result<(), 
 }
 
 #[test]
-fn a_bad_record_is_told_by_its_place(rt: HostRuntime) -> Result<(), Fail> {
+fn a_bad_record_is_told_by_its_number(rt: HostRuntime) -> Result<(), Fail> {
     let form = Form {
         header: HEADER,
         fields: 4,

@@ -107,7 +107,7 @@ fn numbers_with(byte: u8) -> (bool, bool) {
 }
 
 #[test]
-fn no_byte_but_a_digit_is_taken_at_any_place(rt: HostRuntime) {
+fn no_byte_but_a_digit_is_taken_anywhere(rt: HostRuntime) {
     for byte in [0, b' ', b'/', b':', b'a', 0x7F, 0x80, 0xB0, 0xFF] {
         assert!(rt; !numbers_with(byte).0, "{byte}");
     }

@@ -86,7 +86,7 @@ fn fixes_in_line_have_percent_polygons_without_area(rt: HostRuntime) -> Result<(
 }
 
 #[test]
-fn fixes_at_one_place_have_one_corner_at_each_level(rt: HostRuntime) -> Result<(), Fail> {
+fn fixes_at_one_point_have_one_corner_at_each_level(rt: HostRuntime) -> Result<(), Fail> {
     let fixes = columns_of(rt.alloc(), &[(7, 7), (7, 7), (7, 7)])?;
     let rows = [(1, 1, 1, 0), (50, 2, 1, 0), (100, 3, 1, 0)];
     expect_percents(&rt, rt.alloc(), &fixes, &rows)
