@@ -1,16 +1,17 @@
-# Rscript check.R [--percent LIST] [--unit UNIT] REPORT FILE ..: recomputes each line of a report from the files, by base R's
-# chull, and says how many lines agree; the status is 0 where all do and none is missing. The levels and the unit are those
+#!/usr/bin/env -S Rscript --vanilla
+# check.R [--percent LIST] [--unit UNIT] REPORT FILE ..: recomputes each line of a report from the files, by base R's chull,
+# and says how many lines agree; the status is 0 where all do and none is missing. The levels and the unit are those
 # of the report where they are not given, and are said. The fixes of a column use that has 0 are left out.
 # Numbers are doubles, which are exact below 2^53; where one could be greater that is said, with status 3.
 if (!l10n_info()[["UTF-8"]]) invisible(Sys.setlocale("LC_CTYPE", "C.UTF-8"))
-usage <- "Rscript check.R [--percent LIST] [--unit m|dm] REPORT FILE .."
+usage <- "check.R [--percent LIST] [--unit m|dm] REPORT FILE .."
 exact_below <- 2^53
 
 script <- gsub("~+~", " ", sub("^--file=", "", grep("^--file=", commandArgs(), value = TRUE)[1]), fixed = TRUE)
 
 # What this script is for: the comment at its head.
 show_help <- function() {
-  lines <- readLines(script, encoding = "UTF-8")
+  lines <- readLines(script, encoding = "UTF-8")[-1]
   writeLines(sub("^# ?", "", lines[seq_len(which(!startsWith(lines, "#"))[1] - 1)]))
   quit()
 }
@@ -23,6 +24,10 @@ show_version <- function() {
 fail <- function(..., status = 1) {
   message("check.R: ", ...)
   quit(status = status)
+}
+
+if (!"--vanilla" %in% commandArgs()) {
+  fail("call it as tools/check.R, or by Rscript --vanilla: else R first runs what a file .Rprofile of this folder says", status = 2)
 }
 
 # The places of the corners among some fixes: counterclockwise from the westernmost, of two such the southern; none on a line

@@ -1,7 +1,8 @@
+#!/usr/bin/env -S Rscript --vanilla
 # Makes files for homerange from an export of Movebank or of a collar, or another table of fixes: tracks/NAME.csv, one for
 # each animal, and tracks/split.txt, a record of the export, the unit, the zone and what was left out or changed. Standard
 # error says the same. What cannot be right is refused: one line, status 1, no file. docs/TABLES.md has the rules, split.py
-# makes the same bytes, and `Rscript split.R --help` lists the options.
+# makes the same bytes, and `split.R --help` lists the options.
 if (!l10n_info()[["UTF-8"]]) invisible(Sys.setlocale("LC_CTYPE", "C.UTF-8"))
 script <- gsub("~+~", " ", sub("^--file=", "", grep("^--file=", commandArgs(), value = TRUE)[1]), fixed = TRUE)
 package <- file.path(dirname(dirname(normalizePath(script))), "r")
@@ -60,8 +61,12 @@ misuse <- function(...) {
   quit(status = 2)
 }
 
+if (!"--vanilla" %in% commandArgs()) {
+  misuse("call it as tools/split.R, or by Rscript --vanilla: else R first runs what a file .Rprofile of this folder says")
+}
+
 show_help <- function() {
-  cat("usage: Rscript split.R [OPTION ..] EXPORT\n\noptions:\n")
+  cat("usage: split.R [OPTION ..] EXPORT\n\noptions:\n")
   cat(sprintf("  --%s %s\n      %s\n", names(options_known), sapply(options_known, `[`, 1), sapply(options_known, `[`, 2)), sep = "")
   cat(sprintf("  --%s\n      %s\n", names(flags_known), flags_known), sep = "")
   quit()

@@ -314,18 +314,17 @@ def options_of_herd(words: Sequence[str]) -> dict[str, Any]:
     return found
 
 
-def write_herd_evidence(into: str | os.PathLike[str], out: Path) -> None:
-    """Makes the folder of the report of a herd, which tools/herd made in the folder OUT."""
+def write_herd_evidence(into: str | os.PathLike[str], out: Path, program: Program) -> None:
+    """Makes the folder of the report of a herd, which tools/herd made in the folder OUT by this program. The one that OUT
+    names is not run: the folder may be a stranger's."""
     def lines(path: Path) -> list[str]:
         return path.read_text(encoding="utf-8", errors="surrogateescape").split("\n")[:-1]
 
     groups = sorted((out / "groups").iterdir())
     paths = [Path(line) for group in groups for line in lines(group)]
     sums = [line.split(" ")[0] for group in groups for line in lines(out / "sums" / group.name)]
-    checksum, _, place = lines(out / "program")[0].partition("  ")
-    program = program_of(place)
-    if program.checksum != checksum:
-        raise ProgramError(f"{place} is not the program of the plan: call plan.sh")
+    if lines(out / "program")[0].split(" ")[0] != program.checksum:
+        raise ProgramError(f"{program.path} is not the program of the plan: name that by HOMERANGE, or call plan.sh")
     words = lines(out / "options")
     options = options_of_herd(words)
 

@@ -21,6 +21,9 @@ CODE = re.compile("([A-Za-z]+:[A-Za-z0-9]+) [(]")
 ESCAPED = re.compile(r"\\(\\|x[0-9a-f]{2}|u[0-9a-f]{4})")
 NO_OPTIONS = ("unit", "skip-lines", "mark", "skip-unnamed")  # whose value may be that of no wish
 SINGLE = ("export", "sha256", "unit", "zone", "shift", "crs")  # kinds of which there is one line
+# What such a line may have: the export is a plain name of a file, since a record may be a stranger's.
+FORMS = {"export": re.compile("(?!\\.{1,2}\\Z)[^/]+"), "sha256": SUM, "unit": re.compile("d?m"),
+         "zone": re.compile("none|([1-9]|[1-5][0-9]|60)[NS]")}
 REASONS = ("animal", "coordinates", "zero", "sensor", "outlier", "class", "no dop", "dop", "type", "before", "after",
            "grid", "speed", "months", "hours", "every", "use")  # use is an argument that left rows of a frame out
 
@@ -166,8 +169,8 @@ class Reader:
         kind, comma, rest = line.partition(",")
         if not comma:
             self.refuse(line)
-        elif kind in SINGLE and kind not in self.single:
-            self.single[kind] = os.path.basename(rest) if kind == "export" else rest  # older ones have its folder
+        elif kind in SINGLE and kind not in self.single and (kind not in FORMS or FORMS[kind].fullmatch(rest)):
+            self.single[kind] = rest
         elif kind == "option":
             name, has_value, value = rest.partition(",")
             self.options.append((name, unescaped(value) if has_value else None))

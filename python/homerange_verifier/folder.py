@@ -18,7 +18,12 @@ OF_EXPORT = ["export", "export sha256"]
 KINDS = ["export", "sha256", "unit", "zone", "shift", "crs", "option", "said", "left", "track", "tool"]  # of lines of a record
 SINGLE = KINDS[:KINDS.index("option")]  # of which there is one line
 SHIFT = re.compile("(-?[0-9]+),(-?[0-9]+)")
-LEVELS = re.compile("[0-9]+(,[0-9]+)*")
+LEVELS = re.compile("(100|[1-9][0-9]?)(,(100|[1-9][0-9]?)){0,7}")
+ZONE = re.compile("none|([1-9]|[1-5][0-9]|60)[NS]")
+# The options of a split that a record may have; none of them names a file.
+OPTIONS = set(
+    "zone sensor from animal name time time-format tz lon lat easting northing na encoding argos-class argos max-dop dop "
+    "fix-type fix since until max-speed every skip-lines mark skip-unnamed".split())
 
 
 def checksum_of(path: Path) -> str:
@@ -141,8 +146,20 @@ class Split:
         has_numbers = all(len(numbers) in (2, 3) and all(map(str.isdecimal, numbers[:2])) for _, *numbers in tracks)
         if len(self.tracks) < len(tracks) or not has_numbers:
             raise Fault("split.txt has a track twice, or one without numbers")
+        self.check()
+
+    def check(self) -> None:
+        """Refuses values that no record has."""
+        if "/" in self.single.get("export", "") or self.single.get("export") in ("", ".", ".."):
+            raise Fault(f"split.txt names the export {self.single['export']}, which is no plain name of a file")
+        if self.single["unit"] not in ("m", "dm") or not ZONE.fullmatch(self.single["zone"]):
+            raise Fault("split.txt has no unit or no zone of homerange")
         if self.crs is not None and self.zone is not None:
             raise Fault("split.txt has a zone and another reference system")
+        names = [name for name, _, _ in self.options]
+        odd = [name for name in names if names.count(name) > 1 or self.has_export and name not in OPTIONS]
+        if odd:
+            raise Fault(f"split.txt has the option {odd[0]}, which a split has not, or has once")
 
     @property
     def has_export(self) -> bool:
@@ -179,8 +196,8 @@ class Split:
         return int(found[1]), int(found[2])
 
     def shared(self) -> list[str]:
-        """The lines that are the same whoever splits."""
-        return [line for line in self.lines if not line.startswith("tool,")]
+        """The lines that are the same whoever splits, whatever the name of the export is."""
+        return [line for line in self.lines if not line.startswith(("tool,", "export,"))]
 
 
 def unescaped(text: str) -> str:

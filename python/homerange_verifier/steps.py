@@ -25,6 +25,7 @@ from .tables import difference as table_difference
 from .tables import tables
 
 MOST_ANIMALS, GROUP = 64, 32
+EXPORT = "export"  # the name under which it is split again, whatever the record calls it
 TABLES, LAYERS, PAGE, PICTURES = ("summary.csv", "animals.csv", "overlaps.csv"), "ranges.gpkg", "report.html", (
     "curves.png", "ranges.png")
 KNOWN = {*TABLES, LAYERS, PAGE, *PICTURES, "evidence.txt", "report.txt", "build.log"}
@@ -196,9 +197,8 @@ class Verification:
         if checksum_of(self.export) != self.split.single["sha256"]:
             raise Fault(f"{self.export.name} has not the checksum of the export in split.txt")
         with tempfile.TemporaryDirectory() as room:
-            name = self.split.single["export"]
-            copyfile(self.export, Path(room, name))
-            words = [*beside.SPLIT, *self.split.words(), "--into", "tracks", "--", name]
+            copyfile(self.export, Path(room, EXPORT))
+            words = [*beside.SPLIT, *self.split.words(), "--into", "tracks", "--", EXPORT]
             run = subprocess.run(words, cwd=room, stdin=subprocess.DEVNULL, capture_output=True)
             if run.returncode != 0:
                 said = run.stderr.decode("utf-8", "replace").strip().split("\n")[-1]

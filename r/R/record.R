@@ -80,6 +80,10 @@ read_record <- function(path) {
   wanted <- c(if (any(c("export", "sha256") %in% kinds)) c("export", "sha256"), "unit", "zone")
   missing <- setdiff(wanted, kinds)
   if (length(missing)) refuse("text", path, " has no line '", missing[1], "': is it a record of split?")
+  # The export is a plain name of a file, since a record may be a stranger's.
+  refuse_line(which(kinds == "export" & (grepl("/", rest, fixed = TRUE) | rest %in% c("", ".", ".."))))
+  refuse_line(which(kinds == "unit" & !rest %in% c("m", "dm") | kinds == "sha256" & !grepl("^[0-9a-f]{64}$", rest)))
+  refuse_line(which(kinds == "zone" & !grepl("^(none|([1-9]|[1-5][0-9]|60)[NS])$", rest)))
   refuse_line(which(kinds == "shift" & !grepl("^-?[0-9]+,-?[0-9]+$", rest)))
   refuse_line(which(kinds == "left" & !grepl("^[^,]*,[0-9]+,[^,]+$", rest)))
   refuse_line(which(kinds == "track" & !grepl("^[^,]+,[0-9]+,[0-9]+(,[0-9a-f]{64})?$", rest)))

@@ -81,20 +81,20 @@ refuses_all() {
 }
 refuses_all python3 "$tools/check.py"
 if is_here Rscript 'refusals of check.R'; then
-    refuses_all Rscript "$tools/check.R"
+    refuses_all "$tools/check.R"
 fi
 
 if is_here Rscript 'check.R'; then
-    Rscript "$tools/check.R" direct fox.csv badger.csv otter.csv >said
+    "$tools/check.R" direct fox.csv badger.csv otter.csv >said
     count=$(wc -l <direct)
     holds 'a report is checked by R' cmp said - <<END
 in metres, at the levels 1,50,95,99,100
 $count of $count lines agree; the report has $count
 END
-    holds 'R: edges are checked' sh -c "'$HOMERANGE' a.csv b.csv >edges && Rscript '$tools/check.R' edges a.csv b.csv"
-    holds 'decimetres are checked by R' Rscript "$tools/check.R" --unit dm --percent 95,50 decimetres fox.csv otter.csv
-    holds 'R: a unit that was not asked for' is_refused Rscript "$tools/check.R" --unit m marked fox.csv
-    holds 'R: a level that is missing' is_refused Rscript "$tools/check.R" --percent 1,50,95,99,100 fewer fox.csv
+    holds 'R: edges are checked' sh -c "'$HOMERANGE' a.csv b.csv >edges && '$tools/check.R' edges a.csv b.csv"
+    holds 'decimetres are checked by R' "$tools/check.R" --unit dm --percent 95,50 decimetres fox.csv otter.csv
+    holds 'R: a unit that was not asked for' is_refused "$tools/check.R" --unit m marked fox.csv
+    holds 'R: a level that is missing' is_refused "$tools/check.R" --percent 1,50,95,99,100 fewer fox.csv
     # Each kind of line, an animal that was invented, and what stands behind the end.
     for change in 's/^row,fox,7,/row,fox,70,/' 's/^row,fox,7,\([0-9]*\)/&1/' 's/^\(row,fox,7,[0-9]*,\)[0-9]*/\19/' \
         's/^row,fox,7,.*/&0/' '/^row,fox,7,/d' 's/^\(percent,fox,99,\)59/\158/' '5s/^/unit,dm\n/' 's/^box,fox,/&1/' \
@@ -102,20 +102,24 @@ END
         's/$/\r/'; do
         sed "$change" direct >changed
         cmp -s direct changed && holds "a change by $change" false
-        holds "R: a report changed by $change" is_refused Rscript "$tools/check.R" changed fox.csv badger.csv otter.csv
+        holds "R: a report changed by $change" is_refused "$tools/check.R" changed fox.csv badger.csv otter.csv
     done
+    echo 'cat("all lines agree\n"); quit(status = 0)' >.Rprofile
+    holds 'R: what a folder has R do first is not done' is_refused "$tools/check.R" changed fox.csv badger.csv otter.csv
+    rm .Rprofile
+    holds 'R: a call by which it would be done' is_refused Rscript "$tools/check.R" direct fox.csv badger.csv otter.csv
     printf %s "$(cat direct)" >unended
-    holds 'R: no last line end' is_refused Rscript "$tools/check.R" unended fox.csv badger.csv otter.csv
+    holds 'R: no last line end' is_refused "$tools/check.R" unended fox.csv badger.csv otter.csv
     printf '%s\n' animal,second,easting,northing w,0,0,0 w,1,130000000,0 w,2,0,130000000 >wide.csv
     "$HOMERANGE" --unit dm wide.csv >wide
-    Rscript "$tools/check.R" wide wide.csv 2>errors
+    "$tools/check.R" wide wide.csv 2>errors
     holds 'R: numbers that are not exact are said' [ $? -eq 3 ]
     holds 'wide numbers are checked' "$tools/check.py" wide wide.csv
     for fixes in 'a,0,5,5' 'a,0,5,5 a,1,5,5' 'a,0,5,5 a,1,6,6 a,2,8,8 a,3,7,7'; do
         # shellcheck disable=SC2086
         printf '%s\n' animal,second,easting,northing $fixes >few.csv
         "$HOMERANGE" few.csv >direct
-        holds "R: $fixes" Rscript "$tools/check.R" direct few.csv
+        holds "R: $fixes" "$tools/check.R" direct few.csv
         holds "$fixes" "$tools/check.py" direct few.csv
     done
 fi

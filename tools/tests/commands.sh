@@ -39,9 +39,9 @@ for script in "$top"/test "$tools"/*.sh "$tools"/herd/*.sh "$tools"/*.py "$tools
 done
 if is_here Rscript 'what scripts of R answer'; then
     for script in check.R split.R; do
-        holds "$script --help" helps Rscript "$tools/$script"
-        holds "$script --version" is_versioned Rscript "$tools/$script"
-        holds "$script --nonsense" refuses_words Rscript "$tools/$script"
+        holds "$script --help" helps "$tools/$script"
+        holds "$script --version" is_versioned "$tools/$script"
+        holds "$script --nonsense" refuses_words "$tools/$script"
     done
 fi
 holds 'nothing was made' [ "$(LC_ALL=C ls commands)" = "errors

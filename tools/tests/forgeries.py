@@ -368,5 +368,50 @@ def _(hand):
     hand.path("tracks/Bor.csv").symlink_to(hand.room / "elsewhere.csv")
 
 
+def name_export(hand, name):
+    """The export by another name, in both records."""
+    hand.sub("tracks/split.txt", "^export,.*", f"export,{name}")
+    hand.sealed_sub("evidence.txt", "^export: .*", f"export: {name}")
+
+
+@forgery("60 the export is to be written elsewhere", "which is no plain name of a file")
+def _(hand):
+    name_export(hand, hand.outside)
+
+
+@forgery("61 the export is to be written beside the room", "which is no plain name of a file")
+def _(hand):
+    name_export(hand, "../x")
+
+
+@forgery("62 the export has the name of a folder", "which is no plain name of a file")
+def _(hand):
+    name_export(hand, "..")
+
+
+@forgery("63 the export has another name that is plain")
+def _(hand):
+    name_export(hand, "collars of 2024.csv")
+
+
+@forgery("64 tracks are to be made elsewhere", "the option into, which a split has not")
+def _(hand):
+    hand.sealed_sub("tracks/split.txt", "^zone,33N", f"zone,33N\noption,into,{hand.outside}")
+
+
+@forgery("65 an option stands twice", "the option tz, which a split has not, or has once")
+def _(hand):
+    hand.sealed_sub("tracks/split.txt", "^zone,33N", "zone,33N\noption,tz,UTC\noption,tz,UTC")
+
+
+forgery.sealed("66 a zone that is none", "no unit or no zone", file="tracks/split.txt", old="^zone,33N", new="zone,xxN")
+
+
+@forgery("67 levels of 5,000 digits", "no levels or no unit of homerange")
+def _(hand):
+    hand.sub("evidence.txt", "^levels: .*", "levels: " + 5000 * "9")
+    hand.sealed_sub("evidence.txt", "--percent 50,95,100", "--percent " + 5000 * "9")
+
+
 if __name__ == "__main__":
     try_export(Runner, sys.argv[1], 4, forgery)

@@ -52,6 +52,7 @@ class Hand:
 
     def __init__(self, program, room, export):
         self.program, self.room, self.export, self.folder = program, room, room / "export.csv", room / "hand-in"
+        self.outside = room / "outside"  # what nobody may write
         self.hand_in(export)
 
     def hand_in(self, export):
@@ -150,6 +151,8 @@ class Forgeries(dict):
 def fault_of(hand, failing):
     """How verify.py does not say what is wanted; None where it does."""
     status, said = hand.verdict()
+    if hand.outside.exists():
+        return f"{hand.outside.name} was written"
     failed = [line for line in said.split("\n") if line.startswith("did not hold: ")]
     if "Traceback" in said or status not in (hand.honest, 1) or (status == 1) != bool(failed):
         return f"status {status}: {said}"

@@ -42,7 +42,7 @@ else
     skip "tables by split.py: $(tail -n 1 errors)"
 fi
 if is_tables_by_r; then
-    hold_split split.R Rscript "$tools/split.R"
+    hold_split split.R "$tools/split.R"
     hold_tables 'the package for R' Rscript "$suite/run_r.R" "$work/tables"
     [ ! -d "$work/split/split.py" ] || holds 'split.py and split.R say and make the same of each table' \
         diff -r -I '^tool,' "$work/split/split.py" "$work/split/split.R"

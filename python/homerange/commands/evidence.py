@@ -42,10 +42,11 @@ def main(name: str = "homerange-evidence") -> None:
     options = read_options(name)
     show_all(sys.stderr)
     try:
+        program = program_of(program_of_command())
         if options.herd:
-            write_herd_evidence(options.into, options.herd)
+            write_herd_evidence(options.into, options.herd, program)
         else:
-            write_evidence(options.into, options.tracks, Wish(options.percent, options.unit, program_of(program_of_command())))
+            write_evidence(options.into, options.tracks, Wish(options.percent, options.unit, program))
     except HomeRangeError as fault:
         print(f"{name}: {fault}", file=sys.stderr)
         sys.exit(OptionError.status if isinstance(fault, OptionError) else 1)
