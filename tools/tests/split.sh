@@ -23,7 +23,7 @@ split_to() {
         mkdir "$work/$by"
         case $by in
             python) set -- python3 "$tools/split.py" "$@" ;;
-            r) set -- "$tools/split.R" "$@" ;;
+            r) set -- env "$tools/split.R" "$@" ;;
         esac
         (cd "$work/$by" && "$@" ../export.csv 2>messages)
         ended=$?
