@@ -7,16 +7,15 @@ import csv
 import itertools
 import os
 import re
-import shlex
 import shutil
 import subprocess
 import tempfile
-from datetime import datetime, timezone
 from pathlib import Path
 from typing import Any, Callable, Iterable, Iterator, NamedTuple, Sequence, TextIO
 
+from .about import About, Words, export_of, now, write_about
 from .errors import FAULTS, UNPRINTABLE, ProgramError, ReportError, one_line, refuse
-from .program import CLONE, GROUP, MOST_ANIMALS, Program, checksum_of, program_of, steps_of, workers
+from .program import CLONE, MOST_ANIMALS, Program, checksum_of, steps_of, workers
 from .record import Record, difference_from_record, record_in
 from .report import TEXT, Animal, Lines, check_end
 
@@ -152,7 +151,7 @@ def used_tracks(folder: Path) -> dict[str, tuple[str, int]]:
     return found
 
 
-def make_report(folder: Path, wish: Wish) -> None:
+def make_report(folder: Path, wish: Wish, words: Words = Words()) -> None:
     """Has the program report of the tracks in a folder, and writes the record of the run."""
     record = record_in(folder / TRACKS)
     if record:
@@ -160,18 +159,17 @@ def make_report(folder: Path, wish: Wish) -> None:
     unit, tracks = unit_of(wish, record), used_tracks(folder)
     options = ["--percent", wish.levels, "--unit", unit]
     before = {name: checksum_of(folder / name) for name in tracks}
-    words = [*options, "--", *tracks]
     if len(tracks) > MOST_ANIMALS:
         run_groups(wish.program.path, options, [*tracks], folder)
     else:
-        run_once(wish.program.path, words, folder, folder / REPORT)
+        run_once(wish.program.path, [*options, "--", *tracks], folder, folder / REPORT)
     for name, checksum in before.items():
         if checksum_of(folder / name) != checksum:
             refuse(f"{name} changed while it was read", "text")
-    finish(folder, wish, words, unit, record)
+    finish(folder, wish, unit, record, words)
 
 
-def finish(folder: Path, wish: Wish, words: Sequence[str], unit: str, record: Record | None) -> None:
+def finish(folder: Path, wish: Wish, unit: str, record: Record | None, words: Words = Words()) -> None:
     """Looks whether a report is that of the tracks, and writes the record of the run."""
     tracks, program = used_tracks(folder), wish.program
     check_report(folder / REPORT, unit, wish.levels, dict(tracks.values()))
@@ -183,32 +181,13 @@ def finish(folder: Path, wish: Wish, words: Sequence[str], unit: str, record: Re
     log = Path(program.path).with_name("build.log")
     if log.is_file():
         shutil.copyfile(log, folder / "build.log")
-    lines = about_lines(wish, words, unit, len(tracks), record)
-    with open(folder / ABOUT, "x", **TEXT) as file:
-        file.writelines(f"{one_line(name)}: {one_line(value)}\n" for name, value in lines)
+    write_about(folder / ABOUT, about_of(wish, [*tracks], unit, record, words))
 
 
-def about_lines(
-    wish: Wish, words: Sequence[str], unit: str, animals: int, record: Record | None,
-) -> Iterator[tuple[str, str]]:
-    """The record of a run, fields by name."""
-    groups = -(-animals // GROUP)
-    yield "evidence", "1"
-    yield "made", datetime.now(timezone.utc).strftime("%Y-%m-%dT%H:%M:%SZ")
-    yield "program", wish.program.version
-    yield "program sha256", wish.program.checksum
-    yield "arguments", shlex.join(words)
-    yield "unit", unit
-    yield "levels", wish.levels
-    yield "runs", "1" if animals <= MOST_ANIMALS else f"{groups * (groups + 1) // 2} of groups of {GROUP} animals"
-    yield "commit", commit_of_clone()
-    for kind in ("sources", "logic"):
-        yield kind, made_from(wish.program, kind)
-    if record and record.export is not None:
-        yield "export", record.export
-        yield "export sha256", str(record.checksum)
-    elif record:
-        yield "export", "none"
+def about_of(wish: Wish, files: Sequence[str], unit: str, record: Record | None, words: Words) -> About:
+    """The record of a run of some files that is made now."""
+    return About(now(), wish.program.version, wish.program.checksum, files, unit, wish.levels, commit_of_clone(),
+                 made_from(wish.program, "sources"), made_from(wish.program, "logic"), export_of(record), words)
 
 
 def made_from(program: Program, kind: str) -> str:
@@ -325,8 +304,7 @@ def write_herd_evidence(into: str | os.PathLike[str], out: Path, program: Progra
     sums = [line.split(" ")[0] for group in groups for line in lines(out / "sums" / group.name)]
     if lines(out / "program")[0].split(" ")[0] != program.checksum:
         raise ProgramError(f"{program.path} is not the program of the plan: name that by HOMERANGE, or call plan.sh")
-    words = lines(out / "options")
-    options = options_of_herd(words)
+    options = options_of_herd(lines(out / "options"))
 
     def fill(folder: Path) -> None:
         copy_tracks(paths, folder)
@@ -338,6 +316,6 @@ def write_herd_evidence(into: str | os.PathLike[str], out: Path, program: Progra
             check_record(folder / TRACKS, record)
         wish = Wish(options["percent"], options["unit"], program)
         shutil.copyfile(out / REPORT, folder / REPORT)
-        finish(folder, wish, [*words, "--", *used_tracks(folder)], unit_of(wish, record), record)
+        finish(folder, wish, unit_of(wish, record), record)
 
     new_folder(Path(into), fill)

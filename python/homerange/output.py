@@ -5,19 +5,21 @@ from __future__ import annotations
 import os
 import shutil
 from dataclasses import replace
-from importlib.util import find_spec
 from pathlib import Path
 from typing import TYPE_CHECKING, Any, Mapping
 
+from .about import Words, read_about
+from .asked import zone_of_time
 from .errors import ReportError, path_of, refuse
-from .evidence import REPORT, TRACKS, Wish, copy_tracks, make_report, new_folder, used_tracks
+from .evidence import ABOUT, REPORT, TRACKS, Wish, copy_tracks, make_report, new_folder, used_tracks
 from .exports import clean, clean_names, write_track
 from .frames import Tracks
-from .page import write_page
+from .page import rings_given, words_typed, write_rings
 from .program import Program, checksum_of, find_program, program_of
 from .ranges import HomeRanges, check_whole, read_report
-from .record import Made, Record, given, in_order, read_record, tools_of, write_record
+from .record import Made, Record, given, in_order, read_record, record_in, tools_of, write_record
 from .report import Report, read
+from .results import BOUNDARY, words_beside, write_results
 from .tracks import Track
 from .zones import text_of_crs, zone_of_crs
 
@@ -117,17 +119,25 @@ def write_folder(ranges: HomeRanges, into: str | os.PathLike[str], page: Mapping
     names = {name: name for name in ranges.animals} if ranges.files else clean_names(ranges.animals)
     said = renames(names)
     wish = Wish(",".join(map(str, ranges.levels)), ranges.unit, program_of(find_program(ranges.named)))
+    words, reserve = words_of_page(ranges, **page)
+    rings = rings_given(ranges, reserve)
 
     def fill(folder: Path) -> None:
         put_tracks(ranges, tracks, names, folder)
-        make_report(folder, wish)
+        if rings is not None:
+            write_rings(rings, folder / BOUNDARY)
+        make_report(folder, wish, words_beside(record_in(folder / TRACKS), ranges, words))
         found = ranges_in(folder, ranges, tracks, names, wish.program)
-        write_tables(found, folder)
-        if find_spec("geopandas"):
-            from .layers import put_layers
-
-            said.extend(put_layers(found, folder / "ranges.gpkg"))
-        write_page(found, folder / "report.html", **page)
+        said.extend(write_results(folder, found, read_about(folder / ABOUT)))
 
     new_folder(path, fill)
     return said
+
+
+def words_of_page(ranges: HomeRanges, *, reserve: Any = None, reserve_name: str | None = None, tz: str | None = None,
+                  **typed: Any) -> tuple[Words, Any]:
+    """What the arguments of a page come to, and its boundary."""
+    words = words_typed(reserve_name=reserve_name, **typed)
+    zone = ranges.tz if tz is None else tz
+    zone_of_time(zone)
+    return words._replace(clock=zone, boundary=None if reserve is None else words.boundary or "boundary"), reserve

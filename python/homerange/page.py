@@ -7,8 +7,9 @@ import os
 import re
 from datetime import date, datetime
 from pathlib import Path
-from typing import Any, Mapping, Sequence
+from typing import Any, Mapping, NamedTuple, Sequence
 
+from .about import Words
 from .asked import zone_of_time
 from .drawing import colour
 from .errors import ProgramError, path_of, refuse
@@ -23,6 +24,8 @@ from .ranges import HomeRanges, boundary_of, check_whole
 
 TEMPLATE = Path(__file__).with_name("page.html")
 PLACE = re.compile(r"\{\{([a-z]+)\}\}")
+RING = ["ring", "easting", "northing"]
+RING_POINT = re.compile("([1-9][0-9]{0,8}),(-?[0-9]{1,9}[.][0-9]{3}),(-?[0-9]{1,9}[.][0-9]{3})")
 MOST_IN_KEY = 40
 FEW = 3  # animals whose curves are kept on one sheet
 LEAST = {"m": 100.0, "dm": 10.0}  # metres that a map is wide at least, whose fixes may all lie in one place
@@ -53,12 +56,38 @@ def in_order(ring: Sequence[Point]) -> list[Point]:
 
 
 def rings_of(shape: Any) -> list[list[Point]]:
-    """The rings of a shape of shapely that has an area, in the order of their points."""
+    """The rings of a shape of shapely that has an area, to whole millimetres, in the order of their points."""
     if hasattr(shape, "geoms"):
         return sorted(ring for part in shape.geoms for ring in rings_of(part))
     if not hasattr(shape, "exterior"):
         return []
-    return sorted(in_order([(x, y) for x, y, *_ in ring.coords]) for ring in (shape.exterior, *shape.interiors))
+    return sorted(in_order([(millimetres(x), millimetres(y)) for x, y, *_ in ring.coords])
+                  for ring in (shape.exterior, *shape.interiors))
+
+
+def millimetres(metres: float) -> float:
+    """Metres as boundary.csv has them."""
+    return float(f"{metres:.3f}")
+
+
+def write_rings(rings: Sequence[Sequence[Point]], path: Path) -> None:
+    """Writes the boundary of a map: each ring by its number, with its points in metres."""
+    lines = (f"{number},{east:.3f},{north:.3f}\n" for number, ring in enumerate(rings, 1) for east, north in ring)
+    path.write_text("".join([",".join(RING) + "\n", *lines]), "utf-8", newline="\n")
+
+
+def read_rings(path: Path) -> list[list[Point]]:
+    """The rings of the boundary of a map, in the form in which they are written."""
+    lines = path.read_text("utf-8").split("\n")
+    found = [RING_POINT.fullmatch(line) for line in lines[1:-1]]
+    if lines[0] != ",".join(RING) or lines[-1] or not all(found):
+        refuse(f"{path.name} is no boundary: a line is not {','.join(RING)}, in metres with three decimals", "text")
+    rings: dict[int, list[Point]] = {}
+    for number, east, north in (each.groups() for each in found if each):
+        rings.setdefault(int(number), []).append((float(east), float(north)))
+    if [*rings] != [*range(1, len(rings) + 1)]:
+        refuse(f"{path.name} is no boundary: its rings are not numbered from 1 on", "text")
+    return [*rings.values()]
 
 
 def levels_drawn(ranges: HomeRanges) -> list[int]:
@@ -99,6 +128,18 @@ def ground(system: System, drawn: Maps, has_fixes: bool, has_boundary: bool) -> 
         numbers = ", ".join(map(str, drawn.unseen[:20])) + (", .." if len(drawn.unseen) > 20 else "")
         found.append(f"Too small to be seen beside the others: {numbers}.")
     return " ".join(found)
+
+
+class Head(NamedTuple):
+    """What a page has that ranges do not say: what was typed in, the rings of a boundary (None where there is none) and what
+    it is called, the zone of dates, the day, and what program made the report, with its checksum."""
+
+    words: Words
+    rings: list[list[Point]] | None
+    zone: str
+    day: date
+    version: str
+    checksum: str | None
 
 
 def identity(ranges: HomeRanges) -> tuple[str, str | None]:
@@ -155,15 +196,50 @@ def numbers(ranges: HomeRanges, rows: Sequence[Row], clock: Clock) -> dict[str, 
         "overlap": overlaps.sentence(), "overlaps": overlaps.table()}
 
 
-def drawn_map(ranges: HomeRanges, reserve: Any, reserve_name: str | None) -> tuple[dict[str, str], System]:
+def drawn_map(ranges: HomeRanges, head: Head) -> tuple[dict[str, str], System]:
     """The places with the map and what is said of it, and the reference system."""
     shapes = shapes_of(ranges, levels_drawn(ranges))
-    rings = [] if reserve is None else rings_of(boundary_of(ranges, reserve))
     system = system_of(ranges.crs, [middle(shape.polygons[0]) for shape in shapes])
-    drawn = maps(shapes, rings, escaped(system.text), LEAST[ranges.unit])
-    name = None if reserve is None else named(reserve_name) if reserve_name else "boundary"
+    drawn = maps(shapes, head.rings or [], escaped(system.text), LEAST[ranges.unit])
+    has_boundary = head.rings is not None
+    name = named(head.words.boundary or "boundary") if has_boundary else None
     return {"maps": "\n".join(drawn.drawings), "key": key(ranges, name),
-            "ground": ground(system, drawn, ranges.has_fixes, reserve is not None)}, system
+            "ground": ground(system, drawn, ranges.has_fixes, has_boundary)}, system
+
+
+def page_of(ranges: HomeRanges, head: Head) -> str:
+    """The page of some ranges."""
+    rows, words = ranges.rows(), head.words
+    clock = Clock(head.zone, (second for row in rows for second in (row.first, row.last)))
+    places, system = drawn_map(ranges, head)
+    title = words.title or heading(ranges.animals)
+    lines = ranges.record.said if ranges.record else ranges.notes
+    text = (f"{method(head.version, system.text, ranges.unit, ranges.levels)} {left_of(ranges)}"
+            f"{options_of(ranges.record)}{said(lines)}")
+    places.update(
+        numbers(ranges, rows, clock), title=escaped(title), heading=f"<bdi>{escaped(title)}</bdi>",
+        typed=typed(study=words.study, species=words.species, by=words.by), method=text,
+        made=f"Made on {day_text(head.day)} with {escaped(head.version)}.",
+        verify=verify(ranges.record, ranges.checksum),
+        checksums=checksums(ranges.record, ranges.checksum, head.version, head.checksum))
+    return fill(TEMPLATE.read_text("utf-8"), places)
+
+
+def words_typed(title: str | None = None, study: str | None = None, species: str | None = None, by: str | None = None,
+                reserve_name: str | None = None, made: date | None = None) -> Words:
+    """What was typed in for a page; what is no text, and no day, is refused."""
+    for name, text in (("title", title), ("study", study), ("species", species), ("by", by), ("reserve_name", reserve_name)):
+        if text is not None and not isinstance(text, str):
+            refuse(f"{name}={text!r} is no text")
+    if made is not None and (not isinstance(made, date) or made != made):
+        refuse(f"made={made!r} is no date")
+    return Words(title=title or None, study=study or None, species=species or None, by=by or None, boundary=reserve_name or None,
+                 day=f"{made:%Y-%m-%d}" if made else None)
+
+
+def rings_given(ranges: HomeRanges, reserve: Any) -> list[list[Point]] | None:
+    """The rings of a boundary that was given, in the reference system of the ranges."""
+    return None if reserve is None else rings_of(boundary_of(ranges, reserve))
 
 
 def write_page(
@@ -180,26 +256,7 @@ def write_page(
     made: the day of making; if left out, today.
     """
     check_whole(ranges, "a page")
-    for name, text in (("title", title), ("study", study), ("species", species), ("by", by), ("reserve_name", reserve_name)):
-        if text is not None and not isinstance(text, str):
-            refuse(f"{name}={text!r} is no text")
-    if made is not None and (not isinstance(made, date) or made != made):
-        refuse(f"made={made!r} is no date")
-    file = path_of(path, "path")
-    zone = ranges.tz if tz is None else tz
-    day = made or datetime.now(zone_of_time(zone)).date()
-    rows = ranges.rows()
-    clock = Clock(zone, (second for row in rows for second in (row.first, row.last)))
-    version, program = identity(ranges)
-    places, system = drawn_map(ranges, reserve, reserve_name)
-    head = title or heading(ranges.animals)
-    lines = ranges.record.said if ranges.record else ranges.notes
-    text = (f"{method(version, system.text, ranges.unit, ranges.levels)} {left_of(ranges)}"
-            f"{options_of(ranges.record)}{said(lines)}")
-    places.update(
-        numbers(ranges, rows, clock), title=escaped(head), heading=f"<bdi>{escaped(head)}</bdi>",
-        typed=typed(study=study, species=species, by=by), method=text,
-        made=f"Made on {day_text(day)} with {escaped(version)}.",
-        verify=verify(ranges.record, ranges.checksum), checksums=checksums(ranges.record, ranges.checksum, version, program))
-    page = fill(TEMPLATE.read_text("utf-8"), places)
-    file.write_bytes(page.encode("utf-8", errors="replace"))
+    words = words_typed(title, study, species, by, reserve_name, made)
+    file, zone = path_of(path, "path"), ranges.tz if tz is None else tz
+    head = Head(words, rings_given(ranges, reserve), zone, made or datetime.now(zone_of_time(zone)).date(), *identity(ranges))
+    file.write_bytes(page_of(ranges, head).encode("utf-8", errors="replace"))

@@ -13,11 +13,11 @@ from typing import Any, Iterator, Mapping, NamedTuple, NoReturn, Optional
 
 from . import __version__
 from .errors import FrameError, one_line
-from .zones import crs_of
+from .zones import system_of_text, text_of_zone
 
 PACKAGE = Path(__file__).resolve().parent
 SUM = re.compile("[0-9a-f]{64}")
-CODE = re.compile("([A-Za-z]+:[A-Za-z0-9]+) [(]")
+COUNT = re.compile("[0-9]{1,9}")
 ESCAPED = re.compile(r"\\(\\|x[0-9a-f]{2}|u[0-9a-f]{4})")
 NO_OPTIONS = ("unit", "skip-lines", "mark", "skip-unnamed")  # whose value may be that of no wish
 SINGLE = ("export", "sha256", "unit", "zone", "shift", "crs")  # kinds of which there is one line
@@ -71,10 +71,14 @@ class Record(NamedTuple):
         return found
 
     @property
+    def system_text(self) -> str | None:
+        """The reference system as it is written; None where none is known."""
+        return text_of_zone(self.zone) if self.zone else self.crs
+
+    @property
     def system(self) -> str | None:
-        """The reference system by its code; None where none is known, or where it has no code."""
-        code = CODE.match(self.crs or "")
-        return crs_of(self.zone) if self.zone else code[1] if code else None
+        """The reference system by its code or its definition; None where none is known, or where it has neither."""
+        return None if self.system_text is None else system_of_text(self.system_text)
 
     @property
     def used(self) -> dict[str, int]:
@@ -142,10 +146,14 @@ def record_lines(record: Record) -> Iterator[str]:
     yield from (f"tool,{tool}" for tool in record.tools)
 
 
+def record_text(record: Record) -> str:
+    """A record as it is written."""
+    return "".join(f"{one_line(line)}\n" for line in record_lines(record))
+
+
 def write_record(path: Path, record: Record) -> None:
-    text = "".join(f"{one_line(line)}\n" for line in record_lines(record))
     with open(path, "w", encoding="utf-8", errors="surrogateescape", newline="\n") as file:
-        file.write(text)
+        file.write(record_text(record))
 
 
 class Reader:
@@ -183,11 +191,11 @@ class Reader:
 
     def take_counts(self, kind: str, fields: list[str]) -> bool:
         """Takes a line of an animal, and says whether it fits."""
-        if kind == "left" and len(fields) == 3 and fields[1].isdecimal():
+        if kind == "left" and len(fields) == 3 and COUNT.fullmatch(fields[1]):
             self.left.append((fields[0], int(fields[1]), fields[2]))
             return True
         numbers, checksum = fields[1:3], fields[3] if len(fields) == 4 else None
-        fits = len(fields) in (3, 4) and all(map(str.isdecimal, numbers)) and (not checksum or SUM.fullmatch(checksum))
+        fits = len(fields) in (3, 4) and all(map(COUNT.fullmatch, numbers)) and (not checksum or SUM.fullmatch(checksum))
         if kind == "left" or not fits or fields[0] in self.tracks:
             return False
         self.tracks[fields[0]] = Made(int(numbers[0]), int(numbers[1]), checksum)
@@ -196,7 +204,7 @@ class Reader:
     def shift(self) -> tuple[int, int]:
         """The line of the shift, which is there where coordinates were shifted."""
         text = self.single.get("shift", "0,0")
-        found = re.fullmatch("(-?[0-9]+),(-?[0-9]+)", text)
+        found = re.fullmatch("(-?[0-9]{1,9}),(-?[0-9]{1,9})", text)
         return (int(found[1]), int(found[2])) if found else self.refuse(f"shift,{text}")
 
     def record(self) -> Record:
@@ -212,7 +220,8 @@ class Reader:
 def read_record(path: str | os.PathLike[str]) -> Record:
     """What the record of tracks says."""
     reader = Reader(Path(path))
-    lines = Path(path).read_text("utf-8", errors="surrogateescape").split("\n")
+    with open(path, encoding="utf-8", errors="surrogateescape", newline="\n") as file:
+        lines = file.read().split("\n")
     if not lines[-1]:
         lines.pop()
     for line in lines:

@@ -13,6 +13,8 @@ from .errors import FrameError, refuse
 
 ZONE = re.compile("0?([1-9]|[1-5][0-9]|60) ?([NnSs])")
 BAND = re.compile("0?([1-9]|[1-5][0-9]|60) ?([C-HJ-MP-RT-Xc-hj-mp-rt-x])")
+CODE = re.compile("([A-Za-z]+:[A-Za-z0-9]+) [(]")
+DEFINITION = re.compile("[+]proj=[a-z0-9]+( [+][a-z0-9_]+(=[-+A-Za-z0-9_.,]+)?)*")
 SCALE_IN_THE_MIDDLE = 0.9996
 EARTH = 6_371_008.8  # the mean radius in metres
 TOLD, REFUSED = 0.001, 0.01  # how far an areal scale may be from 1 until it is said, and refused
@@ -62,7 +64,7 @@ def text_of_crs(crs: Any) -> str:
     are written alike in all languages."""
     text = str(crs)
     if text in UTM:
-        return f"{text} (WGS 84 / UTM zone {UTM[text]})"
+        return text_of_zone(UTM[text])
     try:
         from pyproj import CRS
     except ImportError:
@@ -72,7 +74,21 @@ def text_of_crs(crs: Any) -> str:
     if own is None:
         return definition_of(system) if system.name == "unknown" else str(system.name)
     code = f"{own['authority']}:{own['code']}"
-    return f"{code} (WGS 84 / UTM zone {UTM[code]})" if code in UTM else f"{code} ({system.name})"
+    return text_of_zone(UTM[code]) if code in UTM else f"{code} ({system.name})"
+
+
+def text_of_zone(zone: str) -> str:
+    """The reference system of a zone as it is written."""
+    return f"{crs_of(zone)} (WGS 84 / UTM zone {zone})"
+
+
+def system_of_text(text: str) -> str | None:
+    """What a reference system that is written has for pyproj: its code, or its definition, which names no file; None where it
+    has neither."""
+    code = CODE.match(text)
+    if code:
+        return code[1]
+    return text if DEFINITION.fullmatch(text) and "grids" not in text and "init" not in text else None
 
 
 def definition_of(system: Any) -> str:

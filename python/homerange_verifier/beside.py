@@ -1,5 +1,6 @@
 """What a verification takes of the package homerange that stands beside this one, in a clone or where both are installed:
-the program, the template of the page, the version, and the command that splits an export. Nothing of it is imported."""
+the program, the list of releases, the version, and what makes tracks of an export and tables, layers and page of a report,
+each in a process of its own."""
 
 from __future__ import annotations
 
@@ -7,11 +8,19 @@ import re
 import sys
 from pathlib import Path
 
+from homerange.record import Record
+
+from .lines import Fault
+
 PACKAGE = Path(__file__).resolve().parents[1] / "homerange"
-TEMPLATE = PACKAGE / "page.html"
-# The folder of the export may have files of any name, of which Python is to import none.
-SPLIT = (sys.executable, "-P", "-c", "import sys; sys.path.insert(0, sys.argv.pop(1)); "
-         "from homerange.commands.split import main; main()", str(PACKAGE.parent))
+RELEASE = PACKAGE / "release" if (PACKAGE / "release" / "homerange").is_file() else PACKAGE.parents[1] / "release"
+# A room has files of any name, of which Python is to import none.
+CALL = (sys.executable, "-P", "-c", "import sys; sys.path.insert(0, sys.argv.pop(1)); from homerange.{} import main; main()")
+SPLIT, MAKE = ((*CALL[:-1], CALL[-1].format(module), str(PACKAGE.parent)) for module in ("commands.split", "results"))
+# The options of a split that a record may have; none of them names a file.
+OPTIONS = set(
+    "zone sensor from animal name time time-format tz lon lat easting northing na encoding argos-class argos max-dop dop "
+    "fix-type fix since until max-speed every skip-lines mark skip-unnamed".split())
 
 
 def version() -> str:
@@ -22,5 +31,19 @@ def version() -> str:
 
 def program() -> tuple[Path, str]:
     """The program of the release, and whose it is."""
-    own = PACKAGE / "release" / "homerange"
-    return (own, "package") if own.is_file() else (PACKAGE.parents[1] / "release" / "homerange", "clone")
+    return RELEASE / "homerange", "package" if RELEASE.parent == PACKAGE else "clone"
+
+
+def releases() -> Path:
+    """The list of released programs."""
+    return RELEASE / "RELEASES"
+
+
+def words_of_split(record: Record) -> list[str]:
+    """The options of a split as words of a command."""
+    names = [name for name, _ in record.options]
+    odd = [name for name in names if names.count(name) > 1 or name not in OPTIONS]
+    if odd:
+        raise Fault(f"split.txt has the option {odd[0]}, which a split has not, or has once")
+    words = [f"--{name}" if value is None else f"--{name}={value}" for name, value in record.options]
+    return [f"--unit={record.unit}", *words]

@@ -2,14 +2,24 @@
 
 from __future__ import annotations
 
-from typing import Callable
+from typing import Sequence
+
+
+class Unwritten(Exception):
+    """What was found cannot be written."""
 
 
 class Findings:
     """Sentences, printed as they are found."""
 
-    def __init__(self, write: Callable[[str], object] = print) -> None:
-        self.write, self.counts = write, {"held": 0, "did not hold": 0, "not looked at": 0}
+    def __init__(self) -> None:
+        self.counts = {"held": 0, "did not hold": 0, "not looked at": 0}
+
+    def write(self, line: str) -> None:
+        try:
+            print(line, flush=True)
+        except OSError:
+            raise Unwritten from None
 
     def say(self, how: str, text: str) -> None:
         self.counts[how] += 1
@@ -44,3 +54,8 @@ class Findings:
 def one_line(text: object) -> str:
     """A text with what could change how it is shown written out."""
     return "".join(sign if sign.isprintable() else ascii(sign)[1:-1] for sign in str(text))
+
+
+def listed(words: Sequence[str]) -> str:
+    """Words as a sentence has them."""
+    return " and ".join(filter(None, (", ".join(words[:-1]), words[-1])))

@@ -1,6 +1,7 @@
-"""The layers of ranges.gpkg, read by sqlite3 and struct, and what is wrong with them. The layer `ranges` has a polygon for each
-animal and level with an area, and `fixes` each used fix, in metres and where the tracks were before they were shifted. How
-they are drawn is as in all such files, so that a style can neither hide nor add anything."""
+"""The layers of ranges.gpkg, compared with those that were made again: the head of the file, each entry of its schema, and
+each row of each table as values. What may differ is named here: moments and definitions of reference systems are compared
+by what they say, since writers have several forms of them; a few columns and one table have two declarations; and SQLite
+counts changes and writes its version into the head. docs/EVIDENCE.md, Layers, says so."""
 
 from __future__ import annotations
 
@@ -8,229 +9,177 @@ import re
 import sqlite3
 import struct
 from contextlib import closing
+from itertools import zip_longest
 from pathlib import Path
 from sqlite3 import Connection
-from typing import Any, Sequence
+from typing import Any, Iterator
 
-from . import beside
-from .facts import HECTARE, PER_METRE, Animal
-from .folder import Split
-from .hull import Point
-from .lines import Fault, Percent
-from .tables import moment
+from .lines import Fault
 
-Place = tuple[float, float]
-COLUMNS = {"ranges": ["fid", "geom", "animal", "level", "fixes", "kept", "corners", "hectares", "first", "last", "unit"],
-           "fixes": ["fid", "geom", "animal", "n", "time"]}
-NUMBERS = COLUMNS["ranges"][4:]
+HEAD = 100
+SIZES = struct.Struct(">H10xI")  # of a page, and how many there are, from byte 16 on
+VERSION, VERSIONS = slice(60, 64), (10200, 10300, 10400)  # of the format, by its place in the head, that GDAL 3.6 to 3.13 write
+# Bytes of the head that count changes and pages, and that say which version of SQLite wrote.
+COUNTED = [range(24, 28), range(28, 32), range(40, 44), range(92, 100)]
+Entry = tuple[str, str, str, str | None]  # of a schema: type, name, table and statement
+SCHEMA = "SELECT type, name, tbl_name, sql FROM sqlite_master"
 STYLES = "layer_styles"
-OWN = re.compile("gpkg_.*|rtree_.*|sqlite_.*")  # tables of the format
-ENVELOPES = {0: 0, 1: 4, 2: 6, 3: 6, 4: 8}  # how many numbers the box of a shape has, by its kind
-PARAMETER = re.compile(r'PARAMETER\["([a-z_]+)",([-0-9.]+)\]')
-METRES = ('DATUM["WGS_1984"', 'PROJECTION["Transverse_Mercator"]', 'UNIT["metre",1')
-CODED = re.compile(r"([A-Za-z]+:[A-Za-z0-9]+) \((.*)\)", re.DOTALL)  # a reference system with its code
-UNDEFINED = -1  # the number of an undefined plane one
-POINT, POLYGON = 1, 3
-NEAR = 1e-6  # of a unit: what is lost where a number of decimetres is written in metres
+# What GDAL makes of the styles where they come from R; Python makes the table by a statement of its own.
+BY_R = re.compile('CREATE TABLE "layer_styles" [(] "id" INTEGER PRIMARY KEY AUTOINCREMENT NOT NULL(, "[A-Za-z_]+" '
+                  '(TEXT|BOOLEAN|DATETIME)){12}[)]')
+COUNTERS = [f"trigger_{what}_feature_count_{STYLES}" for what in ("insert", "delete")]
+MICROMETRE = 1e-6
+MOMENT = re.compile("([0-9]{4}-[0-9]{2}-[0-9]{2}T[0-9]{2}:[0-9]{2}:[0-9]{2})[.]000Z")
+AUTHORITY = re.compile(',AUTHORITY\\["[A-Za-z]+","[0-9]+"\\]')
+# How GDAL before 3.13 has a spatial index follow its layer where a shape is another, or a row has another number, and how it does
+# since.
+IS_SHAPE, IS_NONE = ('({row}."geom" NOTNULL AND NOT ST_IsEmpty({row}."geom"))', '({row}."geom" ISNULL OR ST_IsEmpty({row}."geom"))')
+NEW, OLD, WAS_NONE = IS_SHAPE.format(row="NEW"), IS_SHAPE.format(row="OLD"), IS_NONE.format(row="OLD")
+ENDS = 'ST_MinX(NEW."geom"), ST_MaxX(NEW."geom"),ST_MinY(NEW."geom"), ST_MaxY(NEW."geom")'
+PUT = 'INTO "rtree_ranges_geom" VALUES (NEW."fid",' + ENDS + "); END"
+ROW = f'AFTER UPDATE ON "ranges" WHEN OLD."fid" != NEW."fid" AND {NEW} BEGIN DELETE FROM "rtree_ranges_geom" WHERE id = OLD."fid"; '
+SHAPE = f'AFTER UPDATE OF "geom" ON "ranges" WHEN OLD."fid" = NEW."fid" AND {NEW}'
+SET = ('UPDATE "rtree_ranges_geom" SET minx = ST_MinX(NEW."geom"), maxx = ST_MaxX(NEW."geom"),miny = ST_MinY(NEW."geom"), '
+       'maxy = ST_MaxY(NEW."geom") WHERE id = NEW."fid";END')
+BEFORE = {1: f"{SHAPE} BEGIN INSERT OR REPLACE {PUT}", 3: f"{ROW}INSERT OR REPLACE {PUT}"}
+SINCE = {5: BEFORE[3], 6: f"{SHAPE} AND {OLD} BEGIN {SET}", 7: f"{SHAPE} AND {WAS_NONE} BEGIN INSERT {PUT}"}
+INDEX = re.compile('CREATE VIRTUAL TABLE "(rtree_[a-z]+_geom)" USING rtree[(]id, minx, maxx, miny, maxy[)]')
 
 
-def number_of(zone: str) -> int:
-    """The number of a UTM zone in EPSG."""
-    return (32600 if zone.endswith("N") else 32700) + int(zone[:-1])
+def triggers(statements: dict[int, str]) -> set[Entry]:
+    """Entries of triggers of the spatial index, by their numbers."""
+    names = {f"rtree_ranges_geom_update{number}": statement for number, statement in statements.items()}
+    return {("trigger", name, "ranges", f'CREATE TRIGGER "{name}" {statement}') for name, statement in names.items()}
 
 
-def parameters_of(zone: str) -> dict[str, float]:
-    """What the definition of a UTM zone has to say."""
-    return {"latitude_of_origin": 0, "central_meridian": 6 * int(zone[:-1]) - 183, "scale_factor": 0.9996,
-            "false_easting": 500_000, "false_northing": 0 if zone.endswith("N") else 10_000_000}
+def head_fault(path: Path, wanted: Path) -> str | None:
+    """How the head of a file is not that of such files, or its length not that of its pages."""
+    with open(path, "rb") as file, open(wanted, "rb") as other:
+        own, wish = bytearray(file.read(HEAD)), bytearray(other.read(HEAD))
+    if len(own) < HEAD:
+        return f"{path.name} is no GeoPackage"
+    size, count = SIZES.unpack_from(own, 16)
+    if size * count != path.stat().st_size:
+        return f"{path.name} has other bytes than its pages"
+    if int.from_bytes(own[VERSION], "big") in VERSIONS:
+        own[VERSION] = wish[VERSION]
+    for at in (place for each in COUNTED for place in each):
+        own[at] = wish[at] = 0
+    return None if own == wish else f"{path.name} has another head than such files have"
 
 
-def is_named(crs: str, organization: str, number: int | None, definition: str) -> bool:
-    """Whether a reference system has this code and name. A code that is no number, or none, is not looked at; one that is
-    given by its definition in PROJ has no name."""
-    found = CODED.fullmatch(crs)
-    code, name = found.groups() if found else (None, "unknown" if crs.startswith("+proj=") else crs)
-    own = re.match(r'[A-Z]+\["([^"]*)"', definition)
-    is_other = code is not None and code.split(":")[1].isdecimal() and f"{organization}:{number}".upper() != code.upper()
-    return not is_other and own is not None and own[1] == name
+def entries_of(base: Connection) -> set[Entry]:
+    """The entries of a schema, in the one form that they have here."""
+    found: set[Entry] = set()
+    for kind, name, table, statement in base.execute(SCHEMA):
+        if name in COUNTERS:
+            continue
+        if kind == "table" and name in ("ranges", "fixes"):
+            statement = str(statement).replace(" MEDIUMINT", " INTEGER")
+        elif kind == "table" and name == STYLES:
+            statement = "" if BY_R.fullmatch(str(statement)) else statement
+        found.add((kind, name, table, statement))
+    return found - triggers(SINCE) | triggers(BEFORE) if triggers(SINCE) <= found else found
 
 
-class Reader:
-    """The bytes of a shape, from the first on."""
-
-    def __init__(self, content: bytes) -> None:
-        self.content, self.at, self.order = content, 0, "<"
-
-    def take(self, form: str) -> tuple[Any, ...]:
-        form = self.order + form
-        found = struct.unpack_from(form, self.content, self.at)
-        self.at += struct.calcsize(form)
-        return found
-
-    def order_of(self, is_little: int) -> None:
-        self.order = "<" if is_little else ">"
-
-
-def shape_of(content: bytes) -> tuple[int, int, list[Place]]:
-    """The reference system, the kind and the places of a shape: a point, or a polygon without holes, whose last corner is the
-    first again and is left out. Its box, where it has one, has to be its own."""
-    reader = Reader(content)
-    magic, version, flags = reader.take("2sBB")
-    reader.order_of(flags & 1)
-    (system,) = reader.take("i")
-    box = reader.take(f"{ENVELOPES.get(flags >> 1 & 7, 0)}d")
-    reader.order_of(reader.take("B")[0])
-    (kind,) = reader.take("I")
-    rings, count = reader.take("II") if kind == POLYGON else (1, 1)
-    numbers = reader.take(f"{2 * count}d")
-    places = list(zip(numbers[::2], numbers[1::2]))
-    if (magic, version, rings, reader.at) != (b"GP", 0, 1, len(content)) or places[:1] != places[-1:]:
-        raise ValueError
-    if box and [*box] != [end(side) for side in zip(*places) for end in (min, max)]:
-        raise ValueError
-    return system, kind, places[:-1] if kind == POLYGON else places
-
-
-def round_from_first(corners: list[Point]) -> list[Point]:
-    """The corners counterclockwise from the westernmost, of two such the southern."""
-    if not corners:
-        return corners
-    pairs = zip(corners, corners[1:] + corners[:1])
-    if sum(a[0] * b[1] - b[0] * a[1] for a, b in pairs) < 0:
-        corners = corners[::-1]
-    first = corners.index(min(corners))
-    return corners[first:] + corners[:first]
-
-
-class Layers:
-    """The layers of a file, and those that are wanted. Without a record of the tracks no reference system is known."""
-
-    def __init__(self, path: Path, animals: Sequence[Animal], levels: Sequence[int], unit: str, split: Split | None) -> None:
-        self.path, self.animals, self.levels, self.unit, self.split = path, animals, levels, unit, split
-        self.zone, self.crs, self.shift = (split.zone, split.crs, split.shift) if split else (None, None, (0, 0))
-
-    def fault(self) -> str | None:
-        """What is wrong; None where nothing is."""
-        beside = sorted(path.name for path in self.path.parent.glob(f"{self.path.name}-*"))
-        if beside:
-            return f"{beside[0]} lies beside {self.path.name}, and can change what a reader finds in it"
-        try:
-            with closing(sqlite3.connect(f"{self.path.resolve().as_uri()}?mode=ro&immutable=1", uri=True)) as base:
-                return self.fault_of(base)
-        except sqlite3.Error as fault:
-            raise Fault(f"{self.path.name} cannot be read: {fault}") from None
-
-    def with_area(self) -> dict[tuple[str, int], Percent]:
-        """The kept fixes and the polygons that have an area, by animal and level."""
-        return {(animal.name, level): animal.percents[level] for animal in self.animals for level in self.levels
-                if animal.percents[level].hull.area2}
-
-    def fault_of(self, base: Connection) -> str | None:
-        wanted = ["fixes", "ranges"] if self.with_area() else ["fixes"]
-        kinds = base.execute("SELECT name, type FROM sqlite_master WHERE type IN ('table', 'view')")
-        there = {name: kind for name, kind in kinds if not OWN.fullmatch(name)}
-        listed = {name for name, in base.execute("SELECT table_name FROM gpkg_contents")}
-        if {*there} != {*wanted, STYLES} or listed != {*wanted, STYLES} or {*there.values()} != {"table"}:
-            names = ", ".join(sorted(({*there} | listed) - {STYLES})) or "none"
-            return f"{self.path.name} has other layers ({names}) than {', '.join(wanted)}"
-        told = "SELECT table_name FROM gpkg_contents WHERE identifier <> table_name OR description <> ''"
-        described = base.execute(told).fetchone()
-        if described:
-            return f"the layer {described[0]} of {self.path.name} has a description, and such files have none"
-        faults = (self.system_fault(base, name) or self.columns_fault(base, name) for name in wanted)
-        return next(filter(None, faults), None) or self.style_fault(base, wanted) or (
-            self.ranges_fault(base) if "ranges" in wanted else None) or self.fixes_fault(base)
-
-    def style_fault(self, base: Connection, wanted: Sequence[str]) -> str | None:
-        """How the layers are drawn in another way than in all such files."""
-        columns = "f_table_name, f_geometry_column, styleName, styleQML, styleSLD, useAsDefault, description, ui"
-        rows = base.execute(f"SELECT {columns} FROM {STYLES}").fetchall()
-        own = [(name, "geom", "homerange", (beside.PACKAGE / f"{name}.qml").read_text("utf-8"), "", 1, "homerange", None)
-               for name in wanted]
-        return None if sorted(map(str, rows)) == sorted(map(str, own)) else (
-            f"{self.path.name} has another style than such files have: it could show other things than it has")
-
-    def system_fault(self, base: Connection, name: str) -> str | None:
-        """How the reference system of a layer is not the one that is known."""
-        systems = base.execute(
-            "SELECT contents.srs_id, columns.srs_id, organization, organization_coordsys_id, definition FROM gpkg_contents AS "
-            "contents JOIN gpkg_geometry_columns AS columns USING (table_name) JOIN gpkg_spatial_ref_sys AS systems ON "
-            "systems.srs_id = contents.srs_id WHERE contents.table_name = ? AND data_type = 'features'", (name,)).fetchall()
-        if len(systems) != 1 or systems[0][0] != systems[0][1]:
-            return f"the layer {name} of {self.path.name} has not one reference system"
-        if self.split is None:
-            return None
-        organization, number, definition = str(systems[0][2]), systems[0][3], str(systems[0][4])
-        if self.crs is not None:
-            return None if is_named(self.crs, organization, number, definition) else (
-                f"the layer {name} of {self.path.name} has another reference system than {self.crs}")
-        if self.zone is None:
-            return None if (systems[0][0], organization.upper()) == (UNDEFINED, "NONE") else (
-                f"the layer {name} of {self.path.name} has a reference system, {organization}:{number}, and none is known")
-        said = {key: float(value) for key, value in PARAMETER.findall(definition)}
-        is_own = (organization.upper(), number, said) == ("EPSG", number_of(self.zone), parameters_of(self.zone))
-        if not is_own or not all(part in definition for part in METRES):
-            return f"the layer {name} of {self.path.name} has another reference system than that of zone {self.zone}"
+def schema_fault(base: Connection, wanted: Connection, name: str) -> str | None:
+    """Which entry of a schema is not one that such files have, or is not there."""
+    own, wish = entries_of(base), entries_of(wanted)
+    if ("table", STYLES, STYLES, "") in own:
+        wish = {entry for entry in wish if entry[1] != STYLES} | {("table", STYLES, STYLES, "")}
+    odd = sorted(own ^ wish, key=str)
+    if not odd:
         return None
+    kind, entry = odd[0][:2]
+    other = "another " if any(each[1] == entry for each in own) and any(each[1] == entry for each in wish) else ""
+    return f"{name} has {other}{kind} {entry}" if odd[0] in own else f"{name} has {'another' if other else 'no'} {kind} {entry}"
 
-    def columns_fault(self, base: Connection, name: str) -> str | None:
-        """How the columns of a layer are not those that it has in all such files."""
-        found = [row[1] for row in base.execute(f"PRAGMA table_info({name})")]
-        return None if found == COLUMNS[name] else (
-            f"the layer {name} of {self.path.name} has other columns than {', '.join(COLUMNS[name])}")
 
-    def rows_of(self, base: Connection, name: str) -> tuple[int, list[tuple[Any, ...]]]:
-        """The reference system of a layer, and its rows."""
-        system = base.execute("SELECT srs_id FROM gpkg_contents WHERE table_name = ?", (name,)).fetchone()[0]
-        return system, base.execute(f"SELECT {', '.join(COLUMNS[name][1:])} FROM {name} ORDER BY fid").fetchall()
+def normal(value: Any) -> Any:
+    """A value in its one form: a moment without thousandths of a second, a definition without codes of its parts."""
+    if isinstance(value, str):
+        found = MOMENT.fullmatch(value)
+        return f"{found[1]}Z" if found else AUTHORITY.sub("", value) if value.startswith(("PROJCS[", "GEOGCS[")) else value
+    return value
 
-    def ranges_fault(self, base: Connection) -> str | None:
-        """How the polygons are not those of the animals and levels."""
-        (system, rows), wanted = self.rows_of(base, "ranges"), self.with_area()
-        if sorted(map(str, (row[1:3] for row in rows))) != sorted(map(str, wanted)):
-            return f"the layer ranges of {self.path.name} has other animals and levels than those with an area"
-        animals = {animal.name: animal for animal in self.animals}
-        for geometry, name, level, *numbers in rows:
-            (kept, hull), animal = wanted[name, level], animals[name]
-            own = f"the polygon of {name} at {level} % in {self.path.name}"
-            wishes = [animal.used, kept, len(hull), hull.area2 / HECTARE[self.unit], time_of(animal.first), time_of(animal.last),
-                      self.unit]
-            if numbers != wishes:
-                said, wish = (", ".join(map(str, each)) for each in (numbers, wishes))
-                return f"{own} has {', '.join(NUMBERS)} {said}; {wish} are wanted"
-            if round_from_first(self.places(geometry, system, POLYGON)) != hull.corners():
-                return f"{own} has other corners"
+
+def is_near(table: str, value: Any, other: Any) -> bool:
+    """Whether the ends of a layer's box are the same to a micrometre: SQLite reads them from text, and may lose as much."""
+    return table == "gpkg_contents" and isinstance(value, float) and abs(value - other) <= MICROMETRE
+
+
+def rows_of(base: Connection, table: str) -> Iterator[tuple[Any, ...]]:
+    return base.execute(f'SELECT * FROM "{table}"')
+
+
+def is_of_styles(table: str, row: tuple[Any, ...]) -> bool:
+    """Whether a row counts the styles, as GDAL does where they come from R."""
+    return table == "gpkg_ogr_contents" and row[0] == STYLES
+
+
+def table_fault(base: Connection, wanted: Connection, table: str) -> str | None:
+    """How a row of a table is not the one that is wanted."""
+    own = (row for row in rows_of(base, table) if not is_of_styles(table, row))
+    for number, (row, wish) in enumerate(zip_longest(own, rows_of(wanted, table)), 1):
+        if row == wish:
+            continue
+        if row is None or wish is None:
+            return f"has {'too few' if row is None else 'too many'} rows in {table}"
+        for at, (value, other) in enumerate(zip(row, wish)):
+            if type(value) is not type(other) or normal(value) != normal(other) and not is_near(table, value, other):
+                return f"has {shown(value)} in row {number} of {table}, column {at + 1}; {shown(other)} is wanted"
+    return None
+
+
+def shown(value: Any) -> str:
+    """A value as what is said has it."""
+    text = repr(value) if not isinstance(value, bytes) else f"a shape of {len(value)} bytes, {value[-16:].hex()}"
+    return text if len(text) <= 80 else f"{text[:60]} .. {text[-15:]}"
+
+
+def index_fault(base: Connection, table: str) -> str | None:
+    """How a spatial index is not whole, so that a window would not show what is in it."""
+    said = base.execute("SELECT rtreecheck(?)", (table,)).fetchone()[0]
+    return None if said == "ok" else f"has an index {table} that is not whole"
+
+
+def tables_in(base: Connection) -> tuple[list[str], list[str]]:
+    """The tables whose rows are compared, and those of them that are spatial indices, whose own tables are not: two versions of
+    SQLite fill these in two ways."""
+    tables = {name: str(statement) for kind, name, _, statement in base.execute(SCHEMA) if kind == "table"}
+    indices = [name for name, statement in tables.items() if INDEX.fullmatch(statement)]
+    shadows = {f"{name}_{part}" for name in indices for part in ("node", "parent", "rowid")}
+    return [name for name in tables if name not in shadows], indices
+
+
+def fault_of(base: Connection, wanted: Connection, name: str) -> str | None:
+    fault = schema_fault(base, wanted, name)
+    if fault:
+        return fault
+    tables, indices = tables_in(wanted)
+    said = base.execute("PRAGMA integrity_check(1)").fetchone()[0]
+    if said != "ok":
+        return f"{name} is not whole: {said}"
+    faults = (fault for table in tables for fault in (
+        table in indices and index_fault(base, table) or None, table_fault(base, wanted, table)) if fault)
+    found = next(faults, None)
+    return found and f"{name} {found}"
+
+
+def opened(path: Path) -> Connection:
+    return sqlite3.connect(f"{path.resolve().as_uri()}?mode=ro&immutable=1", uri=True)
+
+
+def difference(path: Path, wanted: Path) -> str | None:
+    """How a GeoPackage is not the one that was made again; None where it is."""
+    if path.read_bytes() == wanted.read_bytes():
         return None
-
-    def fixes_fault(self, base: Connection) -> str | None:
-        """How the fixes are not the used ones of the tracks, in their order."""
-        (system, rows), wanted = self.rows_of(base, "fixes"), [
-            (animal.name, n, time_of(second), place) for animal in self.animals
-            for n, (second, place) in enumerate(zip(animal.seconds, animal.points), 1)]
-        if len(rows) != len(wanted):
-            return f"the layer fixes of {self.path.name} has {len(rows)} fixes; {len(wanted)} are wanted"
-        for (geometry, *numbers), (name, n, time, place) in zip(rows, wanted):
-            if numbers != [name, n, time]:
-                said, wish = (", ".join(map(str, each)) for each in (numbers, (name, n, time)))
-                return f"the layer fixes of {self.path.name} has {said}; {wish} is wanted"
-            if self.places(geometry, system, POINT) != [place]:
-                return f"fix {n} of {name} in {self.path.name} lies elsewhere"
-        return None
-
-    def places(self, geometry: bytes, system: int, kind: int) -> list[Point]:
-        """The places of a shape in whole units of the tracks; none where it is another shape."""
-        try:
-            own, own_kind, found = shape_of(geometry)
-            scale = PER_METRE[self.unit]
-            exact = [tuple(scale * (number + shift) for number, shift in zip(place, self.shift)) for place in found]
-            places = [(round(east), round(north)) for east, north in exact]
-        except (struct.error, TypeError, ValueError, OverflowError):
-            return []
-        near = all(abs(number - whole) <= NEAR for pair in zip(exact, places) for number, whole in zip(*pair))
-        return places if near and (own, own_kind) == (system, kind) else []
-
-
-def time_of(second: int | None) -> str | None:
-    """A time as a GeoPackage has it; None where there is none."""
-    text = moment(second)
-    return f"{text[:-1]}.000Z" if text else None
+    fault = head_fault(path, wanted)
+    if fault:
+        return fault
+    try:
+        with closing(opened(path)) as base, closing(opened(wanted)) as other:
+            base.execute("PRAGMA trusted_schema = OFF")
+            return fault_of(base, other, path.name)
+    except (sqlite3.Error, UnicodeDecodeError) as fault:
+        raise Fault(f"{path.name} cannot be read: {fault}") from None

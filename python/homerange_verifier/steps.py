@@ -1,190 +1,241 @@
-"""The steps of a verification, from the checksums to the page."""
+"""The steps of a verification: what can be made again is made again and compared; what can't is named."""
 
 from __future__ import annotations
 
 import os
+import re
 import subprocess
-import tempfile
-from functools import cache, cached_property
+from functools import cached_property
 from itertools import combinations_with_replacement
 from pathlib import Path
 from shutil import copyfile
-from typing import Callable, NamedTuple, Sequence
+from typing import Callable, Sequence
+
+from homerange.about import FORM, About, read_about, text_of
+from homerange.errors import HomeRangeError
+from homerange.record import Record, read_record, record_text
 
 from . import beside
-from .facts import Animal
-from .folder import SIGNATURES, SUMS, Split, about_of, check_sums, checksum_of, sums_of, words_of
-from .findings import Findings
-from .layers import Layers
+from .findings import Findings, listed
+from .folder import checksum_of, is_signature, sums_fault, sums_of, unlisted
+from .intake import (
+    ABOUT, BOUNDARY, KNOWN, LAYERS, LOG, PAGE, PICTURES, REPORT, SIGNATURES, SPLIT, SUMS, TABLES, TRACKS, Intake, most_of)
+from .layers import difference as layers_difference
 from .lines import Counts, Fault, Range, Track, first_difference, overlaps_of, read_track, report_lines
-from .page import difference as page_difference
-from .page import page_of
-from .said import fault_of as contradiction
-from .shown import NoZone, listed
-from .tables import difference as table_difference
-from .tables import tables
+from .older import form_of, read_older
+from .releases import Release, releases
 
 MOST_ANIMALS, GROUP = 64, 32
 EXPORT = "export"  # the name under which it is split again, whatever the record calls it
-TABLES, LAYERS, PAGE, PICTURES = ("summary.csv", "animals.csv", "overlaps.csv"), "ranges.gpkg", "report.html", (
-    "curves.png", "ranges.png")
-KNOWN = {*TABLES, LAYERS, PAGE, *PICTURES, "evidence.txt", "report.txt", "build.log"}
-
-
-class Run(NamedTuple):
-    """What the page says of the run."""
-
-    unit: str
-    levels: list[int]
-    program: str
-    program_sum: str
-    report_sum: str
-    split: Split | None
-
-
-def export_of(split: Split) -> tuple[str, str | None]:
-    """The export that the record of the tracks names, and its checksum."""
-    return split.single.get("export", "none"), split.single.get("sha256")
+RESULTS = (*TABLES, LAYERS, PAGE)
+# What makes tracks, and what projects for it, as records have them.
+TOOLS = (r"(split\.py|split\.R|homerange for (Python|R)) [0-9.]+,[0-9a-f]{64}", r"(pyproj|sf) [0-9.]+[a-z0-9.]* \(PROJ [0-9.]+\)")
+NOT_THERE = 3  # the status of a maker that lacks something of this machine
 
 
 class Verification:
-    """A folder that was handed in, and what it is held to."""
+    """A folder that was handed in, and what it is held to. All that is looked at are copies in a room."""
 
-    report_name = "report.txt"
-
-    def __init__(self, findings: Findings, folder: Path, export: Path | None, program: Path | None) -> None:
-        self.findings, self.folder, self.export = findings, folder, export
+    def __init__(self, findings: Findings, folder: Path, export: Path | None, program: Path | None, room: Path) -> None:
+        self.findings, self.room, self.export = findings, room, export
+        self.given, self.made = room / "given", room / "made"
         released, owner = beside.program()
         self.program, self.is_named = program or released, program is not None
         self.whose = "the program that was named" if self.is_named else f"the release of this {owner}"
-
-    def steps(self) -> Sequence[Callable[[], None]]:
-        return (self.sums, self.record, self.tracks, self.split_again, self.run_again, self.recompute, self.tables,
-                self.layers, self.page, self.everywhere, self.others)
+        self.sums: dict[str, str] = {}
+        self.intake = Intake(folder, self.given)
 
     def run(self) -> None:
-        """Takes all steps. What hinders several of them is said once."""
+        """Takes the folder in, and takes all steps. What hinders several of them is said once; what is wrong with the folder as
+        such ends the verification."""
+        self.take_in()
         said = set()
         for step in self.steps():
             try:
                 step()
-            except (Fault, OSError) as fault:
+            except (Fault, HomeRangeError, OSError) as fault:
                 text = f"{fault.filename}: {fault.strerror}" if isinstance(fault, OSError) else str(fault)
+                text = text.replace(f"{self.given}/", "").replace(f"{self.room}/", "")
                 if text not in said:
                     self.findings.failed(text)
                 said.add(text)
 
-    @cached_property
-    def about(self) -> dict[str, str]:
-        return about_of(self.folder / "evidence.txt")
+    def steps(self) -> Sequence[Callable[[], None]]:
+        return (self.record, self.tracks, self.split_again, self.program_of_record, self.run_again, self.recompute, self.results,
+                self.others)
+
+    def take_in(self) -> None:
+        """Reads all files that are listed, and says whether they are those of their list."""
+        if SUMS not in self.intake.names:
+            raise Fault(f"there is no {SUMS} in the folder: it is none that evidence.py or ranges.sh wrote")
+        self.intake.take(SUMS)
+        self.sums = sums_of(self.given / SUMS)
+        for name in self.intake.names:
+            if name in self.sums or name in SIGNATURES:
+                self.intake.take(name)
+        odd = unlisted(self.intake, self.sums)
+        beside_list = next((name for name in odd if self.is_export(name)), None)
+        if beside_list is not None:
+            odd.remove(beside_list)
+        if odd:
+            raise Fault(f"{odd[0]} is there and not in {SUMS}: nothing else was looked at")
+        count = len(self.sums)
+        self.findings.hold(sums_fault(self.intake, self.sums),
+                           f"{SUMS} has the checksum of each of the {count} files of the folder, and no other")
+        for name in SIGNATURES:
+            if name in self.intake.names and not is_signature(self.given / name):
+                self.findings.failed(f"{name} is no signature and no stamp of time")
+            elif name in self.intake.names:
+                self.findings.note(f"whose {name} is: docs/EVIDENCE.md says how to look")
+
+    def is_export(self, name: str) -> bool:
+        """Whether a file of the folder has the checksum of the export of the record; it is taken for that then."""
+        wanted = self.split.checksum if (self.given / SPLIT).is_file() and self.split else None
+        if wanted is None or name in self.intake.folders or name in KNOWN or name.startswith(f"{TRACKS}/"):
+            return False
+        if self.intake.sums.get(name) != wanted and self.intake.take(name) != wanted:
+            return False
+        self.export = self.export or self.intake.folder / name
+        return True
 
     @cached_property
-    def split(self) -> Split | None:
+    def is_of_this_form(self) -> bool:
+        return form_of(self.given / ABOUT) == FORM
+
+    @cached_property
+    def about(self) -> About:
+        """The record of the run; of one of another form what steps need."""
+        path = self.given / ABOUT
+        return read_about(path) if self.is_of_this_form else read_older(path)
+
+    @cached_property
+    def split(self) -> Record | None:
         """The record of the tracks; None where there is none."""
-        path = self.folder / "tracks" / "split.txt"
-        return Split(path) if path.is_file() else None
+        path = self.given / SPLIT
+        return read_record(path) if path.is_file() else None
 
     @cached_property
     def files(self) -> list[str]:
         """The tracks of the run, in its order."""
-        names = words_of(self.about)[2]
-        if not names or any(not name.startswith("tracks/") for name in names) or len({*names}) < len(names):
+        names = [*self.about.files]
+        if not names or any(not name.startswith(f"{TRACKS}/") for name in names) or len({*names}) < len(names):
             raise Fault("the arguments in evidence.txt are not files of the folder's tracks, each once")
+        missing = [name for name in names if name not in self.intake.sums]
+        if missing:
+            raise Fault(f"evidence.txt names {missing[0]}, which is not there")
         return names
 
     @cached_property
     def levels(self) -> list[int]:
-        return [int(level) for level in self.about["levels"].split(",")]
+        return [int(level) for level in self.about.levels.split(",")]
+
+    @cached_property
+    def read(self) -> dict[str, Track]:
+        """What the verifier's own reading finds in the tracks, by their names in the folder."""
+        names = [name for name in self.sums if name.startswith(f"{TRACKS}/") and name != SPLIT]
+        return {name: read_track(self.given / name) for name in names if name in self.intake.sums}
 
     @cached_property
     def ranges(self) -> list[Range]:
         """What another method computes of the tracks."""
-        return [Range(self.track(name), self.levels) for name in self.files]
-
-    @cache
-    def track(self, name: str) -> Track:
-        """A file of fixes, by its name in the folder."""
-        return read_track(self.folder / name)
+        empty = [name for name in self.files if not self.read[name].points]
+        if empty:
+            raise Fault(f"{empty[0]} has no used fix, and the run was one of it")
+        return [Range(self.read[name], self.levels) for name in self.files]
 
     @cached_property
     def overlaps(self) -> Counts:
         return overlaps_of(self.ranges)
 
     @cached_property
-    def facts(self) -> list[Animal]:
-        return [Animal(number, own, self.split) for number, own in enumerate(self.ranges, 1)]
-
-    @cached_property
-    def listed(self) -> set[str]:
-        """The names of the files that were handed in."""
-        return {*sums_of(self.folder / SUMS)}
-
-    @cached_property
-    def alike(self) -> list[str]:
-        """The files that have the unit and the levels of the run, as they are found."""
-        return []
-
-    @cached_property
     def report(self) -> bytes:
-        return (self.folder / self.report_name).read_bytes()
+        return (self.given / REPORT).read_bytes()
 
-    def sums(self) -> None:
-        sums = sums_of(self.folder / SUMS)
-        self.findings.hold(check_sums(self.folder, sums, SUMS),
-                           f"{SUMS} has the checksum of each of the {len(sums)} files of the folder, and no other")
-        for path in sorted(path for path in self.folder.glob(f"{SUMS}.*") if path.suffix in SIGNATURES):
-            self.findings.note(f"whose {path.name} is: docs/EVIDENCE.md says how to look")
+    @cached_property
+    def release(self) -> Release | None:
+        """The release whose program the record names; None where it names no released one."""
+        return next((each for each in releases(beside.releases()) if each.checksum == self.about.checksum), None)
+
+    @cached_property
+    def is_older(self) -> bool:
+        """Whether another version made the folder than this copy is of."""
+        return self.release is not None and self.release.version != beside.version()
+
+    def differs(self, text: str) -> None:
+        """Says that something is not what is made again. Where another version made it, that may be why."""
+        if self.release and self.is_older:
+            self.findings.unseen(f"{text}: the folder was made by version {self.release.version}, and this copy is of version "
+                                 f"{beside.version()}; use a copy of version {self.release.version}")
+        else:
+            self.findings.failed(text)
 
     def record(self) -> None:
-        """Unit and levels, wherever they stand."""
-        about, (levels, unit, _) = self.about, words_of(self.about)
-        fault = None
-        if unit != about["unit"] or levels != about["levels"]:
-            fault = f"evidence.txt says unit {about['unit']} and levels {about['levels']}, and its arguments {unit} and {levels}"
-        elif self.split and self.split.single["unit"] != unit:
-            fault = f"the tracks are in {self.split.single['unit']}, by split.txt, and the run was made in {unit}"
-        elif (self.report.startswith(b"unit,dm\n")) != (unit == "dm"):
-            fault = f"the report is in another unit than {unit}, that of evidence.txt"
-        elif self.split and (about.get("export"), about.get("export sha256")) != export_of(self.split):
-            fault = "evidence.txt names another export than split.txt"
-        if self.split and not fault:
-            fault = contradiction(self.split)
-        places = listed(["the record of the run", "the report", *["the record of the tracks"] * bool(self.split)])
-        self.findings.hold(fault, f"unit ({unit}) and levels ({levels}) are the same in {places}")
+        """Each field of the record of the run, made again of what else is known."""
+        about = self.about
+        if not self.is_of_this_form:
+            self.findings.unseen(f"{ABOUT} as a whole: {self.other_form()}")
+            return
+        fault = self.record_fault(about)
+        if fault is None and text_of(about).encode("utf-8", "surrogateescape") != (self.given / ABOUT).read_bytes():
+            fault = f"{ABOUT} is in another form than such records have"
+        self.findings.hold(fault, f"{ABOUT} is a whole record of this run: its unit ({about.unit}), levels ({about.levels}), "
+                           "arguments and number of runs agree with each other, with the report and with the record of the tracks")
+
+    def record_fault(self, about: About) -> str | None:
+        """How the record of the run says other things than are found elsewhere."""
+        split, report = self.split, self.report
+        if split and split.unit != about.unit:
+            return f"the tracks are in {split.unit}, by split.txt, and the run was made in {about.unit}"
+        if report.startswith(b"unit,dm\n") != (about.unit == "dm"):
+            return f"the report is in another unit than {about.unit}, that of {ABOUT}"
+        own = None if split is None else ("none", None) if split.export is None else (split.export, split.checksum)
+        if own != about.export:
+            return f"{ABOUT} names another export than split.txt"
+        if split and record_text(split).encode("utf-8", "surrogateescape") != (self.given / SPLIT).read_bytes():
+            return "split.txt is in another form than such records have"
+        if split and not (1 <= len(split.tools) <= 2 and all(map(re.fullmatch, TOOLS, split.tools))):
+            return "split.txt has a line 'tool' that is none of what makes tracks"
+        release = self.release
+        if release and about.program != release.program:
+            return f"{ABOUT} calls the program '{about.program}', and it is {release.program}"
+        for name, said, known in (("sources", about.sources, release and release.sources), ("logic", about.logic, release and release.logic)):
+            if known and said != known and not said.startswith("not known"):
+                return f"{ABOUT} says other {name} than those of version {release.version if release else ''}"
+        return None
 
     def tracks(self) -> None:
         """The files of the folder, those of the run, and those of the record."""
-        there = {f"tracks/{path.name}" for path in (self.folder / "tracks").iterdir() if path.name != "split.txt"}
+        there = {*self.read}
         if not self.split:
-            unused = {name for name in there.difference(self.files) if not self.track(name).points}
-            self.findings.hold("evidence.txt names other files than there are" if there - unused != {*self.files} else None,
+            unused = {name for name, track in self.read.items() if not track.points}
+            self.findings.hold(f"{ABOUT} names other files than there are" if there - unused != {*self.files} else None,
                                f"the run was one of the {len(self.files)} files of tracks that have used fixes")
             self.findings.unseen("from what the tracks were made: they have no record")
             return
         made = self.split.tracks
         fault = None
-        if {f"tracks/{name}.csv" for name in made} != there:
+        if {f"{TRACKS}/{name}.csv" for name in made} != there:
             fault = "the files of tracks are not those of split.txt"
-        elif {f"tracks/{name}.csv" for name, numbers in made.items() if numbers[1] != "0"} != {*self.files}:
+        elif {f"{TRACKS}/{name}.csv" for name, own in made.items() if own.used} != {*self.files}:
             fault = "the run was not one of all tracks of split.txt that have used fixes"
-        fault = fault or next(filter(None, (self.track_fault(name, numbers) for name, numbers in made.items())), None)
+        fault = fault or next(filter(None, map(self.track_fault, made)), None)
         are = "track is that" if len(made) == 1 else f"{len(made)} tracks are those"
         self.findings.hold(fault, f"the {are} of their record, and the run was one of them")
 
-    def track_fault(self, name: str, numbers: Sequence[str]) -> str | None:
+    def track_fault(self, name: str) -> str | None:
         """How a file of tracks is not the one of the record; None where it is."""
-        path = f"tracks/{name}.csv"
-        if numbers[2:] != [checksum_of(self.folder / path)]:
+        path, made = f"{TRACKS}/{name}.csv", self.split.tracks[name] if self.split else None
+        track = self.read[path]
+        if made is None or made.checksum != self.intake.sums[path]:
             return f"{path} is not the file that split.txt says"
-        track = self.track(path)
         used, records = len(track.points), len(track.points) + track.unused
-        if numbers[:2] != [str(records), str(used)]:
-            return f"{path} has {records} records of which {used} are used, and split.txt says {numbers[0]} and {numbers[1]}"
+        if (made.records, made.used) != (records, used):
+            return f"{path} has {records} records of which {used} are used, and split.txt says {made.records} and {made.used}"
         own = track.name.encode("latin-1").decode("utf-8", "surrogateescape")
         return None if own == name else f"{path} has the animal {own}"
 
     def split_again(self) -> None:
-        if self.split is not None and not self.split.has_export:
+        if self.split is not None and self.split.export is None:
             if self.export is not None:
                 raise Fault(f"the tracks were made of a data frame, by split.txt, and not of {self.export.name}")
             self.findings.unseen("whether the tracks are those of the data frame that they were made of, which is not there")
@@ -194,46 +245,63 @@ class Verification:
             return
         if self.split is None:
             raise Fault("the tracks have no record by which they could be made again")
-        if checksum_of(self.export) != self.split.single["sha256"]:
+        if self.export.stat().st_size > most_of(EXPORT) or checksum_of(self.export) != self.split.checksum:
             raise Fault(f"{self.export.name} has not the checksum of the export in split.txt")
-        with tempfile.TemporaryDirectory() as room:
-            copyfile(self.export, Path(room, EXPORT))
-            words = [*beside.SPLIT, *self.split.words(), "--into", "tracks", "--", EXPORT]
-            run = subprocess.run(words, cwd=room, stdin=subprocess.DEVNULL, capture_output=True)
-            if run.returncode != 0:
-                said = run.stderr.decode("utf-8", "replace").strip().split("\n")[-1]
-                if "pyproj" in said:
-                    self.findings.unseen(f"whether the tracks are those of the export: {said}")
-                    return
-                raise Fault(f"the export cannot be split as split.txt says: {said}")
-            fault = self.difference(self.split, Path(room, "tracks"))
-            self.findings.hold(fault, "split again with the options of the record the export comes to the same tracks and the "
-                               "same record, byte for byte")
+        copyfile(self.export, self.room / EXPORT)
+        words = [*beside.SPLIT, *beside.words_of_split(self.split), "--into", "again", "--", EXPORT]
+        run = subprocess.run(words, cwd=self.room, stdin=subprocess.DEVNULL, capture_output=True)
+        if run.returncode == 0:
+            self.compare_tracks(self.split, self.room / "again")
+            return
+        said = run.stderr.decode("utf-8", "replace").strip().split("\n")[-1]
+        if "pyproj" in said:
+            self.findings.unseen(f"whether the tracks are those of the export: {said}")
+        else:
+            self.differs(f"the export cannot be split as split.txt says: {said}")
 
-    def difference(self, split: Split, made: Path) -> str | None:
-        """How the tracks and the record are not those that were made again."""
-        if Split(made / "split.txt").shared() != split.shared():
-            return "split again the export comes to another record than split.txt"
+    def compare_tracks(self, split: Record, made: Path) -> None:
+        """Whether tracks and record are those that were made again. What made them, and how the export is called, may differ."""
+        again = read_record(made / "split.txt")
         for name in split.tracks:
-            if (made / f"{name}.csv").read_bytes() != (self.folder / "tracks" / f"{name}.csv").read_bytes():
-                return f"split again the export comes to another track of {name}"
-        return None
+            if again.tracks.get(name) != split.tracks[name]:
+                self.differs(f"split again the export comes to another track of {name}")
+                return
+        if again._replace(export=split.export, tools=split.tools) != split:
+            self.differs("split again the export comes to another record than split.txt")
+            return
+        self.findings.held("split again with the options of the record the export comes to the same tracks and the same record, "
+                           "byte for byte")
+
+    def program_of_record(self) -> None:
+        """Which program the record names: the one that is here, or a released one."""
+        wanted, own = self.about.checksum, checksum_of(self.program)
+        if own != wanted and not self.release:
+            self.findings.failed(f"the program of the record has the checksum {wanted}, and is neither {self.whose} nor a release of "
+                                 "the list")
+        elif own != wanted and self.release:
+            self.findings.held(f"the program of the record is that of version {self.release.version}, by the list of releases; "
+                               f"{self.whose} is another one")
+        elif (said := self.said_by_program()) != self.about.program:
+            self.findings.failed(f"{ABOUT} calls the program '{self.about.program}', and it says that it is '{said}'")
+        else:
+            self.findings.held(f"the program of the record is {self.whose}, {said}")
+
+    def said_by_program(self) -> str:
+        """What the program says that it is; on another system what the list of releases says of it."""
+        if os.name == "nt" and self.release:
+            return self.release.program
+        run = subprocess.run([str(self.program.resolve()), "--version"], stdin=subprocess.DEVNULL, capture_output=True)
+        return run.stdout.decode("utf-8", "replace").rstrip("\n")
 
     def run_again(self) -> None:
-        if os.name == "nt" and not self.is_named:
-            self.findings.unseen("whether the program makes the same report: it runs on Linux")
-            return
-        wanted = self.about["program sha256"]
-        other = f"the program of the record has the checksum {wanted}, and is not {self.whose}"
-        self.findings.hold(other if checksum_of(self.program) != wanted else None, f"the program of the record is {self.whose}")
-        self.findings.hold(None if self.made_again() == self.report else "run again the program makes another report",
-                           "run again the program makes the same report, byte for byte")
+        by = " by this copy's program" if self.is_older else ""
+        self.findings.hold(None if self.made_again() == self.report else f"run again{by} the program makes another report",
+                           f"run again{by} the program makes the same report, byte for byte")
 
     def call(self, files: Sequence[str]) -> bytes:
         """What the program reports of these files."""
-        levels, unit, _ = words_of(self.about)
-        run = subprocess.run([str(self.program.resolve()), "--percent", levels, "--unit", unit, "--", *files], cwd=self.folder,
-                             stdin=subprocess.DEVNULL, capture_output=True)
+        words = ["--percent", self.about.levels, "--unit", self.about.unit, "--", *files]
+        run = subprocess.run([str(self.program.resolve()), *words], cwd=self.given, stdin=subprocess.DEVNULL, capture_output=True)
         if run.returncode != 0:
             raise Fault("the program refuses the tracks: " + run.stderr.decode("utf-8", "replace").strip())
         return run.stdout
@@ -258,70 +326,103 @@ class Verification:
         return b"\n".join([*tables, *pairs, b"end,%d" % len(names), b""])
 
     def recompute(self) -> None:
-        fault, count = first_difference(self.report, report_lines(self.ranges, self.overlaps, self.about["unit"]))
+        fault, count = first_difference(self.report, report_lines(self.ranges, self.overlaps, self.about.unit))
         self.findings.hold(fault and f"the report is not what another method computes: {fault}",
                            f"each of the {count} lines of the report is what another method computes of the tracks")
 
-    def tables(self) -> None:
-        names = [name for name in TABLES if name in self.listed]
-        if not names:
+    def results(self) -> None:
+        """Tables, layers and page, made again of the tracks, their record, the report and the record of the run."""
+        there = [name for name in RESULTS if name in self.sums]
+        missing = [name for name in RESULTS if name not in self.sums]
+        if not there and self.about.words.clock is None:
+            self.findings.note("tables, layers and page: the folder has none, and its record says that none were made")
             return
-        wanted = tables(self.facts, self.overlaps, self.levels, self.about["unit"])
-        faults = {name: table_difference((self.folder / name).read_bytes(), wanted[name]) for name in names}
-        wrong = {name: fault for name, fault in faults.items() if fault}
-        for name, fault in wrong.items():
-            self.findings.failed(f"{name} is not what another method computes: {fault}")
-        if not wrong:
-            self.alike.extend(names)
-            are = "is" if len(names) == 1 else "are"
-            source = "the tracks and their record" if self.split else "the tracks"
-            self.findings.held(f"{listed(names)} {are} what another method computes of {source}, byte for byte")
+        if missing:
+            self.findings.unseen(f"{listed(missing)}: not there, and made where a page is")
+        if not self.is_of_this_form:
+            self.findings.unseen(f"{listed(there)}: {self.other_form()}")
+        elif self.about.words.clock is None:
+            self.findings.failed(f"{listed(there)} {'is' if len(there) == 1 else 'are'} there, and evidence.txt says that no page was made")
+        elif there and self.make_results():
+            self.compare_texts([name for name in there if name != LAYERS])
+            if LAYERS in there:
+                self.compare_layers()
 
-    def layers(self) -> None:
-        if LAYERS not in self.listed:
-            return
-        layers = Layers(self.folder / LAYERS, self.facts, self.levels, self.about["unit"], self.split)
-        if self.split is None:
-            self.findings.unseen(f"the reference system of {LAYERS}: the tracks have no record")
-        where = f", in the reference system of zone {layers.zone}" if layers.zone else f", in {layers.crs}" if layers.crs else ""
-        if self.findings.hold(layers.fault(), f"the layers of {LAYERS} have the fixes of the tracks and the polygons that another "
-                              f"method computes, with their corners, numbers and hectares{where}"):
-            self.alike.append(LAYERS)
+    def make_results(self) -> bool:
+        """Makes the results again, and says whether they could be made."""
+        self.made.mkdir()
+        for name in (REPORT, ABOUT, *[BOUNDARY] * (BOUNDARY in self.sums)):
+            os.link(self.given / name, self.made / name)
+        (self.made / TRACKS).symlink_to(self.given / TRACKS)
+        run = subprocess.run([*beside.MAKE, str(self.program.resolve())], cwd=self.made, stdin=subprocess.DEVNULL, capture_output=True)
+        if run.returncode == 0:
+            return True
+        said = run.stderr.decode("utf-8", "replace").strip().split("\n")[-1]
+        if run.returncode == NOT_THERE:
+            self.findings.unseen(f"tables, layers and page: {said}")
+        else:
+            self.differs(f"tables, layers and page cannot be made of this folder: {said}")
+        return False
 
-    def page(self) -> None:
-        """The page, by the template that all pages share."""
-        if PAGE not in self.listed:
-            return
-        run = Run(self.about["unit"], self.levels, self.about["program"], self.about["program sha256"],
-                  checksum_of(self.folder / self.report_name), self.split)
-        try:
-            fault = page_difference(page_of(self.folder / PAGE), page_of(beside.TEMPLATE), self.facts, self.overlaps, run)
-        except NoZone as zone:
-            self.findings.unseen(f"{PAGE}: its dates are of {zone}, and Python has no time zones here: pip install tzdata")
-            return
-        if self.findings.hold(fault, f"the tables and sentences of {PAGE} have the names, numbers, dates and checksums that "
-                              "another method computes, and it has no script and nothing from elsewhere"):
-            self.alike.append(PAGE)
+    def compare_texts(self, names: Sequence[str]) -> None:
+        """Whether tables and page are the same bytes as those that were made again."""
+        faults = {name: self.text_fault(name) for name in names}
+        for fault in filter(None, faults.values()):
+            self.differs(fault)
+        same = [name for name, fault in faults.items() if not fault]
+        if same:
+            one = len(same) == 1
+            self.findings.held(f"{listed(same)}: made again of tracks and records {'it is' if one else 'they are'} the same, byte for byte")
 
-    def everywhere(self) -> None:
-        """The unit and the levels of what was made of the report: where one has others, that was said."""
-        made = [name for name in (*TABLES, LAYERS, PAGE) if name in self.listed]
-        if made and made == self.alike:
-            unit, levels = self.about["unit"], self.about["levels"]
-            self.findings.held(f"unit ({unit}) and levels ({levels}) are the same in {listed(made)}")
+    def text_fault(self, name: str) -> str | None:
+        """How a text is not the one that was made again: where they part."""
+        own, wish = (path / name for path in (self.given, self.made))
+        content, wanted = own.read_bytes(), wish.read_bytes()
+        if content == wanted:
+            return None
+        lines, wishes = (text.decode("utf-8", "replace").split("\n") for text in (content, wanted))
+        number = next((at for at, pair in enumerate(zip(lines, wishes)) if pair[0] != pair[1]), min(len(lines), len(wishes)))
+        line, other = (each[number] if number < len(each) else "" for each in (lines, wishes))
+        at = len(os.path.commonprefix([line, other]))
+        said, wanted_text = (f"'{text[max(0, at - 20):at + 40]}'" if text else "nothing" for text in (line, other))
+        return f"{name} is another one than is made again: line {number + 1} has {said}, and {wanted_text} is wanted"
+
+    def compare_layers(self) -> None:
+        if not (self.made / LAYERS).is_file():
+            self.findings.unseen(f"{LAYERS}: to make it again geopandas is needed: apt-get install python3-geopandas")
+            return
+        fault = layers_difference(self.given / LAYERS, self.made / LAYERS)
+        if fault:
+            self.differs(fault)
+        else:
+            self.findings.held(f"{LAYERS}: made again it has the same layers, schema, rows and shapes, spatial index, reference "
+                               "system and looks")
+
+    def other_form(self) -> str:
+        form = form_of(self.given / ABOUT)
+        by = f"version {self.release.version}" if self.release else "the version that made it"
+        return f"made in form {form}, and this copy knows form {FORM}; use a copy of {by}"
 
     def others(self) -> None:
-        """What nobody computes again, and what no step knows."""
-        drawn = sorted({PAGE, *PICTURES} & self.listed)
-        if PAGE in drawn:
-            self.findings.note(f"whether what was typed into {PAGE} is right: title, study, species, by whom, the boundary, "
-                               "the day")
-        if self.split and self.split.crs:
-            self.findings.note(f"how the reference system {self.split.crs} is defined, and how areas on its grid differ from those "
-                               "on the ground")
-        if drawn:
-            self.findings.note(f"whether the drawings in {listed(drawn)} show the ranges: the polygons are in {LAYERS}, "
-                               "which any GIS draws")
-        unknown = sorted(name for name in self.listed if name not in KNOWN and not name.startswith("tracks/"))
-        if unknown:
-            self.findings.unseen(f"what {listed(unknown)} has: no step knows such a file")
+        """What nobody can know of the folder, and what no step knows."""
+        about, words = self.about, self.about.words
+        typed = [name for name in ("crs", "title", "study", "species", "by", "day", "boundary", "clock") if getattr(words, name)]
+        if typed:
+            self.findings.note(f"whether what was typed in is right: {listed(typed)}")
+        self.findings.note(f"whether the run was on {about.made}, of the commit that {ABOUT} names ({about.commit})")
+        if self.release is None:
+            self.findings.note(f"whether sources and logic are those that {ABOUT} says: the program is no released one")
+        if self.split and self.split.tools:
+            self.findings.note(f"whether the tracks were made by what split.txt says: {'; '.join(self.split.tools)[:200]}")
+        seen = [name for name in (*PICTURES, LOG) if name in self.sums]
+        if seen:
+            self.findings.note(f"what {listed(seen)} {'shows' if len(seen) == 1 else 'show'}: not looked at")
+        if self.intake.passed_over:
+            self.findings.note(f"what {listed(self.intake.passed_over[:9])} has, which a system leaves: passed over")
+        unknown = sorted(name for name in self.sums if name not in KNOWN and not name.startswith(f"{TRACKS}/")
+                         and not self.is_export(name))
+        layers = [name for name in unknown if name.startswith(f"{LAYERS}-")]
+        if layers:
+            self.findings.failed(f"{layers[0]} lies beside {LAYERS}, and can change what a reader finds in it")
+        elif unknown:
+            self.findings.unseen(f"what {listed(unknown)} {'has' if len(unknown) == 1 else 'have'}: no step knows such a file")

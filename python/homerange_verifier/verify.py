@@ -1,35 +1,36 @@
 """Whether a folder of evidence is what it says.
 
-Says in sentences what held, what did not, and what was not looked at:
+What can be made again is made again, by this copy's code, and compared byte for byte; what can't be is named:
 
     the checksums are those of all files, and no file is without one
-    the record of the run is whole, and its unit and levels are those of the report and of the record of the tracks
+    evidence.txt is a whole record of this run, with the unit, levels and arguments of the report and of the tracks
     the tracks are those of their record, and those that homerange-split makes of the EXPORT, with the options of the record
-    the program makes the same report of them, byte for byte
+    the program is a released one, and makes the same report of them
     each line of the report is what another method computes
-    summary.csv, animals.csv and overlaps.csv are what that method comes to, byte for byte
-    ranges.gpkg has its polygons, with their corners, numbers and reference system, the fixes of the tracks, and no other
-        layers
-    report.html has its numbers, names, dates and checksums in tables and sentences, the text and the style that the pages of
-        all share, no script and nothing from elsewhere
-    unit and levels are the same in all of these
+    summary.csv, animals.csv, overlaps.csv and report.html are what is made of tracks, records and report
+    ranges.gpkg is the same as one that is made of them, in its schema, its rows, its shapes and how it is drawn
 
-The program is the release of this clone or package, unless --program names another one. Needs Python 3.11 alone; to split
-an export that has to be projected, what homerange-split needs. The status is 0 where all held, 1 where something did not, 2 where
-the call is wrong, and 3 where nothing failed and something was not looked at."""
+The EXPORT may also lie in the folder. The folder is a stranger's: nothing in it is run, no name, path or option is taken from it
+that is none of the few that such folders have, and all that is looked at is copied into a room of its own first. The program
+is the release of this clone or package, unless --program names another one. Needs Python 3.11; to split an export that has to be
+projected pyproj, and to make tables, layers and page again geopandas. Sentences say what held, what did not, and what was not
+looked at. The status is 0 where all held, 1 where something did not, 2 where the call is wrong, 3 where nothing failed and
+something was not looked at, and 4 where what was found could not be written."""
 
 from __future__ import annotations
 
 import argparse
 import io
+import os
 import sys
+import tempfile
 from pathlib import Path
 
-from .findings import Findings
-from .folder import SUMS
+from homerange.errors import HomeRangeError
+
+from .findings import Findings, Unwritten
 from .lines import Fault
 from .options import Options
-from .sidecar import Sidecar, sidecar_in
 from .steps import Verification
 
 UNKNOWN = (
@@ -53,27 +54,31 @@ def read_options(name: str) -> argparse.Namespace:
     return options
 
 
-def kind_of(folder: Path) -> type[Verification]:
-    """How a folder is verified: by its list of checksums, or by the one that older versions wrote beside a report."""
-    if (folder / SUMS).is_file():
-        return Verification
-    if sidecar_in(folder):
-        return Sidecar
-    raise Fault(f"there is no {SUMS} in {folder}: it is no folder that evidence.py or ranges.sh wrote")
+def verify(options: argparse.Namespace, findings: Findings) -> None:
+    """Takes all steps; what ends them is said."""
+    with tempfile.TemporaryDirectory(prefix="homerange-") as room:
+        try:
+            Verification(findings, options.folder, options.export, options.program, Path(room)).run()
+        except (Fault, HomeRangeError) as fault:
+            findings.failed(str(fault))
+        except OSError as fault:
+            findings.failed(f"{fault.filename}: {fault.strerror}")
 
 
 def main(name: str = "homerange-verify") -> None:
     options = read_options(name)
+    if os.name == "nt":
+        sys.exit(f"{name}: it runs on Linux, and on Windows within WSL: the program is for Linux")
     if isinstance(sys.stdout, io.TextIOWrapper):
         sys.stdout.reconfigure(encoding="utf-8", errors="backslashreplace")
     findings = Findings()
     try:
-        kind_of(options.folder)(findings, options.folder, options.export, options.program).run()
-    except (Fault, OSError) as fault:
-        findings.failed(str(fault))
-    for text in UNKNOWN:
-        findings.note(text)
-    counts = findings.counts
-    print(f"{name}: {counts['held']} held, {counts['did not hold']} did not, {counts['not looked at']} not looked at")
+        verify(options, findings)
+        for text in UNKNOWN:
+            findings.note(text)
+        counts = findings.counts
+        findings.write(f"{name}: {counts['held']} held, {counts['did not hold']} did not, {counts['not looked at']} not looked at")
+    except Unwritten:
+        os.dup2(os.open(os.devnull, os.O_WRONLY), sys.stdout.fileno())  # in which what is left to write goes
+        sys.exit(4)
     sys.exit(findings.status())
-

@@ -2,6 +2,8 @@
 # checksums.
 # docs/EVIDENCE.md says what it shows.
 
+form_of_evidence <- "1"  # that of tables, layers, page and records: another byte that their makers write takes another number
+
 # Makes the folder of evidence of home ranges, whose page is written with the other arguments.
 homerange_evidence <- function(x, folder, ...) {
   local_numbers()
@@ -40,31 +42,46 @@ local_utf8 <- function(names, frame = parent.frame()) {
   if (length(odd)) refuse("name", odd[1], " can be the name of a file in a locale of UTF-8 alone, such as LC_ALL=C.UTF-8")
 }
 
-fill_evidence <- function(x, folder, names, program, ...) {
+fill_evidence <- function(x, folder, names, program, title = NULL, study = NULL, species = NULL, by = NULL, reserve = NULL,
+                          reserve_name = NULL, tz = NULL, made = NULL) {
+  zone <- zone_of_page(x, tz)
+  rings <- if (!is.null(reserve)) rings_in_order(rings_of_boundary(boundary_of(x, reserve)))
+  words <- list(title = title, study = study, species = species, by = by, day = if (!is.null(made)) format(made, "%Y-%m-%d"),
+                boundary = if (!is.null(rings)) if (is_given(reserve_name)) reserve_name else "boundary")
   if (is.null(x$files)) put_frame(x, names, folder) else put_files(x, file.path(folder, "tracks"))
   record <- record_in(file.path(folder, "tracks"))
   if (!is.null(record)) check_record(record, file.path(folder, "tracks"))
-  made <- report_of_folder(x, folder, names, program, record)
+  now <- Sys.time()
+  found <- report_of_folder(x, folder, names, program, record, c(words, clock = zone), now)
   for (line in renames_of(x$animals$animal, names)) tell_note(line, "renamed")
-  write_summary(made, file.path(folder, "summary.csv"))
-  write_animals(made, file.path(folder, "animals.csv"))
-  write_overlaps(made, file.path(folder, "overlaps.csv"))
-  if (has_sf()) write_layers(made, file.path(folder, "ranges.gpkg"))
-  write_page(made, file.path(folder, "report.html"), ...)
+  write_summary(found, file.path(folder, "summary.csv"))
+  write_animals(found, file.path(folder, "animals.csv"))
+  write_overlaps(found, file.path(folder, "overlaps.csv"))
+  if (has_sf()) write_layers(found, file.path(folder, "ranges.gpkg"))
+  if (!is.null(rings)) write_lines(file.path(folder, "boundary.csv"), lines_of_rings(rings))
+  day <- as.POSIXlt(if (is.null(made)) as.POSIXlt(now, tz = zone) else made)
+  put_page(found, file.path(folder, "report.html"), words, rings, zone, day, program)
   sums <- checksums_of(folder)
   sums <- sums[order(names(sums), method = "radix")]
   write_lines(file.path(folder, "SHA256SUMS"), paste0(sums, "  ", names(sums)))
 }
 
+# The boundary of a map: each ring by its number, with its points in metres.
+lines_of_rings <- function(rings) {
+  c("ring,easting,northing", unlist(lapply(seq_along(rings), function(number) {
+    sprintf("%d,%.3f,%.3f", number, rings[[number]][, 1], rings[[number]][, 2])
+  })))
+}
+
 # Has the program report of the tracks in a folder, and writes the record of the run; answers the ranges of the report.
-report_of_folder <- function(x, folder, names, program, record) {
+report_of_folder <- function(x, folder, names, program, record, words, now) {
   if (!is.null(record) && record$unit != x$unit) {
     refuse("option", "the tracks are in ", record$unit, ", by split.txt beside them, and the ranges in ", x$unit)
   }
   before <- checksums_of(folder)
   files <- used_tracks(folder)
-  words <- c("--percent", paste(unique(x$percents$level), collapse = ","), "--unit", x$unit)
-  write_lines(file.path(folder, "report.txt"), report_of_files(program$path, words, files, folder))
+  call <- c("--percent", paste(unique(x$percents$level), collapse = ","), "--unit", x$unit)
+  write_lines(file.path(folder, "report.txt"), report_of_files(program$path, call, files, folder))
   made <- ranges_of_report(x, folder, names, record)
   after <- checksums_of(folder)
   changed <- names(before)[!(after[names(before)] == before) %in% TRUE]
@@ -72,7 +89,7 @@ report_of_folder <- function(x, folder, names, program, record) {
   if (identity_of(program$path)$checksum != program$checksum) refuse("program", program$path, " changed while it ran")
   log <- file.path(dirname(program$path), "build.log")
   if (file.exists(log)) file.copy(log, folder)
-  write_lines(file.path(folder, "evidence.txt"), about_lines(x, program, c(words, "--", files), record))
+  write_lines(file.path(folder, "evidence.txt"), about_lines(x, program, c(call, "--", files), record, words, now))
   made
 }
 
@@ -208,21 +225,32 @@ refuse_other_numbers <- function() {
   refuse("check", "the program reports other numbers of these tracks than the ranges have: make them again")
 }
 
-# The record of a run, fields by name.
-about_lines <- function(x, program, words, record) {
-  number <- sum(endsWith(words, ".csv"))
+# The record of a run, fields by name, the last of them what is known of the call alone: where the record of the tracks has not
+# these, the reference system and the shift; and what was typed in.
+about_lines <- function(x, program, call, record, words, now) {
+  number <- sum(endsWith(call, ".csv"))
   groups <- ceiling(number / group_size)
   fields <- c(
-    evidence = "1", made = format(Sys.time(), "%Y-%m-%dT%H:%M:%SZ", tz = "UTC"), program = program$version,
-    "program sha256" = program$checksum, arguments = paste(shell_words(words), collapse = " "), unit = x$unit,
+    form = form_of_evidence, made = format(now, "%Y-%m-%dT%H:%M:%SZ", tz = "UTC"), program = program$version,
+    "program sha256" = program$checksum, arguments = paste(shell_words(call), collapse = " "), unit = x$unit,
     levels = paste(unique(x$percents$level), collapse = ","),
     runs = if (number <= most_files) "1" else sprintf("%.0f of groups of %d animals", groups * (groups + 1) / 2, group_size),
     commit = "not known, since the package for R stands in no clone", sources = made_from(program$path, "sources"),
     logic = made_from(program$path, "logic"),
     if (!is.null(record$export)) c(export = record$export, "export sha256" = record$checksum) else
-      if (!is.null(record)) c(export = "none")
+      if (!is.null(record)) c(export = "none"),
+    unlist(lapply(c(system_beside(x, record), words), gsub, pattern = "\\", replacement = "\\\\", fixed = TRUE))
   )
+  fields <- fields[nzchar(fields)]
   one_line(paste0(names(fields), ": ", fields))
+}
+
+# The reference system and the shift of ranges whose tracks have no record of these.
+system_beside <- function(x, record) {
+  crs <- if (!is.null(x$zone)) text_of_zone(x$zone) else if (!is.null(x$crs)) text_of_crs(x$crs)
+  own <- if (!is.null(record$zone)) text_of_zone(record$zone) else record$crs
+  shift <- if (is.null(record)) c(0, 0) else record$shift
+  c(list(crs = if (!identical(crs, own)) crs), if (any(x$shift != shift)) list(shift = sprintf("%.0f,%.0f", x$shift[1], x$shift[2])))
 }
 
 # Words as a shell takes them back.

@@ -10,17 +10,31 @@ write_page <- function(x, path, title = NULL, study = NULL, species = NULL, by =
   local_numbers()
   check_ranges(x)
   check_path(path)
+  zone <- zone_of_page(x, tz)
+  day <- as.POSIXlt(if (is.null(made)) as.POSIXlt(Sys.time(), tz = zone) else made)
+  program <- tryCatch(identity_of(homerange_program()), homerange_program_error = function(fault) list(version = "homerange"))
+  rings <- if (!is.null(reserve)) rings_in_order(rings_of_boundary(boundary_of(x, reserve)))
+  put_page(x, path, list(title = title, study = study, species = species, by = by, boundary = reserve_name), rings, zone, day, program)
+  invisible(path)
+}
+
+# The zone of the dates of a page.
+zone_of_page <- function(x, tz) {
   zone <- if (!is.null(tz)) tz else if (is.null(x$tz)) "UTC" else x$tz
   check_zone_of_time(zone)
+  zone
+}
+
+# Writes the page with what was typed in, the rings of a boundary, the zone of dates, the day, and the program with its checksum.
+put_page <- function(x, path, words, rings, zone, day, program) {
   rows <- rows_of_page(x)
   ends <- vapply(rows, function(row) c(row$first, row$last), c(0, 0))
   clock <- new_clock(zone, ends)
-  program <- tryCatch(identity_of(homerange_program()), homerange_program_error = function(fault) list(version = "homerange"))
-  drawn <- places_of_map(x, reserve, reserve_name)
-  head <- if (is_given(title)) title else heading_of_page(x$animals$animal)
-  day <- as.POSIXlt(if (is.null(made)) as.POSIXlt(Sys.time(), tz = zone) else made)
+  drawn <- places_of_map(x, rings, words$boundary)
+  head <- if (is_given(words$title)) words$title else heading_of_page(x$animals$animal)
   places <- c(drawn$places, places_of_numbers(x, rows, clock), list(
-    title = as_html(head), heading = in_bdi(head), typed = typed_text(c(Study = study, Species = species, By = by)),
+    title = as_html(head), heading = in_bdi(head),
+    typed = typed_text(c(Study = words$study, Species = words$species, By = words$by)),
     period = period_of_page(clock, range(ends)), made = paste0("Made on ", day_text(day), " with ", as_html(program$version), "."),
     method = paste0(method_text(program$version, drawn$system, x$unit, unique(x$percents$level)), " ", left_out_text(x),
                     options_text(x$record), said_text(x$notes)),
@@ -29,7 +43,6 @@ write_page <- function(x, path, title = NULL, study = NULL, species = NULL, by =
   ))
   template <- paste0(readLines(system.file("extdata", "page.html", package = "homerange"), encoding = "UTF-8"), "\n", collapse = "")
   writeBin(charToRaw(enc2utf8(fill_template(template, places))), path)
-  invisible(path)
 }
 
 # The template with its places filled, once: what stands for a place in a user's text stays.
@@ -94,9 +107,10 @@ rings_of_boundary <- function(shape) {
 }
 
 # The points of a ring, each once, from the westernmost on, of two such the southern, towards the more western of both beside
-# it: shapes say neither where a ring begins nor which comes first.
+# it, to whole millimetres: shapes say neither where a ring begins nor which comes first.
 ring_in_order <- function(ring) {
   points <- ring[-1, 1:2]
+  points[] <- as.numeric(sprintf("%.3f", points))
   first <- order(points[, 1], points[, 2])[1]
   points <- points[(first + seq_len(nrow(points)) - 2) %% nrow(points) + 1, ]
   ends <- c(2, nrow(points))
@@ -110,19 +124,18 @@ rings_in_order <- function(rings) {
 }
 
 # The places with the map and what is said of it, and how the reference system is written.
-places_of_map <- function(x, reserve, reserve_name) {
+places_of_map <- function(x, rings, name) {
   shapes <- shapes_of_page(x)
-  rings <- if (!is.null(reserve)) rings_in_order(rings_of_boundary(boundary_of(x, reserve)))
   middles <- do.call(rbind, lapply(shapes, function(shape) {
     box <- box_of(shape$polygons[[1]])
     c((box[1] + box[3]) / 2, (box[2] + box[4]) / 2)
   }))
   system <- system_of_page(x, middles)
   drawn <- page_maps(shapes, rings, as_html(system$text), least_of_map[[x$unit]])
-  name <- if (!is.null(reserve)) if (is_given(reserve_name)) in_bdi(reserve_name) else "boundary"
+  name <- if (!is.null(rings)) if (is_given(name)) in_bdi(name) else "boundary"
   list(system = system$text, places = list(
     maps = paste(drawn$drawings, collapse = "\n"), key = key_of_map(x, name),
-    ground = ground_text(system, drawn, !is.null(x$fixes), !is.null(reserve))
+    ground = ground_text(system, drawn, !is.null(x$fixes), !is.null(rings))
   ))
 }
 

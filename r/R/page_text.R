@@ -16,8 +16,7 @@ system_of_page <- function(ranges, middles) {
   unknown <- "How areas on this grid differ from those on the ground is not known."
   zone <- if (is.null(ranges$zone)) zone_of_crs(ranges$crs) else ranges$zone
   if (!is.null(zone)) {
-    return(list(text = sprintf("EPSG:%.0f (WGS 84 / UTM zone %s)", code_of_zone(zone), zone),
-                difference = difference_text(scale_of_zone(middles[, 1]))))
+    return(list(text = text_of_zone(zone), difference = difference_text(scale_of_zone(middles[, 1]))))
   }
   if (is.null(ranges$crs)) return(list(text = "reference system not known", difference = unknown))
   scale <- scale_of_crs(ranges$crs)

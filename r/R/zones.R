@@ -59,12 +59,15 @@ code_of_crs <- function(crs) {
 # are written alike in all languages.
 text_of_crs <- function(crs) {
   zone <- zone_of_crs(crs)
-  if (!is.null(zone)) return(sprintf("EPSG:%d (WGS 84 / UTM zone %s)", as.integer(crs$epsg), zone))
+  if (!is.null(zone)) return(text_of_zone(zone))
   own <- "^.*ID\\[\"([^\"]+)\",\"?([^]\"]+)\"?\\]\\]$"
   wkt <- gsub("\\s*\n\\s*", "", crs$wkt)
   if (grepl(own, wkt)) return(paste0(sub(own, "\\1:\\2", wkt), " (", crs$Name, ")"))
   if (crs$Name == "unknown") crs$proj4string else crs$Name
 }
+
+# The reference system of a zone as it is written.
+text_of_zone <- function(zone) sprintf("EPSG:%.0f (WGS 84 / UTM zone %s)", code_of_zone(zone), zone)
 
 # The zone of a reference system of sf; NULL where it is that of none.
 zone_of_crs <- function(crs) {

@@ -18,15 +18,16 @@ import sys
 from pathlib import Path
 from typing import Any
 
+from ..about import TYPED, read_about
 from ..asked import zone_of_time
 from ..bar import Log
 from ..errors import FrameError, HomeRangeError, OptionError, one_line
-from ..evidence import Wish, make_report, new_folder
+from ..evidence import ABOUT, Wish, make_report, new_folder
 from ..exports import split_text
 from ..program import program_of
 from .options import Options, program_of_command, show_all
 from .split import add_options
-from .tables import TYPED, add_page_options, check_libraries, write_results
+from .tables import add_page_options, check_libraries, words_of, write_all
 
 OWN = {"export", "into", "percent", "over", "clock", *TYPED}  # options that are not those of the split
 
@@ -63,8 +64,9 @@ def fill(folder: Path, options: argparse.Namespace, log: Log, program: str) -> N
     wishes: dict[str, Any] = {own.replace("_", "-"): value for own, value in vars(options).items() if own not in OWN}
     split_text(str(options.export), "tracks", wishes, lambda line: log.say(line, by="split"))
     log.at("running the program")
-    make_report(Path(), Wish(options.percent, None, program_of(program)))
-    write_results(Path(), options, options.clock or options.tz or "UTC", log, program=program)
+    words = words_of(options, options.clock or options.tz or "UTC")
+    make_report(Path(), Wish(options.percent, None, program_of(program)), words)
+    write_all(Path(), options.over, read_about(Path(ABOUT)), log, program)
 
 
 def make(options: argparse.Namespace, name: str) -> None:

@@ -23,11 +23,15 @@ from importlib.util import find_spec
 from pathlib import Path
 from typing import TYPE_CHECKING
 
+from ..about import TYPED, About, Words
 from ..asked import zone_of_time
 from ..bar import Log
-from ..errors import HomeRangeError, refuse
-from ..record import difference_from_record, record_in
-from ..zones import crs_of, zone_of
+from ..errors import HomeRangeError
+from ..evidence import TRACKS, Wish, about_of, used_tracks
+from ..program import find_program, program_of
+from ..record import record_in
+from ..results import BOUNDARY, read_ranges, write_results
+from ..zones import text_of_zone, zone_of
 from .options import Options
 
 if TYPE_CHECKING:
@@ -35,9 +39,8 @@ if TYPE_CHECKING:
 
 MANY = 12  # animals whose curves are drawn into one picture at most
 NEEDED = ("geopandas", "matplotlib")
-TYPED = {
-    "title": "the title of the page", "study": "the study that the page names",
-    "species": "the species that the page names", "by": "who made the page"}
+HELP = dict(zip(TYPED, ("the title of the page", "the study that the page names", "the species that the page names",
+                        "who made the page")))
 
 
 def check_libraries() -> None:
@@ -48,24 +51,9 @@ def check_libraries() -> None:
 
 def add_page_options(parser: argparse.ArgumentParser) -> None:
     """Adds the options of the page."""
-    for name, text in TYPED.items():
+    for name, text in HELP.items():
         parser.add_argument(f"--{name}", metavar="TEXT", help=text)
     parser.add_argument("--over", type=Path, metavar="FILE", help="a boundary for the map of the page, as of a reserve")
-
-
-def read_ranges(folder: Path, crs: str | None, program: str | None) -> HomeRanges:
-    """The ranges of the report, once it is seen that they are those of the tracks as they were split."""
-    from ..ranges import read_report
-
-    record = record_in(folder / "tracks")
-    files = sorted(path for path in (folder / "tracks").iterdir() if path.name.endswith(".csv"))
-    split = folder / "tracks" / "split.txt" if record else None
-    ranges = read_report(folder / "report.txt", files=files, crs=crs, record=split, program=program)
-    summary = ranges.summary()
-    fault = record and difference_from_record(record, dict(zip(summary["animal"], summary["fixes"])))
-    if fault:
-        refuse(fault)
-    return ranges
 
 
 def write_pictures(ranges: HomeRanges, folder: Path) -> None:
@@ -82,29 +70,29 @@ def write_pictures(ranges: HomeRanges, folder: Path) -> None:
         axes.figure.savefig(folder / name, dpi=300)
 
 
-def write_results(
-    folder: Path, page: argparse.Namespace, tz: str, log: Log, zone: str | None = None, program: str | None = None,
-) -> None:
-    """Writes all that is made of a report into its folder; the page has what its options say."""
-    from ..layers import put_layers
-    from ..output import write_tables
-    from ..page import write_page
+def write_all(folder: Path, over: Path | None, about: About, log: Log, program: str | None = None) -> None:
+    """Writes all that is made of a report into its folder; the page has what the record of the run says."""
+    from ..page import rings_given, write_rings
 
-    zone_of_time(tz)
     log.at("reading the report")
-    ranges = read_ranges(folder, zone and crs_of(zone_of(zone)), program)
+    ranges = read_ranges(folder, about, program)
     if ranges.crs is None:
         log.say("no reference system is known: that of ranges.gpkg is an undefined one of metres")
-    log.at("writing tables and layers")
-    write_tables(ranges, folder)
-    for line in put_layers(ranges, folder / "ranges.gpkg"):
+    rings = rings_given(ranges, boundary_in(over))
+    if rings is not None:
+        write_rings(rings, folder / BOUNDARY)
+    log.at("writing tables, layers and page")
+    for line in write_results(folder, ranges, about):
         log.say(line)
     log.at("drawing pictures")
     write_pictures(ranges, folder)
-    log.at("writing the page")
-    write_page(
-        ranges, folder / "report.html", **{name: getattr(page, name) for name in TYPED}, tz=tz,
-        reserve=boundary_in(page.over), reserve_name=page.over and page.over.stem)
+
+
+def words_of(options: argparse.Namespace, clock: str) -> Words:
+    """What was typed in for the page."""
+    zone_of_time(clock)
+    return Words(title=options.title or None, study=options.study or None, species=options.species or None, by=options.by or None,
+                 boundary=options.over and options.over.stem, clock=clock)
 
 
 def boundary_in(path: Path | None) -> object:
@@ -125,7 +113,11 @@ def main(name: str = "homerange-tables") -> None:
     options, log = parser.parse_args(), Log(name)
     try:
         check_libraries()
-        write_results(options.folder, options, options.tz, log, options.zone)
+        words = words_of(options, options.tz)._replace(crs=options.zone and text_of_zone(zone_of(options.zone)))
+        program = program_of(find_program())
+        files = [*used_tracks(options.folder)]
+        wish = Wish("100", "m", program)
+        write_all(options.folder, options.over, about_of(wish, files, "m", record_in(options.folder / TRACKS), words), log)
     except (HomeRangeError, OSError, ValueError) as fault:
         log.say(str(fault))
         sys.exit(1)

@@ -1,0 +1,94 @@
+"""What is made of a folder with report.txt, its tracks and evidence.txt: tables, layers and page, and pictures. All but the
+pictures follows from these files and from boundary.csv, where there is one, so that it can be made again."""
+
+from __future__ import annotations
+
+import sys
+from importlib.util import find_spec
+from pathlib import Path
+from typing import TYPE_CHECKING, NoReturn
+
+from .about import About, Words, read_about
+from .errors import HomeRangeError, one_line, refuse
+from .evidence import ABOUT, REPORT, TRACKS, used_tracks
+from .record import Record, difference_from_record, record_in
+from .zones import system_of_text, text_of_crs
+
+if TYPE_CHECKING:
+    from .ranges import HomeRanges
+
+BOUNDARY, LAYERS, PAGE = "boundary.csv", "ranges.gpkg", "report.html"
+NOT_THERE = 3  # the status of a call that lacks something
+
+
+def crs_of(words: Words, record: Record | None) -> str | None:
+    """The reference system that is known in words alone: that of the record, or the one that was named. None where it has no
+    code and is not defined."""
+    if words.crs is not None:
+        return system_of_text(words.crs)
+    return record.system if record else None
+
+
+def words_beside(record: Record | None, ranges: HomeRanges, words: Words) -> Words:
+    """The words of a page, with the reference system and the shift of its ranges where their record has not these."""
+    own = text_of_crs(ranges.crs) if ranges.crs is not None else None
+    has_own = record is not None and own == record.system_text
+    has_shift = record is not None and record.shift == ranges.shift
+    return words._replace(crs=None if has_own else own, shift=(0, 0) if has_shift else ranges.shift)
+
+
+def read_ranges(folder: Path, about: About, program: str | None) -> HomeRanges:
+    """The ranges of the report, once it is seen that they are those of the tracks as they were split."""
+    from .ranges import read_report
+
+    record = record_in(folder / TRACKS)
+    split = folder / TRACKS / "split.txt" if record else None
+    crs = crs_of(about.words, record)
+    ranges = read_report(
+        folder / REPORT, files=[folder / name for name in used_tracks(folder)], crs=crs, tz=about.words.clock or "UTC",
+        shift=about.words.shift, record=split, program=program)
+    fixes = {row.animal: row.used for row in ranges.rows()}
+    fault = record and difference_from_record(record, fixes)
+    if fault:
+        refuse(fault, "text")
+    return ranges
+
+
+def write_results(folder: Path, ranges: HomeRanges, about: About) -> list[str]:
+    """Writes tables, page and, where geopandas is there, layers; answers what there is to say of them."""
+    from .output import write_tables
+    from .page import Head, page_of, read_rings
+
+    said: list[str] = []
+    write_tables(ranges, folder)
+    if find_spec("geopandas"):
+        from .layers import put_layers
+
+        said = put_layers(ranges, folder / LAYERS)
+    boundary = folder / BOUNDARY
+    rings = read_rings(boundary) if boundary.is_file() else None
+    head = Head(about.words, rings, about.words.clock or "UTC", about.day(), about.program, about.checksum)
+    (folder / PAGE).write_bytes(page_of(ranges, head).encode("utf-8", errors="replace"))
+    return said
+
+
+def main() -> None:
+    """Makes the results of the working folder again, by the program that is named. The status is 3 where this machine, or what
+    the records say, has not what is needed."""
+    folder, program = Path(), sys.argv[1]
+    try:
+        about = read_about(folder / ABOUT)
+        record = record_in(folder / TRACKS)
+        text = about.words.crs or record and record.system_text
+        if text and crs_of(about.words, record) is None:
+            refuse_here(f"the reference system '{text}' has no code and no definition, so they cannot be made again")
+        write_results(folder, read_ranges(folder, about, program), about)
+    except ImportError as fault:
+        refuse_here(f"to make them again {fault.name} is needed: apt-get install python3-geopandas")
+    except (HomeRangeError, OSError, ValueError) as fault:
+        sys.exit(one_line(str(fault)))
+
+
+def refuse_here(text: str) -> NoReturn:
+    print(one_line(text), file=sys.stderr)
+    sys.exit(NOT_THERE)
