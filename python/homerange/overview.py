@@ -1,12 +1,12 @@
-"""One row of facts for each animal, whole and exact: what became of its fixes, when they were, the areas, and whether the
-curve levelled off. HomeRanges.overview() makes a table of it, and the page is written from it."""
+"""One row of facts for each animal, whole and exact: what became of its fixes, when they were, the areas, and how the area
+grew. HomeRanges.overview() makes a table of it, and the page is written from it."""
 
 from __future__ import annotations
 
 from collections import Counter
 from typing import Mapping, NamedTuple, Sequence
 
-from .levelling import Levelling, levelling_of
+from .growth import Growth, growth_of
 from .record import REASONS
 from .report import Percent, Table
 
@@ -23,8 +23,8 @@ class Row(NamedTuple):
     median2: int | None  # twice the median of the intervals; None of one fix
     longest: int | None
     percents: Mapping[int, Percent]  # by level, in the order in which levels were given
-    levelling: Levelling
-    within_second: int | None  # the time of the fix from which on the area stayed within 95 per cent
+    growth: Growth
+    within_second: int | None  # the time of the fix from which on the area stayed at 95 per cent or more
 
 
 def twice_median(numbers: Sequence[int]) -> int:
@@ -37,11 +37,11 @@ def row_of(name: str, table: Table, records: int | None, left: Mapping[str, int]
     """The facts of an animal of a report."""
     seconds = [second for second, _, _ in table.rows]
     intervals = [later - former for former, later in zip(seconds, seconds[1:])]
-    levelling = levelling_of([area2 for _, _, area2 in table.rows])
+    growth = growth_of([area2 for _, _, area2 in table.rows])
     return Row(
         name, records, left, len(seconds), seconds[0], seconds[-1], twice_median(intervals) if intervals else None,
-        max(intervals, default=None), {percent.level: percent for percent in table.percents}, levelling,
-        seconds[levelling.within - 1] if levelling.within else None)
+        max(intervals, default=None), {percent.level: percent for percent in table.percents}, growth,
+        seconds[growth.within - 1] if growth.within else None)
 
 
 def rows_of(tables: Mapping[str, Table], records: Mapping[str, int], left: Counter[tuple[str, str]]) -> list[Row]:

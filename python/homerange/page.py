@@ -186,7 +186,7 @@ def numbers(ranges: HomeRanges, rows: Sequence[Row], clock: Clock) -> dict[str, 
     """The places with tables, sentences and curves."""
     overlaps = Overlaps(rows, ranges.report.overlaps)
     areas = [[area2 for _, _, area2 in table.rows] for table in ranges.report.tables.values()]
-    found = [Curve(n, own, row.levelling.within) for n, (own, row) in enumerate(zip(areas, rows), 1)]
+    found = [Curve(n, own, row.growth.within) for n, (own, row) in enumerate(zip(areas, rows), 1)]
     return {
         "period": period(rows, clock), "sentences": sentences(rows, clock, ranges.unit),
         "animals": animals_table(rows, clock, ranges.unit, f"in the {source_of(ranges)}"),

@@ -15,7 +15,7 @@ ABOVE, BELOW, LEFT, RIGHT = 6.0, 14.0, 34.0, 10.0
 
 
 class Curve(NamedTuple):
-    """The doubled area after each fix, and the number of the first fix from which on it stayed within 95 per cent."""
+    """The doubled area after each fix, and the number of the first fix from which on it stayed at 95 per cent or more."""
 
     number: int
     areas: Sequence[int]

@@ -2,10 +2,9 @@
 
 A program reads the page back by attributes. Rows of animals have data-animal, and their cells data-field: number,
 records, left_REASON for each reason that occurs (with _ for a blank), used, first, last, days, median_interval,
-longest_interval, hectares_LEVEL, levelled, last_quarter, within_95_fix, within_95_date. Cells of overlaps have
-data-animal, whose fixes they count, and data-other, in whose range; the table of animals has data-zone, the zone of its
-dates. Of the page itself there are the fields period, export_sha256, report_sha256 and program_sha256. formats.py says
-how each is written."""
+longest_interval, hectares_LEVEL, last_quarter, within_95_fix, within_95_date. Cells of overlaps have data-animal, whose
+fixes they count, and data-other, in whose range; the table of animals has data-zone, the zone of its dates. Of the page
+itself there are the fields period, export_sha256, report_sha256 and program_sha256. formats.py says how each is written."""
 
 from __future__ import annotations
 
@@ -44,11 +43,11 @@ def cell(field: str, text: str) -> str:
 
 def curve_cells(row: Row, cells: Cells) -> list[str]:
     """What the area curve of an animal says."""
-    found = row.levelling
+    found = row.growth
     within = (fixed(found.within, 1, 0), cells.clock.date(row.within_second or 0)) if found.within else (NOTHING, NOTHING)
     return [
-        cell("levelled", found.verdict), cell("last_quarter", share_of_area(found.quarter, found.area2)),
-        cell("within_95_fix", within[0]), cell("within_95_date", within[1])]
+        cell("last_quarter", share_of_area(found.quarter, found.area2)), cell("within_95_fix", within[0]),
+        cell("within_95_date", within[1])]
 
 
 def facts(row: Row, cells: Cells) -> list[str]:
@@ -87,10 +86,10 @@ def headings(cells: Cells, source: str, has_areas: bool) -> str:
         ANIMAL, turned(source, 2), f'<th colspan="{left}">Left out</th>' if left else "", turned("used", 2),
         '<th rowspan="2">First</th><th rowspan="2">Last</th><th rowspan="2">Days</th><th colspan="2">Interval</th>',
         f'<th colspan="{levels}">MCP, ha</th>' if levels else "",
-        '<th colspan="2">Area curve</th><th colspan="2">95 % since</th>']
+        '<th>Area curve</th><th colspan="2">95 % since</th>']
     below = [
         *(turned(HEADINGS[reason]) for reason in cells.reasons), "<th>median</th><th>longest</th>",
-        percents(cells) if has_areas else "", "<th></th><th>last<br>quarter</th><th>fix</th><th>date</th>"]
+        percents(cells) if has_areas else "", "<th>last<br>quarter</th><th>fix</th><th>date</th>"]
     return f"<thead><tr>{''.join(above)}</tr>\n<tr>{''.join(below)}</tr></thead>"
 
 

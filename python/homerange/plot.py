@@ -141,7 +141,7 @@ def plot_curve(
     share: bool = False, facets: bool = False, colours: Any = None,
 ) -> Axes | list[Axes]:
     """Draws the area of each animal's minimum convex polygon after each fix (incremental area analysis, Harris et al.
-    1990): a curve that levels off says that the range is known.
+    1990).
 
     ax: axes of matplotlib to draw in; else a new figure is made.
     animals: the names to draw; if left out, all. An animal has its number and colour in each picture.

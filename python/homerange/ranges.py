@@ -22,7 +22,7 @@ from .errors import FrameError, HomeRangeInfo, HomeRangeNote, ReportError, one_l
 from .exports import LISTS, read_text
 from .frames import Tracks, crs_named, frame_given, read_frame
 from .groups import Group, check_by, group_tracks
-from .levelling import share
+from .growth import share
 from .overview import Row, reasons_of, rows_of
 from .program import MOST_ANIMALS, Program, Runs, find_program, program_of
 from .record import Record, read_record
@@ -159,7 +159,7 @@ class HomeRanges:
         known); ``left_REASON`` for each reason that occurs, how many were left out for it; ``used``, how many fixes the
         range has; ``first`` and ``last``, their times; ``days`` from the one to the other; ``median_hours`` and
         ``longest_hours``, the intervals between fixes; ``hectares_LEVEL`` for each level; and the columns of
-        ``levelling`` behind them."""
+        ``growth`` behind them."""
         rows = self.rows()
         table: dict[str, Any] = {"animal": [row.animal for row in rows]}
         table["records"] = pandas.array([row.records for row in rows], dtype="Int64")
@@ -173,20 +173,19 @@ class HomeRanges:
         table["longest_hours"] = [math.nan if row.longest is None else row.longest / 3600 for row in rows]
         for level in self.levels:
             table[f"hectares_{level}"] = [self._hectares(row.percents[level].area2) for row in rows]
-        levelling = self._levelling(rows).drop(columns=["animal", "fixes", "hectares"])
-        return self.by_group(pandas.concat([pandas.DataFrame(table), levelling], axis="columns"))
+        growth = self._growth(rows).drop(columns=["animal", "fixes", "hectares"])
+        return self.by_group(pandas.concat([pandas.DataFrame(table), growth], axis="columns"))
 
-    def levelling(self) -> pandas.DataFrame:
-        """Whether the area of all fixes levelled off with their number (incremental area analysis, Harris et al. 1990),
-        a row for each animal: ``animal``; ``fixes``; ``hectares`` of all of them; ``within_95_fix`` and
-        ``within_95_time``, the number and the time of the first fix from which on the area stayed within 95 per cent of
-        that; ``last_tenth`` and ``last_quarter``, the share of it that the last tenth and the last quarter of the fixes
-        added (0 to 1), all missing where there is no area; and ``verdict``: 'too few fixes' where there are less than 30,
-        or no area, 'levelled off' where the last quarter added less than 5 per cent, else 'still growing'."""
-        return self.by_group(self._levelling(self.rows()))
+    def growth(self) -> pandas.DataFrame:
+        """How the area of all fixes grew with their number (incremental area analysis, Harris et al. 1990), a row for
+        each animal: ``animal``; ``fixes``; ``hectares`` of all of them; ``within_95_fix`` and ``within_95_time``, the
+        number and the time of the first fix from which on the area stayed at 95 per cent or more of that; and
+        ``last_tenth`` and ``last_quarter``, the share of it that the last tenth and the last quarter of the fixes added
+        (0 to 1). The last four are missing where there is no area."""
+        return self.by_group(self._growth(self.rows()))
 
-    def _levelling(self, rows: Sequence[Row]) -> pandas.DataFrame:
-        found = [row.levelling for row in rows]
+    def _growth(self, rows: Sequence[Row]) -> pandas.DataFrame:
+        found = [row.growth for row in rows]
         seconds = pandas.Series([row.within_second for row in rows], dtype="Int64")
         return pandas.DataFrame({
             "animal": self.animals, "fixes": [row.used for row in rows],
@@ -194,8 +193,7 @@ class HomeRanges:
             "within_95_fix": pandas.array([own.within for own in found], dtype="Int64"),
             "within_95_time": self._times(seconds.fillna(0)).where(seconds.notna()),
             "last_tenth": [share(own.tenth, own.area2) for own in found],
-            "last_quarter": [share(own.quarter, own.area2) for own in found],
-            "verdict": [own.verdict for own in found]})
+            "last_quarter": [share(own.quarter, own.area2) for own in found]})
 
     def left_out(self) -> pandas.DataFrame:
         """How many fixes were left out of the frame, a row for each ``animal`` and ``reason``, with ``fixes``. The reasons

@@ -14,7 +14,6 @@ REASONS = ("animal", "coordinates", "zero", "sensor", "outlier", "class", "no do
            "speed", "months", "hours", "every", "use")
 HECTARE = {"m": 20_000, "dm": 2_000_000}  # how much doubled area it has
 PER_METRE = {"m": 1, "dm": 10}
-FEWEST = 30  # fixes below which nothing is said of a curve
 
 
 class Animal:
@@ -64,12 +63,6 @@ class Animal:
     @property
     def quarter(self) -> int:
         return self.added_since(3, 4)
-
-    @property
-    def verdict(self) -> str:
-        if self.used < FEWEST or not self.area2:
-            return "too few fixes"
-        return "levelled off" if 100 * self.quarter < 5 * self.area2 else "still growing"
 
 
 def reasons_of(animals: Sequence[Animal]) -> list[str]:

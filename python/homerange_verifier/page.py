@@ -131,7 +131,7 @@ class Wanted:
         found = th(
             "", "Animal", f"in the {self.source}", *["Left out"] * bool(reasons), "used", "First",
             "Last", "Days", "Interval", *["MCP, ha"] * is_one, "Area curve", "95 % since",
-            *(HEADINGS[reason] for reason in reasons), "median", "longest", *(percents if is_one else ()), "",
+            *(HEADINGS[reason] for reason in reasons), "median", "longest", *(percents if is_one else ()),
             "last quarter", "fix", "date")
         for animal, name in zip(self.animals, self.names):
             fields = {**self.facts(animal, reasons), **(self.areas(animal) if is_one else {}), **self.curve(animal)}
@@ -166,7 +166,7 @@ class Wanted:
         """What the curve of an animal says."""
         within = animal.within
         return {
-            "levelled": animal.verdict, "last_quarter": shown.share(animal.quarter, animal.area2),
+            "last_quarter": shown.share(animal.quarter, animal.area2),
             "within_95_fix": shown.number(within) if within else shown.NOTHING,
             "within_95_date": self.clock.date(animal.seconds[within - 1]) if within else shown.NOTHING}
 

@@ -42,7 +42,7 @@ def overview(animals: Sequence[Animal], levels: Sequence[int], unit: str) -> Row
     reasons = reasons_of(animals)
     yield ("animal", "records", *(f"left_{reason.replace(' ', '_')}" for reason in reasons), "used", "first", "last", "days",
            "median_hours", "longest_hours", *(f"hectares_{level}" for level in levels), "within_95_fix", "within_95_time",
-           "last_tenth", "last_quarter", "verdict")
+           "last_tenth", "last_quarter")
     for animal in animals:
         within = animal.within
         yield (animal.name, animal.records, *(animal.left.get(reason, 0) for reason in reasons), animal.used,
@@ -50,7 +50,7 @@ def overview(animals: Sequence[Animal], levels: Sequence[int], unit: str) -> Row
                rounded(animal.median2, 7200), rounded(animal.intervals[-1] if animal.intervals else None, 3600),
                *(animal.percents[level].hull.area2 / HECTARE[unit] for level in levels),
                within or "", moment(within and animal.seconds[within - 1]),
-               rounded(animal.tenth, animal.area2), rounded(animal.quarter, animal.area2), animal.verdict)
+               rounded(animal.tenth, animal.area2), rounded(animal.quarter, animal.area2))
 
 
 def overlaps(animals: Sequence[Animal], counts: Counts) -> Rows:

@@ -10,7 +10,7 @@ import pytest
 from exact import area2, cloud, covers, hull, nearest
 from frames import START, frame_of
 from pages import DASH, Page, area, day, length, rounded, share
-from test_levelling import SPLIT, by_definition
+from test_growth import SPLIT, by_definition
 
 from homerange import HomeRangeNote, home_range, read_report, write_page
 from homerange.program import find_program
@@ -35,7 +35,7 @@ def test_each_cell_of_an_animal(page):
     assert [*page.animals] == [*HERD]
     for number, (name, points) in enumerate(HERD.items(), 1):
         last = SECOND + 1800 * (len(points) - 1)
-        within, _, quarter, verdict = by_definition([area2(hull(points[:n])) for n in range(1, len(points) + 1)])
+        within, _, quarter = by_definition([area2(hull(points[:n])) for n in range(1, len(points) + 1)])
         days = Decimal(last - SECOND) / 86_400
         interval = length(1800) if len(points) > 1 else DASH
         assert page.animals[name] == {
@@ -43,7 +43,7 @@ def test_each_cell_of_an_animal(page):
             "last": day(last, ZONE), "days": rounded(days, 1 if days < 10 else 0), "median_interval": interval,
             "longest_interval": interval,
             **{f"hectares_{level}": area(area2(hull(nearest(points, level)))) for level in LEVELS},
-            "levelled": verdict, "within_95_fix": str(within) if within else DASH,
+            "within_95_fix": str(within) if within else DASH,
             "within_95_date": day(SECOND + 1800 * (within - 1), ZONE) if within else DASH,
             "last_quarter": f"{rounded(100 * Decimal(quarter.numerator) / quarter.denominator, 1)} %" if within else DASH}
 
@@ -214,4 +214,4 @@ def test_many_levels_have_a_table_of_their_own(tmp_path):
     for name, points in HERD.items():
         assert [page.animals[name][f"hectares_{level}"] for level in levels] == [
             area(area2(hull(nearest(points, level)))) for level in levels]
-    assert ("id", "areas") in page.attributes and len(page.animals["vixen"]) == 20
+    assert ("id", "areas") in page.attributes and len(page.animals["vixen"]) == 19

@@ -135,9 +135,7 @@ def test_one_fix_two_equal_fixes_and_a_line_have_no_area():
         "one": "POINT (5 6)", "same": "POINT (7 7)", "line": "LINESTRING (0 0, 4 4)"}
     assert polygons["corners"].to_dict() == {"one": 1, "same": 1, "line": 2}
     assert (found.summary()["hectares"] == 0).all()
-    levelling = found.levelling()
-    assert levelling["verdict"].tolist() == ["too few fixes"] * 3
-    assert levelling.loc[:, "within_95_fix":"last_quarter"].isna().all(axis=None)
+    assert found.growth().loc[:, "within_95_fix":"last_quarter"].isna().all(axis=None)
 
 
 def test_summary_has_times_and_counts():

@@ -29,11 +29,6 @@ old_polygons <- function(x, level = 100, ...) {
   if (is.null(x$crs) || !has_sf()) homerange_corners(x, level) else st_as_sf.home_range(x, level)
 }
 
-levelling <- function(x) {
-  old_name("homerange_levelling", "levelling")
-  homerange_levelling(x)
-}
-
 left_out <- function(x) {
   old_name("homerange_left_out", "left_out")
   homerange_left_out(x)

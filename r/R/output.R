@@ -46,7 +46,7 @@ write_summary <- function(ranges, path) {
   ))
 }
 
-# A row for each animal: what was left out of its fixes and why, times, intervals, areas, and whether they levelled off.
+# A row for each animal: what was left out of its fixes and why, times, intervals, areas, and how they grew.
 write_animals <- function(ranges, path) {
   animals <- ranges$animals
   left <- left_by_reason(ranges)
@@ -54,7 +54,7 @@ write_animals <- function(ranges, path) {
   first <- ranges$rows$second[last_rows(ranges) - animals$fixes + 1]
   intervals <- lapply(split(ranges$rows$second, rep(seq_along(last), animals$fixes)), diff)
   of_intervals <- function(what) vapply(intervals, function(own) if (length(own)) what(own) else NA_real_, 0)
-  grown <- homerange_levelling(ranges)
+  grown <- homerange_growth(ranges)
   write_table(path, c(
     list(animal = animals$animal, records = whole_text(animals$fixes + Reduce(`+`, left, 0))), lapply(left, whole_text),
     list(used = whole_text(animals$fixes), first = seconds_text(first), last = seconds_text(last),
@@ -62,7 +62,7 @@ write_animals <- function(ranges, path) {
          longest_hours = rounded_text(of_intervals(max) / 3600)),
     hectares_by_level(ranges),
     list(within_95_fix = whole_text(grown$within_95_fix), within_95_time = seconds_text(grown$within_95_time),
-         last_tenth = rounded_text(grown$last_tenth), last_quarter = rounded_text(grown$last_quarter), verdict = grown$verdict)
+         last_tenth = rounded_text(grown$last_tenth), last_quarter = rounded_text(grown$last_quarter))
   ))
 }
 

@@ -20,7 +20,7 @@ rows_of_page <- function(ranges) {
   lapply(seq_along(animals$animal), function(at) {
     own <- seconds[[at]]
     percents <- ranges$percents[ranges$percents$animal == animals$animal[at], ]
-    found <- levelling_of(areas[[at]])
+    found <- growth_of(areas[[at]])
     gone <- vapply(left, `[`, 0, at)
     c(found, list(
       animal = animals$animal[at], records = if (is.null(ranges$left_out)) NA else length(own) + sum(gone), left = gone,
@@ -57,7 +57,7 @@ cells_of_areas <- function(row, unit) {
 # What the area curve of an animal says.
 cells_of_curve <- function(row, clock) {
   is_known <- !is.na(row$within)
-  c(page_cell("levelled", row$verdict), page_cell("last_quarter", share_of_area(row$quarter, row$area2)),
+  c(page_cell("last_quarter", share_of_area(row$quarter, row$area2)),
     page_cell("within_95_fix", if (is_known) in_digits(row$within) else nothing),
     page_cell("within_95_date", if (is_known) date_text(clock, row$within_second) else nothing))
 }
@@ -82,11 +82,11 @@ headings_of_animals <- function(row, reasons, source, has_areas) {
     turned_heading("used", 2),
     "<th rowspan=\"2\">First</th><th rowspan=\"2\">Last</th><th rowspan=\"2\">Days</th><th colspan=\"2\">Interval</th>",
     if (has_areas) sprintf("<th colspan=\"%d\">MCP, ha</th>", length(levels)),
-    "<th colspan=\"2\">Area curve</th><th colspan=\"2\">95 % since</th>"
+    "<th>Area curve</th><th colspan=\"2\">95 % since</th>"
   )
   below <- c(
     turned_heading(headings_of_reasons[reasons]), "<th>median</th><th>longest</th>", if (has_areas) headings_of_levels(levels),
-    "<th></th><th>last<br>quarter</th><th>fix</th><th>date</th>"
+    "<th>last<br>quarter</th><th>fix</th><th>date</th>"
   )
   paste0("<thead><tr>", paste(above, collapse = ""), "</tr>\n<tr>", paste(below, collapse = ""), "</tr></thead>")
 }

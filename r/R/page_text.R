@@ -110,12 +110,10 @@ method_text <- function(version, system, unit, levels) {
     as_html(version), " from coordinates in whole ", units_known[[unit]]$name, ", ", as_html(system), ". Of n fixes, the polygon ",
     "at p % has the p per cent of n, rounded up to whole fixes, that lie nearest to the arithmetic mean of all (of ",
     "fixes as near, the earlier). Areas are those on the grid. Here they are rounded, halves up, to whole hectares, ",
-    "below 100 hectares to three digits, and below 1 hectare they are in square metres. Whether an animal was ",
-    "followed for long enough was judged by the area of all fixes after each fix (incremental area analysis, Harris ",
-    "et al. 1990): a range levelled off where there are 30 fixes or more and the last quarter of them added less than ",
-    "5 % of the final area; it is still growing where that added 5 % or more; with fewer than 30 fixes, or ",
-    "without an area, nothing is said. ",
-    "&#8216;95 % since&#8217; is the first fix from which on the area stayed within 95 % of the final one."
+    "below 100 hectares to three digits, and below 1 hectare they are in square metres. The area of the 100 % ",
+    "polygon was followed fix by fix (incremental area analysis, Harris et al. 1990): &#8216;last quarter&#8217; is by ",
+    "how much it grew over the last quarter of the fixes, as a share of the final area, and &#8216;95 % since&#8217; is ",
+    "the first fix from which on it stayed at 95 % or more of the final one."
   )
 }
 

@@ -173,7 +173,7 @@ format.home_range <- function(x, ...) {
   c(paste0("Home ranges of ", count_of(number, "animal"), " (minimum convex polygons)"),
     paste0(count_of(sum(x$animals$fixes), "fix", "fixes"), " in whole ", units_known[[x$unit]]$name, left_out, ", ", times[1],
            " to ", times[2]),
-    "Areas in hectares by percent level, and whether they levelled off with more fixes:",
+    "Areas in hectares by percent level, and what the last quarter of the fixes added:",
     aligned_lines(area_table(x)[shown, , drop = FALSE]),
     if (number > length(shown)) paste0("... and ", count_of(number - length(shown), "more animal")))
 }
@@ -191,8 +191,11 @@ area_table <- function(ranges) {
     format(hectares, digits = 4, big.mark = ",", decimal.mark = ".", scientific = FALSE)
   })
   list2DF(c(list(animal = ranges$animals$animal, fixes = in_digits(ranges$animals$fixes)), areas,
-            list(curve = homerange_levelling(ranges)$verdict)))
+            list("last quarter" = quarter_text(homerange_growth(ranges)$last_quarter))))
 }
+
+# Which share of the area of all fixes the last quarter of them added, in per cent.
+quarter_text <- function(shares) ifelse(is.na(shares), "NA", sprintf("%.1f %%", 100 * shares))
 
 # The levels of the report, by how they are titled.
 levels_named <- function(ranges) {

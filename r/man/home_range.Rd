@@ -75,7 +75,8 @@ that every pair of animals is compared.
 The files of the runs are in a folder of their own below \code{\link{tempdir}}, which is removed at the end.
 }
 \value{
-An object of class \code{home_range}. \code{print} shows about ten lines of it, which \code{format} gives. See
+An object of class \code{home_range}. \code{print} shows about ten lines of it, which \code{format} gives; what the last quarter
+of the fixes added is \code{last_quarter} of \code{\link{homerange_growth}}. See
 \code{\link[=summary.home_range]{summary}} for areas, \code{\link{homerange_curve}} for incremental area analysis,
 \code{\link{homerange_overlap}}, \code{\link[=st_as_sf.home_range]{st_as_sf}} for polygons and
 \code{\link[=plot.home_range]{plot}}. Beside its tables it has \code{notes}, what was said; \code{program}, the path of the

@@ -2,7 +2,6 @@
 \alias{homerange-deprecated}
 \alias{overlap}
 \alias{polygons}
-\alias{levelling}
 \alias{left_out}
 \alias{share_inside}
 \alias{evidence}
@@ -11,7 +10,6 @@
 \usage{
 overlap(x, ...)
 polygons(x, ...)
-levelling(x)
 left_out(x)
 share_inside(x, reserve, level = 100)
 evidence(x, folder, ...)
@@ -22,8 +20,8 @@ evidence(x, folder, ...)
 \item{reserve, level, folder, ...}{as of the new names.}
 }
 \details{
-The new names are \code{\link{homerange_overlap}}, \code{\link{homerange_levelling}}, \code{\link{homerange_left_out}},
-\code{\link{homerange_share}} and \code{\link{homerange_evidence}}; in place of \code{polygons} stand
+The new names are \code{\link{homerange_overlap}}, \code{\link{homerange_left_out}}, \code{\link{homerange_share}} and
+\code{\link{homerange_evidence}}; in place of \code{polygons} stand
 \code{\link[=st_as_sf.home_range]{st_as_sf}} and \code{\link{homerange_corners}}. The table that was made by \code{curve} is made
 by \code{\link{homerange_curve}}: \code{curve} of the package graphics is not hidden any more.
 }

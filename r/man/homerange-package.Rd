@@ -15,8 +15,8 @@ package itself is tested, and not proved.
 \code{\link[=summary.home_range]{summary}} and \code{as.data.frame} give tables of them,
 \code{\link[=st_as_sf.home_range]{sf::st_as_sf}} and \code{\link{homerange_corners}} polygons,
 \code{\link[=plot.home_range]{plot}} draws them, and \code{\link[=c.home_range]{[ and c}} take some animals and put several
-together. \code{\link{homerange_curve}} has the areas after each fix, \code{\link{homerange_levelling}} says whether they levelled
-off, \code{\link{homerange_overlap}} has the fixes of one animal in the range of another, \code{\link{homerange_share}} the
+together. \code{\link{homerange_curve}} has the areas after each fix, \code{\link{homerange_growth}} how they grew,
+\code{\link{homerange_overlap}} has the fixes of one animal in the range of another, \code{\link{homerange_share}} the
 share of ranges in a reserve, and \code{\link{homerange_left_out}} the fixes that were left out. \code{\link{write_page}} writes a page of
 all this, \code{\link{write_report}} the report, and \code{\link{homerange_evidence}} makes a folder to hand in.
 \code{\link{read_export}} reads exports of Movebank and of collars. \code{\link{homerange_program}} says which

@@ -24,7 +24,7 @@ The program is run again, on the files in the folder, and its report has to have
   system, shift, the arguments of \code{home_range}, what was said and left out, checksums, and what made them \cr
 \code{summary.csv} \tab for each animal and level fixes, corners and hectares \cr
 \code{animals.csv} \tab for each animal what was left out and why, times, intervals, hectares, and
-  \code{\link{homerange_levelling}} \cr
+  \code{\link{homerange_growth}} \cr
 \code{overlaps.csv} \tab which share of the fixes of the row's animal lie in the polygon of the column's \cr
 \code{ranges.gpkg} \tab with the package sf layers for a GIS: the polygons of all levels, the fixes, and how QGIS draws them \cr
 \code{report.html} \tab the page, to read and to print \cr
@@ -41,7 +41,7 @@ In names of files and animals \code{/}, \code{\\}, comma, double quote and contr
 start too, and what is over 32 bytes is cut off; two names that come out the same are refused. It wants \code{sha256sum}.
 }
 \value{The name of the folder, invisibly.}
-\seealso{\code{\link{write_page}}, \code{\link{homerange_levelling}}}
+\seealso{\code{\link{write_page}}, \code{\link{homerange_growth}}}
 \examples{
 found <- tryCatch(nzchar(homerange_program()), homerange_program_error = function(fault) FALSE)
 if (found) {

@@ -30,7 +30,7 @@ A data frame, of \code{as.data.frame} without times and what was left out, with 
 \item{corners}{how many corners the polygon has.}
 \item{hectares}{its area in hectares, of which one is 10,000 square metres, or in the unit that is asked for.}
 }
-\seealso{\code{\link{homerange_levelling}} says whether an animal was followed for long enough.}
+\seealso{\code{\link{homerange_growth}} says how the area grew with the number of fixes.}
 \examples{
 report <- system.file("extdata", "report.txt", package = "homerange")
 summary(read_report(report))

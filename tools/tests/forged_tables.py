@@ -59,8 +59,8 @@ forgery.sealed("a share in overlaps.csv",
                file="overlaps.csv", old="^(Bor,1.0),.*", new=r"\1,0.875")
 forgery.sealed("a row of animals.csv is taken out", "animals.csv is not what another method computes: line 2 is 'Vesna,",
                file="animals.csv", old="^Bor,.*\n", new="")
-forgery.sealed("a verdict in animals.csv", "animals.csv is not what another method computes: line [23] is .*levelled",
-               file="animals.csv", old="still growing$", new="levelled off")
+forgery.sealed("a last quarter in animals.csv", "animals.csv is not what another method computes: line 2 is 'Bor,.*,0.0123'",
+               file="animals.csv", old="^(Bor,.*),[0-9.]+$", new=r"\1,0.0123")
 forgery.sealed("what was left out in animals.csv", "animals.csv is not what another method computes: line 2 is 'Bor,60,0,",
                file="animals.csv", old="^Bor,60,3,", new="Bor,60,0,")
 

@@ -75,11 +75,11 @@ END
     # By hand of the rows, as 1 - 4539 / 40548 for what the last fix of the vixen added.
     cat >wanted <<END
 animal,records,left_coordinates,used,first,last,days,median_hours,longest_hours,hectares_50,hectares_95,\
-hectares_100,within_95_fix,within_95_time,last_tenth,last_quarter,verdict
+hectares_100,within_95_fix,within_95_time,last_tenth,last_quarter
 old boar,4,0,4,2024-05-01T00:00:02Z,2024-05-01T01:30:09Z,0.0626,0.5008,0.5017,0.0,2.8184,2.8184,4,\
-2024-05-01T01:30:09Z,0.4602,0.4602,too few fixes
+2024-05-01T01:30:09Z,0.4602,0.4602
 vixen,5,1,4,2024-05-01T00:00:10Z,2024-05-01T02:00:05Z,0.0833,0.5008,0.9994,0.0,2.0274,2.0274,4,\
-2024-05-01T02:00:05Z,0.8881,0.8881,too few fixes
+2024-05-01T02:00:05Z,0.8881,0.8881
 END
     holds 'its animals' cmp wanted plan/first/animals.csv
 

@@ -5,7 +5,7 @@ homerange-split made them, the report has to have the animals and fixes of its r
 shifted back. Files made:
 
     summary.csv    for each animal and level the fixes, the kept ones, corners and hectares
-    animals.csv    for each animal what was left out, times, intervals, hectares, and whether its curve levelled off
+    animals.csv    for each animal what was left out, times, intervals, hectares, and how the area grew
     overlaps.csv   which share of the fixes of the row's animal lie in the polygon of the column's
     ranges.gpkg    layers for a GIS: the polygons of all levels, the fixes, and how QGIS draws them
     curves.png     the area after each fix

@@ -9,7 +9,6 @@ test_that("old names do as the new ones, and say so", {
   }
   expect_identical(old(overlap(report(), share = TRUE)), homerange_overlap(report(), share = TRUE))
   expect_identical(old(polygons(report())), homerange_corners(report()))
-  expect_identical(old(levelling(report())), homerange_levelling(report()))
   suppressWarnings({
     expect_error(left_out(report()), "does not say what was left out", class = "homerange_option_error")
     expect_error(evidence(report(), tempfile()), "evidence needs the fixes", class = "homerange_option_error")

@@ -138,11 +138,11 @@ test_that("its tables are those worked out by hand", {
   # The square of the boar has half of its area after three fixes, and all of it after the fourth, the last.
   expect_identical(readLines(file.path(folder, "animals.csv")), c(
     paste0("animal,records,left_outlier,used,first,last,days,median_hours,longest_hours,hectares_100,hectares_75,",
-           "within_95_fix,within_95_time,last_tenth,last_quarter,verdict"),
+           "within_95_fix,within_95_time,last_tenth,last_quarter"),
     paste0("old_boar,5,1,4,2024-05-01T00:00:00Z,2024-05-01T02:00:00Z,0.0833,0.5,1.0,4.0,2.0,",
-           "4,2024-05-01T02:00:00Z,0.5,0.5,too few fixes"),
-    "one,1,0,1,2024-05-01T01:30:00Z,2024-05-01T01:30:00Z,0.0,,,0.0,0.0,,,,,too few fixes",
-    "vixen,2,0,2,2024-05-01T00:00:00Z,2024-05-01T00:30:00Z,0.0208,0.5,0.5,0.0,0.0,,,,,too few fixes"
+           "4,2024-05-01T02:00:00Z,0.5,0.5"),
+    "one,1,0,1,2024-05-01T01:30:00Z,2024-05-01T01:30:00Z,0.0,,,0.0,0.0,,,,",
+    "vixen,2,0,2,2024-05-01T00:00:00Z,2024-05-01T00:30:00Z,0.0208,0.5,0.5,0.0,0.0,,,,"
   ))
   # One fix of the vixen lies in the square, and the one of `one`; that and a corner of the square lie on the vixen's line.
   expect_identical(readLines(file.path(folder, "overlaps.csv")), c(

@@ -14,7 +14,7 @@ test_that("a page has the numbers of its report", {
   expect_match(page, "<h1><bdi>Home ranges of fox, badger and otter</bdi></h1>", fixed = TRUE)
   expect_match(page, "<span data-field=\"period\">1 to 2 May 2024 (dates of UTC)</span>. Made on 26 Nov 2026 with homerange", fixed = TRUE)
   row <- regmatches(page, regexpr("<tr data-animal=\"fox\">.*?</tr>", page, perl = TRUE))
-  for (cell in c("used\">60<", "hectares_100\">55.8<", "hectares_50\">17.4<", "levelled\">levelled off<", "records\">\u2013<",
+  for (cell in c("used\">60<", "hectares_100\">55.8<", "hectares_50\">17.4<", "last_quarter\">0.0 %<", "records\">\u2013<",
                  "median_interval\">30 min<", "days\">1.2<")) {
     expect_match(row, paste0("data-field=\"", cell), fixed = TRUE)
   }

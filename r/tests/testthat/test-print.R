@@ -6,12 +6,18 @@ test_that("a home range prints in about ten lines", {
   expect_identical(capture.output(print(ranges)), c(
     "Home ranges of 3 animals (minimum convex polygons)",
     "180 fixes in whole metres, 2024-05-01 to 2024-05-02 05:30:00",
-    "Areas in hectares by percent level, and whether they levelled off with more fixes:",
-    " animal fixes  50 %  95 % 100 %         curve",
-    "    fox    60 17.36 50.73 55.79  levelled off",
-    " badger    60  0.00 32.14 40.51 still growing",
-    "  otter    60 17.32 37.84 48.24  levelled off"
+    "Areas in hectares by percent level, and what the last quarter of the fixes added:",
+    " animal fixes  50 %  95 % 100 % last quarter",
+    "    fox    60 17.36 50.73 55.79        0.0 %",
+    " badger    60  0.00 32.14 40.51       21.0 %",
+    "  otter    60 17.32 37.84 48.24        0.0 %"
   ))
+})
+
+test_that("of animals without an area no last quarter is printed", {
+  skip_without_program()
+  fixes <- data.frame(animal = "still", second = 1:40, easting = 5, northing = 6)
+  expect_match(capture.output(print(quietly(home_range(fixes))))[5], "40 .* 0 +NA$")
 })
 
 test_that("times of a report without a start are seconds", {

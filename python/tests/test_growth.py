@@ -1,5 +1,4 @@
-"""Whether curves levelled off, and the table of one row an animal: compared with sums in fractions, and worked out by
-hand."""
+"""How areas grew, and the table of one row an animal: compared with sums in fractions, and worked out by hand."""
 import subprocess
 from fractions import Fraction
 from pathlib import Path
@@ -10,46 +9,47 @@ from exact import area2, cloud, hull
 from frames import frame_of
 
 from homerange import FrameError, home_range, read_report
-from homerange.levelling import levelling_of
+from homerange.growth import growth_of
 from homerange.program import find_program
 from homerange.record import read_record
 
 
 def by_definition(areas):
-    """The number of the fix, the shares and the verdict, by fractions."""
+    """The number of the fix and the shares, by fractions."""
     fixes, last = len(areas), areas[-1]
     after = {0: 0, **dict(enumerate(areas, 1))}
     if last == 0:
-        return None, 0, 0, "too few fixes"
+        return None, 0, 0
     within = min(n for n in after if n and Fraction(after[n], last) >= Fraction(95, 100))
     added = [1 - Fraction(after[int(Fraction(part * fixes))], last) for part in (Fraction(9, 10), Fraction(3, 4))]
-    levelled = "levelled off" if added[1] < Fraction(5, 100) else "still growing"
-    return within, *added, levelled if fixes >= 30 else "too few fixes"
+    return within, *added
 
 
 @pytest.mark.parametrize("areas", [
     [0], [0, 0, 0], [0] * 40, [7], [0, 0, 100], [0, 95, 100], [0, 94, 100], list(range(1, 31)), list(range(1, 30)),
     [95] * 30 + [100] * 10, [96] * 30 + [100] * 10, [95] * 29 + [100], [0] * 29 + [1], [10 ** 17] * 29 + [10 ** 17 + 1],
     [19] * 30 + [20] * 9, [19 * 10 ** 16] * 30 + [20 * 10 ** 16 - 1] * 10])
-def test_the_rule_is_that_of_fractions(areas):
-    found = levelling_of(areas)
+def test_growth_is_that_of_fractions(areas):
+    found = growth_of(areas)
     whole = areas[-1] or 1
-    assert (found.within, Fraction(found.tenth, whole), Fraction(found.quarter, whole), found.verdict) == by_definition(areas)
+    assert (found.within, Fraction(found.tenth, whole), Fraction(found.quarter, whole)) == by_definition(areas)
 
 
-def test_exactly_five_per_cent_is_still_growing():
-    assert levelling_of([95] * 30 + [100] * 10).verdict == "still growing"
-    assert levelling_of([951] * 30 + [1000] * 10).verdict == "levelled off"
+def test_growth_worked_out_by_hand():
+    # 95 per cent are enough; of 40 fixes 36 and 30 are before the last tenth and the last quarter, of 33 fixes 29 and 24.
+    assert growth_of([95] * 30 + [100] * 10) == (100, 1, 0, 5)
+    assert growth_of([94] * 36 + [100] * 4) == (100, 37, 6, 6)
+    assert growth_of([10] * 24 + [50] * 5 + [100] * 4) == (100, 30, 50, 90)
 
 
-def test_levelling_of_ranges():
+def test_growth_of_ranges():
     points = {"vixen": cloud(1, 60), "boar": cloud(2, 29), "one": [(5, 6)]}
-    found = home_range(frame_of(**points), tz="Europe/Ljubljana").levelling()
+    found = home_range(frame_of(**points), tz="Europe/Ljubljana").growth()
     assert found["animal"].tolist() == [*points]
     for row in found.itertuples():
         areas = [area2(hull(points[row.animal][:n])) for n in range(1, len(points[row.animal]) + 1)]
-        within, tenth, quarter, verdict = by_definition(areas)
-        assert (row.fixes, row.hectares, row.verdict) == (len(areas), areas[-1] / 20000, verdict)
+        within, tenth, quarter = by_definition(areas)
+        assert (row.fixes, row.hectares) == (len(areas), areas[-1] / 20000)
         if within is None:
             assert all(map(pandas.isna, (row.within_95_fix, row.within_95_time, row.last_tenth, row.last_quarter)))
             continue
@@ -69,7 +69,7 @@ def test_overview_of_a_frame():
     assert found["longest_hours"].tolist()[0] == 1
     assert found[["median_hours", "longest_hours"]].isna().all(axis=1).tolist() == [False, True]
     assert found[["hectares_50", "hectares_100"]].values.tolist() == [[0, 2], [0, 0]]
-    assert [*found.columns[-5:]] == ["within_95_fix", "within_95_time", "last_tenth", "last_quarter", "verdict"]
+    assert [*found.columns[-4:]] == ["within_95_fix", "within_95_time", "last_tenth", "last_quarter"]
 
 
 SPLIT = """export,exports/deer.csv
