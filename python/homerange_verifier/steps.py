@@ -90,7 +90,10 @@ class Verification:
 
     def is_export(self, name: str) -> bool:
         """Whether a file of the folder has the checksum of the export of the record; it is taken for that then."""
-        wanted = self.split.checksum if (self.given / SPLIT).is_file() and self.split else None
+        try:
+            wanted = self.split and self.split.checksum
+        except HomeRangeError:
+            return False
         if wanted is None or name in self.intake.folders or name in KNOWN or name.startswith(f"{TRACKS}/"):
             return False
         if self.intake.sums.get(name) != wanted and self.intake.take(name) != wanted:
