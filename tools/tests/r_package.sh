@@ -58,6 +58,9 @@ END
             python3 "$tools/tests/same_pages.py" hold pages
         holds 'its evidence of frames' env R_LIBS="$PWD/homerange.Rcheck" Rscript "$tools/tests/frames.R" frames
         holds 'it is that of the package for Python, byte for byte, and holds' python3 "$tools/tests/same_frames.py" frames
+        for folder in pages/by_r/*/ frames/by_r/*/; do
+            holds "a second way to $folder" python3 "$tools/tests/second_way.py" "$folder"
+        done
         for by in by_python by_r; do
             python3 "$tools/tests/forged_frames.py" "$HOMERANGE" "frames/$by" >forged 2>&1
             holds "all evidence of frames $by was forged" [ "$(grep -c '^ok ' forged)" -ge 45 ]

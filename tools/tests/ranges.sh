@@ -192,6 +192,10 @@ assert {*corners} == {(-300, -400), (-200, -400), (-200, -300)}, [*corners]'
     holds 'an animal with marked outliers alone has no range' \
         grep -q 'is used (fixes of the export): <bdi>none</bdi> (1)' plan/odd/report.html
 
+    for folder in plan/*/tracks; do
+        holds "a second way to ${folder%/tracks}" python3 "$tools/tests/second_way.py" "${folder%/tracks}"
+    done
+
     # What is no file of a hand-in; tables, layers and the page as forgers could change them.
     echo 'seen by the authority' >plan/odd/seal.txt
     (cd plan/odd && sha256sum seal.txt >>SHA256SUMS)
