@@ -1,7 +1,8 @@
 #!/bin/sh
 # release.sh [--check | --deb [FOLDER]]: builds the program and makes the release of it: the folder release with homerange,
-# SOURCES (the checksum of what it was made from, and of the logic that it was proved in) and SHA256SUMS (of it and its
-# manual page).
+# SOURCES (the checksum of what it was made from, and of the logic that it was proved in), SHA256SUMS (of it and its
+# manual page) and a line in RELEASES, the list of all releases: version, checksum of the program, logic and sources. The line
+# of a version that was published is never taken out or changed: another program is another version.
 #
 # With --check it changes nothing. The status is 0 where the release is whole, of these sources and of the logic that is
 # here, and, byte for byte, the program that is built of them now. With --deb it makes of the release, which has to be of
@@ -32,11 +33,28 @@ checksums() {
     (cd "$top" && sha256sum release/homerange docs/homerange.1)
 }
 
+# The line of the release in the list of releases.
+release_line() {
+    version=$("$release/homerange" --version)
+    version=${version#homerange }
+    checksum=$(sha256sum <"$release/homerange")
+    echo "${version%% *} ${checksum%% *} $(sed -n 's/^logic //p' "$release/SOURCES") $(sed -n 's/^sources //p' "$release/SOURCES")"
+}
+
+# Puts the line of the release behind those of other versions.
+list_release() {
+    line=$(release_line)
+    touch "$release/RELEASES"
+    others=$(grep -v "^${line%% *} " "$release/RELEASES" || :)
+    printf '%s\n' ${others:+"$others"} "$line" >"$release/RELEASES"
+}
+
 # Refuses a release that is not of these sources, or not whole.
 check_whole() {
     sum_sources
     is_of_sum "$release" || fail 'the release is not that of these sources: tools/release.sh makes it'
     checksums | cmp - "$release/SHA256SUMS" || fail 'the release is not that of its checksums'
+    [ "$(tail -n 1 "$release/RELEASES")" = "$(release_line)" ] || fail 'the last line of RELEASES is not that of the release'
 }
 
 check() {
@@ -64,6 +82,7 @@ case $*: in
         install -m 755 "$built/homerange" "$release/homerange"
         install -m 644 "$built/SOURCES" "$release/SOURCES"
         checksums >"$release/SHA256SUMS"
+        list_release
         ;;
     *) misuse "it takes --check or --deb, and not $*" ;;
 esac
