@@ -1,8 +1,8 @@
 #!/bin/sh
 # release.sh [--check | --deb [FOLDER]]: builds the program and makes the release of it: the folder release with homerange,
 # SOURCES (the checksum of what it was made from, and of the logic that it was proved in), SHA256SUMS (of it and its
-# manual page) and a line in RELEASES, the list of all releases: version, checksum of the program, logic and sources. The line
-# of a version that was published is never taken out or changed: another program is another version.
+# manual page) and a line in RELEASES, the list of all programs that were ever released: version, checksum, logic and sources. No
+# line is taken out, since folders that such a program made are to be verified for ever.
 #
 # With --check it changes nothing. The status is 0 where the release is whole, of these sources and of the logic that is
 # here, and, byte for byte, the program that is built of them now. With --deb it makes of the release, which has to be of
@@ -41,12 +41,9 @@ release_line() {
     echo "${version%% *} ${checksum%% *} $(sed -n 's/^logic //p' "$release/SOURCES") $(sed -n 's/^sources //p' "$release/SOURCES")"
 }
 
-# Puts the line of the release behind those of other versions.
-list_release() {
-    line=$(release_line)
-    touch "$release/RELEASES"
-    others=$(grep -v "^${line%% *} " "$release/RELEASES" || :)
-    printf '%s\n' ${others:+"$others"} "$line" >"$release/RELEASES"
+# Whether the release is in the list of releases.
+is_listed() {
+    grep -qxF "$(release_line)" "$release/RELEASES" 2>/dev/null
 }
 
 # Refuses a release that is not of these sources, or not whole.
@@ -54,7 +51,7 @@ check_whole() {
     sum_sources
     is_of_sum "$release" || fail 'the release is not that of these sources: tools/release.sh makes it'
     checksums | cmp - "$release/SHA256SUMS" || fail 'the release is not that of its checksums'
-    [ "$(tail -n 1 "$release/RELEASES")" = "$(release_line)" ] || fail 'the last line of RELEASES is not that of the release'
+    is_listed || fail 'the release is not in the list RELEASES'
 }
 
 check() {
@@ -82,7 +79,7 @@ case $*: in
         install -m 755 "$built/homerange" "$release/homerange"
         install -m 644 "$built/SOURCES" "$release/SOURCES"
         checksums >"$release/SHA256SUMS"
-        list_release
+        is_listed || release_line >>"$release/RELEASES"
         ;;
     *) misuse "it takes --check or --deb, and not $*" ;;
 esac
