@@ -60,7 +60,7 @@ def put_program(root: Path) -> None:
     release = root / MODULES / "homerange" / "release"
     write(root / "usr/bin/homerange", (TOP / "release/homerange").read_bytes(), 0o755)
     release.mkdir(parents=True)
-    for name in ("SOURCES", "SHA256SUMS"):
+    for name in ("SOURCES", "SHA256SUMS", "RELEASES"):
         shutil.copy(TOP / "release" / name, release)
     (release / "homerange").symlink_to("../../../../../bin/homerange")
     page = gzip.compress((TOP / "docs/homerange.1").read_bytes(), mtime=0)

@@ -1,7 +1,8 @@
 #!/bin/sh
 # release.sh [--check | --deb [FOLDER]]: builds the program and makes the release of it: the folder release with homerange,
-# SOURCES (the checksum of what it was made from, and of the logic that it was proved in) and SHA256SUMS (of it and its
-# manual page).
+# SOURCES (the checksum of what it was made from, and of the logic that it was proved in), SHA256SUMS (of it and its
+# manual page) and a line in RELEASES, the list of all programs that were ever released: version, checksum, logic and sources. No
+# line is taken out, since folders that such a program made are to be verified for ever.
 #
 # With --check it changes nothing. The status is 0 where the release is whole, of these sources and of the logic that is
 # here, and, byte for byte, the program that is built of them now. With --deb it makes of the release, which has to be of
@@ -32,11 +33,25 @@ checksums() {
     (cd "$top" && sha256sum release/homerange docs/homerange.1)
 }
 
+# The line of the release in the list of releases.
+release_line() {
+    version=$("$release/homerange" --version)
+    version=${version#homerange }
+    checksum=$(sha256sum <"$release/homerange")
+    echo "${version%% *} ${checksum%% *} $(sed -n 's/^logic //p' "$release/SOURCES") $(sed -n 's/^sources //p' "$release/SOURCES")"
+}
+
+# Whether the release is in the list of releases.
+is_listed() {
+    grep -qxF "$(release_line)" "$release/RELEASES" 2>/dev/null
+}
+
 # Refuses a release that is not of these sources, or not whole.
 check_whole() {
     sum_sources
     is_of_sum "$release" || fail 'the release is not that of these sources: tools/release.sh makes it'
     checksums | cmp - "$release/SHA256SUMS" || fail 'the release is not that of its checksums'
+    is_listed || fail 'the release is not in the list RELEASES'
 }
 
 check() {
@@ -64,6 +79,7 @@ case $*: in
         install -m 755 "$built/homerange" "$release/homerange"
         install -m 644 "$built/SOURCES" "$release/SOURCES"
         checksums >"$release/SHA256SUMS"
+        is_listed || release_line >>"$release/RELEASES"
         ;;
     *) misuse "it takes --check or --deb, and not $*" ;;
 esac

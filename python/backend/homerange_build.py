@@ -35,7 +35,7 @@ def put_program(package: Path) -> bool:
     release, own = HERE.parent / "release", package / "release"
     if not own.is_dir() and (release / "homerange").is_file():
         own.mkdir()
-        for name in ("homerange", "SOURCES"):
+        for name in ("homerange", "SOURCES", "RELEASES"):
             shutil.copy2(release / name, own / name)
         lines = (release / "SHA256SUMS").read_text("utf-8").splitlines()
         (own / "SHA256SUMS").write_text(next(line for line in lines if line.endswith(" release/homerange")) + "\n", "utf-8")

@@ -21,12 +21,14 @@ FIRST = ("form", "made", "program", "program sha256", "arguments", "unit", "leve
 TYPED = ("title", "study", "species", "by")
 OTHERS = ("export", "export sha256", "crs", "shift", *TYPED, "day", "boundary", "clock")
 SHIFT = re.compile("(-?[0-9]{1,9}),(-?[0-9]{1,9})")
-NOT_KNOWN = "not known, since .*"
+BESIDE = "not known, since it does not stand beside the program"  # where there is no SOURCES
+NO_COMMIT = ("not known, since git finds no clone here", "not known, since git does not say it",
+             "not known, since the package for R stands in no clone")
 SUM = "[0-9a-f]{64}"
 FORMS = {name: re.compile(form) for name, form in {
     "form": str(FORM), "made": "[0-9]{4}(-[0-9]{2}){2}T[0-9]{2}(:[0-9]{2}){2}Z", "program": "homerange .*", "program sha256": SUM,
     "arguments": "--percent .*", "unit": "d?m", "levels": "(100|[1-9][0-9]?)(,(100|[1-9][0-9]?)){0,7}",
-    "commit": f"[0-9a-f]{{40}}(, changed)?|{NOT_KNOWN}", "sources": f"{SUM}|{NOT_KNOWN}", "logic": f"[0-9a-f]{{16}}|{NOT_KNOWN}",
+    "commit": "|".join(["[0-9a-f]{40}(, changed)?", *NO_COMMIT]), "sources": f"{SUM}|{BESIDE}", "logic": f"[0-9a-f]{{16}}|{BESIDE}",
     "export": "[^/]+", "export sha256": SUM, "shift": SHIFT.pattern, "day": "[0-9]{4}-[0-9]{2}-[0-9]{2}"}.items()}
 
 

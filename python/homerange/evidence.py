@@ -13,7 +13,7 @@ import tempfile
 from pathlib import Path
 from typing import Any, Callable, Iterable, Iterator, NamedTuple, Sequence, TextIO
 
-from .about import About, Words, export_of, now, write_about
+from .about import BESIDE, NO_COMMIT, About, Words, export_of, now, write_about
 from .errors import FAULTS, UNPRINTABLE, ProgramError, ReportError, one_line, refuse
 from .program import CLONE, MOST_ANIMALS, Program, checksum_of, steps_of, workers
 from .record import Record, difference_from_record, record_in
@@ -45,11 +45,15 @@ def read_animal(path: Path) -> tuple[str, int]:
     return (names.pop() if len(names) == 1 else "", used)
 
 
+def is_utf8(name: str) -> bool:
+    return not any("\ud800" <= sign <= "\udfff" for sign in name)
+
+
 def check_names(names: Iterable[str]) -> None:
     """Refuses names that a list of checksums cannot have as they are."""
     for name in names:
-        if UNPRINTABLE.search(name) or "\\" in name:
-            refuse(f"{name} has a backslash, a line end or a control character in its name: rename it", "name")
+        if UNPRINTABLE.search(name) or "\\" in name or not is_utf8(name):
+            refuse(f"{name} has a backslash, a line end or a control character in its name, or is not in UTF-8: rename it", "name")
 
 
 def check_record(folder: Path, record: Record) -> None:
@@ -195,7 +199,7 @@ def made_from(program: Program, kind: str) -> str:
     path = Path(program.path).with_name("SOURCES")
     lines = path.read_text("utf-8", errors="replace").split("\n") if path.is_file() else []
     found = [line.removeprefix(f"{kind} ") for line in lines if line.startswith(f"{kind} ")]
-    return found[0] if found else "not known, since it does not stand beside the program"
+    return found[0] if found else BESIDE
 
 
 def git(*words: str) -> str | None:
@@ -210,11 +214,11 @@ def git(*words: str) -> str | None:
 def commit_of_clone() -> str:
     """The commit of the clone that this package stands in, and whether what makes reports is not as it is there."""
     if CLONE is None or git("rev-parse", "--show-toplevel") != str(CLONE):
-        return "not known, since git finds no clone here"
+        return NO_COMMIT[0]
     commit = git("rev-parse", "--verify", "-q", "HEAD")
     changed = git("status", "--porcelain", "--untracked-files=all", "--", *SOURCES)
     if commit is None or changed is None:
-        return "not known, since git does not say it"
+        return NO_COMMIT[1]
     return f"{commit}{', changed' * bool(changed)}"
 
 

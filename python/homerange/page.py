@@ -199,7 +199,8 @@ def numbers(ranges: HomeRanges, rows: Sequence[Row], clock: Clock) -> dict[str, 
 def drawn_map(ranges: HomeRanges, head: Head) -> tuple[dict[str, str], System]:
     """The places with the map and what is said of it, and the reference system."""
     shapes = shapes_of(ranges, levels_drawn(ranges))
-    system = system_of(ranges.crs, [middle(shape.polygons[0]) for shape in shapes])
+    own = ranges.record.crs if ranges.record else None
+    system = system_of(ranges.crs, [middle(shape.polygons[0]) for shape in shapes], own)
     drawn = maps(shapes, head.rings or [], escaped(system.text), LEAST[ranges.unit])
     has_boundary = head.rings is not None
     name = named(head.words.boundary or "boundary") if has_boundary else None

@@ -29,13 +29,14 @@ class System(NamedTuple):
     difference: str
 
 
-def system_of(crs: Any, middles: Sequence[tuple[float, float]]) -> System:
-    """The reference system of ranges whose middles are given."""
+def system_of(crs: Any, middles: Sequence[tuple[float, float]], text: str | None = None) -> System:
+    """The reference system of ranges whose middles are given; as it is written in their record, since versions of PROJ have
+    other names."""
     unknown = "How areas on this grid differ from those on the ground is not known."
     if crs is None:
         return System("reference system not known", unknown)
     scale = scale_of_zone if zone_of_crs(crs) else scale_of_crs(crs)
-    return System(text_of_crs(crs), unknown if scale is None else difference([scale(*at) for at in middles]))
+    return System(text or text_of_crs(crs), unknown if scale is None else difference([scale(*at) for at in middles]))
 
 
 def difference(scales: Sequence[float]) -> str:

@@ -18,6 +18,7 @@ if TYPE_CHECKING:
     from .ranges import HomeRanges
 
 BOUNDARY, LAYERS, PAGE = "boundary.csv", "ranges.gpkg", "report.html"
+TABLES = ("summary.csv", "animals.csv", "overlaps.csv")
 NOT_THERE = 3  # the status of a call that lacks something
 
 

@@ -13,7 +13,7 @@ from .errors import FrameError, refuse
 
 ZONE = re.compile("0?([1-9]|[1-5][0-9]|60) ?([NnSs])")
 BAND = re.compile("0?([1-9]|[1-5][0-9]|60) ?([C-HJ-MP-RT-Xc-hj-mp-rt-x])")
-CODE = re.compile("([A-Za-z]+:[A-Za-z0-9]+) [(]")
+CODE = re.compile("([A-Za-z]+:[A-Za-z0-9]+) [(](.*)[)]")
 DEFINITION = re.compile("[+]proj=[a-z0-9]+( [+][a-z0-9_]+(=[-+A-Za-z0-9_.,]+)?)*")
 SCALE_IN_THE_MIDDLE = 0.9996
 EARTH = 6_371_008.8  # the mean radius in metres
@@ -85,7 +85,7 @@ def text_of_zone(zone: str) -> str:
 def system_of_text(text: str) -> str | None:
     """What a reference system that is written has for pyproj: its code, or its definition, which names no file; None where it
     has neither."""
-    code = CODE.match(text)
+    code = CODE.fullmatch(text)
     if code:
         return code[1]
     return text if DEFINITION.fullmatch(text) and "grids" not in text and "init" not in text else None

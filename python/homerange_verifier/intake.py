@@ -26,16 +26,16 @@ UNPRINTABLE = re.compile("[\x00-\x1f\x7f-\x9f\u2028\u2029\\\\\ud800-\udfff]")
 MEBIBYTE = 1 << 20
 MOST_FILES, MOST_BYTES, DEEPEST = 20_000, 4096 * MEBIBYTE, 4
 SMALL, TRACK = 32 * MEBIBYTE, 256 * MEBIBYTE  # the greatest record, and the greatest track
-LARGE = 2048 * MEBIBYTE  # and any other file
+LARGE = 2048 * MEBIBYTE  # the greatest report, base of layers and export
 PIECE = MEBIBYTE
 FLAGS = os.O_RDONLY | getattr(os, "O_NOFOLLOW", 0) | getattr(os, "O_NONBLOCK", 0) | getattr(os, "O_CLOEXEC", 0)
 
 
 def most_of(name: str) -> int:
     """How many bytes a file may have."""
-    if name in (SUMS, ABOUT, SPLIT, *SIGNATURES):
+    if name in (SUMS, ABOUT, SPLIT, BOUNDARY, *SIGNATURES):
         return SMALL
-    return TRACK if name.startswith(f"{TRACKS}/") else LARGE
+    return TRACK if name in (PAGE, LOG, *TABLES, *PICTURES) or name.startswith(f"{TRACKS}/") else LARGE
 
 
 def check_name(name: str, path: str) -> None:

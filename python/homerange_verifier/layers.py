@@ -12,7 +12,7 @@ from contextlib import closing
 from itertools import zip_longest
 from pathlib import Path
 from sqlite3 import Connection
-from typing import Any, Iterator
+from typing import Any, Iterator, Sequence
 
 from .lines import Fault
 
@@ -30,6 +30,9 @@ BY_R = re.compile('CREATE TABLE "layer_styles" [(] "id" INTEGER PRIMARY KEY AUTO
 COUNTERS = [f"trigger_{what}_feature_count_{STYLES}" for what in ("insert", "delete")]
 MICROMETRE = 1e-6
 MOMENT = re.compile("([0-9]{4}-[0-9]{2}-[0-9]{2}T[0-9]{2}:[0-9]{2}:[0-9]{2})[.]000Z")
+SYSTEMS, ALWAYS = "gpkg_spatial_ref_sys", (-1, 0, 4326)  # the numbers of the reference systems that each file has
+# Names within the definition of a reference system, which versions of PROJ change.
+NAME = re.compile('\\b(PROJCS|GEOGCS|DATUM|SPHEROID|PRIMEM)\\["[^"]*"')
 AUTHORITY = re.compile(',AUTHORITY\\["[A-Za-z]+","[0-9]+"\\]')
 # How GDAL before 3.13 has a spatial index follow its layer where a shape is another, or a row has another number, and how it does
 # since.
@@ -108,8 +111,17 @@ def is_near(table: str, value: Any, other: Any) -> bool:
     return table == "gpkg_contents" and isinstance(value, float) and abs(value - other) <= MICROMETRE
 
 
-def rows_of(base: Connection, table: str) -> Iterator[tuple[Any, ...]]:
-    return base.execute(f'SELECT * FROM "{table}"')
+def is_same_system(row: tuple[Any, ...], wish: tuple[Any, ...], names: Sequence[str]) -> bool:
+    """Whether a row has the reference system that is wanted: its code, its numbers and its name, which may be the one that the
+    record of the tracks has."""
+    own, other = (AUTHORITY.sub("", NAME.sub(r"\1", str(each[4]))) for each in (row, wish))
+    title = NAME.match(str(row[4]))
+    is_named = {row[0], title[0].split('"')[1] if title else row[0]} <= {wish[0], *names}
+    return is_named and own == other and row[1] not in ALWAYS and row[1:4] == wish[1:4] and row[5] in (None, wish[5])
+
+
+def rows_of(base: Connection, table: str, order: str = "") -> Iterator[tuple[Any, ...]]:
+    return base.execute(f'SELECT * FROM "{table}"{order}')
 
 
 def is_of_styles(table: str, row: tuple[Any, ...]) -> bool:
@@ -117,14 +129,17 @@ def is_of_styles(table: str, row: tuple[Any, ...]) -> bool:
     return table == "gpkg_ogr_contents" and row[0] == STYLES
 
 
-def table_fault(base: Connection, wanted: Connection, table: str) -> str | None:
+def table_fault(base: Connection, wanted: Connection, table: str, names: Sequence[str]) -> str | None:
     """How a row of a table is not the one that is wanted."""
-    own = (row for row in rows_of(base, table) if not is_of_styles(table, row))
-    for number, (row, wish) in enumerate(zip_longest(own, rows_of(wanted, table)), 1):
+    order = " ORDER BY 1" if table.startswith("rtree_") else ""
+    own = (row for row in rows_of(base, table, order) if not is_of_styles(table, row))
+    for number, (row, wish) in enumerate(zip_longest(own, rows_of(wanted, table, order)), 1):
         if row == wish:
             continue
         if row is None or wish is None:
             return f"has {'too few' if row is None else 'too many'} rows in {table}"
+        if table == SYSTEMS and is_same_system(row, wish, names):
+            continue
         for at, (value, other) in enumerate(zip(row, wish)):
             if type(value) is not type(other) or normal(value) != normal(other) and not is_near(table, value, other):
                 return f"has {shown(value)} in row {number} of {table}, column {at + 1}; {shown(other)} is wanted"
@@ -152,7 +167,7 @@ def tables_in(base: Connection) -> tuple[list[str], list[str]]:
     return [name for name in tables if name not in shadows], indices
 
 
-def fault_of(base: Connection, wanted: Connection, name: str) -> str | None:
+def fault_of(base: Connection, wanted: Connection, name: str, names: Sequence[str]) -> str | None:
     fault = schema_fault(base, wanted, name)
     if fault:
         return fault
@@ -161,7 +176,7 @@ def fault_of(base: Connection, wanted: Connection, name: str) -> str | None:
     if said != "ok":
         return f"{name} is not whole: {said}"
     faults = (fault for table in tables for fault in (
-        table in indices and index_fault(base, table) or None, table_fault(base, wanted, table)) if fault)
+        table in indices and index_fault(base, table) or None, table_fault(base, wanted, table, names)) if fault)
     found = next(faults, None)
     return found and f"{name} {found}"
 
@@ -170,8 +185,8 @@ def opened(path: Path) -> Connection:
     return sqlite3.connect(f"{path.resolve().as_uri()}?mode=ro&immutable=1", uri=True)
 
 
-def difference(path: Path, wanted: Path) -> str | None:
-    """How a GeoPackage is not the one that was made again; None where it is."""
+def difference(path: Path, wanted: Path, names: Sequence[str] = ()) -> str | None:
+    """How a GeoPackage is not the one that was made again; None where it is. Its reference system may have one of these names."""
     if path.read_bytes() == wanted.read_bytes():
         return None
     fault = head_fault(path, wanted)
@@ -180,6 +195,6 @@ def difference(path: Path, wanted: Path) -> str | None:
     try:
         with closing(opened(path)) as base, closing(opened(wanted)) as other:
             base.execute("PRAGMA trusted_schema = OFF")
-            return fault_of(base, other, path.name)
+            return fault_of(base, other, path.name, names)
     except (sqlite3.Error, UnicodeDecodeError) as fault:
         raise Fault(f"{path.name} cannot be read: {fault}") from None

@@ -1,5 +1,6 @@
-"""The list of all released programs, release/RELEASES: of each its version, its checksum, the logic that it was proved in and
-the checksum of its sources. A line stays for ever, so that a folder outlives the version that made it."""
+"""The list of all programs that were ever released, release/RELEASES: of each its version, its checksum, the logic that it was
+proved in and the checksum of its sources. A line stays for ever, so that a folder outlives the version that made it. Before a
+version is published it may have several."""
 
 from __future__ import annotations
 

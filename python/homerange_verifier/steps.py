@@ -11,9 +11,10 @@ from pathlib import Path
 from shutil import copyfile
 from typing import Callable, Sequence
 
-from homerange.about import FORM, About, read_about, text_of
+from homerange.about import BESIDE, FORM, About, read_about, text_of
 from homerange.errors import HomeRangeError
 from homerange.record import Record, read_record, record_text
+from homerange.zones import CODE
 
 from . import beside
 from .findings import Findings, listed
@@ -196,13 +197,18 @@ class Verification:
             return f"{ABOUT} names another export than split.txt"
         if split and record_text(split).encode("utf-8", "surrogateescape") != (self.given / SPLIT).read_bytes():
             return "split.txt is in another form than such records have"
+        words = about.words
+        if split and (any(words.shift) or words.crs is not None and split.system_text is not None):
+            return f"{ABOUT} names another reference system or shift beside those of split.txt"
+        if (BOUNDARY in self.sums) != (words.boundary is not None):
+            return f"{ABOUT} names a boundary, and there is no {BOUNDARY}, or the other way round"
         if split and not (1 <= len(split.tools) <= 2 and all(map(re.fullmatch, TOOLS, split.tools))):
             return "split.txt has a line 'tool' that is none of what makes tracks"
         release = self.release
         if release and about.program != release.program:
             return f"{ABOUT} calls the program '{about.program}', and it is {release.program}"
         for name, said, known in (("sources", about.sources, release and release.sources), ("logic", about.logic, release and release.logic)):
-            if known and said != known and not said.startswith("not known"):
+            if known and said not in (known, BESIDE):
                 return f"{ABOUT} says other {name} than those of version {release.version if release else ''}"
         return None
 
@@ -394,8 +400,12 @@ class Verification:
         if not (self.made / LAYERS).is_file():
             self.findings.unseen(f"{LAYERS}: to make it again geopandas is needed: apt-get install python3-geopandas")
             return
-        fault = layers_difference(self.given / LAYERS, self.made / LAYERS)
-        if fault:
+        text = self.about.words.crs or (self.split.system_text if self.split else None)
+        code = CODE.fullmatch(text) if text else None
+        fault = layers_difference(self.given / LAYERS, self.made / LAYERS, [code[2]] if code else [])
+        if fault and text and not code:
+            self.findings.unseen(f"{fault}; the reference system '{text}' has no code, and writers have several ways for such ones")
+        elif fault:
             self.differs(fault)
         else:
             self.findings.held(f"{LAYERS}: made again it has the same layers, schema, rows and shapes, spatial index, reference "
@@ -412,6 +422,8 @@ class Verification:
         typed = [name for name in ("crs", "title", "study", "species", "by", "day", "boundary", "clock") if getattr(words, name)]
         if typed:
             self.findings.note(f"whether what was typed in is right: {listed(typed)}")
+        if self.split and self.split.crs:
+            self.findings.note(f"whether the reference system '{self.split.crs}' is called so: it is known by its code alone")
         self.findings.note(f"whether the run was on {about.made}, of the commit that {ABOUT} names ({about.commit})")
         if self.release is None:
             self.findings.note(f"whether sources and logic are those that {ABOUT} says: the program is no released one")

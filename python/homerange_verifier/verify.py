@@ -63,6 +63,8 @@ def verify(options: argparse.Namespace, findings: Findings) -> None:
             findings.failed(str(fault))
         except OSError as fault:
             findings.failed(f"{fault.filename}: {fault.strerror}")
+        except MemoryError:
+            findings.failed("this machine has not memory enough for such a folder")
 
 
 def main(name: str = "homerange-verify") -> None:

@@ -20,7 +20,9 @@ system_of_page <- function(ranges, middles) {
   }
   if (is.null(ranges$crs)) return(list(text = "reference system not known", difference = unknown))
   scale <- scale_of_crs(ranges$crs)
-  list(text = text_of_crs(ranges$crs), difference = difference_text(apply(middles, 1, function(at) scale(at[1], at[2]))))
+  # As it is written in their record, since versions of PROJ have other names.
+  own <- ranges$record$crs
+  list(text = if (is.null(own)) text_of_crs(ranges$crs) else own, difference = difference_text(apply(middles, 1, function(at) scale(at[1], at[2]))))
 }
 
 # By how much areas differ, of the least and the greatest areal scale.

@@ -104,7 +104,7 @@ END
         cmp -s direct changed && holds "a change by $change" false
         holds "R: a report changed by $change" is_refused "$tools/check.R" changed fox.csv badger.csv otter.csv
     done
-    printf '%s\n' 'cat("all lines agree\n"); quit(status = 0)' >.Rprofile
+    printf '%s\n' 'cat("all lines agree", fill = TRUE)' 'quit(status = 0)' >.Rprofile
     holds 'R: what a folder has R do first is not done' is_refused "$tools/check.R" changed fox.csv badger.csv otter.csv
     rm .Rprofile
     holds 'R: a call by which it would be done' is_refused Rscript "$tools/check.R" direct fox.csv badger.csv otter.csv

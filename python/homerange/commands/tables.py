@@ -26,17 +26,18 @@ from typing import TYPE_CHECKING
 from ..about import TYPED, About, Words
 from ..asked import zone_of_time
 from ..bar import Log
-from ..errors import HomeRangeError
+from ..errors import HomeRangeError, refuse
 from ..evidence import TRACKS, Wish, about_of, used_tracks
 from ..program import find_program, program_of
 from ..record import record_in
-from ..results import BOUNDARY, read_ranges, write_results
+from ..results import BOUNDARY, LAYERS, PAGE, TABLES, read_ranges, write_results
 from ..zones import text_of_zone, zone_of
 from .options import Options
 
 if TYPE_CHECKING:
     from ..ranges import HomeRanges
 
+PICTURES = ("curves.png", "ranges.png")
 MANY = 12  # animals whose curves are drawn into one picture at most
 NEEDED = ("geopandas", "matplotlib")
 HELP = dict(zip(TYPED, ("the title of the page", "the study that the page names", "the species that the page names",
@@ -66,7 +67,7 @@ def write_pictures(ranges: HomeRanges, folder: Path) -> None:
     matplotlib.use("Agg")
     many = len(ranges.animals) > MANY
     curves = plot_curve(ranges, facets=True)[0] if many else plot_curve(ranges)
-    for name, axes in (("curves.png", curves), ("ranges.png", plot_ranges(ranges, level=levels_drawn(ranges)))):
+    for name, axes in zip(PICTURES, (curves, plot_ranges(ranges, level=levels_drawn(ranges)))):
         axes.figure.savefig(folder / name, dpi=300)
 
 
@@ -86,6 +87,13 @@ def write_all(folder: Path, over: Path | None, about: About, log: Log, program: 
         log.say(line)
     log.at("drawing pictures")
     write_pictures(ranges, folder)
+
+
+def check_links(folder: Path) -> None:
+    """Refuses a folder in which something that is written over is a link: the folder may be a stranger's."""
+    links = [name for name in (*TABLES, LAYERS, PAGE, BOUNDARY, *PICTURES) if (folder / name).is_symlink()]
+    if links:
+        refuse(f"{folder / links[0]} is a link to elsewhere: remove it", "text")
 
 
 def words_of(options: argparse.Namespace, clock: str) -> Words:
@@ -113,6 +121,7 @@ def main(name: str = "homerange-tables") -> None:
     options, log = parser.parse_args(), Log(name)
     try:
         check_libraries()
+        check_links(options.folder)
         words = words_of(options, options.tz)._replace(crs=options.zone and text_of_zone(zone_of(options.zone)))
         program = program_of(find_program())
         files = [*used_tracks(options.folder)]
