@@ -1,2 +1,2 @@
-"""Holds a folder of evidence to what it says. It shares no code with the package homerange, nor with the program: what it
-reads and computes is by code of its own, and it needs Python 3.11 alone."""
+"""Holds a folder of evidence to what it says: what can be made again is made again and compared. The lines of a report are
+computed by code of its own (lines, hull), which shares nothing with the package homerange, nor with the program."""

@@ -75,9 +75,9 @@ class Verification:
             if name in self.sums or name in SIGNATURES:
                 self.intake.take(name)
         odd = unlisted(self.intake, self.sums)
-        beside_list = next((name for name in odd if self.is_export(name)), None)
-        if beside_list is not None:
-            odd.remove(beside_list)
+        export = next(filter(self.is_export, self.intake.names), None)
+        if export in odd:
+            odd.remove(export)
         if odd:
             raise Fault(f"{odd[0]} is there and not in {SUMS}: nothing else was looked at")
         count = len(self.sums)
@@ -95,7 +95,7 @@ class Verification:
             wanted = self.split and self.split.checksum
         except HomeRangeError:
             return False
-        if wanted is None or name in self.intake.folders or name in KNOWN or name.startswith(f"{TRACKS}/"):
+        if wanted is None or name in KNOWN or name.startswith((SUMS, f"{TRACKS}/")):
             return False
         if self.intake.sums.get(name) != wanted and self.intake.take(name) != wanted:
             return False

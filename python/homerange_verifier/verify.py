@@ -73,6 +73,8 @@ def main(name: str = "homerange-verify") -> None:
         sys.exit(f"{name}: it runs on Linux, and on Windows within WSL: the program is for Linux")
     if isinstance(sys.stdout, io.TextIOWrapper):
         sys.stdout.reconfigure(encoding="utf-8", errors="backslashreplace")
+    if sys.stdout is None:  # it was closed before the call
+        sys.exit(4)
     findings = Findings()
     try:
         verify(options, findings)

@@ -4,8 +4,10 @@
 A folder of evidence is made of an export of two animals, by PROGRAM. Each forgery changes it as one who hands it in could,
 with all checksums made anew where that is said, and names what verify.py has to say did not hold; where it names nothing,
 nobody can know, and verify.py has to say so. Prints 'ok NAME' or 'failed NAME: ..' for each."""
+import os
 import re
 import shutil
+import socket
 import sys
 
 from forging import SUM, TOOLS, Forgeries, Hand, checksum, try_export
@@ -26,7 +28,8 @@ def move_fix(hand):
     hand.sub("tracks/Bor.csv", "^(Bor,[0-9]+),[0-9]+", r"\1,561234")
 
 
-@forgery("01 a fix is moved", "tracks/Bor.csv was changed since", "Bor.csv is not the file", "another track of Bor")
+@forgery("01 a fix is moved", "tracks/Bor.csv was changed since", "Bor.csv is not the file", "makes another report",
+         "line 2 is")
 def _(hand):
     move_fix(hand)
 
@@ -231,7 +234,8 @@ def _(hand):
     hand.sealed_run()
 
 
-@forgery("35 line ends of another system in the report", "report.txt was changed since")
+@forgery("35 line ends of another system in the report",
+         r"only its line ends are other ones \(report.txt\), as a mail gateway makes them: send the folder as a zip")
 def _(hand):
     hand.edit("report.txt", lambda text: text.replace(b"\n", b"\r\n"))
 
@@ -314,11 +318,11 @@ def _(hand):
     run_of_levels(hand, "100,50")
 
 
-forgery.sealed("51 the arguments stand twice in the record of the run, sealed", "is no field that stands there once",
+forgery.sealed("51 the arguments stand twice in the record of the run, sealed", "is no field which stands there once",
                file="evidence.txt", old="^(arguments: .*)", new=r"\1\narguments: --percent 100 -- tracks/Bor.csv")
 
 
-@forgery("52 an untrue remark in the record of the run, sealed", "is no field that stands there once")
+@forgery("52 an untrue remark in the record of the run, sealed", "is no field which stands there once")
 def _(hand):
     hand.sealed_edit("evidence.txt", lambda text: text + b"checked: by the authority\n")
 
@@ -362,7 +366,7 @@ def _(hand):
     hand.path("maps/ranges.png").write_bytes(b"x")
 
 
-@forgery("59 a track is a link to a file elsewhere", "tracks/Bor.csv is no plain file")
+@forgery("59 a track is a link to a file elsewhere", "tracks/Bor.csv is no plain file, but a link")
 def _(hand):
     hand.path("tracks/Bor.csv").rename(hand.room / "elsewhere.csv")
     hand.path("tracks/Bor.csv").symlink_to(hand.room / "elsewhere.csv")
@@ -374,17 +378,19 @@ def name_export(hand, name):
     hand.sealed_sub("evidence.txt", "^export: .*", f"export: {name}")
 
 
-@forgery("60 the export is to be written elsewhere", "which is no plain name of a file")
+@forgery("60 the export is to be written elsewhere", "evidence.txt has the export /.*, which is none",
+         "line 1 is 'export,/.*', which does not fit there")
 def _(hand):
     name_export(hand, hand.outside)
 
 
-@forgery("61 the export is to be written beside the room", "which is no plain name of a file")
+@forgery("61 the export is to be written beside the room", "evidence.txt has the export ../x, which is none",
+         "line 1 is 'export,../x', which does not fit there")
 def _(hand):
     name_export(hand, "../x")
 
 
-@forgery("62 the export has the name of a folder", "which is no plain name of a file")
+@forgery("62 the export has the name of a folder", "line 1 is 'export,..', which does not fit there")
 def _(hand):
     name_export(hand, "..")
 
@@ -404,13 +410,188 @@ def _(hand):
     hand.sealed_sub("tracks/split.txt", "^zone,33N", "zone,33N\noption,tz,UTC\noption,tz,UTC")
 
 
-forgery.sealed("66 a zone that is none", "no unit or no zone", file="tracks/split.txt", old="^zone,33N", new="zone,xxN")
+forgery.sealed("66 a zone that is none", "line 4 is 'zone,xxN', which does not fit there",
+               file="tracks/split.txt", old="^zone,33N", new="zone,xxN")
 
 
-@forgery("67 levels of 5,000 digits", "no levels or no unit of homerange")
+@forgery("67 levels of 5,000 digits", "evidence.txt has the levels 9{80}, which is none")
 def _(hand):
     hand.sub("evidence.txt", "^levels: .*", "levels: " + 5000 * "9")
     hand.sealed_sub("evidence.txt", "--percent 50,95,100", "--percent " + 5000 * "9")
+
+
+OTHER_FORM = "evidence.txt has its fields in another order or form than such records have: "
+NOTHING = ": nothing was looked at"
+NO_FILE = f"is no plain file, but a link, a pipe or a device{NOTHING}"
+forgery.sealed("68 another name of the program",
+               "evidence.txt calls the program 'homerange 1.0.0, proved', and it is homerange 1",
+               file="evidence.txt", old="^program: .*", new="program: homerange 1.0.0, proved")
+forgery.sealed("69 other sources", "evidence.txt says other sources than those of version 1",
+               file="evidence.txt", old="^sources: .*", new="sources: " + 64 * "5")
+forgery.sealed("70 another logic", "evidence.txt says other logic than those of version 1",
+               file="evidence.txt", old="^logic: .*", new="logic: " + 16 * "5")
+forgery.sealed("71 a reason of ones own for sources that are not known",
+               "evidence.txt has the sources not known, .*, which is none",
+               file="evidence.txt", old="^sources: .*", new="sources: not known, since they are at the park")
+forgery.sealed("72 more runs", OTHER_FORM + "runs", file="evidence.txt", old="^runs: 1", new="runs: 7")
+forgery.sealed("73 an option that the program has not", OTHER_FORM + "arguments",
+               file="evidence.txt", old="--unit m", new="--unit m --depth 9")
+forgery.sealed("74 an option of the program stands twice", OTHER_FORM + "arguments",
+               file="evidence.txt", old="--percent", new="--percent 100 --percent")
+forgery.sealed("75 other levels in the arguments", OTHER_FORM + "arguments",
+               file="evidence.txt", old="--percent 50,95,100", new="--percent 50,100")
+forgery.sealed("76 a day of making that is none", "evidence.txt has the made Friday, which is none",
+               file="evidence.txt", old="^made: .*", new="made: Friday")
+forgery.sealed("77 a moment of making that no calendar has", "evidence.txt has arguments or a moment that are none",
+               file="evidence.txt", old="^made: ....-..-..", new="made: 2026-02-31")
+forgery.sealed("78 fields in another order", OTHER_FORM + "their order",
+               file="evidence.txt", old="^(unit: .*\n)(levels: .*\n)", new=r"\2\1")
+forgery.sealed("79 another form, whose number is no number", "evidence.txt does not begin with the number of its form",
+               file="evidence.txt", old="^form: 1", new="form: one")
+forgery.sealed("80 another form",
+               "not looked at: evidence.txt as a whole: made in form 2, and this copy knows form 1; use a copy of",
+               file="evidence.txt", old="^form: 1", new="form: 2")
+forgery.sealed("81 what makes tracks says more", "split.txt has a line 'tool' that is none of what makes tracks",
+               file="tracks/split.txt", old="^(tool,split.py .*)", new=r"\1 seen by the authority")
+forgery.sealed("82 what makes no tracks", "split.txt has a line 'tool' that is none of what makes tracks",
+               file="tracks/split.txt", old="^tool,.*\n", new="")
+forgery.sealed("83 another version of what makes tracks",
+               "not known: whether the tracks were made by what split.txt says: split.py 9.0",
+               file="tracks/split.txt", old="^tool,split.py [0-9.]*", new="tool,split.py 9.0")
+forgery.sealed("84 an option that a split has not", "the option depth, which a split has not",
+               file="tracks/split.txt", old="^zone,33N", new="zone,33N\noption,depth,9")
+forgery.sealed("85 lines of a record in another order", "split.txt is in another form than such records have",
+               file="tracks/split.txt", old="^(unit,m\n)(zone,.*\n)", new=r"\2\1")
+forgery.sealed("86 a line of a record of another kind", "line 3 is 'seen,by the authority', which does not fit there",
+               file="tracks/split.txt", old="^unit,m", new="seen,by the authority\nunit,m")
+forgery.sealed("87 a shift beside the record of the tracks",
+               "names another reference system or shift beside those of split.txt",
+               file="evidence.txt", old="^(export sha256: .*)", new=r"\1\nshift: 1000000,0")
+forgery.sealed("88 a boundary that is not there", "names a boundary, and there is no boundary.csv",
+               file="evidence.txt", old="^(export sha256: .*)", new=r"\1\nboundary: park")
+
+
+@forgery("89 an empty folder", "maps is there and not in SHA256SUMS: nothing else was looked at")
+def _(hand):
+    hand.path("maps").mkdir()
+
+
+@forgery("90 a link to a file elsewhere", f"build.log {NO_FILE}")
+def _(hand):
+    hand.path("build.log").symlink_to(hand.export)
+
+
+@forgery("91 a pipe, for which a reader would wait", f"evidence.txt {NO_FILE}")
+def _(hand):
+    hand.path("evidence.txt").unlink()
+    os.mkfifo(hand.path("evidence.txt"))
+
+
+@forgery("92 a socket", f"report.html {NO_FILE}")
+def _(hand):
+    with socket.socket(socket.AF_UNIX) as end:
+        end.bind(str(hand.path("report.html")))
+
+
+@forgery("93 a device without an end", f"report.txt {NO_FILE}")
+def _(hand):
+    hand.path("report.txt").unlink()
+    hand.path("report.txt").symlink_to("/dev/zero")
+
+
+@forgery("94 the list of checksums is a link", f"SHA256SUMS {NO_FILE}")
+def _(hand):
+    hand.path("SHA256SUMS").rename(hand.room / "elsewhere")
+    hand.path("SHA256SUMS").symlink_to(hand.room / "elsewhere")
+
+
+@forgery("95 the tracks are a link to a folder elsewhere", f"tracks {NO_FILE}")
+def _(hand):
+    hand.path("tracks").rename(hand.room / "elsewhere")
+    hand.path("tracks").symlink_to(hand.room / "elsewhere")
+
+
+@forgery("96 a track past its size", f"tracks/Bor.csv has 268435457 bytes, and such a file may have 268435456{NOTHING}")
+def _(hand):
+    os.truncate(hand.path("tracks/Bor.csv"), 2 ** 28 + 1)
+
+
+@forgery("97 a record past its size", f"evidence.txt has 33554433 bytes, and such a file may have 33554432{NOTHING}")
+def _(hand):
+    os.truncate(hand.path("evidence.txt"), 2 ** 25 + 1)
+
+
+@forgery("98 a name with a line end", rf"tracks/a\\nb.csv is no plain name of a file{NOTHING}")
+def _(hand):
+    hand.path("tracks/a\nb.csv").write_text("")
+
+
+@forgery("99 folders within folders", f"lies too deep{NOTHING}")
+def _(hand):
+    hand.path("maps/of/all/the/years/and/more").mkdir(parents=True)
+
+
+@forgery("100 a signature that is none", "SHA256SUMS.sig is no signature and no stamp of time")
+def _(hand):
+    hand.path("SHA256SUMS.sig").write_text("Good signature of the authority\n")
+
+
+@forgery("101 a stamp of time that is none", "SHA256SUMS.tsr is no signature and no stamp of time")
+def _(hand):
+    hand.path("SHA256SUMS.tsr").write_bytes(b"\x30\x05Friday")
+
+
+@forgery("102 a listed file that no step knows", "not looked at: what seal.txt has: no step knows such a file")
+def _(hand):
+    hand.path("seal.txt").write_text("seen by the authority\n")
+    hand.seal()
+
+
+@forgery("103 no list of checksums", "there is no SHA256SUMS in the folder")
+def _(hand):
+    hand.path("SHA256SUMS").unlink()
+
+
+@forgery("104 what systems leave in folders that were looked at",
+         "not known: what .DS_Store, Thumbs.db, tracks/._Bor.csv and tracks/desktop.ini has, which a system leaves: passed")
+def _(hand):
+    for name in (".DS_Store", "Thumbs.db", "tracks/._Bor.csv", "tracks/desktop.ini"):
+        hand.path(name).write_bytes(b"\x00\x01")
+
+
+def lay_in(hand):
+    """Lays the export into the folder, where it is not named."""
+    hand.export.rename(hand.path("collars of 2024.csv"))
+    hand.export = None
+
+
+@forgery("105 the export lies in the folder")
+def _(hand):
+    lay_in(hand)
+
+
+@forgery("106 the export lies in the folder and is listed")
+def _(hand):
+    lay_in(hand)
+    hand.seal()
+
+
+@forgery("107 an edited export lies in the folder", "collars of 2024.csv is there and not in SHA256SUMS")
+def _(hand):
+    lay_in(hand)
+    hand.sub("collars of 2024.csv", "5134", "5135")
+
+
+@forgery("108 the export is not there", "not looked at: whether the tracks are those of an export: name it behind the folder")
+def _(hand):
+    hand.export = None
+
+
+@forgery("109 a table where none was made", "summary.csv is there, and evidence.txt says that no page was made",
+         "not looked at: animals.csv, overlaps.csv, ranges.gpkg and report.html: not there, and made where a page is")
+def _(hand):
+    hand.path("summary.csv").write_text("animal,hectares\nBor,900\n")
+    hand.seal()
 
 
 if __name__ == "__main__":

@@ -1,5 +1,6 @@
-"""What forgeries.py, forged_tables.py and forged_frames.py share: one who hands in a folder and forges it, the forgeries by their names, and
-how each is tried in a folder of its own and held to what tools/verify.py says of it."""
+"""What forgeries.py, forged_tables.py and forged_frames.py share: one who hands in a folder and forges it, the forgeries by
+their names, and how each is tried in a folder of its own and held to what tools/verify.py says of it."""
+import copy
 import os
 import random
 import re
@@ -15,6 +16,9 @@ from pathlib import Path
 TOOLS = Path(__file__).resolve().parents[1]
 TITLES = "individual-local-identifier,timestamp,utm-easting,utm-northing,utm-zone,visible\n"
 SUM = re.compile("[0-9a-f]{64}")
+UNSEEN, UNKNOWN = "not looked at: ", "not known: "
+OTHERS = (UNSEEN, UNKNOWN)
+PATIENCE = 60  # seconds that a verification may take
 
 
 def export_text(seed):
@@ -127,39 +131,53 @@ class Hand:
     def verdict(self):
         """What verify.py says, and its status."""
         named = filter(None, (self.folder, self.export))
-        run = subprocess.run([sys.executable, TOOLS / "verify.py", *named, "--program", self.program],
-                             stdout=subprocess.PIPE, stderr=subprocess.STDOUT, text=True)
+        try:
+            run = subprocess.run([sys.executable, TOOLS / "verify.py", *named, "--program", self.program],
+                                 stdout=subprocess.PIPE, stderr=subprocess.STDOUT, text=True, timeout=PATIENCE)
+        except subprocess.TimeoutExpired:
+            return -1, f"nothing in {PATIENCE} s"
         return run.returncode, run.stdout
 
 
 class Forgeries(dict):
-    """By their names forgeries, each with parts of what has to be said not to hold; none where it can't be known."""
+    """By their names forgeries, each with parts of what has to be said: of lines that begin with 'did not hold', unless a part
+    begins as another line does; none where it can't be known."""
 
-    def __call__(self, name, *failing):
+    def __call__(self, name, *wanted):
         """Keeps the function below it by this name."""
         def keep(forge):
             assert name not in self, f"{name} stands there twice"
-            self[name] = (forge, failing)
+            self[name] = (forge, wanted)
             return forge
         return keep
 
-    def sealed(self, name, *failing, file, old, new, count=1):
+    def sealed(self, name, *wanted, file, old, new, count=1):
         """Keeps a forgery that puts other text into a file, with all checksums made anew."""
-        self(name, *failing)(lambda hand: hand.sealed_sub(file, old, new, count))
+        self(name, *wanted)(lambda hand: hand.sealed_sub(file, old, new, count))
 
 
-def fault_of(hand, failing):
+def form_of(text):
+    """What finds a part of what has to be said."""
+    return f"^{text}" if text.startswith(OTHERS) else f"^did not hold: .*{text}"
+
+
+def status_of(hand, wanted):
+    """The status with which such parts have to be said."""
+    if any(not text.startswith(OTHERS) for text in wanted):
+        return 1
+    return 3 if any(text.startswith(UNSEEN) for text in wanted) else hand.honest
+
+
+def fault_of(hand, wanted):
     """How verify.py does not say what is wanted; None where it does."""
     status, said = hand.verdict()
     if hand.outside.exists():
         return f"{hand.outside.name} was written"
-    failed = [line for line in said.split("\n") if line.startswith("did not hold: ")]
-    if "Traceback" in said or status not in (hand.honest, 1) or (status == 1) != bool(failed):
-        return f"status {status}: {said}"
-    if not failing:
-        return None if status == hand.honest and "not known: who made the run" in said else f"status {status}: {said}"
-    unsaid = [text for text in failing if not any(re.search(text, line) for line in failed)]
-    return f"{unsaid} is not said, but {failed}" if unsaid else None
+    unsaid = [text for text in (*wanted, "not known: who made the run") if not re.search(form_of(text), said, re.M)]
+    has_failed = "\ndid not hold: " in f"\n{said}"
+    if unsaid or status != status_of(hand, wanted) or has_failed != (status == 1) or "Traceback" in said:
+        return f"status {status}, {unsaid} is not said: {said}"
+    return None
 
 
 def try_all(make, forgeries):
@@ -171,11 +189,12 @@ def try_all(make, forgeries):
         status, said = honest.verdict()
         print("ok an honest folder" if status == honest.honest else f"failed an honest folder: {said!r}")
         shutil.copytree(room, Path(base, "kept"))
-        for name, (forge, failing) in forgeries.items():
+        for name, (forge, wanted) in forgeries.items():
             shutil.rmtree(room)
             shutil.copytree(Path(base, "kept"), room)
-            forge(honest)
-            fault = fault_of(honest, failing)
+            hand = copy.copy(honest)
+            forge(hand)
+            fault = fault_of(hand, wanted)
             print(f"failed {name}: {fault!r}" if fault else f"ok {name}", flush=True)
 
 

@@ -98,8 +98,8 @@ class Run(NamedTuple):
 
     @property
     def system(self) -> str | None:
-        """The reference system as it is written: that of the ranges, or else that of the tracks."""
-        return self.typed("crs") or (self.split.system if self.split else None)
+        """The reference system as it is written: by the record of the tracks, or else by that of the run."""
+        return (self.split.system if self.split else None) or self.typed("crs") or None
 
     @property
     def zone(self) -> str | None:
