@@ -1,10 +1,9 @@
 #!/usr/bin/env python3
-"""forged_tables.py PROGRAM: whether tools/verify.py finds what was forged in tables, layers and the page.
+"""forged_tables.py PROGRAM: whether tools/verify.py finds what was forged in tables, layers, the page and what was typed in.
 
-A folder is made by tools/ranges.sh of an export of two animals, by PROGRAM. Each forgery changes it, with all checksums
-made anew, and names what verify.py has to say did not hold; where it names nothing, nobody can know. Prints 'ok NAME' or
-'failed NAME: ..' for each. Needs what ranges.sh needs."""
-import re
+A folder is made by tools/ranges.sh of an export of two animals and a boundary, by PROGRAM. Each forgery changes it, with all
+checksums made anew, and names what verify.py has to say; where it names nothing, nobody can know. forged_layers.py has more of
+layers. Prints 'ok NAME' or 'failed NAME: ..' for each. Needs what ranges.sh needs."""
 import sqlite3
 import struct
 import sys
@@ -13,56 +12,36 @@ from contextlib import closing
 from forging import TOOLS, Forgeries, Hand, export_text, try_export
 
 forgery = Forgeries()
-COLUMNS = ("animal", "level", "fixes", "kept", "corners", "hectares", "first", "last", "unit")
-NUMBERS = ", ".join(COLUMNS[2:])
-OTHERS = "the layer ranges of ranges.gpkg has other animals and levels than those with an area"
-BOR, VESNA = "animal = 'Bor'", "animal = 'Vesna'"
-CSV_END = re.compile(rb"(?<=,)[^,\n]+(?=\n)")
+AGAIN = "is another one than is made again: line"
+PAGE = f"report.html {AGAIN} [0-9]+ has"
+PARK = ('{"type": "FeatureCollection", "features": [{"type": "Feature", "properties": {}, "geometry": {"type": "Polygon", '
+        '"coordinates": [[[15.79, 46.34], [15.82, 46.34], [15.82, 46.36], [15.79, 46.36], [15.79, 46.34]]]}}]}')
+RESULTS = ("summary.csv", "animals.csv", "overlaps.csv", "ranges.gpkg", "report.html")
 
 
 class Maker(Hand):
     """One who forges what ranges.sh made."""
 
     def make(self):
-        self.call("sh", TOOLS / "ranges.sh", "--title", "Wolves", "export.csv", "hand-in")
-
-    def shape(self, animal, level):
-        with closing(sqlite3.connect(self.path("ranges.gpkg"))) as base:
-            return base.execute(f"SELECT geom FROM ranges WHERE {animal} AND level = {level}").fetchone()[0]
+        (self.room / "park.geojson").write_text(PARK)
+        self.call("sh", TOOLS / "ranges.sh", "--title", "Wolves", "--over", "park.geojson", "export.csv", "hand-in")
 
 
-def moved(shape, by):
-    """A polygon, all of whose corners but the first and the last are elsewhere, and its box with them."""
-    head, box, start, corners = shape[:8], [*struct.unpack("<4d", shape[8:40])], shape[40:53], shape[53:]
-    numbers = [*struct.unpack(f"<{len(corners) // 8}d", corners)]
-    numbers[3] += by
-    box[2:] = min(numbers[1::2]), max(numbers[1::2])
-    return head + struct.pack("<4d", *box) + start + struct.pack(f"<{len(numbers)}d", *numbers)
+def of_page(name, old, new, count=1, said=""):
+    """Keeps a forgery of the page: it is another one than is made again."""
+    forgery.sealed(f"page: {name}", f"{PAGE} .*{said}", file="report.html", old=old, new=new, count=count)
 
 
-forgery.sealed("an area in summary.csv", "summary.csv is not what another method computes: line 3 is 'Bor,.*,1.25'; 'Bor,",
+forgery.sealed("an area in summary.csv", f"summary.csv {AGAIN} 3 has '.*1.25', and '.*' is wanted",
                file="summary.csv", old="^(Bor,.*,95,.*),[0-9.]+$", new=r"\1,1.25")
-
-
-@forgery("areas in summary.csv in square metres", "summary.csv is not what another method computes: line 2 is")
-def _(hand):
-    hand.sealed_edit("summary.csv", lambda text: CSV_END.sub(
-        lambda found: found[0] if found[0] == b"hectares" else b"%r" % (1e4 * float(found[0])), text))
-
-
-forgery.sealed("a level in summary.csv", "summary.csv is not what another method computes: line 3 is",
-               file="summary.csv", old=",95,", new=",96,")
-forgery.sealed("line ends of another system in summary.csv", "summary.csv is not what another method computes: line 1 is",
+forgery.sealed("line ends of another system in summary.csv", rf"summary.csv {AGAIN} 1 has '.*hectares\\r', and '.*' is wanted",
                file="summary.csv", old="\n", new="\r\n", count=0)
-forgery.sealed("a share in overlaps.csv",
-               "overlaps.csv is not what another method computes: line 2 is 'Bor,1.0,0.875'; 'Bor,1.0,0",
+forgery.sealed("a share in overlaps.csv", f"overlaps.csv {AGAIN} 2 has 'Bor,1.0,0.875', and 'Bor,1.0,0.[0-9]*' is wanted",
                file="overlaps.csv", old="^(Bor,1.0),.*", new=r"\1,0.875")
-forgery.sealed("a row of animals.csv is taken out", "animals.csv is not what another method computes: line 2 is 'Vesna,",
+forgery.sealed("a row of animals.csv is taken out", f"animals.csv {AGAIN} 2 has 'Vesna,.*', and 'Bor,.*' is wanted",
                file="animals.csv", old="^Bor,.*\n", new="")
-forgery.sealed("a last quarter in animals.csv", "animals.csv is not what another method computes: line 2 is 'Bor,.*,0.0123'",
-               file="animals.csv", old="^(Bor,.*),[0-9.]+$", new=r"\1,0.0123")
-forgery.sealed("what was left out in animals.csv", "animals.csv is not what another method computes: line 2 is 'Bor,60,0,",
-               file="animals.csv", old="^Bor,60,3,", new="Bor,60,0,")
+forgery.sealed("a row is added to animals.csv", f"animals.csv {AGAIN} 4 has 'Zlata,9', and nothing is wanted",
+               file="animals.csv", old="^(Vesna,.*\n)", new=r"\1Zlata,9\n")
 
 
 @forgery("a table is taken out, and stays listed", "overlaps.csv is in SHA256SUMS and not there")
@@ -70,116 +49,35 @@ def _(hand):
     hand.path("overlaps.csv").unlink()
 
 
-@forgery("a table is not handed in")
+@forgery("a table is not handed in", "not looked at: overlaps.csv: not there, and made where a page is")
 def _(hand):
     hand.path("overlaps.csv").unlink()
     hand.seal()
 
 
-@forgery("a corner in ranges.gpkg is moved", "the polygon of Vesna at 95 % in ranges.gpkg has other corners")
+@forgery("nothing that was made of the report is handed in",
+         "not looked at: summary.csv, animals.csv, overlaps.csv, ranges.gpkg and report.html: not there, and made where a page is")
 def _(hand):
-    hand.sealed_sql((f"UPDATE ranges SET geom = ? WHERE {VESNA} AND level = 95", moved(hand.shape(VESNA, 95), -300)))
+    for name in RESULTS:
+        hand.path(name).unlink()
+    hand.seal()
 
 
-@forgery("a corner in ranges.gpkg is moved by a millimetre", "the polygon of Bor at 100 % in ranges.gpkg has other corners")
+@forgery("a fix is moved, and the export not named", f"summary.csv {AGAIN} 4", PAGE)
 def _(hand):
-    hand.sealed_sql((f"UPDATE ranges SET geom = ? WHERE {BOR} AND level = 100", moved(hand.shape(BOR, 100), 0.001)))
+    hand.sub("tracks/Bor.csv", "^(Bor,[0-9]+),[0-9]+", r"\1,561234")
+    hand.sealed_run()
+    hand.export = None
 
 
-@forgery("two polygons in ranges.gpkg change places", "the polygon of Bor at 50 % in ranges.gpkg has other corners")
+@forgery("a corner in ranges.gpkg is moved by a millimetre", "ranges.gpkg has a shape of .* of ranges, column 2; a shape of .* is")
 def _(hand):
-    hand.sealed_sql((f"UPDATE ranges SET geom = ? WHERE {BOR} AND level = 50", hand.shape(VESNA, 50)),
-                    (f"UPDATE ranges SET geom = ? WHERE {VESNA} AND level = 50", hand.shape(BOR, 50)))
-
-
-@forgery("a polygon in ranges.gpkg is a point", "the polygon of Bor at 95 % in ranges.gpkg has other corners")
-def _(hand):
-    hand.sealed_sql((f"UPDATE ranges SET geom = (SELECT geom FROM fixes LIMIT 1) WHERE {BOR} AND level = 95",))
-
-
-for column, value in (("hectares", "12.5"), ("fixes", "9"), ("kept", "9"), ("corners", "3"), ("last", "NULL"), ("unit", "'dm'"),
-                      ("first", "'2020-01-01T00:00:00.000Z'")):
-    @forgery(f"{column} in ranges.gpkg", f"the polygon of Bor at 95 % in ranges.gpkg has {NUMBERS} .*; .* are wanted")
-    def _(hand, column=column, value=value):
-        hand.sealed_sql((f"UPDATE ranges SET {column} = {value} WHERE {BOR} AND level = 95",))
-
-
-@forgery("a polygon is taken out of ranges.gpkg", OTHERS)
-def _(hand):
-    hand.sealed_sql((f"DELETE FROM ranges WHERE {BOR} AND level = 95",))
-
-
-@forgery("a polygon stands twice in ranges.gpkg", OTHERS)
-def _(hand):
-    hand.sealed_sql((f"INSERT INTO ranges SELECT 99, geom, {', '.join(COLUMNS)} FROM ranges WHERE {BOR} AND level = 95",))
-
-
-@forgery("two levels change places in ranges.gpkg", f"the polygon of .* at (50|100) % in ranges.gpkg has {NUMBERS}")
-def _(hand):
-    hand.sealed_sql(("UPDATE ranges SET level = 150 - level WHERE level <> 95",))
-
-
-@forgery("a column is added to ranges.gpkg", "the layer ranges of ranges.gpkg has other columns than")
-def _(hand):
-    hand.sealed_sql(("ALTER TABLE ranges ADD COLUMN area_ha REAL DEFAULT 12.5",))
-
-
-@forgery("a layer of ranges.gpkg is renamed", r"ranges.gpkg has other layers \(fixes, mcp\) than fixes, ranges")
-def _(hand):
-    hand.sealed_sql(("ALTER TABLE ranges RENAME TO mcp",),
-                    ("UPDATE gpkg_contents SET table_name = 'mcp' WHERE table_name = 'ranges'",),
-                    ("UPDATE gpkg_geometry_columns SET table_name = 'mcp' WHERE table_name = 'ranges'",))
-
-
-@forgery("a fix in ranges.gpkg lies elsewhere", "fix 7 of Bor in ranges.gpkg lies elsewhere")
-def _(hand):
-    hand.sealed_sql((f"UPDATE fixes SET geom = (SELECT geom FROM fixes WHERE {VESNA} AND n = 1) WHERE {BOR} AND n = 7",))
-
-
-@forgery("a fix in ranges.gpkg was at another time", "the layer fixes of ranges.gpkg has Bor, 7, 2020-.*; Bor, 7, .* is wanted")
-def _(hand):
-    hand.sealed_sql((f"UPDATE fixes SET time = '2020-01-01T00:00:00.000Z' WHERE {BOR} AND n = 7",))
-
-
-@forgery("a fix is taken out of ranges.gpkg", "the layer fixes of ranges.gpkg has [0-9]+ fixes; [0-9]+ are wanted")
-def _(hand):
-    hand.sealed_sql((f"DELETE FROM fixes WHERE {BOR} AND n = 7",))
-
-
-@forgery("a fix in ranges.gpkg is of another animal", "the layer fixes of ranges.gpkg has Vesna, 7, .*; Bor, 7, .* is wanted")
-def _(hand):
-    hand.sealed_sql((f"UPDATE fixes SET animal = 'Vesna' WHERE {BOR} AND n = 7",))
-
-
-@forgery("a style of ranges.gpkg hides its layer", "ranges.gpkg has another style than such files have")
-def _(hand):
-    hand.sealed_sql(("UPDATE layer_styles SET styleQML = replace(styleQML, 'alpha=\"1\"', 'alpha=\"0\"')",))
-
-
-@forgery("a description in ranges.gpkg", "the layer ranges of ranges.gpkg has a description, and such files have none")
-def _(hand):
-    hand.sealed_sql(("UPDATE gpkg_contents SET description = 'Bor: 900 ha' WHERE table_name = 'ranges'",))
-
-
-@forgery("another form of a layer in ranges.gpkg", "ranges.gpkg has another style than such files have")
-def _(hand):
-    hand.sealed_sql(("UPDATE layer_styles SET ui = '<ui/>'",))
-
-
-@forgery("a second style in ranges.gpkg", "ranges.gpkg has another style than such files have")
-def _(hand):
-    hand.sealed_sql(("INSERT INTO layer_styles (f_table_name, styleQML, styleSLD) VALUES ('ranges', '', '')",))
-
-
-@forgery("the number of a zone in ranges.gpkg",
-         "the layer fixes of ranges.gpkg has another reference system than that of zone 33N")
-def _(hand):
-    hand.sealed_sql(("UPDATE gpkg_spatial_ref_sys SET organization_coordsys_id = 32634 WHERE srs_id = 32633",))
-
-
-@forgery("the definition of a zone in ranges.gpkg", "has another reference system than that of zone 33N")
-def _(hand):
-    hand.sealed_sql(("UPDATE gpkg_spatial_ref_sys SET definition = replace(definition, '0.9996', '0.9') WHERE srs_id = 32633",))
+    with closing(sqlite3.connect(hand.path("ranges.gpkg"))) as base:
+        shape = bytearray(base.execute("SELECT geom FROM ranges WHERE fid = 1").fetchone()[0])
+    at = hand.path("ranges.gpkg").read_bytes().index(shape)
+    east, = struct.unpack_from("<d", shape, 69)
+    struct.pack_into("<d", shape, 69, east + 0.001)
+    hand.sealed_edit("ranges.gpkg", lambda content: content[:at] + bytes(shape) + content[at + len(shape):])
 
 
 @forgery("a journal beside ranges.gpkg", "ranges.gpkg-wal lies beside ranges.gpkg")
@@ -188,78 +86,38 @@ def _(hand):
     hand.seal()
 
 
-@forgery("ranges.gpkg is no base", "ranges.gpkg cannot be read")
+@forgery("ranges.gpkg is no base", "ranges.gpkg is no GeoPackage")
 def _(hand):
-    hand.sealed_edit("ranges.gpkg", lambda content: content[:3000])
+    hand.path("ranges.gpkg").write_text("Bor: 900 ha\n")
+    hand.seal()
 
 
-forgery.sealed("hectares in a cell of report.html", "report.html has '7.5' as hectares_95 of Bor; '[0-9.]+' is wanted",
-               file="report.html", old='(<td data-field="hectares_95">)[^<]+', new=r"\g<1>7.5")
-forgery.sealed("hectares in a sentence of report.html",
-               "report.html has 'Bor: 95 % MCP 7.5 ha, .*' as sentence; 'Bor: 95 % MCP .*' is wanted",
-               file="report.html", old="(<li><bdi>Bor</bdi>: 95 % MCP )[0-9.,]+", new=r"\g<1>7.5")
-forgery.sealed("a unit in a cell of report.html", "report.html has '.* km2' as hectares_50 of Bor; ",
-               file="report.html", old='(<td data-field="hectares_50">[^<]+)', new=r"\1 km2")
-forgery.sealed("the unit of coordinates in report.html",
-               "report.html has '.. .* in whole decimetres, .*' as paragraph; '.. .* in whole metres, ",
-               file="report.html", old="in whole metres", new="in whole decimetres")
-forgery.sealed("what was left out in a sentence of report.html",
-               "report.html has '.*left out: 5 marked as .*' as paragraph; '.*left out: 6 marked as ",
-               file="report.html", old="left out: 6 marked", new="left out: 5 marked")
-forgery.sealed("a word beside the day in report.html",
-               "report.html has '.*Made on 1 May 2026, seen by .*' as paragraph; '.*Made on .. with",
-               file="report.html", old="Made on [^<]* with", new="Made on 1 May 2026, seen by the authority, with")
-forgery.sealed("another day of report.html", file="report.html", old="Made on [^<]* with", new="Made on 1 May 2026 with")
-forgery.sealed("the grid and the ground in report.html",
-               "report.html has '.*on the ground by 3.00 % here.*' as paragraph; '.*on the ground by -0.0",
-               file="report.html", old="by -0.0[0-9] % here", new="by 3.00 % here")
-forgery.sealed("two levels in the headings of report.html", "report.html has '100 %' as heading; '95 %' is wanted",
-               file="report.html", old="<th>95 %</th><th>100 %</th>", new="<th>100 %</th><th>95 %</th>")
-forgery.sealed("names that are shown in report.html", "report.html has 'Vesna' as name of Bor; 'Bor' is wanted",
-               file="report.html", old="<th><bdi>Bor</bdi></th>", new="<th><bdi>Vesna</bdi></th>")
+of_page("hectares in a cell", '(<td data-field="hectares_95">)[^<]+', r"\g<1>7.5",
+        said='hectares_95">7.5</td>.*, and .*hectares_95">400</td>.* is wanted')
+of_page("a sentence is added", "</ul>", "</ul><p>Seen by the authority.</p>", said="Seen by the authority")
+of_page("a script", "</body>", "<script>document.title = 1</script></body>", said="<script>")
+of_page("another style", "</style>", '[data-field="hectares_95"]::after { content: "9"; }</style>')
+of_page("a class that hides a sentence", "<li>", '<li class="figures">')
+of_page("a class that hides a cell", '<td data-field="hectares_95"', '<td class="figures" data-field="hectares_95"')
+of_page("a class that hides a table", '<div class="scroll">', '<div class="figures">')
+of_page("text in a drawing", '(<path class="rim")', r'<text x="99" y="99">7.5 ha</text>\1')
+of_page("headings that stand above other columns", '<th colspan="3">MCP', '<th colspan="4">MCP')
+of_page("a heading that is as high as two", '<th rowspan="2">Days', '<th rowspan="1">Days')
+of_page("what is read aloud", 'aria-label="Map of the ranges"', 'aria-label="900 hectares"')
+of_page("a language", '<html lang="en">', '<html lang="sl">')
+of_page("a digit that nobody sees", '(<td data-field="hectares_95">)', r'\1<span class="figures">9</span>')
+of_page("another way to write a sign", "Made on ", "Made&#32;on ")
+of_page("a line of a drawing", '(<path class="l0 c0" d="M)', r"\g<1>9")
+of_page("another title than was typed in", "Wolves", "Wolves of the park", 0)
+of_page("another day than that of making", "Made on [^<]* with", "Made on 1 May 2026 with")
 
 
-@forgery("names in the attributes of report.html", "report.html has '1' as number of Vesna; number of Bor '1' is wanted")
+@forgery("page: no text of UTF-8", PAGE)
 def _(hand):
-    hand.sealed_edit("report.html", lambda text: text.replace(b'<tr data-animal="Bor"', b'<tr data-animal="x"').replace(
-        b'<tr data-animal="Vesna"', b'<tr data-animal="Bor"').replace(b'<tr data-animal="x"', b'<tr data-animal="Vesna"'))
+    hand.sealed_edit("report.html", lambda content: content.replace(b"Wolves", b"Wolves\xff"))
 
 
-forgery.sealed("names above the curves of report.html", "report.html has '1 Vesna: .*' as what stands above a curve; '1 Bor: ",
-               file="report.html", old="(<figcaption><b class=.c0.>1</b> <bdi>)Bor", new=r"\1Vesna")
-forgery.sealed("names below the map of report.html",
-               "report.html has '100 % MCP 95 % MCP 50 % MCP 1.*Vesna 2.*Vesna' as paragraph; '100",
-               file="report.html", old="(1</b>&#160;<bdi>)Bor", new=r"\1Vesna")
-forgery.sealed("a date in report.html", "report.html has '1 Jan 2020' as first of Bor; '20 Sep 2024' is wanted",
-               file="report.html", old='(data-field="first">)[^<]+', new=r"\g<1>1 Jan 2020")
-forgery.sealed("an overlap in report.html", "report.html has '1 .2.xa0%.' as the fixes of Bor in the range of Vesna; '",
-               file="report.html", old='(data-animal="Bor" data-other="Vesna">)[^<]+', new=r"\g<1>1 (2&#160;%)")
-forgery.sealed("a checksum in report.html", "report.html has '0000.*' as export_sha256; '[0-9a-f]{64}' is wanted",
-               file="report.html", old='(data-field="export_sha256">)[0-9a-f]+', new=r"\g<1>" + 64 * "0")
-forgery.sealed("the sentence on limits in report.html",
-               "report.html has 'Proved: all of this page.' as paragraph; 'Proved: the numbers follow",
-               file="report.html", old="Proved: the numbers follow from the files.*</p>", new="Proved: all of this page.</p>")
-forgery.sealed("a sentence is added to report.html",
-               "report.html has 'Seen by the authority.' as paragraph; heading 'Animals' is wanted",
-               file="report.html", old="</ul>", new="</ul><p>Seen by the authority.</p>")
-forgery.sealed("a script in report.html", "report.html is no page of homerange: it has a script",
-               file="report.html", old="</body>", new="<script>document.title = 1</script></body>")
-forgery.sealed("a picture from elsewhere in report.html", "report.html is no page of homerange: it has a img",
-               file="report.html", old="</body>", new='<img src="https://park.example/seal.png"></body>')
-forgery.sealed("what a click does in report.html", "report.html is no page of homerange: its p has onclick",
-               file="report.html", old='<p class="typed"', new='<p onclick="alert(1)" class="typed"')
-forgery.sealed("a cell of report.html is hidden", "report.html is no page of homerange: its td has style",
-               file="report.html", old='<td data-field="hectares_95"', new='<td style="display: none" data-field="hectares_95"')
-forgery.sealed("another style of report.html", "report.html has another style than the pages of this clone",
-               file="report.html", old="</style>", new='[data-field="hectares_95"]::after { content: "9"; }</style>')
-forgery.sealed("a comment in report.html", "report.html is no page of homerange: it has a comment",
-               file="report.html", old="<body>", new="<body><!-- seen -->")
-forgery.sealed("text in a drawing of report.html that leaves it",
-               "report.html is no page of homerange: it has a p within a drawing",
-               file="report.html", old='<path class="rim"', new='<p>7.5 ha</p><path class="rim"')
-
-
-@forgery("the page of another run", "report.html has")
+@forgery("the page of another run", f"report.html {AGAIN}")
 def _(hand):
     other = hand.room / "other"
     other.mkdir()
@@ -268,11 +126,32 @@ def _(hand):
     hand.seal()
 
 
-forgery.sealed("another title of report.html", file="report.html", old="Wolves", new="Wolves of the park", count=0)
-forgery.sealed("a drawing in report.html", file="report.html", old='(<path class="rim" d="M)', new=r"\g<1>9")
+@forgery("another title in the record of the run and on the page", "not known: whether what was typed in is right: title, boundary and")
+def _(hand):
+    hand.sub("evidence.txt", "^title: Wolves", "title: Wolves of the park")
+    hand.sealed_sub("report.html", "Wolves", "Wolves of the park", 0)
 
 
-@forgery("a picture")
+forgery.sealed("another title in the record of the run alone", PAGE, file="evidence.txt", old="^title: .*", new="title: Wolves of the park")
+forgery.sealed("another clock in the record of the run", PAGE, file="evidence.txt", old="^clock: UTC", new="clock: Pacific/Honolulu")
+forgery.sealed("a clock that is none", "tables, layers and page cannot be made of this folder: .*Mars", file="evidence.txt",
+               old="^clock: UTC", new="clock: Mars")
+forgery.sealed("a clock that is a path", "tables, layers and page cannot be made of this folder: .*passwd", file="evidence.txt",
+               old="^clock: UTC", new="clock: ../../../etc/passwd")
+forgery.sealed("no clock", "report.html are there, and evidence.txt says that no page was made",
+               file="evidence.txt", old="^clock: UTC\n", new="")
+forgery.sealed("a corner of the boundary", PAGE, file="boundary.csv", old=r"^1,([0-9]+)\.", new=r"1,1\1.")
+forgery.sealed("a boundary that is none", "tables, layers and page cannot be made of this folder: boundary.csv is no boundary",
+               file="boundary.csv", old="^1,", new="one,")
+
+
+@forgery("the boundary is not handed in", "evidence.txt names a boundary, and there is no boundary.csv")
+def _(hand):
+    hand.path("boundary.csv").unlink()
+    hand.seal()
+
+
+@forgery("a picture", "not known: what curves.png and ranges.png show: not looked at")
 def _(hand):
     hand.sealed_edit("ranges.png", lambda content: content + b"x")
 

@@ -51,12 +51,12 @@ tracks" ]
     holds 'its checksums hold in the folder' sh -c 'cd plan/first && sha256sum -c --strict SHA256SUMS'
     holds 'no file names the half folder' is_refused grep -rF first.part plan/first
     holds 'it is verified' verify_ranges plan/first "$top/examples/export.csv"
-    holds 'all of it was looked at' grep -qx 'verify.py: 11 held, 0 did not, 0 not looked at' verified
-    for part in 'summary.csv, animals.csv and overlaps.csv are what' 'the layers of ranges.gpkg have' \
-        'the tables and sentences of report.html have' 'unit (m) and levels (50,95,100) are the same in summary.csv'; do
+    holds 'all of it was looked at' grep -qx 'verify.py: 9 held, 0 did not, 0 not looked at' verified
+    for part in 'summary.csv, animals.csv, overlaps.csv and report.html: made again of tracks and records they are the same' \
+        'ranges.gpkg: made again it has the same layers, schema, rows and shapes'; do
         holds "it is said: $part" grep -qF "held: $part" verified
     done
-    holds 'it is said what nobody computes' grep -q '^not known: whether what was typed into report.html' verified
+    holds 'it is said what nobody knows' grep -qx 'not known: whether what was typed in is right: clock' verified
     "$HOMERANGE" plan/first/tracks/*.csv >direct
     holds 'its report is that of homerange' cmp direct plan/first/report.txt
     cat >plan/fixes <<END
@@ -103,6 +103,8 @@ assert page.fields["period"] == "30 Apr 2024 (dates of Pacific/Honolulu)"
 assert page.animals["vixen"]["left_coordinates"] == "1"
 assert ("class", "boundary") in page.attributes' "$top/python/tests"
     holds 'the page is verified' verify_ranges plan/page "$top/examples/export.csv"
+    holds 'what was typed in is named' \
+        grep -qx 'not known: whether what was typed in is right: title, study, species, by, boundary and clock' verified
     holds 'the page has the checksum of its report' grep -qF "$(sha256sum <plan/page/report.txt | cut -c 1-64)" plan/page/report.html
     holds 'the page has the checksum of the export' \
         grep -qF "$(sha256sum <"$top/examples/export.csv" | cut -c 1-64)" plan/page/report.html
@@ -203,7 +205,8 @@ assert {*corners} == {(-300, -400), (-200, -400), (-200, -300)}, [*corners]'
     holds 'a file that no step knows is not looked at' [ $? -eq 3 ]
     holds 'it is named' grep -qx 'not looked at: what seal.txt has: no step knows such a file' verified
     PYTHONDONTWRITEBYTECODE=1 python3 "$tools/tests/forged_tables.py" "$HOMERANGE" >plan/forged 2>&1
-    holds 'all tables, layers and pages were forged' [ "$(grep -c '^ok ' plan/forged)" -ge 45 ]
+    python3 "$tools/tests/forged_layers.py" plan/first/ranges.gpkg plan/first/ranges.gpkg >>plan/forged 2>&1
+    holds 'all tables, layers and pages were forged' [ "$(grep -c '^ok ' plan/forged)" -ge 104 ]
     while read -r how name; do
         holds "forgery: $name" [ "$how" = ok ]
     done <plan/forged
