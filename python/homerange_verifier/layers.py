@@ -9,6 +9,7 @@ import re
 import sqlite3
 import struct
 from contextlib import closing
+from hashlib import sha256
 from itertools import zip_longest
 from pathlib import Path
 from sqlite3 import Connection
@@ -27,7 +28,7 @@ STYLES = "layer_styles"
 # What GDAL makes of the styles where they come from R; Python makes the table by a statement of its own.
 BY_R = re.compile('CREATE TABLE "layer_styles" [(] "id" INTEGER PRIMARY KEY AUTOINCREMENT NOT NULL(, "[A-Za-z_]+" '
                   '(TEXT|BOOLEAN|DATETIME)){12}[)]')
-COUNTERS = [f"trigger_{what}_feature_count_{STYLES}" for what in ("insert", "delete")]
+COUNTERS = [f"trigger_{what}_feature_count_fixes" for what in ("insert", "delete")]
 MICROMETRE = 1e-6
 MOMENT = re.compile("([0-9]{4}-[0-9]{2}-[0-9]{2}T[0-9]{2}:[0-9]{2}:[0-9]{2})[.]000Z")
 SYSTEMS, ALWAYS = "gpkg_spatial_ref_sys", (-1, 0, 4326)  # the numbers of the reference systems that each file has
@@ -74,8 +75,11 @@ def head_fault(path: Path, wanted: Path) -> str | None:
 def entries_of(base: Connection) -> set[Entry]:
     """The entries of a schema, in the one form that they have here."""
     found: set[Entry] = set()
-    for kind, name, table, statement in base.execute(SCHEMA):
-        if name in COUNTERS:
+    entries = base.execute(SCHEMA).fetchall()
+    # GDAL counts styles as it counts fixes, where they come from R.
+    counters = [statement.replace("fixes", STYLES) for _, name, _, statement in entries if name in COUNTERS]
+    for kind, name, table, statement in entries:
+        if statement in counters:
             continue
         if kind == "table" and name in ("ranges", "fixes"):
             statement = str(statement).replace(" MEDIUMINT", " INTEGER")
@@ -124,15 +128,11 @@ def rows_of(base: Connection, table: str, order: str = "") -> Iterator[tuple[Any
     return base.execute(f'SELECT * FROM "{table}"{order}')
 
 
-def is_of_styles(table: str, row: tuple[Any, ...]) -> bool:
-    """Whether a row counts the styles, as GDAL does where they come from R."""
-    return table == "gpkg_ogr_contents" and row[0] == STYLES
-
-
 def table_fault(base: Connection, wanted: Connection, table: str, names: Sequence[str]) -> str | None:
     """How a row of a table is not the one that is wanted."""
     order = " ORDER BY 1" if table.startswith("rtree_") else ""
-    own = (row for row in rows_of(base, table, order) if not is_of_styles(table, row))
+    counted = [(STYLES, count) for count, in wanted.execute(f"SELECT count(*) FROM {STYLES}")]  # as GDAL does, from R
+    own = (row for row in rows_of(base, table, order) if table != "gpkg_ogr_contents" or row not in counted)
     for number, (row, wish) in enumerate(zip_longest(own, rows_of(wanted, table, order)), 1):
         if row == wish:
             continue
@@ -147,8 +147,8 @@ def table_fault(base: Connection, wanted: Connection, table: str, names: Sequenc
 
 
 def shown(value: Any) -> str:
-    """A value as what is said has it."""
-    text = repr(value) if not isinstance(value, bytes) else f"a shape of {len(value)} bytes, {value[-16:].hex()}"
+    """A value as what is said has it, a shape by its checksum."""
+    text = repr(value) if not isinstance(value, bytes) else f"a shape of {len(value)} bytes, {sha256(value).hexdigest()[:32]}"
     return text if len(text) <= 80 else f"{text[:60]} .. {text[-15:]}"
 
 

@@ -197,6 +197,8 @@ class Verification:
             return f"{ABOUT} names another export than split.txt"
         if split and record_text(split).encode("utf-8", "surrogateescape") != (self.given / SPLIT).read_bytes():
             return "split.txt is in another form than such records have"
+        if split and split.zone and split.crs:
+            return "split.txt has a zone and another reference system"
         words = about.words
         if split and (any(words.shift) or words.crs is not None and split.system_text is not None):
             return f"{ABOUT} names another reference system or shift beside those of split.txt"

@@ -2,8 +2,8 @@
 """forged_frames.py PROGRAM FOLDER: whether tools/verify.py finds what was forged in the evidence of data frames.
 
 FOLDER has what a package made of the tables `told` and `system` of frames.R, with PROGRAM. Each forgery changes one, with all
-checksums made anew, and names what verify.py has to say did not hold; where it names nothing, nobody can know. Prints 'ok NAME'
-or 'failed NAME: ..' for each."""
+checksums made anew, and names what verify.py has to say; where it names nothing, nobody can know. Prints 'ok NAME' or
+'failed NAME: ..' for each."""
 import shutil
 import sys
 from pathlib import Path
@@ -11,7 +11,11 @@ from pathlib import Path
 from forging import Forgeries, Hand, try_all
 
 forgery, of_system = Forgeries(), Forgeries()
-ANIMALS, PAGE, LAYER = "animals.csv is not what another method", "report.html has ", "has another reference system than "
+AGAIN = "is another one than is made again: line"
+ANIMALS, PAGE = f"animals.csv {AGAIN}", f"report.html {AGAIN} [0-9]+ has"
+CANNOT = "tables, layers and page cannot be made of this folder: "
+NO_TOOL = "split.txt has a line 'tool' that is none of what makes tracks"
+EUROPE = "EPSG:3035 (ETRS89-extended / LAEA Europe)"
 
 
 class Frame(Hand):
@@ -21,6 +25,7 @@ class Frame(Hand):
 
     def __init__(self, program, room, folder):
         self.program, self.room, self.folder = program, room, room / "hand-in"
+        self.outside = room / "outside"
         shutil.copytree(folder, self.folder)
 
     def record(self, old, new):
@@ -29,13 +34,54 @@ class Frame(Hand):
         self.seal_files()
 
 
-@forgery("fewer fixes left out in the record", "split.txt has 153 fixes left out for 'dop', and says 154",
-         f"{ANIMALS}.*line 2 is 'Asta_1,360,1,1,51,", f"{PAGE}'360' as records of Asta_1")
-def _(hand):
-    hand.record("^left,Asta_1,51,dop", "left,Asta_1,50,dop")
+def of_record(name, *wanted, old, new, forgeries=forgery):
+    """Keeps a forgery of the record of the tracks."""
+    forgeries(name, *wanted)(lambda hand: hand.record(old, new))
 
 
-@forgery("fixes left out of another animal, in the record and in animals.csv", f"{PAGE}'360' as records of Asta_1; '359' is")
+of_record("fewer fixes left out", f"{ANIMALS} 2 has 'Asta_1,360,.*', and 'Asta_1,359,.*' is wanted",
+          f"{PAGE} .*360.*, and .*359",
+          old="^left,Asta_1,51,dop", new="left,Asta_1,50,dop")
+of_record("another reason", f"{ANIMALS} 1 has '.*left_outlier.*', and '.*left_zero.*' is wanted", PAGE,
+          old="^left,Asta_1,1,outlier", new="left,Asta_1,1,zero")
+of_record("a reason that is none", CANNOT, old="^left,Asta_1,1,outlier", new="left,Asta_1,1,seen by the authority")
+of_record("another zone", f"{PAGE} .*33N.*, and .*34N.* is wanted",
+          "ranges.gpkg has '.*33N' in row 4 of gpkg_spatial_ref_sys, col",
+          old="^zone,33N", new="zone,34N")
+of_record("no zone", f"{PAGE} .*, and .*reference system not known.* is wanted",
+          "ranges.gpkg has too many rows in gpkg_spatial_ref",
+          old="^zone,33N", new="zone,none")
+of_record("another system than a zone", f"{PAGE} .*33N.*, and .*EPSG:3035",
+          "ranges.gpkg has '.*' in row [0-9] of gpkg_spatial_ref_sys",
+          old="^zone,33N", new=f"zone,none\ncrs,{EUROPE}")
+of_record("a shift", f"{PAGE} .*559,000.*, and .*-441,000",
+          "ranges.gpkg has 560456.0 in row 1 of gpkg_contents, column 6; -439544.0 is",
+          old="^zone,33N", new="zone,33N\nshift,1000000,0")
+of_record("the checksum of a track", "tracks/Cilla.csv is not the file that split.txt says",
+          old="^(track,Cilla,[0-9]+,[0-9]+),.*", new=r"\1," + 64 * "0")
+of_record("a count of used fixes", "Cilla.csv has 145 records of which 145 are used, and .* says 145 and 144",
+          f"{CANNOT}the report has 145",
+          old="^track,Cilla,145,145,", new="track,Cilla,145,144,")
+of_record("a count of records", "Cilla.csv has 145 records of which 145 are used, and .* says 150 and 145",
+          f"{ANIMALS} 3 has 'Cilla,360",
+          old="^track,Cilla,145,145,", new="track,Cilla,150,145,")
+of_record("another unit", "the tracks are in dm, by split.txt, and the run was made in m", old="^unit,m", new="unit,dm")
+of_record("a second zone", "tracks/split.txt: line 3 is 'zone,33N', which does not fit there", old="^zone,33N",
+          new="zone,34N\nzone,33N")
+of_record("another option", f"{PAGE} .*max-dop 6.*, and .*max-dop 9.* is wanted", old="^option,max-dop,6",
+          new="option,max-dop,9")
+of_record("what was said", f"{PAGE} .*154 fixes have.*, and .*104 fixes have.* is wanted", old="^said,154 fixes",
+          new="said,104 fixes")
+of_record("an animal without a range is taken out", f"{PAGE} .*Without a range.*, and '<p class=\"note\"></p>' is wanted",
+          old="^left,gone,.*\n", new="")
+of_record("half an export", "tracks/split.txt has no line 'sha256': is it a record of split?", CANNOT,
+          old="^unit,m", new="export,export.csv\nunit,m")
+of_record("what makes no tracks", NO_TOOL, old="^tool,homerange for (Python|R) .*",
+          new=f"tool,homerange for Excel 1.0.0,{64 * '0'}")
+of_record("what makes tracks says more", NO_TOOL, old="^(tool,.*)", new=r"\1 at the park")
+
+
+@forgery("fixes left out of another animal, in the record and in animals.csv", f"{PAGE} .*360.*, and .*359.* is wanted")
 def _(hand):
     hand.record("^left,Asta_1,51,dop", "left,Asta_1,50,dop")
     hand.record("^left,Cilla,51,dop", "left,Cilla,52,dop")
@@ -43,97 +89,10 @@ def _(hand):
     hand.sealed_sub("animals.csv", "^Cilla,360,0,0,51,", "Cilla,361,0,0,52,")
 
 
-@forgery("another reason in the record", ANIMALS, PAGE)
+@forgery("a zone in the layers, and another system on the page", "split.txt has a zone and another reference system")
 def _(hand):
-    hand.record("^left,Asta_1,1,outlier", "left,Asta_1,1,zero")
-
-
-@forgery("what was left out in animals.csv", f"{ANIMALS}.*line 2 is 'Asta_1,[0-9]*,1,0,51,")
-def _(hand):
-    hand.sealed_sub("animals.csv", "^(Asta_1,[0-9]+,1),1,", r"\1,0,")
-
-
-@forgery("records in animals.csv", f"{ANIMALS}.*line 2 is 'Asta_1,999,")
-def _(hand):
-    hand.sealed_sub("animals.csv", "^Asta_1,[0-9]+,", "Asta_1,999,")
-
-
-@forgery("another zone in the record", "split.txt has the zone 34N, and says 33N",
-         f"fixes of ranges.gpkg {LAYER}that of zone 34N", PAGE)
-def _(hand):
-    hand.record("^zone,33N", "zone,34N")
-
-
-@forgery("no zone in the record", "has a reference system, EPSG:32633, and none is known", PAGE)
-def _(hand):
-    hand.record("^zone,33N", "zone,none")
-
-
-@forgery("another system than a zone in the record", f"fixes of ranges.gpkg {LAYER}EPSG:3035", PAGE)
-def _(hand):
-    hand.record("^zone,33N", "zone,none\ncrs,EPSG:3035 (ETRS89-extended / LAEA Europe)")
-
-
-@forgery("a zone and another system in the record", "split.txt has a zone and another reference system")
-def _(hand):
-    hand.record("^zone,33N", "zone,33N\ncrs,EPSG:3035 (ETRS89-extended / LAEA Europe)")
-
-
-@forgery("a shift in the record", "another shift than it says",
-         "the polygon of .* at 50 % in ranges.gpkg has other corners")
-def _(hand):
-    hand.record("^zone,33N", "zone,33N\nshift,1000000,0")
-
-
-@forgery("the checksum of a track in the record", "tracks/Cilla.csv is not the file that split.txt says")
-def _(hand):
-    hand.record("^(track,Cilla,[0-9]+,[0-9]+),.*", r"\1," + 64 * "0")
-
-
-@forgery("a count of used fixes in the record", "tracks/Cilla.csv has 145 records of which 145 are used, and .* says 145 and 144")
-def _(hand):
-    hand.record("^track,Cilla,145,145,", "track,Cilla,145,144,")
-
-
-@forgery("a count of records in the record", "tracks/Cilla.csv has 145 records of which 145 are used, and .* says 150 and 145")
-def _(hand):
-    hand.record("^track,Cilla,145,145,", "track,Cilla,150,145,")
-
-
-@forgery("another unit in the record", "the tracks are in dm, by split.txt, and the run was made in m")
-def _(hand):
-    hand.record("^unit,m", "unit,dm")
-
-
-@forgery("a remark in the record", "split.txt has not the lines of a record in their order")
-def _(hand):
-    hand.record("^unit,m", "seen,by the authority\nunit,m")
-
-
-@forgery("a second zone in the record", "split.txt has not the lines of a record in their order")
-def _(hand):
-    hand.record("^zone,33N", "zone,34N\nzone,33N")
-
-
-@forgery("another option in the record", f"{PAGE}'.*max-dop 6.*' as paragraph; '.*max-dop 9.*' is wanted")
-def _(hand):
-    hand.record("^option,max-dop,6", "option,max-dop,9")
-
-
-@forgery("what was said in the record", "has 154 fixes left out for 'dop', and says 104",
-         f"{PAGE}'.*154 fixes have a DOP .*; '.*104 fixes have a DOP ")
-def _(hand):
-    hand.record("^said,154 fixes", "said,104 fixes")
-
-
-@forgery("an animal without a range is taken out of the record", f"{PAGE}.* as ")
-def _(hand):
-    hand.record("^left,gone,.*\n", "")
-
-
-@forgery("an export that there was not, in the record of the run", "is no field that stands there once|has not all fields")
-def _(hand):
-    hand.sealed_sub("evidence.txt", "^export: none", "export: export.csv")
+    hand.record("^zone,33N", f"zone,33N\ncrs,{EUROPE}")
+    hand.sealed_sub("report.html", r"EPSG:32633 \(WGS 84 / UTM zone 33N\)", EUROPE, 0)
 
 
 @forgery("nothing of an export in the record of the run", "evidence.txt names another export than split.txt")
@@ -141,24 +100,22 @@ def _(hand):
     hand.sealed_sub("evidence.txt", "^export: none\n", "")
 
 
-@forgery("an export that there was not, in both records", f"{PAGE}'in the data' as heading; 'in the export' is wanted")
+@forgery("an export that there was not, in both records", f"{PAGE} .*in the data.*, and .*in the export.* is wanted",
+         "not looked at: whether the tracks are those of an export: name it behind the folder")
 def _(hand):
     hand.sealed_sub("evidence.txt", "^export: none", f"export: export.csv\nexport sha256: {64 * 'a'}")
     hand.record("^unit,m", f"export,export.csv\nsha256,{64 * 'a'}\nunit,m")
 
 
-@forgery("half an export in the record", "split.txt has not the lines of a record in their order")
-def _(hand):
-    hand.record("^unit,m", "export,export.csv\nunit,m")
-
-
-@forgery("the record is taken away", ANIMALS, PAGE)
+@forgery("the record is taken away", "not looked at: from what the tracks were made: they have no record", ANIMALS, PAGE,
+         "ranges.gpkg has too many rows in gpkg_spatial_ref_sys")
 def _(hand):
     hand.path("tracks/split.txt").unlink()
     hand.sealed_sub("evidence.txt", "^export: none\n", "")
 
 
-@forgery("a fix is moved, run again and sealed", "summary.csv is not what another method computes", PAGE)
+@forgery("a fix is moved, run again and sealed", f"summary.csv {AGAIN}", PAGE,
+         "ranges.gpkg has .* in row [0-9]+ of ranges, column 2")
 def _(hand):
     hand.sub("tracks/Cilla.csv", "^(Cilla,[0-9]+),[0-9]+", r"\1,561234")
     hand.sealed_run()
@@ -171,104 +128,35 @@ def _(hand):
     hand.sealed_run()
 
 
-@forgery("the number of a system in the layers", f"the layer fixes of ranges.gpkg {LAYER}that of zone 33N")
-def _(hand):
-    hand.sealed_sql(("UPDATE gpkg_spatial_ref_sys SET organization_coordsys_id = 3035 WHERE srs_id = 32633",))
-
-
-@forgery("the layers without a system", f"the layer fixes of ranges.gpkg {LAYER}that of zone 33N")
-def _(hand):
-    hand.sealed_sql(("UPDATE gpkg_contents SET srs_id = -1",), ("UPDATE gpkg_geometry_columns SET srs_id = -1",))
-
-
-@forgery("hectares in the layers", "the polygon of Cilla at 95 % in ranges.gpkg has fixes, kept, corners, hectares")
-def _(hand):
-    hand.sealed_sql(("UPDATE ranges SET hectares = 12.5 WHERE animal = 'Cilla' AND level = 95",))
-
-
-@forgery("a number in the method of the page", f"{PAGE}'.*left out: 1 without coordinates, 9 marked .*' as paragraph; '")
+@forgery("a sentence of the page", f"{PAGE} .*9 marked.*, and .*3 marked.* is wanted")
 def _(hand):
     hand.sealed_sub("report.html", "without coordinates, [0-9]+ marked", "without coordinates, 9 marked")
 
 
-@forgery("an option on the page", f"{PAGE}'.*max-dop 2.*' as paragraph; '.*max-dop 6")
+of_record("another code", f"{PAGE} .*EPSG:3035.*, and .*EPSG:3034.* is wanted",
+          "ranges.gpkg has .* of gpkg_spatial_ref_sys, column 1",
+          old="^crs,EPSG:3035", new="crs,EPSG:3034", forgeries=of_system)
+of_record("no system", f"{PAGE} .*EPSG:3035.*, and .*not known.* is wanted",
+          "ranges.gpkg has .* of gpkg_spatial_ref_sys, column 1",
+          old="^crs,.*\n", new="", forgeries=of_system)
+of_record("a zone", f"{PAGE} .*EPSG:3035.*, and .*33N.* is wanted", "ranges.gpkg has .* of gpkg_spatial_ref_sys, column 1",
+          old="^zone,none\ncrs,.*", new="zone,33N", forgeries=of_system)
+
+
+@of_system("another name in the record and on the page",
+           "not known: whether the reference system 'EPSG:3035 .seen by the authority.'")
 def _(hand):
-    hand.sealed_sub("report.html", "max-dop 6", "max-dop 2")
+    hand.record("^crs,EPSG:3035 .*", "crs,EPSG:3035 (seen by the authority)")
+    hand.sealed_sub("report.html", r"EPSG:3035 \(ETRS89-extended / LAEA Europe\)", "EPSG:3035 (seen by the authority)", 0)
 
 
-@forgery("what was said on the page", f"{PAGE}'.*14 fixes have a DOP .*; '.*154 fixes have a DOP ")
+@of_system("a system beside that of the tracks",
+           "evidence.txt names another reference system or shift beside those of split.txt")
 def _(hand):
-    hand.sealed_sub("report.html", "154 fixes have", "14 fixes have")
+    hand.sealed_sub("evidence.txt", "^(day: .*)", rf"crs: {EUROPE}\n\1")
 
 
-@forgery("the records of a cell of the page", f"{PAGE}'999' as records of Asta_1; '360' is wanted")
-def _(hand):
-    hand.sealed_sub("report.html", '(data-field="records">)[0-9]+', r"\g<1>999")
-
-
-@forgery("an animal without a range on the page", f"{PAGE}'.*: gone .7.*' as paragraph; '.*: gone .2.*' is wanted")
-def _(hand):
-    hand.sealed_sub("report.html", r"<bdi>gone</bdi> \(2\)", "<bdi>gone</bdi> (7)")
-
-
-@forgery("the checksum of an export on the page",
-         f"{PAGE}'aaaa.*' as export_sha256; 'none: the tracks were made of a data frame'")
-def _(hand):
-    hand.sealed_sub("report.html", '(data-field="export_sha256">)[^<]+', r"\g<1>" + 64 * "a")
-
-
-@forgery("the command on the page", f"{PAGE}'.*FOLDER EXPORT' as paragraph; '.*verify.py FOLDER' is wanted")
-def _(hand):
-    hand.sealed_sub("report.html", "verify.py FOLDER", "verify.py FOLDER EXPORT")
-
-
-@forgery("another reference system on the page", f"{PAGE}'.*zone 34N.*' as paragraph; '.*zone 33N.*' is wanted")
-def _(hand):
-    hand.sealed_sub("report.html", r"\(WGS 84 / UTM zone 33N\)", "(WGS 84 / UTM zone 34N)", 0)
-
-
-@forgery("what made the tracks")
-def _(hand):
-    hand.record("^tool,homerange for (Python|R) .*", f"tool,homerange for Excel 1.0.0,{64 * '0'}")
-
-
-@of_system("another code in the record", f"the layer fixes of ranges.gpkg {LAYER}EPSG:3034", PAGE)
-def _(hand):
-    hand.record("^crs,EPSG:3035", "crs,EPSG:3034")
-
-
-@of_system("another name in the record", f"the layer fixes of ranges.gpkg {LAYER}EPSG:3035 .ETRS89-extended / LCC", PAGE)
-def _(hand):
-    hand.record("^crs,EPSG:3035 .ETRS89-extended / LAEA", "crs,EPSG:3035 (ETRS89-extended / LCC")
-
-
-@of_system("no system in the record", "has a reference system, EPSG:3035, and none is known", PAGE)
-def _(hand):
-    hand.record("^crs,.*\n", "")
-
-
-@of_system("a zone in the record", f"the layer fixes of ranges.gpkg {LAYER}that of zone 33N", PAGE)
-def _(hand):
-    hand.record("^zone,none\ncrs,.*", "zone,33N")
-
-
-@of_system("another code in the layers", f"the layer fixes of ranges.gpkg {LAYER}EPSG:3035")
-def _(hand):
-    hand.sealed_sql(("UPDATE gpkg_spatial_ref_sys SET organization_coordsys_id = 3034 WHERE srs_id = 3035",))
-
-
-@of_system("another definition in the layers", f"the layer fixes of ranges.gpkg {LAYER}EPSG:3035")
-def _(hand):
-    hand.sealed_sql(("UPDATE gpkg_spatial_ref_sys SET definition = (SELECT definition FROM gpkg_spatial_ref_sys WHERE "
-                     "srs_id = 4326) WHERE srs_id = 3035",))
-
-
-@of_system("another system on the page", f"{PAGE}'.*EPSG:3034 .*' as paragraph; '.*EPSG:3035 ")
-def _(hand):
-    hand.sealed_sub("report.html", "decimetres, EPSG:3035", "decimetres, EPSG:3034")
-
-
-@of_system("a word for the difference on the page", f"{PAGE}'.*on the ground by nothing % here.*' as paragraph; '")
+@of_system("a word for the difference on the page", f"{PAGE} .*nothing % here.*, and .*0.00 % here.* is wanted")
 def _(hand):
     hand.sealed_sub("report.html", "on the ground by [-+0-9. to]+ % here", "on the ground by nothing % here")
 

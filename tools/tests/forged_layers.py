@@ -1,9 +1,9 @@
 #!/usr/bin/env python3
 """forged_layers.py GIVEN MADE: whether the verifier finds what was forged in a GeoPackage.
 
-GIVEN was handed in, and MADE is the one that is made again, of wolves in zone 33N. Each forgery changes a copy of GIVEN, and names
-what homerange_verifier/layers.py has to say of it; where it names nothing, the copy has another form that writers may write.
-Prints 'ok NAME' or 'failed NAME: ..' for each."""
+GIVEN was handed in, and MADE is the one that is made again, of animals in zone 33N. Each forgery changes a copy of GIVEN, and
+names what homerange_verifier/layers.py has to say of it; where it names nothing, the copy has another form that writers may
+write. Prints 'ok NAME' or 'failed NAME: ..' for each."""
 import re
 import shutil
 import sqlite3
@@ -20,7 +20,7 @@ from homerange_verifier.layers import difference
 from homerange_verifier.lines import Fault
 
 NAME = "WGS 84 / UTM zone 33N"
-ONE, OTHER = "level = 95 AND animal = (SELECT min(animal) FROM ranges)", "level = 95 AND animal = (SELECT max(animal) FROM ranges)"
+ONE, OTHER = (f"level = 95 AND animal = (SELECT {end}(animal) FROM ranges)" for end in ("min", "max"))
 ALL, FIX = "level = 100 AND animal = (SELECT min(animal) FROM ranges)", "animal = (SELECT min(animal) FROM fixes) AND n = 3"
 IN_RANGES, IN_FIXES = "in row [0-9]+ of ranges, column", "in row [0-9]+ of fixes, column"
 SHAPE = r"has a shape of [0-9]+ bytes, [0-9a-f]{32}"
@@ -119,7 +119,8 @@ of_shape("a polygon is said to be empty", f"{SHAPE} {IN_RANGES} 2; a shape of", 
 of_shape("a polygon is said to be an extension", f"{SHAPE} {IN_RANGES} 2; a shape of", ONE, lambda shape: with_bit(shape, 5))
 of_sql("a polygon is that of another", f"{SHAPE} {IN_RANGES} 2; a shape of",
        f"UPDATE ranges SET geom = (SELECT geom FROM ranges WHERE {OTHER}) WHERE {ONE}")
-of_sql("a polygon is a point", f"{SHAPE} {IN_RANGES} 2; a shape of", f"UPDATE ranges SET geom = (SELECT geom FROM fixes) WHERE {ONE}")
+of_sql("a polygon is a point", f"{SHAPE} {IN_RANGES} 2; a shape of",
+       f"UPDATE ranges SET geom = (SELECT geom FROM fixes) WHERE {ONE}")
 of_sql("a number of a polygon", f"has 12.5 {IN_RANGES} 8; [0-9.]+ is wanted", f"UPDATE ranges SET hectares = 12.5 WHERE {ONE}")
 of_sql("a number as a text", f"has '12.5 ha' {IN_RANGES} 8", f"UPDATE ranges SET hectares = '12.5 ha' WHERE {ONE}")
 of_sql("a unit of a polygon", f"has 'dm' {IN_RANGES} 11; 'm' is wanted", f"UPDATE ranges SET unit = 'dm' WHERE {ONE}")
@@ -129,22 +130,26 @@ of_sql("a polygon is taken out and not counted", f"{IN_RANGES} 1", f"DELETE FROM
 of_sql("the last polygon is taken out and not counted", "has too few rows in ranges",
        "DELETE FROM ranges WHERE fid = (SELECT max(fid) FROM ranges)", COUNTED)
 of_sql("a polygon stands twice", "has [0-9]+ in row [0-9] of gpkg_ogr_contents, column 2",
-       f"INSERT INTO ranges SELECT 999, geom, animal, level, fixes, kept, corners, hectares, first, last, unit FROM ranges WHERE {ONE}")
-of_sql("a fix lies elsewhere", f"{SHAPE} {IN_FIXES} 2", f"UPDATE fixes SET geom = (SELECT geom FROM fixes WHERE n = 1) WHERE {FIX}")
+       f"INSERT INTO ranges SELECT 999, geom, animal, level, fixes, kept, corners, hectares, first, last, unit FROM ranges "
+       f"WHERE {ONE}")
+of_sql("a fix lies elsewhere", f"{SHAPE} {IN_FIXES} 2",
+       f"UPDATE fixes SET geom = (SELECT geom FROM fixes WHERE n = 1) WHERE {FIX}")
 of_sql("a fix was at another time", f"has '2020-01-01T00:00:00Z' {IN_FIXES} 5",
        f"UPDATE fixes SET time = '2020-01-01T00:00:00Z' WHERE {FIX}")
 of_sql("a fix was a thousandth later", rf"has '20.*\.001Z' {IN_FIXES} 5",
        f"UPDATE fixes SET time = substr(time, 1, 19) || '.001Z' WHERE {FIX}")
-of_sql("a fix is of another animal", f"has '[A-Za-z ]+' {IN_FIXES} 3", f"UPDATE fixes SET animal = (SELECT max(animal) FROM fixes) WHERE {FIX}")
+of_sql("a fix is of another animal", f"has '[^']+' {IN_FIXES} 3",
+       f"UPDATE fixes SET animal = (SELECT max(animal) FROM fixes) WHERE {FIX}")
 
 of_sql("a style that hides its layer", "in row [0-9]+ of layer_styles, column 7",
        "UPDATE layer_styles SET styleQML = replace(styleQML, 'alpha=\"1\"', 'alpha=\"0\"')")
 of_sql("a form of a layer", "has '<ui/>' in row 1 of layer_styles, column 12", "UPDATE layer_styles SET ui = '<ui/>'")
-of_sql("a second style", "has .* in (row [0-9] of sqlite_sequence|layer_styles)",
+of_sql("a second style", "has .* in (row [0-9] of sqlite_sequence|layer_styles|gpkg_ogr_contents)",
        "INSERT INTO layer_styles (f_table_name, styleQML, styleSLD) VALUES ('ranges', '', '')")
 of_sql("a description", "has 'Bor: 900 ha' in row [0-9] of gpkg_contents, column 4",
        "UPDATE gpkg_contents SET description = 'Bor: 900 ha' WHERE table_name = 'ranges'")
-of_sql("another extent", "has 0.0 in row [0-9] of gpkg_contents, column 6", "UPDATE gpkg_contents SET min_x = 0.0 WHERE table_name = 'ranges'")
+of_sql("another extent", "has 0.0 in row [0-9] of gpkg_contents, column 6",
+       "UPDATE gpkg_contents SET min_x = 0.0 WHERE table_name = 'ranges'")
 of_sql("another count of fixes", "has 7 in row [0-9] of gpkg_ogr_contents, column 2",
        "UPDATE gpkg_ogr_contents SET feature_count = 7 WHERE table_name = 'fixes'")
 of_sql("another type of shapes", "has 'LINESTRING' in row [0-9] of gpkg_geometry_columns, column 3",
@@ -160,17 +165,20 @@ of_sql("another spheroid of a zone", "in row [0-9] of gpkg_spatial_ref_sys, colu
 of_sql("another spheroid of degrees", "in row [0-9] of gpkg_spatial_ref_sys, column 5",
        "UPDATE gpkg_spatial_ref_sys SET definition = replace(definition, '6378137', '6377397') WHERE srs_id = 4326")
 of_sql("layers without a reference system", "has -1 in row [0-9] of gpkg_contents, column 10",
-       "UPDATE gpkg_contents SET srs_id = -1 WHERE table_name <> 'layer_styles'", "UPDATE gpkg_geometry_columns SET srs_id = -1")
+       "UPDATE gpkg_contents SET srs_id = -1 WHERE table_name <> 'layer_styles'",
+       "UPDATE gpkg_geometry_columns SET srs_id = -1")
 
 of_sql("a box of the index is moved", "in row 1 of rtree_ranges_geom, column 2",
        "UPDATE rtree_ranges_geom SET minx = 0, maxx = 1 WHERE id = 1")
 of_sql("the index lacks a polygon", "in row 1 of rtree_ranges_geom, column 1", "DELETE FROM rtree_ranges_geom WHERE id = 1")
-of_sql("the index is not whole", "has an index rtree_ranges_geom that is not whole", "DELETE FROM rtree_ranges_geom_rowid WHERE rowid = 1")
+of_sql("the index is not whole", "has an index rtree_ranges_geom that is not whole",
+       "DELETE FROM rtree_ranges_geom_rowid WHERE rowid = 1")
 of_sql("a column is added", "has another table ranges", "ALTER TABLE ranges ADD COLUMN area_ha REAL DEFAULT 12.5")
 of_sql("a column that is generated", "has another table ranges",
        "ALTER TABLE ranges ADD COLUMN area_ha REAL GENERATED ALWAYS AS (10 * hectares) VIRTUAL")
 of_schema("a column has a default", "has another table ranges", "ranges", '"hectares" REAL', '"hectares" REAL DEFAULT 9')
-of_schema("a column has a check", "has another table ranges", "ranges", '"hectares" REAL', '"hectares" REAL CHECK (hectares > 9)')
+of_schema("a column has a check", "has another table ranges", "ranges", '"hectares" REAL',
+          '"hectares" REAL CHECK (hectares > 9)')
 of_schema("a column has a collation", "has another table fixes", "fixes", '"animal" TEXT', '"animal" TEXT COLLATE NOCASE')
 of_schema("a column is of truths", "has another table ranges", "ranges", '"kept" (MEDIUMINT|INTEGER)', '"kept" BOOLEAN')
 of_sql("a layer is renamed", "has (no )?table (mcp|ranges)", "ALTER TABLE ranges RENAME TO mcp",
@@ -185,9 +193,17 @@ of_sql("remarks", "has table gpkg_metadata", "CREATE TABLE gpkg_metadata (id INT
        "INSERT INTO gpkg_metadata VALUES (1, 'seen by the authority')")
 for table in ("rtree_mcp", "gpkg_mcp", "sqlitemcp"):
     of_sql(f"a second layer, {table}", f"has table {table}", f"CREATE TABLE {table} AS SELECT * FROM ranges",
-           f"INSERT INTO gpkg_contents (table_name, data_type, identifier, srs_id) VALUES ('{table}', 'features', '{table}', 32633)",
+           f"INSERT INTO gpkg_contents (table_name, data_type, srs_id) VALUES ('{table}', 'features', 32633)",
            f"INSERT INTO gpkg_geometry_columns VALUES ('{table}', 'geom', 'POLYGON', 32633, 0, 0)")
 of_sql("a trigger", "has trigger later", "CREATE TRIGGER later AFTER UPDATE ON ranges BEGIN DELETE FROM fixes; END")
+of_sql("a trigger by the name of one that counts styles", "has (another )?trigger trigger_insert_feature_count_layer_styles",
+       "DROP TRIGGER IF EXISTS trigger_insert_feature_count_layer_styles",
+       "CREATE TRIGGER trigger_insert_feature_count_layer_styles AFTER UPDATE ON ranges BEGIN DELETE FROM fixes; END")
+of_sql("a table by the name of a trigger that counts styles", "has table trigger_delete_feature_count_layer_styles",
+       "DROP TRIGGER IF EXISTS trigger_delete_feature_count_layer_styles",
+       "CREATE TABLE trigger_delete_feature_count_layer_styles AS SELECT * FROM ranges")
+of_sql("another count of styles", "in row [0-9] of gpkg_ogr_contents|too many rows in gpkg_ogr_contents",
+       "INSERT OR REPLACE INTO gpkg_ogr_contents VALUES ('layer_styles', 7)")
 of_sql("an index", "has index later", "CREATE INDEX later ON ranges (hectares)")
 of_sql("another definition of reference systems", "has another table gpkg_spatial_ref_sys",
        "ALTER TABLE gpkg_spatial_ref_sys ADD COLUMN definition_12_063 TEXT",
@@ -202,7 +218,8 @@ of_bytes("bytes behind the base", "has other bytes than its pages", lambda conte
 of_bytes("a base that is cut off", "has other bytes than its pages", lambda content: content.__delitem__(slice(3000, None)))
 of_bytes("no base", "is no GeoPackage", lambda content: content.__delitem__(slice(50, None)))
 of_bytes("a log of changes is wanted", HEAD, lambda content: content.__setitem__(slice(18, 20), b"\2\2"))
-of_bytes("a page is overwritten", "is not whole|cannot be read|has ", lambda content: content.__setitem__(slice(4096, 8192), bytes(4096)))
+of_bytes("a page is overwritten", "is not whole|cannot be read|has ",
+         lambda content: content.__setitem__(slice(4096, 8192), bytes(4096)))
 
 of_sql("moments without thousandths", None, "UPDATE fixes SET time = substr(time, 1, 19) || 'Z'")
 of_sql("a version of the format that GDAL writes", None, "PRAGMA user_version = 10400")

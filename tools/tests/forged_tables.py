@@ -56,7 +56,7 @@ def _(hand):
 
 
 @forgery("nothing that was made of the report is handed in",
-         "not looked at: summary.csv, animals.csv, overlaps.csv, ranges.gpkg and report.html: not there, and made where a page is")
+         "not looked at: summary.csv, animals.csv, overlaps.csv, ranges.gpkg and report.html: not there, and made where a page")
 def _(hand):
     for name in RESULTS:
         hand.path(name).unlink()
@@ -70,7 +70,8 @@ def _(hand):
     hand.export = None
 
 
-@forgery("a corner in ranges.gpkg is moved by a millimetre", "ranges.gpkg has a shape of .* of ranges, column 2; a shape of .* is")
+@forgery("a corner in ranges.gpkg is moved by a millimetre",
+         "ranges.gpkg has a shape of .* of ranges, column 2; a shape of .* is")
 def _(hand):
     with closing(sqlite3.connect(hand.path("ranges.gpkg"))) as base:
         shape = bytearray(base.execute("SELECT geom FROM ranges WHERE fid = 1").fetchone()[0])
@@ -126,14 +127,17 @@ def _(hand):
     hand.seal()
 
 
-@forgery("another title in the record of the run and on the page", "not known: whether what was typed in is right: title, boundary and")
+@forgery("another title in the record of the run and on the page",
+         "not known: whether what was typed in is right: title, boundary and")
 def _(hand):
     hand.sub("evidence.txt", "^title: Wolves", "title: Wolves of the park")
     hand.sealed_sub("report.html", "Wolves", "Wolves of the park", 0)
 
 
-forgery.sealed("another title in the record of the run alone", PAGE, file="evidence.txt", old="^title: .*", new="title: Wolves of the park")
-forgery.sealed("another clock in the record of the run", PAGE, file="evidence.txt", old="^clock: UTC", new="clock: Pacific/Honolulu")
+forgery.sealed("another title in the record of the run alone", PAGE, file="evidence.txt", old="^title: .*",
+               new="title: Wolves of the park")
+forgery.sealed("another clock in the record of the run", PAGE, file="evidence.txt", old="^clock: UTC",
+               new="clock: Pacific/Honolulu")
 forgery.sealed("a clock that is none", "tables, layers and page cannot be made of this folder: .*Mars", file="evidence.txt",
                old="^clock: UTC", new="clock: Mars")
 forgery.sealed("a clock that is a path", "tables, layers and page cannot be made of this folder: .*passwd", file="evidence.txt",

@@ -4,12 +4,11 @@ import copy
 import os
 import random
 import re
+import shlex
 import shutil
-import sqlite3
 import subprocess
 import sys
 import tempfile
-from contextlib import closing
 from datetime import datetime, timedelta
 from pathlib import Path
 
@@ -110,22 +109,12 @@ class Hand:
         files = sorted(f"tracks/{path.name}" for path in self.path("tracks").glob("*.csv"))
         words = words or ("--percent", "50,95,100", "--unit", "m")
         self.path("report.txt").write_bytes(self.call(self.program, *words, "--", *files, folder=self.folder))
-        listed = " ".join(f"'{name}'" if "'" not in name and re.search("[^a-zA-Z0-9/.]", name) else name for name in files)
-        about = re.sub("(?m)^arguments: .*", f"arguments: {' '.join(words)} -- {listed}", self.path("evidence.txt").read_text())
-        self.path("evidence.txt").write_text(about)
+        arguments = f"arguments: {shlex.join([*words, '--', *files])}"
+        about = re.sub("(?m)^arguments: .*", lambda _: arguments, self.path("evidence.txt").read_text("utf-8"))
+        self.path("evidence.txt").write_text(about, "utf-8")
 
     def sealed_run(self, *words):
         self.run(*words)
-        self.seal()
-
-    def sealed_sql(self, *statements):
-        """Changes ranges.gpkg, whose triggers want functions that are not there."""
-        with closing(sqlite3.connect(self.path("ranges.gpkg"))) as base:
-            for name, in base.execute("SELECT name FROM sqlite_master WHERE type = 'trigger'").fetchall():
-                base.execute(f'DROP TRIGGER "{name}"')
-            for statement, *values in statements:
-                assert base.execute(statement, values).rowcount != 0, statement
-            base.commit()
         self.seal()
 
     def verdict(self):

@@ -61,13 +61,12 @@ END
         for folder in pages/by_r/*/ frames/by_r/*/; do
             holds "a second way to $folder" python3 "$tools/tests/second_way.py" "$folder"
         done
-        for by in by_python by_r; do
-            python3 "$tools/tests/forged_frames.py" "$HOMERANGE" "frames/$by" >forged 2>&1
-            holds "all evidence of frames $by was forged" [ "$(grep -c '^ok ' forged)" -ge 45 ]
-            while read -r how name; do
-                holds "forgery $by: $name" [ "$how" = ok ]
-            done <forged
-        done
+        python3 "$tools/tests/forged_frames.py" "$HOMERANGE" frames/by_r >forged 2>&1
+        python3 "$tools/tests/forged_layers.py" frames/by_r/told/ranges.gpkg frames/by_python/told/ranges.gpkg >>forged 2>&1
+        holds 'all evidence of frames was forged' [ "$(grep -c '^ok ' forged)" -ge 100 ]
+        while read -r how name; do
+            holds "forgery by R: $name" [ "$how" = ok ]
+        done <forged
     else
         skip "pages of both packages: $(tail -n 1 errors)"
     fi

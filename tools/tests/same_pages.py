@@ -1,5 +1,5 @@
 """same_pages.py make FOLDER, and same_pages.py hold FOLDER: whether the packages for R and for Python make the same bytes of
-the same ranges, and evidence that tools/verify.py holds, which shares no code with either.
+the same ranges, and evidence that tools/verify.py holds.
 
 The first writes cases into a folder: fixes, and cases.csv, which says with what same_pages.R makes their evidence, in by_r.
 The second makes that of the package for Python, in by_python, and prints what does not hold. HOMERANGE is the program."""
