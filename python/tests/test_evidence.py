@@ -101,7 +101,8 @@ def test_another_reference_system_than_that_of_a_zone(tmp_path):
     assert lines[:4] == ["unit,dm", "zone,none", "crs,EPSG:3035 (ETRS89-extended / LAEA Europe)", "option,crs,EPSG:3035"]
     status, said = verify(tmp_path / "hand-in")
     assert status == 3 and "did not hold" not in said, said
-    assert "hectares, in EPSG:3035 (ETRS89-extended / LAEA Europe)" in said
+    assert "held: ranges.gpkg: made again it has the same layers" in said
+    assert "not known: whether the reference system 'EPSG:3035 (ETRS89-extended / LAEA Europe)' is called so" in said
     again = read_report(tmp_path / "hand-in" / "report.txt", record=tmp_path / "hand-in" / "tracks" / "split.txt")
     assert again.crs == "EPSG:3035"
 
@@ -142,7 +143,7 @@ def test_the_verifier_holds_it_but_for_the_export(ranges, tmp_path):
         ranges.evidence(tmp_path / "hand-in")
     status, said = verify(tmp_path / "hand-in")
     assert status == 3, said
-    assert said.endswith("verify.py: 10 held, 0 did not, 1 not looked at\n")
+    assert said.endswith("verify.py: 8 held, 0 did not, 1 not looked at\n")
     assert "not looked at: whether the tracks are those of the data frame that they were made of" in said
     for part in ("animals.csv", "ranges.gpkg", "report.html"):
         assert any(line.startswith("held:") and part in line for line in said.splitlines())

@@ -72,8 +72,8 @@ def test_overview_of_a_frame():
     assert [*found.columns[-4:]] == ["within_95_fix", "within_95_time", "last_tenth", "last_quarter"]
 
 
-SPLIT = """export,exports/deer.csv
-sha256,abc
+SPLIT = f"""export,deer.csv
+sha256,{64 * "a"}
 unit,m
 zone,33S
 shift,100,200
@@ -116,10 +116,10 @@ def test_overview_of_files_alone(made: Path):
 
 def test_a_record_is_read(made: Path):
     found = read_record(made / "split.txt")
-    assert (found.export, found.checksum, found.of_source()["gone"]) == ("deer.csv", "abc", 5)
+    assert (found.export, found.checksum, found.of_source()["gone"]) == ("deer.csv", 64 * "a", 5)
     assert found.options == [("max-dop", "4"), ("na", '"N/A,-')]
     text = (made / "split.txt").read_text()
-    for line in ("track,b\n", "left,a,x,outlier\n"):
-        (made / "split.txt").write_text(text + line)
+    for old, new in (("track,a,6,4", "track,a"), ("gone,5,", "gone,x,"), ("export,", "export,exports/"), (64 * "a", "abc")):
+        (made / "split.txt").write_text(text.replace(old, new))
         with pytest.raises(FrameError, match="does not fit there"):
             read_record(made / "split.txt")

@@ -152,7 +152,7 @@ def test_a_page_of_a_split(tmp_path):
     assert "EPSG:32733 (WGS 84 / UTM zone 33S)" in page.text
     sums = {name: subprocess.run(["sha256sum", path], capture_output=True, text=True).stdout[:64]
             for name, path in (("report", tmp_path / "report.txt"), ("program", find_program(None)))}
-    assert page.fields["export_sha256"] == "abc" and "deer.csv" in page.text
+    assert page.fields["export_sha256"] == 64 * "a" and "deer.csv" in page.text
     assert (page.fields["report_sha256"], page.fields["program_sha256"]) == (sums["report"], sums["program"])
     assert "python3 tools/verify.py FOLDER EXPORT" in page.text and "cannot be verified" not in page.text
 

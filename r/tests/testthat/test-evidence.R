@@ -106,7 +106,7 @@ test_that("another reference system than that of a zone is in the record", {
                    c("unit,m", "zone,none", "crs,EPSG:3035 (ETRS89-extended / LAEA Europe)", "option,crs,EPSG:3035"))
   said <- verified(folder)
   expect_identical(attr(said, "status"), 3L)
-  expect_true(any(endsWith(said, "hectares, in EPSG:3035 (ETRS89-extended / LAEA Europe)")))
+  expect_true(any(startsWith(said, "held: ranges.gpkg: made again it has the same layers")))
   expect_identical(text_of_crs(sf::st_crs(32733)), "EPSG:32733 (WGS 84 / UTM zone 33S)")
   expect_identical(code_of_crs(sf::st_crs("+proj=laea +lat_0=52 +lon_0=10 +ellps=GRS80 +units=m")), "unknown")
 })
