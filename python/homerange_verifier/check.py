@@ -5,6 +5,7 @@ folder of evidence homerange-verify does this too."""
 from __future__ import annotations
 
 import argparse
+import gc
 import itertools
 import re
 import sys
@@ -65,6 +66,7 @@ def check(options: argparse.Namespace) -> bool:
 
 def main(name: str = "homerange-check") -> None:
     options = read_options(name)
+    gc.disable()  # fixes are many and refer to nothing
     try:
         sys.exit(not check(options))
     except Fault as fault:
