@@ -6,16 +6,17 @@
 if (!l10n_info()[["UTF-8"]]) invisible(Sys.setlocale("LC_CTYPE", "C.UTF-8"))
 script <- gsub("~+~", " ", sub("^--file=", "", grep("^--file=", commandArgs(), value = TRUE)[1]), fixed = TRUE)
 package <- file.path(dirname(dirname(normalizePath(script))), "r")
-options(homerange.collars = file.path(package, "inst", "extdata", "collars.csv"), warn = 1)
+options(homerange.extdata = file.path(package, "inst", "extdata"), warn = 1)
 homerange <- new.env()
 invisible(compiler::enableJIT(0))  # compiling takes longer than it spares, but for the one loop over fixes
 files <- sort(list.files(file.path(package, "R"), "[.]R$", full.names = TRUE), method = "radix")
 for (file in files) sys.source(file, homerange)
 if (any(startsWith(commandArgs(), "--max-speed"))) homerange$reached_rows <- compiler::cmpfun(homerange$reached_rows)
 
-# The version of the package, and the checksum of its code: what `cat R/*.R inst/extdata/collars.csv | sha256sum` says of it.
+# The version of the package, and the checksum of its code: what `cat R/*.R inst/extdata/collars.csv inst/extdata/letters.csv |
+# sha256sum` says of it.
 code_of_package <- function() {
-  words <- paste(shQuote(c(files, getOption("homerange.collars"))), collapse = " ")
+  words <- paste(shQuote(c(files, homerange$data_file(c("collars.csv", "letters.csv")))), collapse = " ")
   c(read.dcf(file.path(package, "DESCRIPTION"), "Version")[1], substr(system(paste("cat", words, "| sha256sum"), intern = TRUE), 1, 64))
 }
 options(homerange.code = code_of_package())

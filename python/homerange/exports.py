@@ -21,6 +21,7 @@ from xml.etree import ElementTree
 
 from .asked import Asked
 from .errors import FrameError, refuse
+from .names import file_names, refuse_same_names
 from .record import Made, Record, given, in_order, tools_of, write_record
 from .tables import Said, Table
 from .titles import TIMES, Titles
@@ -28,7 +29,6 @@ from .tracks import Track, Tracks, make_tracks
 
 PIECE = 1 << 16  # signs that are read at once; with more, time goes into waiting for memory
 ROWS = 1_000  # that are written at once, or read of a text with quotes
-NAME_BYTES = 32
 MARKS = {"utf-8": codecs.BOM_UTF8, "utf-16-le": codecs.BOM_UTF16_LE, "utf-16-be": codecs.BOM_UTF16_BE,
          "utf-32-le": codecs.BOM_UTF32_LE, "utf-32-be": codecs.BOM_UTF32_BE}  # byte order marks that Python leaves in texts
 LISTS = ("animal", "time", "na", "sensor", "argos-class", "fix-type")  # options that are several words between commas
@@ -272,12 +272,6 @@ def take_pieces(table: Table, reader: Reader) -> None:
             refuse(f"{odd} fields where {width} are wanted", "fields", table.rows + 1)
 
 
-def clean(name: str) -> str:
-    """The name with _ for what a name or a file's name may not have, cut to 32 bytes."""
-    name = re.sub(r'[\x00-\x1f\x7f/\\,"]|^[.]', "_", name)
-    return name.encode("utf-8", "surrogateescape")[:NAME_BYTES].decode("utf-8", errors="ignore")
-
-
 def with_record(fault: FrameError) -> FrameError:
     """The refusal as a command says it, with its record."""
     text = str(fault)
@@ -288,7 +282,7 @@ class Split(NamedTuple):
     """What a text comes to, by the names that files have."""
 
     tracks: Tracks
-    names: dict[str, str]  # the clean name of each animal
+    names: dict[str, str]  # of each animal of the table
     checksum: str
 
 
@@ -299,26 +293,15 @@ def read_text(path: str, options: dict[str, Any], said: Said) -> Split:
         text = open_text(path, asked, options.get("from") == "gpx")
         table, checksum = read_table(text, path, asked), text.checksum
         del text
-        tracks = make_tracks(table, said, clean)
-        names = {**clean_names(tracks.by_name), **{name: clean(name) for name in table.rows_of}}
+        names = file_names([*table.rows_of] or [asked.name])
+        tracks = make_tracks(table, said, names.__getitem__)
+        refuse_same_names(tracks.by_name, names)
         for name in tracks.by_name:
             if names[name] != name:
                 said.say(f"animal '{name}' is named {names[name]}")
         return Split(tracks, names, checksum)
     except FrameError as fault:
         raise with_record(fault) from None
-
-
-def clean_names(animals: Iterable[str]) -> dict[str, str]:
-    """The clean name of each animal that has a file; two that come out the same are refused."""
-    names: dict[str, str] = {}
-    animal_of: dict[str, str] = {}
-    for name in animals:
-        names[name] = clean(name)
-        other = animal_of.setdefault(names[name], name)
-        if other != name:
-            refuse(f"animals '{other}' and '{name}' would both be named {names[name]}", "name")
-    return names
 
 
 def track_lines(name: str, track: Track, mark: bool) -> Iterator[str]:
@@ -347,7 +330,7 @@ def record_of(path: str, split: Split, options: dict[str, Any], sums: dict[str, 
     """The record of what was done: the export, the unit, the zone, the options, what was said, what was left out, and what
     was made by what."""
     own = split.tracks
-    left = in_order(said.left, {name: split.names.get(name, clean(name)) for name, _ in said.left})
+    left = in_order(said.left, {"": "", **split.names})
     tracks = {split.names[name]: Made(len(track.used), sum(track.used), sums[name]) for name, track in own.by_name.items()}
     return Record(os.path.basename(path), split.checksum, options.get("unit") or "m", own.zone, own.shift, None, given(options),
                   said.lines, left, tracks, tools_of("split.py", own.places.is_projected))

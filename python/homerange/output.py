@@ -6,14 +6,15 @@ import os
 import shutil
 from dataclasses import replace
 from pathlib import Path
-from typing import TYPE_CHECKING, Any, Mapping
+from typing import TYPE_CHECKING, Any, Iterable, Mapping
 
 from .about import Words, read_about
 from .asked import zone_of_time
 from .errors import ReportError, path_of, refuse
 from .evidence import ABOUT, REPORT, TRACKS, Wish, copy_tracks, make_report, new_folder, used_tracks
-from .exports import clean, clean_names, write_track
+from .exports import write_track
 from .frames import Tracks
+from .names import file_names, refuse_same_names
 from .page import rings_given, words_typed, write_rings
 from .program import Program, checksum_of, find_program, program_of
 from .ranges import HomeRanges, check_whole, read_report
@@ -46,17 +47,27 @@ def write_tables(ranges: HomeRanges, folder: Path) -> None:
 
 
 def record_of(ranges: HomeRanges, tracks: Tracks, names: Mapping[str, str], made: dict[str, Made]) -> Record:
-    """The record of tracks that were made of a frame; names are those that files have."""
+    """The record of tracks that were made of a frame."""
     zone = zone_of_crs(ranges.crs)
     crs = None if zone or ranges.crs is None else text_of_crs(ranges.crs)
-    left = in_order(tracks.reasons, {name: names.get(name, clean(name)) for name, _ in tracks.reasons})
-    return Record(None, None, ranges.unit, zone, ranges.shift, crs, given(tracks.options), [*tracks.notes, *renames(names)], left,
-                  made, tools_of("homerange for Python", tracks.is_projected))
+    said, left = [*tracks.notes, *renames(ranges.animals, names)], in_order(tracks.reasons, names)
+    return Record(None, None, ranges.unit, zone, ranges.shift, crs, given(tracks.options), said, left, made,
+                  tools_of("homerange for Python", tracks.is_projected))
 
 
-def renames(names: Mapping[str, str]) -> list[str]:
+def names_of(ranges: HomeRanges, tracks: Tracks) -> dict[str, str]:
+    """The name in files of each animal, also of those of which all was left out."""
+    if ranges.files:
+        return {name: name for name in ranges.animals}
+    others = sorted({name for name, _ in tracks.reasons}.difference(ranges.animals))
+    names = file_names([*ranges.animals, *others])
+    refuse_same_names(ranges.animals, names)
+    return names
+
+
+def renames(animals: Iterable[str], names: Mapping[str, str]) -> list[str]:
     """What is said of animals that have other names in files."""
-    return [f"animal '{name}' is named {clean_name}" for name, clean_name in names.items() if name != clean_name]
+    return [f"animal '{name}' is named {names[name]}" for name in animals if names[name] != name]
 
 
 def tracks_of(ranges: HomeRanges) -> Tracks:
@@ -90,7 +101,7 @@ def renamed(report: Report, names: Mapping[str, str]) -> Report:
 
 def tracks_in_order(tracks: Tracks, names: Mapping[str, str], report: Report) -> Tracks:
     """The tracks of a frame by the names that files have, in the order of the report."""
-    animal_of = {own: name for name, own in names.items()}
+    animal_of = {names[name]: name for name in tracks.by_name}
     by_name = {own: tracks.by_name[animal_of[own]] for own in report.tables}
     left_out = {names[name]: count for name, count in tracks.left_out.items()}
     return replace(tracks, by_name=by_name, left_out=left_out)
@@ -116,8 +127,8 @@ def write_folder(ranges: HomeRanges, into: str | os.PathLike[str], page: Mapping
     say of it."""
     path, tracks = path_of(into, "folder"), tracks_of(ranges)
     check_whole(ranges, "evidence")
-    names = {name: name for name in ranges.animals} if ranges.files else clean_names(ranges.animals)
-    said = renames(names)
+    names = names_of(ranges, tracks)
+    said = renames(ranges.animals, names)
     wish = Wish(",".join(map(str, ranges.levels)), ranges.unit, program_of(find_program(ranges.named)))
     words, reserve = words_of_page(ranges, **page)
     rings = rings_given(ranges, reserve)

@@ -10,7 +10,7 @@ from pathlib import Path
 import pandas
 import pytest
 from exact import cloud
-from frames import frame_of
+from frames import frame_of, noted
 
 from homerange import FrameError, HomeRangeNote, ProgramError, ReportError, evidence, home_range, read_report
 from homerange.asked import Asked, told
@@ -79,6 +79,23 @@ def test_the_record_of_a_frame(ranges, tmp_path):
     package = Path(evidence.__file__).parent
     code = b"".join(path.read_bytes() for end in ("py", "csv", "html") for path in sorted(package.glob(f"*.{end}")))
     assert tools == [f"tool,homerange for Python 1.0.0,{hashlib.sha256(code).hexdigest()}"]
+
+
+def test_names_that_windows_cannot_tell_apart_or_hold(tmp_path):
+    frame = frame_of(Fox=cloud(1, 9), con=cloud(2, 9), FOX_2=cloud(3, 2), fox=cloud(4, 9))
+    frame["visible"] = frame["animal"] != "FOX_2"
+    with pytest.warns(HomeRangeNote):
+        found = home_range(frame, 100)
+    with pytest.warns(HomeRangeNote) as warned:
+        found.evidence(tmp_path / "hand-in")
+    renamed = ["animal 'con' is named _con", "animal 'fox' is named fox_3"]
+    assert noted(warned) == renamed
+    lines, _ = lines_of(tmp_path / "hand-in")
+    assert [line for line in lines if "is named" in line] == [f"said,{line}" for line in renamed]
+    assert [line for line in lines if line.startswith("left,")] == ["left,FOX_2,2,outlier"]
+    assert [line.split(",")[1] for line in lines if line.startswith("track,")] == ["Fox", "_con", "fox_3"]
+    assert sorted(path.name for path in (tmp_path / "hand-in" / "tracks").iterdir()) == [
+        "Fox.csv", "_con.csv", "fox_3.csv", "split.txt"]
 
 
 def test_what_a_call_was_told():

@@ -13,7 +13,7 @@ homerange_evidence <- function(x, folder, ...) {
   if (!is_text(folder) || !nzchar(folder)) refuse("option", "folder: the name of a new folder is wanted")
   folder <- sub("(.)/+$", "\\1", folder)
   if (is_there(folder)) refuse("text", folder, " is there already: name another folder")
-  names <- if (is.null(x$files)) names_of_files(x$animals$animal) else x$animals$animal
+  names <- if (is.null(x$files)) names_of_files(x) else x$animals$animal
   local_utf8(names)
   program <- identity_of(homerange_program())
   part <- paste0(folder, ".part")
@@ -102,7 +102,7 @@ put_frame <- function(x, names, folder) {
     write_track(file.path(tracks, paste0(names[place], ".csv")), records, names[place], seq_len(nrow(own)), FALSE)
   }
   left <- x$left_out
-  left$animal <- clean_names(left$animal)
+  left$animal <- file_names(all_animals(x))[match(left$animal, all_animals(x))]
   fixes <- x$animals$fixes
   has_crs <- !is.null(x$crs) && is.null(x$zone)
   write_lines(file.path(tracks, "split.txt"), lines_of_record(list(
@@ -142,19 +142,21 @@ used_tracks <- function(folder) {
 # Whether a file of fixes says which are used.
 has_marks <- function(path) "use" %in% strsplit(readLines(path, 1, warn = FALSE), ",", fixed = TRUE)[[1]]
 
-# The names that animals have in files; two that come out the same are refused, and what a list of checksums cannot have.
-names_of_files <- function(animals) {
-  names <- clean_names(animals)
+# The names that the animals of ranges have in files; two that are the same are refused, and what a list of checksums cannot
+# have.
+names_of_files <- function(x) {
+  animals <- x$animals$animal
+  names <- file_names(all_animals(x))[seq_along(animals)]
   refuse_same_names(animals, names)
   bad <- names[one_line(names) != names]
   if (length(bad)) refuse("name", bad[1], " has a control character or a separator of lines in its name: rename it")
   names
 }
 
-# Which animals have another name in files, a line each.
-renames_of <- function(animals, names) {
-  is_other <- names != animals
-  sprintf("animal '%s' is named %s", animals[is_other], names[is_other])
+# The animals of ranges, and behind them those of which all was left out.
+all_animals <- function(x) {
+  animals <- x$animals$animal
+  c(animals, sort(setdiff(as.character(x$left_out$animal), animals), method = "radix"))
 }
 
 # A program: its path, what it says of its version, and its checksum.

@@ -6,12 +6,14 @@ byte_order_mark <- as.raw(c(0xef, 0xbb, 0xbf))
 
 # The options of each maker, which stand in collars.csv. A test holds this copy to that of the package for Python.
 presets <- function() {
-  path <- getOption("homerange.collars", system.file("extdata", "collars.csv", package = "homerange"))
-  table <- utils::read.csv(path, colClasses = "character", encoding = "UTF-8", na.strings = character())
+  table <- utils::read.csv(data_file("collars.csv"), colClasses = "character", encoding = "UTF-8", na.strings = character())
   lapply(split(table, factor(table$maker, unique(table$maker))), function(own) {
     `names<-`(as.list(own$value), gsub("-", "_", own$option, fixed = TRUE))
   })
 }
+
+# A file of the package's data. A script that runs the code of a clone names the folder.
+data_file <- function(name) file.path(getOption("homerange.extdata", system.file("extdata", package = "homerange")), name)
 
 # The options, where a maker is named with those of its preset that are not named themselves.
 with_preset <- function(options) {
@@ -236,17 +238,7 @@ take_piece <- function(table, piece, width) {
   }
 }
 
-# Names with _ for what a name or a file's name may not have, cut to 32 bytes.
-clean_names <- function(names) {
-  names <- gsub("[\\x01-\\x1f\\x7f/\\\\,\"]|^[.]", "_", names, perl = TRUE)
-  long <- nchar(names, "bytes") > 32
-  names[long] <- vapply(strsplit(names[long], ""), function(letters) {
-    paste(letters[cumsum(nchar(letters, "bytes")) <= 32], collapse = "")
-  }, "")
-  names
-}
-
-# The tracks of a table of text, its checksum, and the clean name of each animal by its number.
+# The tracks of a table of text, its checksum, and the name in files of each animal by its number.
 read_text <- function(path, options, said) {
   with_prefix(function(record) if (!is.null(record)) sprintf("record %.0f: ", record), {
     spare <- tempfile("text")
@@ -257,25 +249,19 @@ read_text <- function(path, options, said) {
     on.exit(close_text(text), add = TRUE, after = FALSE)
     table <- read_table(text, asked)
     checksum <- checksum_read(text)
-    tracks <- make_tracks(table, said, clean_names)
+    names <- file_names(table$names)
+    tracks <- make_tracks(table, said, function(animals) names[match(animals, table$names)])
     tell_names(tracks$herd, said)
-    list(tracks = tracks, names = clean_names(table$names), checksum = checksum)
+    list(tracks = tracks, names = names, checksum = checksum)
   })
 }
 
-# Says which animals have another name in files, and refuses two whose names come out the same.
+# Says which animals have another name in files, and refuses two whose files would have the same.
 tell_names <- function(herd, said) {
-  names <- herd$names[herd_animals(herd)]
-  clean <- clean_names(names)
-  refuse_same_names(names, clean)
-  for (at in which(names != clean)) say(said, NULL, "animal '", names[at], "' is named ", clean[at], kind = "renamed")
-}
-
-# Refuses two animals whose clean names are the same.
-refuse_same_names <- function(names, clean) {
-  twice <- which(duplicated(clean))[1]
-  if (is.na(twice)) return(invisible())
-  refuse("name", "animals '", names[match(clean[twice], clean)], "' and '", names[twice], "' would both be named ", clean[twice])
+  animals <- herd$names[herd_animals(herd)]
+  names <- herd$shown(animals)
+  refuse_same_names(animals, names)
+  for (line in renames_of(animals, names)) say(said, NULL, line, kind = "renamed")
 }
 
 # The fixes of a table of text as a data frame for home_range.

@@ -237,7 +237,7 @@ write_report <- function(x, path) {
   check_path(path)
   if (anyNA(x$overlaps)) refuse("option", "x: these are ranges of several reports, whose overlaps are not known")
   animals <- x$animals$animal
-  names <- names_of_files(animals)
+  names <- names_of_files(x)
   for (line in renames_of(animals, names)) tell_note(line, "renamed")
   tables <- lapply(unclass(x)[c("rows", "corners", "percents")], function(table) split(table, factor(table$animal, animals)))
   lines <- Map(lines_of_animal, names, x$animals$fixes, tables$rows, tables$corners, tables$percents)

@@ -84,7 +84,7 @@ digits_of_wholes <- function(numbers) {
 record_of_split <- function(path, split, rows, options, checksums, said) {
   tracks <- split$tracks
   left <- said$left
-  left$animal <- clean_names(left$animal)
+  left$animal <- c("", split$names)[match(left$animal, c("", tracks$table$names))]
   names <- split$names[as.integer(names(rows))]
   used <- vapply(rows, function(own) sum(tracks$records$used[own]), 0)
   list(export = basename(path), checksum = split$checksum, unit = unit_of(options), zone = tracks$zone, shift = tracks$shift,

@@ -37,8 +37,10 @@ and of their record. Whether the table was right nobody can see from it.
 Of a report that was read with its files these are copied, with the record that was named, or else the \code{split.txt} beside
 them; they have to be as it says. Where it is the record of a split, the verifier holds the folder to the export too.
 
-In names of files and animals \code{/}, \code{\\}, comma, double quote and control characters are \code{_}, a point at the
-start too, and what is over 32 bytes is cut off; two names that come out the same are refused. It wants \code{sha256sum}.
+In names of files and animals \code{< > : / \\ | ? *}, comma, double quote and control characters are \code{_}, and so is a
+point or a blank at the start or the end; a name of a device of Windows, such as \code{con}, has \code{_} before it, and what
+is over 32 bytes is cut off. Of names that differ in capitals or in the form of letters alone all but the first have a number.
+Two names that come out the same are refused. It wants \code{sha256sum}.
 }
 \value{The name of the folder, invisibly.}
 \seealso{\code{\link{write_page}}, \code{\link{homerange_growth}}}

@@ -18,7 +18,8 @@ sys.path.insert(0, str(TOOLS.parent / "python"))
 TITLES = ["name", "levels", "unit", "crs", "tz", "title", "study", "boundary", "boundary_crs", "boundary_name"]
 TABLES = ("report.html", "summary.csv", "animals.csv", "overlaps.csv")
 FILES = ("report.txt", *TABLES)
-ODD = ("<script>", "a & b", "it's", "فهد", "אבא", "\U0001f98a", "x  y", "{{title}}", "turned \u202e", "NA", "007", "c\\d", "%s", "Č")
+ODD = ("<script>", "a & b", "it's", "فهد", "אבא", "\U0001f98a", "x  y", "{{title}}", "turned \u202e", "NA", "007", "c\\d", "%s",
+       "Č", "č", "con", "nul.1 ", "e\u0301", "É")
 WOOD = ("MULTIPOLYGON (((560500 5133600, 561700 5133600, 561700 5134800, 560500 5134800, 560500 5133600), (560800 5133800, "
         "560800 5134100, 561100 5134100, 561100 5133800, 560800 5133800)), ((562000 5133000, 562400 5133000, 562400 5133400, "
         "562000 5133400, 562000 5133000)))")

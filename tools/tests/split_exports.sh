@@ -99,11 +99,11 @@ for count in 999 1999; do
     says "$count fixes of 1 animals are in tracks, in m"
 done
 
-# A control character in a name, a name with blanks, and one that looks like a word of R or a number.
+# A control character in a name, a name between blanks, and one that looks like a word of R or a number.
 printf '%s\n' "$head_line" "a$(printf '\001')b,2024-05-01 00:30:00,1,2,33N," ' x ,2024-05-01 00:30:00,1,2,33N,' \
     'TRUE,2024-05-01 00:30:00,1,2,33N,' '1e5,2024-05-01 00:30:00,1,2,33N,' '007,2024-05-01 00:30:00,1,2,33N,' \
     'fox,2024-05-01 00:30:00,1,2,33N,' 'fox,2024-05-01 00:30:00,1,2,33N,' | split_to 0
-for name in a_b ' x ' TRUE 1e5 007; do
+for name in a_b _x_ TRUE 1e5 007; do
     printf '%s\n' animal,second,easting,northing "$name,$(stamp '2024-05-01 00:30:00'),1,2" | makes "$name.csv"
 done
 

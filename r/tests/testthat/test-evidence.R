@@ -83,6 +83,34 @@ test_that("its tracks have a record", {
   expect_identical(record$said[1], "1 outliers: left out")
 })
 
+test_that("names that Windows cannot tell apart or hold are others in files", {
+  skip_without_program()
+  fixes <- rbind(walk("Fox", 9, 1), walk("con", 9, 2), walk("FOX_2", 2, 3), walk("fox", 9, 4))
+  fixes$visible <- fixes$animal != "FOX_2"
+  folder <- file.path(local_folder(), "hand-in")
+  ranges <- quietly(home_range(fixes))
+  renamed <- c("animal 'con' is named _con", "animal 'fox' is named fox_3")
+  said <- capture_messages(homerange_evidence(ranges, folder))
+  expect_identical(said, paste0("homerange: ", renamed, "\n"))
+  lines <- record_of(folder)
+  expect_identical(grep("is named", lines, value = TRUE), paste0("said,", renamed))
+  expect_identical(grep("^left,", lines, value = TRUE), "left,FOX_2,2,outlier")
+  expect_identical(sub("^track,([^,]*),.*", "\\1", grep("^track,", lines, value = TRUE)), c("Fox", "_con", "fox_3"))
+  expect_setequal(list.files(file.path(folder, "tracks")), c("Fox.csv", "_con.csv", "fox_3.csv", "split.txt"))
+})
+
+test_that("names are compared as Unicode compares them, in any locale", {
+  names <- c("Stra\u00dfe", "\u00e9", "e\u0323\u0301", "\u00e9\u0323", "\ud55c", "\u03b1\u0345\u0301", "\u2126", "I\u0307")
+  wanted <- c("strasse", "e\u0301", "e\u0323\u0301", "e\u0323\u0301", "\u1112\u1161\u11ab", "\u03b1\u0301\u03b9",
+              "\u03c9", "i\u0307")
+  old <- Sys.getlocale("LC_CTYPE")
+  on.exit(Sys.setlocale("LC_CTYPE", old))
+  for (locale in c(old, "C")) {
+    Sys.setlocale("LC_CTYPE", locale)
+    expect_identical(lapply(folded_names(names), utf8ToInt), lapply(wanted, utf8ToInt))
+  }
+})
+
 test_that("what a call was told is in the record", {
   asked <- new_asked(list(animal = c("a", "b,c"), max_dop = 5, max_speed = 0.25, months = c(3, 4), hours = c(18, 6.5), every = 2,
                           zone = "33n", since = as.Date("2024-05-01"), until = as.POSIXct("2024-05-31 18:00", tz = "Europe/Berlin"),

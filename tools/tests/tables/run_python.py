@@ -14,6 +14,7 @@ from homerange import FrameError
 from homerange.asked import Asked
 from homerange.exports import split_text
 from homerange.frames import read_frame
+from homerange.names import file_names
 
 NUMBERS = {"max-dop": float, "max-speed": float}
 
@@ -52,10 +53,12 @@ def as_frame(case, **reading):
     tracks = read_frame(frame, Asked(is_frame=True, **words), lambda line: None)
     if tracks.shift != case.shift:
         raise AssertionError(f"{case.name}: shifted by {tracks.shift}")
-    files = {name: file for file, name in case.names.items()}
+    files = file_names(tracks.by_name)
+    if {file: name for name, file in files.items() if file != name} != case.names:
+        raise AssertionError(f"{case.name}: files are named {files}")
     found = {}
     for name, track in tracks.by_name.items():
-        file = files.get(name, name)
+        file = files[name]
         rows = "".join(f"{file},{second},{east},{north}\n" for second, east, north in track.itertuples(index=False))
         found[file] = f"animal,second,easting,northing\n{rows}".encode()
     return found

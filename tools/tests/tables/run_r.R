@@ -3,7 +3,7 @@
 invisible(Sys.setlocale("LC_CTYPE", "C.UTF-8"))
 script <- sub("^--file=", "", grep("^--file=", commandArgs(), value = TRUE))
 package <- file.path(dirname(normalizePath(script)), "..", "..", "..", "r")
-options(homerange.collars = file.path(package, "inst", "extdata", "collars.csv"))
+options(homerange.extdata = file.path(package, "inst", "extdata"))
 homerange <- new.env()
 for (file in list.files(file.path(package, "R"), "[.]R$", full.names = TRUE)) sys.source(file, homerange)
 
@@ -46,11 +46,12 @@ as_frame <- function(case, ...) {
   read <- suppressMessages(homerange$read_frame(frame, homerange$new_asked(options, is_frame = TRUE)))
   shift <- c(lines_of(case, "shift"), "0,0")[1]
   if (sprintf("%.0f,%.0f", read$shift[1], read$shift[2]) != shift) stop("shifted by ", paste(read$shift, collapse = ","))
-  names <- strsplit(lines_of(case, "names"), "\t", fixed = TRUE)
-  files <- vapply(names, `[`, "", 1)
   fixes <- read$fixes
-  known <- match(fixes$animal, vapply(names, `[`, "", 2))
-  fixes$animal <- ifelse(is.na(known), fixes$animal, files[known])
+  animals <- unique(fixes$animal)
+  files <- homerange$file_names(animals)
+  is_other <- files != animals
+  if (!setequal(paste0(files, "\t", animals)[is_other], lines_of(case, "names"))) stop("files are named ", toString(files))
+  fixes$animal <- files[match(fixes$animal, animals)]
   lines <- sprintf("%s,%.0f,%.0f,%.0f\n", fixes$animal, fixes$moment, fixes$easting, fixes$northing)
   lapply(split(lines, fixes$animal), function(own) paste0(c("animal,second,easting,northing\n", own), collapse = ""))
 }
