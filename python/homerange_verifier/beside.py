@@ -10,17 +10,11 @@ from pathlib import Path
 
 from homerange.record import Record
 
-from .lines import Fault
-
 PACKAGE = Path(__file__).resolve().parents[1] / "homerange"
 RELEASE = PACKAGE / "release" if (PACKAGE / "release" / "homerange").is_file() else PACKAGE.parents[1] / "release"
 # A room has files of any name, of which Python is to import none.
 CALL = (sys.executable, "-P", "-c", "import sys; sys.path.insert(0, sys.argv.pop(1)); from homerange.{} import main; main()")
 SPLIT, MAKE = ((*CALL[:-1], CALL[-1].format(module), str(PACKAGE.parent)) for module in ("commands.split", "results"))
-# The options of a split that a record may have; none of them names a file.
-OPTIONS = set(
-    "zone sensor from animal name time time-format tz lon lat easting northing na encoding argos-class argos max-dop dop "
-    "fix-type fix since until max-speed every skip-lines mark skip-unnamed".split())
 
 
 def version() -> str:
@@ -41,9 +35,5 @@ def releases() -> Path:
 
 def words_of_split(record: Record) -> list[str]:
     """The options of a split as words of a command."""
-    names = [name for name, _ in record.options]
-    odd = [name for name in names if names.count(name) > 1 or name not in OPTIONS]
-    if odd:
-        raise Fault(f"split.txt has the option {odd[0]}, which a split has not, or has once")
     words = [f"--{name}" if value is None else f"--{name}={value}" for name, value in record.options]
     return [f"--unit={record.unit}", *words]

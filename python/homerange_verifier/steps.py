@@ -3,7 +3,6 @@
 from __future__ import annotations
 
 import os
-import re
 import subprocess
 from functools import cached_property
 from itertools import combinations_with_replacement
@@ -13,7 +12,7 @@ from typing import Callable, Sequence
 
 from homerange.about import BESIDE, FORM, About, read_about, text_of
 from homerange.errors import HomeRangeError
-from homerange.record import Record, read_record, record_text
+from homerange.record import Record, read_record
 from homerange.zones import CODE
 
 from . import beside
@@ -24,13 +23,12 @@ from .intake import (
 from .layers import difference as layers_difference
 from .lines import Counts, Fault, Range, Track, first_difference, overlaps_of, read_track, report_lines
 from .older import form_of, read_older
+from .records import SPLIT as OPTIONS, fault_of as split_fault
 from .releases import Release, releases
 
 MOST_ANIMALS, GROUP = 64, 32
 EXPORT = "export"  # the name under which it is split again, whatever the record calls it
 RESULTS = (*TABLES, LAYERS, PAGE)
-# What makes tracks, and what projects for it, as records have them.
-TOOLS = (r"(split\.py|split\.R|homerange for (Python|R)) [0-9.]+,[0-9a-f]{64}", r"(pyproj|sf) [0-9.]+[a-z0-9.]* \(PROJ [0-9.]+\)")
 NOT_THERE = 3  # the status of a maker that lacks something of this machine
 
 
@@ -124,6 +122,8 @@ class Verification:
         names = [*self.about.files]
         if not names or any(not name.startswith(f"{TRACKS}/") for name in names) or len({*names}) < len(names):
             raise Fault("the arguments in evidence.txt are not files of the folder's tracks, each once")
+        if names != sorted(names, key=os.fsencode):
+            raise Fault("the arguments in evidence.txt have the tracks in another order than that of their names")
         missing = [name for name in names if name not in self.intake.sums]
         if missing:
             raise Fault(f"evidence.txt names {missing[0]}, which is not there")
@@ -195,17 +195,14 @@ class Verification:
         own = None if split is None else ("none", None) if split.export is None else (split.export, split.checksum)
         if own != about.export:
             return f"{ABOUT} names another export than split.txt"
-        if split and record_text(split).encode("utf-8", "surrogateescape") != (self.given / SPLIT).read_bytes():
-            return "split.txt is in another form than such records have"
-        if split and split.zone and split.crs:
-            return "split.txt has a zone and another reference system"
+        fault = split and split_fault(split, (self.given / SPLIT).read_bytes())
+        if fault:
+            return fault
         words = about.words
         if split and (any(words.shift) or words.crs is not None and split.system_text is not None):
             return f"{ABOUT} names another reference system or shift beside those of split.txt"
         if (BOUNDARY in self.sums) != (words.boundary is not None):
             return f"{ABOUT} names a boundary, and there is no {BOUNDARY}, or the other way round"
-        if split and not (1 <= len(split.tools) <= 2 and all(map(re.fullmatch, TOOLS, split.tools))):
-            return "split.txt has a line 'tool' that is none of what makes tracks"
         release = self.release
         if release and about.program != release.program:
             return f"{ABOUT} calls the program '{about.program}', and it is {release.program}"
@@ -259,6 +256,9 @@ class Verification:
         if self.export.stat().st_size > most_of(EXPORT) or checksum_of(self.export) != self.split.checksum:
             raise Fault(f"{self.export.name} has not the checksum of the export in split.txt")
         copyfile(self.export, self.room / EXPORT)
+        odd = [name for name, _ in self.split.options if name not in OPTIONS]
+        if odd:
+            raise Fault(f"split.txt has the option {odd[0]}, which a split has not")
         words = [*beside.SPLIT, *beside.words_of_split(self.split), "--into", "again", "--", EXPORT]
         run = subprocess.run(words, cwd=self.room, stdin=subprocess.DEVNULL, capture_output=True)
         if run.returncode == 0:
@@ -274,7 +274,8 @@ class Verification:
         """Whether tracks and record are those that were made again. What made them, and how the export is called, may differ."""
         again = read_record(made / "split.txt")
         for name in split.tracks:
-            if again.tracks.get(name) != split.tracks[name]:
+            own = again.tracks.get(name)
+            if own != split.tracks[name] or own is None or own.checksum != self.intake.sums.get(f"{TRACKS}/{name}.csv"):
                 self.differs(f"split again the export comes to another track of {name}")
                 return
         if again._replace(export=split.export, tools=split.tools) != split:

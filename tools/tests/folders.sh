@@ -1,0 +1,41 @@
+# Tests that folders of evidence outlive the version that made them: those that are kept in folders/form1, folders/form2 ..
+# are verified with status 0 or 3; of the form that this copy writes tables, page and layers are made again as they are, so
+# that another byte takes another form: CONTRIBUTING.md, The form of a folder.
+# shellcheck shell=sh disable=SC2154
+
+# Verifies a folder, with its export beside it where there is one.
+verify_kept() {
+    set -- "$1"
+    [ ! -f "$1.csv" ] || set -- "$1" "$1.csv"
+    PYTHONDONTWRITEBYTECODE=1 python3 "$tools/verify.py" "$@" >kept
+    ended=$?
+    [ "$ended" -eq 0 ] || { [ "$ended" -eq 3 ] && ! grep -q '^did not hold' kept; }
+}
+
+if python3 -c 'import geopandas' 2>errors; then
+    form=$(sed -n 's/^FORM = \([0-9]*\).*/\1/p' "$top/python/homerange/about.py")
+    holds 'the form has kept folders' [ -d "$tools/tests/folders/form$form" ]
+    for folder in "$tools"/tests/folders/form*/*/; do
+        folder=${folder%/}
+        name=${folder#"$tools/tests/folders/"}
+        holds "$name is verified" verify_kept "$folder"
+        case $name in
+            "form$form"/*)
+                holds "$name: page and tables are as they were" grep -q '^held: summary.csv, animals.csv, overlaps.csv and report.html: made again' kept
+                holds "$name: so are the layers" grep -q '^held: ranges.gpkg: made again' kept
+                ;;
+            *) holds "$name: it is said what is not looked at" grep -q "^not looked at: .*made in form" kept ;;
+        esac
+    done
+    # An older version of this form, and a folder of another form.
+    cp -r "$tools/tests/folders/form$form/one" other
+    sed -i '1s/.*/form: 999/' other/evidence.txt
+    (cd other && find . -type f ! -name SHA256SUMS -printf '%P\n' | LC_ALL=C sort | xargs sha256sum >../sums && mv ../sums SHA256SUMS)
+    holds 'another form: nothing is held to be false' verify_kept other
+    holds 'another form: the report is verified' grep -q '^held: run again the program makes the same report' kept
+    holds 'another form: so is each line' grep -q '^held: each of the [0-9]* lines of the report' kept
+    holds 'another form: it is said which copy is wanted' grep -q '^not looked at: .*made in form 999, and this copy knows form' kept
+    rm -r other
+else
+    skip "kept folders: $(tail -n 1 errors)"
+fi
