@@ -27,7 +27,18 @@ from .zones import text_of_crs, zone_of_crs
 if TYPE_CHECKING:
     import pandas
 
+FORMULAS = tuple("=+-@\t\r'")  # how texts begin that a spreadsheet may compute, or of which it hides the first sign
 PLACES = dict.fromkeys(("days", "median_hours", "longest_hours", "last_tenth", "last_quarter"), 4)
+
+
+def shown_cell(text: str) -> str:
+    """A text as a cell that a spreadsheet shows and does not compute: behind an apostrophe, where it has to be."""
+    return f"'{text}" if text.startswith(FORMULAS) else text
+
+
+def cell_text(cell: str) -> str:
+    """The text that such a cell was made of."""
+    return cell.removeprefix("'")
 
 
 def with_times(table: pandas.DataFrame, *titles: str) -> pandas.DataFrame:
@@ -42,8 +53,9 @@ def write_tables(ranges: HomeRanges, folder: Path) -> None:
     summary = with_times(ranges.summary().drop(columns="left_out"), "first", "last")
     animals = with_times(ranges.overview(), "first", "last", "within_95_time").round(PLACES)
     for table, name in ((summary, "summary.csv"), (animals, "animals.csv")):
-        table.to_csv(folder / name, index=False, lineterminator="\n")
-    ranges.overlap(share=True).round(4).to_csv(folder / "overlaps.csv", lineterminator="\n")
+        table.assign(animal=table["animal"].map(shown_cell)).to_csv(folder / name, index=False, lineterminator="\n")
+    shares = ranges.overlap(share=True).round(4).rename(index=shown_cell, columns=shown_cell)
+    shares.to_csv(folder / "overlaps.csv", lineterminator="\n")
 
 
 def record_of(ranges: HomeRanges, tracks: Tracks, names: Mapping[str, str], made: dict[str, Made]) -> Record:

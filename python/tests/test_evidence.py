@@ -14,6 +14,7 @@ from frames import frame_of, noted
 
 from homerange import FrameError, HomeRangeNote, ProgramError, ReportError, evidence, home_range, read_report
 from homerange.asked import Asked, told
+from homerange.output import cell_text, shown_cell
 from homerange.program import find_program
 
 TOOLS = Path(__file__).parents[2] / "tools"
@@ -185,6 +186,28 @@ def test_tables_have_the_names_and_the_order_of_the_report(ranges, tmp_path):
         ranges.hectares(name, level) for name in ("a/b", "vixen", "Žiga Ä") for level in (95, 100)]
     page = (tmp_path / "hand-in" / "report.html").read_text("utf-8")
     assert 'data-animal="a_b"' in page and "a/b" not in page.split("When the fixes")[0]
+
+
+def test_a_name_is_no_formula_in_tables(tmp_path):
+    names = ["=1+1", "+7", "-7", "@sum", "'quoted", "it's", "a=b"]
+    cells = ["''quoted", "'+7", "'-7", "'=1+1", "'@sum", "a=b", "it's"]  # in the order of files
+    home_range(frame_of(**{name: cloud(at, 9) for at, name in enumerate(names)}), 100).evidence(tmp_path / "hand-in")
+    for name in ("summary", "animals", "overlaps"):
+        titles, *rows = (tmp_path / "hand-in" / f"{name}.csv").read_text().splitlines()
+        assert [row.split(",")[0] for row in rows] == cells
+    assert titles.split(",") == ["fixes_of", *cells]
+    assert sorted(map(cell_text, cells)) == sorted(names)
+    assert "animal,=1+1,fixes,9" in (tmp_path / "hand-in" / "report.txt").read_text().splitlines()
+    assert "track,=1+1,9,9" in (tmp_path / "hand-in" / "tracks" / "split.txt").read_text()
+    status, said = verify(tmp_path / "hand-in")
+    assert status == 3 and "did not hold" not in said, said
+
+
+def test_each_text_has_one_cell():
+    texts = ["=1", "+1", "-1", "@a", "\ta", "\ra", "'", "''", "'=1", "a", "", " =1", "a'", "1", "ä="]
+    assert [*map(shown_cell, texts)] == [
+        "'=1", "'+1", "'-1", "'@a", "'\ta", "'\ra", "''", "'''", "''=1", "a", "", " =1", "a'", "1", "ä="]
+    assert [cell_text(shown_cell(text)) for text in texts] == texts
 
 
 def test_evidence_of_a_grid_of_its_own(tmp_path):

@@ -28,6 +28,12 @@ seconds_text <- function(seconds) {
   ifelse(is_known, format(.POSIXct(ifelse(is_known, seconds, 0), tz = "UTC"), "%Y-%m-%dT%H:%M:%SZ"), "")
 }
 
+# Texts as cells that a spreadsheet shows and does not compute: behind an apostrophe, where they have to be.
+shown_cell <- function(texts) paste0(ifelse(grepl("^[=+@\t\r'-]", texts), "'", ""), texts)
+
+# The texts that such cells were made of.
+cell_text <- function(cells) sub("^'", "", cells)
+
 # Writes columns of text below their titles. Names of animals are clean, so that nothing has to be quoted.
 write_table <- function(path, columns) {
   write_lines(path, c(paste(names(columns), collapse = ","), do.call(paste, c(unname(columns), sep = ","))))
@@ -40,7 +46,7 @@ write_summary <- function(ranges, path) {
   last <- last_rows(ranges)[place]
   fixes <- ranges$animals$fixes[place]
   write_table(path, list(
-    animal = percents$animal, first = seconds_text(ranges$rows$second[last - fixes + 1]),
+    animal = shown_cell(percents$animal), first = seconds_text(ranges$rows$second[last - fixes + 1]),
     last = seconds_text(ranges$rows$second[last]), fixes = whole_text(fixes), level = whole_text(percents$level),
     kept = whole_text(percents$kept), corners = whole_text(percents$corners), hectares = hectares_text(ranges, percents$area2)
   ))
@@ -56,7 +62,8 @@ write_animals <- function(ranges, path) {
   of_intervals <- function(what) vapply(intervals, function(own) if (length(own)) what(own) else NA_real_, 0)
   grown <- homerange_growth(ranges)
   write_table(path, c(
-    list(animal = animals$animal, records = whole_text(animals$fixes + Reduce(`+`, left, 0))), lapply(left, whole_text),
+    list(animal = shown_cell(animals$animal), records = whole_text(animals$fixes + Reduce(`+`, left, 0))),
+    lapply(left, whole_text),
     list(used = whole_text(animals$fixes), first = seconds_text(first), last = seconds_text(last),
          days = rounded_text((last - first) / 86400), median_hours = rounded_text(of_intervals(twice_median) / 7200),
          longest_hours = rounded_text(of_intervals(max) / 3600)),
@@ -97,5 +104,5 @@ hectares_by_level <- function(ranges) {
 write_overlaps <- function(ranges, path) {
   shares <- homerange_overlap(ranges, share = TRUE)
   columns <- lapply(seq_len(ncol(shares)), function(at) rounded_text(shares[, at]))
-  write_table(path, c(list(fixes_of = rownames(shares)), `names<-`(columns, colnames(shares))))
+  write_table(path, c(list(fixes_of = shown_cell(rownames(shares))), `names<-`(columns, shown_cell(colnames(shares)))))
 }

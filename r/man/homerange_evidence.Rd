@@ -40,7 +40,8 @@ them; they have to be as it says. Where it is the record of a split, the verifie
 In names of files and animals \code{< > : / \\ | ? *}, comma, double quote and control characters are \code{_}, and so is a
 point or a blank at the start or the end; a name of a device of Windows, such as \code{con}, has \code{_} before it, and what
 is over 32 bytes is cut off. Of names that differ in capitals or in the form of letters alone all but the first have a number.
-Two names that come out the same are refused. It wants \code{sha256sum}.
+Two names that come out the same are refused. In the tables a name that begins with \code{=}, \code{+}, \code{-}, \code{@} or
+an apostrophe has an apostrophe before it, so that no spreadsheet computes it. It wants \code{sha256sum}.
 }
 \value{The name of the folder, invisibly.}
 \seealso{\code{\link{write_page}}, \code{\link{homerange_growth}}}

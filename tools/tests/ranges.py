@@ -9,6 +9,10 @@ import pandas
 from exact import area2, covers, hull, nearest
 from pages import Page, area, share
 
+sys.path.insert(0, str(Path(__file__).resolve().parents[2] / "python"))
+
+from homerange.output import cell_text
+
 
 def read_tracks(path):
     """The points of each animal."""
@@ -21,6 +25,7 @@ def read_tracks(path):
 
 def check_summary(folder, units, levels, tracks):
     summary = pandas.read_csv(folder / "summary.csv", keep_default_na=False, dtype={"animal": str})
+    summary["animal"] = summary["animal"].map(cell_text)
     summary = summary.set_index(["animal", "level"])
     assert {*summary.index} == {(name, level) for name in tracks for level in levels}
     for (name, level), row in summary.iterrows():
@@ -54,6 +59,7 @@ def check_fixes(folder, epsg, units, tracks):
 
 def check_overlaps(folder, tracks):
     overlaps = pandas.read_csv(folder / "overlaps.csv", keep_default_na=False, index_col=0)
+    overlaps = overlaps.rename(index=cell_text, columns=cell_text)
     for name, points in tracks.items():
         for other, others in tracks.items():
             corners = hull(others)

@@ -154,6 +154,18 @@ END
 _hidden,0.5
 boar,1.0" ]
 
+    # Names that a spreadsheet would compute.
+    for name in '=1+1' -7 @sum "'tis" boar; do
+        printf '%s\n' "$name,0,562000,5134000" "$name,1,562100,5134000" "$name,2,562100,5134100" "$name,3,562000,5134050"
+    done | sed '1i animal,second,easting,northing' >plan/export.csv
+    holds 'ranges of formulas' "$make" --zone 33N --percent 75,100 plan/export.csv plan/formulas
+    printf '%s\n' animal "''tis" "'-7" "'=1+1" "'@sum" boar >wanted
+    cut -d, -f1 plan/formulas/animals.csv >made
+    holds 'they are none in tables' cmp wanted made
+    sed 1d plan/export.csv | cut -d, -f1,3,4 >plan/fixes
+    holds 'read again they are these names' are_ranges plan/formulas 32633 1 75,100 plan/fixes
+    holds 'formulas are verified' verify_ranges plan/formulas plan/export.csv
+
     # A local grid comes back where it was.
     printf '%s\n' id,date,x,y a,2024-05-01,-300,-400 a,2024-05-02,-200,-400 a,2024-05-03,-200,-300.2 >plan/export.csv
     holds 'ranges of a local grid' "$make" --percent 100 plan/export.csv plan/local

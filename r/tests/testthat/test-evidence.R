@@ -99,6 +99,26 @@ test_that("names that Windows cannot tell apart or hold are others in files", {
   expect_setequal(list.files(file.path(folder, "tracks")), c("Fox.csv", "_con.csv", "fox_3.csv", "split.txt"))
 })
 
+test_that("a name is no formula in tables", {
+  skip_without_program()
+  names <- c("=1+1", "+7", "-7", "@sum", "'quoted", "it's", "a=b")
+  folder <- local_evidence(quietly(home_range(do.call(rbind, Map(walk, names, 9, seq_along(names))))))
+  cells <- c("''quoted", "'+7", "'-7", "'=1+1", "'@sum", "a=b", "it's")  # in the order of files
+  first <- function(table) unique(sub(",.*", "", readLines(file.path(folder, table))[-1]))
+  for (table in c("summary.csv", "animals.csv", "overlaps.csv")) expect_identical(first(table), cells)
+  expect_identical(readLines(file.path(folder, "overlaps.csv"), 1), paste(c("fixes_of", cells), collapse = ","))
+  expect_setequal(cell_text(cells), names)
+  expect_true("animal,=1+1,fixes,9" %in% readLines(file.path(folder, "report.txt")))
+  expect_false(any(grepl("did not hold", verified(folder))))
+})
+
+test_that("each text has one cell", {
+  texts <- c("=1", "+1", "-1", "@a", "\ta", "\ra", "'", "''", "'=1", "a", "", " =1", "a'", "1", "\u00e4=")
+  cells <- c("'=1", "'+1", "'-1", "'@a", "'\ta", "'\ra", "''", "'''", "''=1", "a", "", " =1", "a'", "1", "\u00e4=")
+  expect_identical(shown_cell(texts), cells)
+  expect_identical(cell_text(cells), texts)
+})
+
 test_that("names are compared as Unicode compares them, in any locale", {
   names <- c("Stra\u00dfe", "\u00e9", "e\u0323\u0301", "\u00e9\u0323", "\ud55c", "\u03b1\u0345\u0301", "\u2126", "I\u0307")
   wanted <- c("strasse", "e\u0301", "e\u0323\u0301", "e\u0323\u0301", "\u1112\u1161\u11ab", "\u03b1\u0301\u03b9",

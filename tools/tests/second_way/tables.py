@@ -1,5 +1,5 @@
 """The tables that ranges.py writes, each computed anew, as bytes: numbers are as Python writes them, halves are rounded to
-even digits, times are those of UTC and nothing is written where there is none."""
+even digits, times are those of UTC, nothing is written where there is none, and no text is a formula."""
 
 from __future__ import annotations
 
@@ -68,9 +68,14 @@ def tables(animals: Sequence[Animal], counts: Counts, levels: Sequence[int], uni
             "overlaps.csv": overlaps(animals, counts)}
 
 
+def cell_of(value: object) -> object:
+    """What a cell has of a value: a text that a spreadsheet may compute, or that begins with an apostrophe, is behind one."""
+    return f"'{value}" if isinstance(value, str) and value.startswith(tuple("=+-@\t\r'")) else value
+
+
 def bytes_of(rows: Rows) -> bytes:
     text = io.StringIO(newline="")
-    csv.writer(text, lineterminator="\n").writerows(rows)
+    csv.writer(text, lineterminator="\n").writerows(map(cell_of, row) for row in rows)
     return text.getvalue().encode("utf-8")
 
 
