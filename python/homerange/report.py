@@ -279,12 +279,18 @@ def kept_count(fixes: int, level: int) -> int:
     return (level * fixes + 99) // 100
 
 
-def kept_places(eastings: Sequence[int], northings: Sequence[int], level: int) -> list[int]:
-    """The places of the fixes that a level keeps: those nearest to the mean of all, of fixes as near the earlier. All is
+def nearest(eastings: Sequence[int], northings: Sequence[int], places: Iterable[int], count: int) -> list[int]:
+    """Of fixes at some places so many, those nearest to the mean of all fixes, of fixes as near the earlier. All is
     multiplied by the number of fixes, so that the numbers are whole and exact."""
     fixes, east, north = len(eastings), sum(eastings), sum(northings)
 
     def distance(at: int) -> int:
         return (fixes * eastings[at] - east) ** 2 + (fixes * northings[at] - north) ** 2
 
-    return sorted(sorted(range(fixes), key=distance)[:kept_count(fixes, level)])
+    return sorted(places, key=distance)[:count]
+
+
+def kept_places(eastings: Sequence[int], northings: Sequence[int], level: int) -> list[int]:
+    """The places of the fixes that a level keeps."""
+    fixes = len(eastings)
+    return sorted(nearest(eastings, northings, range(fixes), kept_count(fixes, level)))
