@@ -19,6 +19,7 @@ from .report import Report, lines_of, overlaps_of, parse
 
 MOST_ANIMALS = 64  # of one run
 GROUP = 32  # animals of a group, where there are more
+ROWS = 1_000  # of a track that are written together
 PACKAGE = Path(__file__).resolve().parent
 Progress = Callable[[int, int], object]  # is called with how many of how many runs are done
 OWN = PACKAGE / "release" / "homerange"  # what a wheel has
@@ -102,8 +103,10 @@ def _write_tracks(folder: str, tracks: Mapping[str, Any]) -> None:
     for number, track in enumerate(tracks.values()):
         with open(Path(folder, f"{number}.csv"), "w", encoding="utf-8", newline="\n") as file:
             file.write("animal,second,easting,northing\n")
-            columns = (track[column].tolist() for column in ("second", "easting", "northing"))
-            file.writelines(f"{number},{second},{easting},{northing}\n" for second, easting, northing in zip(*columns))
+            numbers = track[["second", "easting", "northing"]].to_numpy().ravel().tolist()
+            for first in range(0, len(numbers), 3 * ROWS):
+                cells = tuple(numbers[first:first + 3 * ROWS])
+                file.write(f"{number},%d,%d,%d\n" * (len(cells) // 3) % cells)
 
 
 def steps_of(names: Sequence[str]) -> list[tuple[Sequence[str], ...]]:

@@ -26,7 +26,7 @@ from .growth import share
 from .overview import Row, reasons_of, rows_of
 from .program import MOST_ANIMALS, Program, Runs, find_program, program_of
 from .record import Record, read_record
-from .report import Corners, Percent, Report, Table, kept_places, polygon_of, read as read_lines
+from .report import Corners, Percent, Report, Table, kept_count, nearest, polygon_of, read as read_lines
 from .tables import Said
 
 if TYPE_CHECKING:
@@ -35,6 +35,8 @@ if TYPE_CHECKING:
 
 Moment = Union[str, date, datetime]
 Words = Union[str, Iterable[Any]]
+ROWS = 1_000  # of a file that are read together
+SLACK = 1e-12  # by how much of itself and of 1 the square of a rounded distance is not known, with a wide margin
 # How lines begin that say what was taken, and nothing that was left out or changed.
 TAKEN = ("columns: ", "UTM coordinates are", "coordinates are those", "longitude and latitude are", "days and hours are",
          "ranges are by group")
@@ -47,7 +49,26 @@ def times_of(seconds: pandas.Series, tz: str) -> pandas.Series:
 
 def _kept(track: pandas.DataFrame, level: int) -> pandas.DataFrame:
     """The fixes of a track that a level keeps."""
-    return track.iloc[kept_places(track["easting"].tolist(), track["northing"].tolist(), level)]
+    count, east, north = kept_count(len(track), level), track["easting"], track["northing"]
+    far = from_mean(east.to_numpy()) ** 2 + from_mean(north.to_numpy()) ** 2
+    edge = numpy.partition(far, count - 1)[count - 1]
+    is_near, is_far = far < edge - SLACK * (edge + 1), far > edge + SLACK * (edge + 1)
+    # Where rounded distances do not tell it, whole numbers do.
+    unsure = numpy.flatnonzero(~is_near & ~is_far).tolist()
+    is_near[nearest(east.tolist(), north.tolist(), unsure, count - int(is_near.sum()))] = True
+    return track[is_near]
+
+
+def from_mean(numbers: NDArray[numpy.int64]) -> NDArray[numpy.float64]:
+    """How far whole numbers are from their mean, but for roundings."""
+    whole, rest = divmod(int(numbers.sum()), len(numbers))
+    return numpy.asarray(numbers - whole - rest / len(numbers), dtype="float64")
+
+
+def ends_of(track: pandas.DataFrame) -> list[tuple[int, int]]:
+    """The southernmost and the northernmost fix of each easting: no other fix is a corner."""
+    northings = track.groupby("easting")["northing"]
+    return [pair for ends in (northings.min(), northings.max()) for pair in zip(ends.index.tolist(), ends.tolist())]
 
 
 def count_inside(track: Any, polygon: Corners) -> int:
@@ -517,17 +538,24 @@ def read_export(path: str | os.PathLike[str], **options: Any) -> pandas.DataFram
 
 def _read_track(path: str | os.PathLike[str]) -> tuple[str, pandas.DataFrame, int]:
     """The animal of a file, its used fixes, of which there may be none, and how many are not used."""
+    numbers: dict[str, list[int]] = {title: [] for title in ("second", "easting", "northing")}
+    animals, count = list[str](), 0
     with open(path, encoding="utf-8-sig", newline="") as file:
-        rows = [row for row in csv.DictReader(file)]
-    used = [row for row in rows if row.get("use", "1") == "1"]
-    titles = ("second", "easting", "northing")
-    if not rows or not {"animal", *titles} <= {*rows[0]}:
+        lines = csv.reader(file)
+        at = {title: place for place, title in enumerate(next(lines, []))}
+        rows = filter(None, lines) if {"animal", *numbers} <= {*at} else iter(())
+        while some := list(itertools.islice(rows, ROWS)):
+            used = [row for row in some if row[at["use"]:][:1] == ["1"]] if "use" in at else some
+            try:
+                for title, column in numbers.items():
+                    column += [int(row[at[title]]) for row in used]
+            except (IndexError, ValueError) as fault:
+                raise FrameError(f"{path} has a fix whose second, easting or northing is no number") from fault
+            animals, count = animals or some[0][at["animal"]:], count + len(some)
+    if not count:
         raise FrameError(f"{path} has no fix with animal, second, easting and northing")
-    try:
-        numbers = {title: [int(row[title]) for row in used] for title in titles}
-    except (TypeError, ValueError) as fault:
-        raise FrameError(f"{path} has a fix whose second, easting or northing is no number") from fault
-    return rows[0]["animal"], pandas.DataFrame(numbers), len(rows) - len(used)
+    track = pandas.DataFrame({title: numpy.array(column) for title, column in numbers.items()})
+    return "".join(animals[:1]), track, count - len(track)
 
 
 def _tracks_of(report: Report, files: Iterable[str | os.PathLike[str]]) -> Tracks | None:
@@ -540,8 +568,7 @@ def _tracks_of(report: Report, files: Iterable[str | os.PathLike[str]]) -> Track
             raise ReportError(f"no file has the animal {name} of the report")
         if read[name][0]["second"].tolist() != [second for second, _, _ in table.rows]:
             raise ReportError(f"the file of {name} has other fixes than the report")
-        points = zip(read[name][0]["easting"].tolist(), read[name][0]["northing"].tolist())
-        if polygon_of(points) != table.corners:
+        if polygon_of(ends_of(read[name][0])) != table.corners:
             raise ReportError(f"the polygon of the file of {name} is not that of the report")
     unused = {name: read[name][1] for name in report.tables}
     reasons = Counter({(name, "use"): count for name, count in unused.items()})

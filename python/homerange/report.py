@@ -10,18 +10,22 @@ import io
 import os
 import re
 from array import array
+from functools import partial
+from itertools import chain, islice
 from typing import Any, Callable, Iterable, Iterator, Mapping, NamedTuple, NoReturn, Sequence, TextIO
 
 from .errors import ReportError, one_line
 
 Corners = list[tuple[int, int]]
-Rows = list[tuple[int, int, int]]
+Row = tuple[int, int, int]  # second, corners and area after a fix
+Rows = list[Row]
 
 TEXT: dict[str, Any] = {"encoding": "utf-8", "errors": "surrogateescape", "newline": "\n"}
-# The end of a line with so many numbers: digits alone, at most those of the greatest area, and no zero before others.
-NUMBERS = [re.compile(",".join(["(0|[1-9][0-9]{0,16})"] * count) + "\n") for count in range(5)]
+NUMBER = "(?:0|[1-9][0-9]{0,16}+)"  # digits alone, at most those of the greatest area, and no zero before others
+NUMBERS = [re.compile(",".join([f"({NUMBER})"] * count) + "\n") for count in range(5)]  # so many at the end of a line
+PIECE = 1_000  # rows that are read together
 NAME = re.compile('[^\x00-\x1f\x7f,"]{1,32}')
-END = re.compile("(?:^|\\n)end,[0-9]+\\n\\Z")
+END = re.compile("end,[0-9]+\\n")
 LEVEL = re.compile("percent,([^,]*),([1-9][0-9]{0,2}),.*\n")
 
 
@@ -37,7 +41,7 @@ class Percent(NamedTuple):
 class Table(NamedTuple):
     """What a report says of one animal. Areas are doubled, in squares of the unit."""
 
-    rows: Rows  # second, corners and area after each fix
+    rows: Rows
     corners: Corners
     percents: list[Percent]
 
@@ -87,8 +91,9 @@ class Lines:
     """The lines of a report: `line` is the one that is taken next, and `number` says which was taken last."""
 
     def __init__(self, file: TextIO, where: str) -> None:
-        self.file, self.where, self.number = file, where, 0
-        self.line = file.readline()
+        self.rest: Iterator[str] = file
+        self.where, self.number = where, 0
+        self.line = next(self.rest, "")
 
     def refuse(self, text: str) -> NoReturn:
         raise ReportError(one_line(f"{self.where}: line {self.number}: {text}"))
@@ -99,8 +104,19 @@ class Lines:
         numbers = NUMBERS[count].fullmatch(self.line, len(head))
         if not numbers or not self.line.startswith(head):
             self.refuse(f"{self.line.rstrip()!r}, but {head!r} and numbers ({count}) are wanted")
-        self.line = self.file.readline()
+        self.line = next(self.rest, "")
         return list(map(int, numbers.groups()))
+
+    def take_many(self, count: int, read: Callable[[str], Rows]) -> Rows:
+        """What is read of the next lines, so many, together; where that is nothing, none of them is taken."""
+        lines = [self.line, *islice(self.rest, count - 1)]
+        rows = read("".join(lines))
+        if rows:
+            self.number += count
+            self.line = next(self.rest, "")
+        else:
+            self.rest = chain(lines[1:], self.rest)
+        return rows
 
     def unit(self) -> str:
         """The unit, which has a line where it is decimetres."""
@@ -162,14 +178,36 @@ class Animal:
 
     def take_rows(self, keeps_rows: bool) -> None:
         """The rows of the first 1, 2, .. fixes. The last is that of all."""
-        before, self.last = 0, [0, 0]
-        for n in range(1, self.fixes + 1):
-            second, corners, area = self.take(f"row,{self.name},{n},", 3)
-            self.need(second >= before and area >= self.last[1], "seconds or areas fall")
-            before, self.last = second, [corners, area]
+        form = re.compile(f"(?:row,{re.escape(self.name)},[0-9]++,{NUMBER},{NUMBER},{NUMBER}\n)*+")
+        last = (0, 0, 0)
+        for first in range(1, self.fixes + 1, PIECE):
+            numbers = range(first, min(first + PIECE, self.fixes + 1))
+            rows = self.lines.take_many(len(numbers), partial(self.rows_in, form, numbers, last))
+            for n in numbers[len(rows):]:
+                rows.append(self.row(n, rows[-1] if rows else last))
+            last = rows[-1]
             if keeps_rows:
-                self.rows.append((second, corners, area))
+                self.rows += rows
+        self.last = [*last[1:]]
         self.need(self.last[0] > 0, "no corners")
+
+    def row(self, n: int, before: Row) -> Row:
+        """The row of the first n fixes, behind another."""
+        second, corners, area = self.take(f"row,{self.name},{n},", 3)
+        self.need(second >= before[0] and area >= before[2], "seconds or areas fall")
+        return second, corners, area
+
+    def rows_in(self, form: re.Pattern[str], numbers: range, before: Row, text: str) -> Rows:
+        """The rows of so many fixes, if a text is they; none where it has to be looked at line by line."""
+        if not form.fullmatch(text):
+            return []
+        fields = text.replace("\n", ",").split(",")
+        seconds, corners, areas = (list(map(int, fields[at:-1:6])) for at in (3, 4, 5))
+        rises = [before[0], *seconds] == sorted([before[0], *seconds]) and [before[2], *areas] == sorted([before[2], *areas])
+        if not rises or fields[2:-1:6] != list(map(str, numbers)):
+            return []
+        self.write(text)
+        return list(zip(seconds, corners, areas))
 
     def polygon(self) -> Corners:
         """The corners of the polygon of all fixes, which has the box and the area of all."""
@@ -217,7 +255,7 @@ def parse(lines: Lines) -> Report:
 
 def check_end(text: str, where: str) -> None:
     """Refuses a report that does not end as one, of which this is the end."""
-    if END.search(text) is None:
+    if END.fullmatch(text, text.rfind("\n", 0, -1) + 1) is None:
         raise ReportError(f"{one_line(where)} is cut off: its last line is not 'end,' with the number of animals")
 
 
@@ -241,12 +279,18 @@ def kept_count(fixes: int, level: int) -> int:
     return (level * fixes + 99) // 100
 
 
-def kept_places(eastings: Sequence[int], northings: Sequence[int], level: int) -> list[int]:
-    """The places of the fixes that a level keeps: those nearest to the mean of all, of fixes as near the earlier. All is
+def nearest(eastings: Sequence[int], northings: Sequence[int], places: Iterable[int], count: int) -> list[int]:
+    """Of fixes at some places so many, those nearest to the mean of all fixes, of fixes as near the earlier. All is
     multiplied by the number of fixes, so that the numbers are whole and exact."""
     fixes, east, north = len(eastings), sum(eastings), sum(northings)
 
     def distance(at: int) -> int:
         return (fixes * eastings[at] - east) ** 2 + (fixes * northings[at] - north) ** 2
 
-    return sorted(sorted(range(fixes), key=distance)[:kept_count(fixes, level)])
+    return sorted(places, key=distance)[:count]
+
+
+def kept_places(eastings: Sequence[int], northings: Sequence[int], level: int) -> list[int]:
+    """The places of the fixes that a level keeps."""
+    fixes = len(eastings)
+    return sorted(nearest(eastings, northings, range(fixes), kept_count(fixes, level)))
