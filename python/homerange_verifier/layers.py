@@ -86,7 +86,10 @@ def entries_of(base: Connection) -> set[Entry]:
         elif kind == "table" and name == STYLES:
             statement = "" if BY_R.fullmatch(str(statement)) else statement
         found.add((kind, name, table, statement))
-    return found - triggers(SINCE) | triggers(BEFORE) if triggers(SINCE) <= found else found
+    if len({(kind, name) for kind, name, _, _ in entries}) < len(entries):
+        raise sqlite3.DatabaseError("two entries of its schema have one name")
+    is_since = triggers(SINCE) <= found and not triggers(BEFORE) & found
+    return found - triggers(SINCE) | triggers(BEFORE) if is_since else found
 
 
 def schema_fault(base: Connection, wanted: Connection, name: str) -> str | None:

@@ -253,9 +253,11 @@ class Verification:
             return
         if self.split is None:
             raise Fault("the tracks have no record by which they could be made again")
-        if self.export.stat().st_size > most_of(EXPORT) or checksum_of(self.export) != self.split.checksum:
-            raise Fault(f"{self.export.name} has not the checksum of the export in split.txt")
+        if self.export.stat().st_size > most_of(EXPORT):
+            raise Fault(f"{self.export.name} has more bytes than an export may have ({most_of(EXPORT)})")
         copyfile(self.export, self.room / EXPORT)
+        if checksum_of(self.room / EXPORT) != self.split.checksum:
+            raise Fault(f"{self.export.name} has not the checksum of the export in split.txt")
         odd = [name for name, _ in self.split.options if name not in OPTIONS]
         if odd:
             raise Fault(f"split.txt has the option {odd[0]}, which a split has not")
