@@ -4,6 +4,7 @@ and the last quarter of the fixes added."""
 
 from __future__ import annotations
 
+from bisect import bisect_left
 from typing import NamedTuple, Sequence
 
 FEWEST = 30  # fixes below which nothing is said of a curve
@@ -25,7 +26,7 @@ def levelling_of(areas: Sequence[int]) -> Levelling:
 
     Levelled off is a curve of 30 fixes or more whose last quarter added less than 5 per cent of the final area."""
     fixes, last = len(areas), areas[-1]
-    within = next(n for n, area2 in enumerate(areas, 1) if 20 * area2 >= 19 * last)
+    within = bisect_left(areas, 19 * last, key=lambda area2: 20 * area2) + 1
 
     def area_of_first(count: int) -> int:
         return areas[count - 1] if count else 0
