@@ -4,6 +4,7 @@ the fixes added."""
 
 from __future__ import annotations
 
+from bisect import bisect_left
 from typing import NamedTuple, Sequence
 
 
@@ -19,7 +20,7 @@ class Growth(NamedTuple):
 def growth_of(areas: Sequence[int]) -> Growth:
     """What is said of the doubled areas after each fix, which never fall."""
     fixes, last = len(areas), areas[-1]
-    within = next(n for n, area2 in enumerate(areas, 1) if 20 * area2 >= 19 * last)
+    within = bisect_left(areas, 19 * last, key=lambda area2: 20 * area2) + 1
 
     def area_of_first(count: int) -> int:
         return areas[count - 1] if count else 0

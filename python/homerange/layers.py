@@ -6,6 +6,7 @@ from __future__ import annotations
 import os
 import sqlite3
 from contextlib import closing, contextmanager
+from itertools import chain, islice
 from pathlib import Path
 from typing import TYPE_CHECKING, Iterator
 
@@ -19,6 +20,7 @@ from .ranges import HomeRanges, tell, times_of
 if TYPE_CHECKING:
     import geopandas
 
+ROWS = 100  # that are written together
 NO_DATE = "1970-01-01T00:00:00.000Z"
 # Where no reference system is known: GDAL would take coordinates without one for degrees.
 LOCAL = 'LOCAL_CS["Undefined Cartesian SRS",UNIT["metre",1]]'
@@ -92,8 +94,10 @@ def write_fixes(fixes: pandas.DataFrame, crs: object, path: Path) -> None:
     with closing(sqlite3.connect(path)) as base:
         system, = base.execute("SELECT srs_id FROM gpkg_geometry_columns WHERE table_name = 'fixes'").fetchone()
         cells = [times_text(rest[title]) if title == "time" else rest[title].tolist() for title in titles]
-        row = f"INSERT INTO fixes (geom, {columns}) VALUES (?{', ?' * len(titles)})"
-        base.executemany(row, zip(shapes_of(rest, system), *cells))
+        rows, places = zip(shapes_of(rest, system), *cells), f"(?{', ?' * len(titles)})"
+        while some := list(islice(rows, ROWS)):
+            row = f"INSERT INTO fixes (geom, {columns}) VALUES {', '.join([places] * len(some))}"
+            base.execute(row, [*chain.from_iterable(some)])
         box = [float(end(fixes[title])) for end in (min, max) for title in ("easting", "northing")]
         base.execute("UPDATE gpkg_contents SET min_x = ?, min_y = ?, max_x = ?, max_y = ? WHERE table_name = 'fixes'", box)
         base.commit()

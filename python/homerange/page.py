@@ -42,8 +42,7 @@ def shapes_of(ranges: HomeRanges, levels: Sequence[int]) -> list[Shape]:
     found = []
     for number, name in enumerate(ranges.animals, 1):
         fixes = ranges.fixes(name)
-        points = [] if fixes is None else [(east, north) for east, north in fixes.tolist()]
-        found.append(Shape(number, [corners[name] for corners in polygons], points))
+        found.append(Shape(number, [corners[name] for corners in polygons], [] if fixes is None else fixes))
     return found
 
 

@@ -45,9 +45,9 @@ class Axes:
 def steps(curve: Curve, axes: Axes) -> str:
     """The curve. Of changes at one place of the drawing the last is drawn."""
     found = [(place(axes.x(1)), place(axes.y(curve.areas[0])))]
-    for n in range(2, len(curve.areas) + 1):
-        if curve.areas[n - 1] != curve.areas[n - 2]:
-            x, y = place(axes.x(n)), place(axes.y(curve.areas[n - 1]))
+    for n, (former, area2) in enumerate(zip(curve.areas, curve.areas[1:]), 2):
+        if area2 != former:
+            x, y = place(axes.x(n)), place(axes.y(area2))
             if found[-1][0] == x:
                 found.pop()
             found.append((x, y))

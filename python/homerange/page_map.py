@@ -4,12 +4,20 @@ arrow to the north. Where ranges are too small to be seen beside the distances b
 from __future__ import annotations
 
 from itertools import islice
-from typing import Iterable, NamedTuple, Sequence
+from typing import TYPE_CHECKING, Iterable, NamedTuple, Sequence, TypeVar, Union
+
+import numpy
+import pandas
 
 from .drawing import Step, colour, counts_of, line, step_of, svg, text_at
 from .formats import place
 
+if TYPE_CHECKING:
+    from numpy.typing import NDArray
+
 Point = tuple[float, float]
+Fixes = Union[Sequence[Point], "NDArray[numpy.float64]"]
+Side = TypeVar("Side", float, "NDArray[numpy.float64]")  # one number, or those of many points
 Box = tuple[float, float, float, float]  # west, south, east, north
 
 WIDTH = 680.0
@@ -32,7 +40,7 @@ class Shape(NamedTuple):
 
     number: int
     polygons: Sequence[Sequence[Point]]
-    fixes: Sequence[Point]
+    fixes: Fixes
 
 
 def box_of(points: Iterable[Point]) -> Box:
@@ -42,7 +50,14 @@ def box_of(points: Iterable[Point]) -> Box:
 
 def box_of_shapes(shapes: Sequence[Shape]) -> Box:
     """The box of the polygons and fixes of animals."""
-    return box_of(point for shape in shapes for points in (*shape.polygons, shape.fixes) for point in points)
+    ends = (points for shape in shapes for points in (*shape.polygons, ends_of(shape.fixes)))
+    return box_of(point for points in ends for point in points)
+
+
+def ends_of(fixes: Fixes) -> list[Point]:
+    """Two corners of the box of fixes; none where there is no fix."""
+    eastings, northings = numpy.asarray(fixes, dtype="float64").reshape(-1, 2).T
+    return [(float(end(eastings)), float(end(northings))) for end in (numpy.min, numpy.max)] if len(eastings) else []
 
 
 def side(box: Box) -> float:
@@ -61,7 +76,7 @@ class Frame:
         self.west = (box[0] + box[2]) / 2 - self.width / self.scale / 2
         self.south = (box[1] + box[3]) / 2 - self.height / self.scale / 2
 
-    def at(self, point: Point) -> Point:
+    def at(self, point: tuple[Side, Side]) -> tuple[Side, Side]:
         """The place of a point in the frame, whose first corner is above on the left."""
         return (point[0] - self.west) * self.scale, self.height - (point[1] - self.south) * self.scale
 
@@ -80,13 +95,13 @@ class Frame:
         return f"M{'L'.join(texts)}Z"
 
 
-def thinned(fixes: Iterable[Point], frame: Frame, cell: float) -> list[Point]:
+def thinned(fixes: Fixes, frame: Frame, cell: float) -> list[Point]:
     """The places of fixes, the first in each cell of the drawing."""
-    found: dict[tuple[int, int], Point] = {}
-    for point in fixes:
-        x, y = frame.at(point)
-        found.setdefault((int(x // cell), int(y // cell)), (x, y))
-    return [*found.values()]
+    eastings, northings = numpy.asarray(fixes, dtype="float64").reshape(-1, 2).T
+    x, y = frame.at((eastings, northings))
+    cells = 2 ** 32 * (x // cell).astype("int64") + (y // cell).astype("int64")
+    is_first = ~pandas.Series(cells).duplicated().to_numpy()
+    return list(zip(x[is_first].tolist(), y[is_first].tolist()))
 
 
 def dots(shapes: Sequence[Shape], frame: Frame) -> list[str]:

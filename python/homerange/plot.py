@@ -71,8 +71,9 @@ class Line:
 
     def __init__(self, ranges: HomeRanges, animal: Drawn, by: str, share: bool) -> None:
         rows = ranges.report.tables[animal.name].rows
-        last = rows[-1][2]
-        kept = [at for at in range(len(rows)) if at in (0, len(rows) - 1) or rows[at][2] != rows[at - 1][2]]
+        last, areas = rows[-1][2], [area2 for _, _, area2 in rows]
+        changes = [at for at, (former, area2) in enumerate(zip(areas, areas[1:-1]), 1) if area2 != former]
+        kept = [*dict.fromkeys((0, *changes, len(rows) - 1))]
         whole = last / 100 if share else float(UNITS[ranges.unit].hectare)
         self.fixes = [at + 1 for at in kept]
         self.seconds = [rows[at][0] for at in kept]

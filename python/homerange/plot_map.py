@@ -27,8 +27,7 @@ def shapes_of(ranges: HomeRanges, drawn: Sequence[Drawn], levels: Sequence[int],
     found = []
     for animal in drawn:
         fixes = ranges.fixes(animal.name) if has_fixes else None
-        points = [] if fixes is None else [(east, north) for east, north in fixes.tolist()]
-        found.append(Shape(animal.number, [own[animal.name] for own in polygons], points))
+        found.append(Shape(animal.number, [own[animal.name] for own in polygons], [] if fixes is None else fixes))
     return found
 
 

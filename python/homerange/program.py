@@ -127,10 +127,10 @@ def workers(jobs: int | None) -> ThreadPoolExecutor:
 
 
 class Runs:
-    """The runs of tracks."""
+    """The runs of tracks. Where only polygons are wanted, the last row stands for each."""
 
-    def __init__(self, program: str, tracks: dict[str, Any], levels: str, unit: str) -> None:
-        self.program, self.tracks, self.levels, self.unit = program, tracks, levels, unit
+    def __init__(self, program: str, tracks: dict[str, Any], levels: str, unit: str, skips_rows: bool = False) -> None:
+        self.program, self.tracks, self.levels, self.unit, self.skips_rows = program, tracks, levels, unit, skips_rows
         self.numbers = {name: number for number, name in enumerate(tracks)}
         self.steps = steps_of(list(tracks))
 
@@ -147,7 +147,7 @@ class Runs:
         if len(step) == 2:
             overlaps = overlaps_of(lines_of(text, self.program), fixes)
         else:
-            found = parse(lines_of(text, self.program))
+            found = parse(lines_of(text, self.program), self.skips_rows)
             overlaps = found.overlaps
             reported = {number: len(table.rows) for number, table in found.tables.items()}
             if found.unit != self.unit or [*reported.items()] != [*fixes.items()]:

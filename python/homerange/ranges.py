@@ -36,6 +36,7 @@ if TYPE_CHECKING:
 Moment = Union[str, date, datetime]
 Words = Union[str, Iterable[Any]]
 ROWS = 1_000  # of a file that are read together
+LAST_OF_TIMES = 9_223_372_036  # the last second since 1970 that pandas has
 SLACK = 1e-12  # by how much of itself and of 1 the square of a rounded distance is not known, with a wide margin
 # How lines begin that say what was taken, and nothing that was left out or changed.
 TAKEN = ("columns: ", "UTM coordinates are", "coordinates are those", "longitude and latitude are", "days and hours are",
@@ -44,7 +45,10 @@ TAKEN = ("columns: ", "UTM coordinates are", "coordinates are those", "longitude
 
 def times_of(seconds: pandas.Series, tz: str) -> pandas.Series:
     """Seconds since 1970 by the clock of tz; NaT after the year 2262, where pandas' times end."""
-    return pandas.to_datetime(seconds, unit="s", utc=True, errors="coerce").dt.tz_convert(tz)
+    whole = seconds.to_numpy("int64")
+    nanoseconds = numpy.where(whole <= LAST_OF_TIMES, 10 ** 9 * whole, numpy.iinfo("int64").min)
+    times = pandas.Series(nanoseconds.view("datetime64[ns]"), seconds.index, name=seconds.name)
+    return times.dt.tz_localize("UTC").dt.tz_convert(tz)
 
 
 def _kept(track: pandas.DataFrame, level: int) -> pandas.DataFrame:
@@ -282,7 +286,8 @@ class HomeRanges:
         tables: dict[str, Table] = {}
         for first in range(0, len(kept), MOST_ANIMALS):
             part = dict(itertools.islice(kept.items(), first, first + MOST_ANIMALS))
-            tables.update(Runs(find_program(self.named), part, "100", self.unit).report(progress_of(None), self.jobs).tables)
+            runs = Runs(find_program(self.named), part, "100", self.unit, skips_rows=True)
+            tables.update(runs.report(progress_of(None), self.jobs).tables)
         for name, table in tables.items():
             if Percent(level, len(table.rows), *table.rows[-1][1:]) != self._percent(name, level):
                 raise ReportError(f"the {level} per cent polygon of {name} is not that of the report")

@@ -1,5 +1,6 @@
 """The GeoPackage of ranges: its layers as sqlite3 and geopandas read them, against polygons by hand and the fixes themselves."""
 import sqlite3
+import struct
 import time
 from contextlib import closing
 from pathlib import Path
@@ -53,6 +54,17 @@ def test_fixes_are_numbered_with_their_times(herd, tmp_path):
     box = query(tmp_path / "ranges.gpkg", "SELECT min_x, min_y, max_x, max_y FROM gpkg_contents WHERE table_name = 'fixes'")[0]
     sides = [*zip(*(point for points in herd.values() for point in points))]
     assert box == (min(sides[0]), min(sides[1]), max(sides[0]), max(sides[1]))
+
+
+def test_many_fixes_are_written(tmp_path):
+    points = {"fox": cloud(6, 230), "owl": cloud(7, 173)}
+    put_layers(home_range(frame_of(**points), 100), tmp_path / "ranges.gpkg")
+    rows = query(tmp_path / "ranges.gpkg", "SELECT fid, animal, n, time, geom FROM fixes ORDER BY fid")
+    assert [row[3] for row in rows] == [f"{time:%Y-%m-%dT%H:%M}:00.000Z" for time in frame_of(**points)["timestamp"]]
+    assert [row[:3] for row in rows] == [
+        (fid, name, n) for fid, (name, n) in enumerate([("fox", n) for n in range(1, 231)] + [("owl", n) for n in range(1, 174)], 1)]
+    assert [struct.unpack("<dd", row[4][-16:]) for row in rows] == [*points["fox"], *points["owl"]]
+    assert query(tmp_path / "ranges.gpkg", "SELECT feature_count FROM gpkg_ogr_contents WHERE table_name = 'fixes'") == [(403,)]
 
 
 def test_times_are_those_of_utc(tmp_path):

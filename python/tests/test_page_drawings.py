@@ -1,5 +1,6 @@
 """The map and the curves of the page: where things are drawn, that numbers cover no other, and what is drawn apart."""
 import re
+from math import floor
 
 import pytest
 from exact import cloud, hull
@@ -81,6 +82,20 @@ def test_fixes_that_cover_each_other_are_drawn_once():
     assert 1 < len(thinned(fixes, frame, 1.5)) < 40
     text = maps([Shape(1, [SQUARE], [(x * 1.0, y * 1.0) for x in range(0, 2000, 5) for y in range(0, 2000, 10)])], [], "", 1)
     assert text.drawings[0].count("h0") <= 15_000
+
+
+@pytest.mark.parametrize("cell", [1.0, 1.5, 7.59375])
+def test_of_fixes_in_a_cell_the_first_is_drawn(cell):
+    frame = Frame((562_000.1, 5_134_000.2, 563_000.7, 5_135_000.9), 100, WIDTH, 200, 600)
+    fixes = [(east / 7, north / 7) for east, north in cloud(4, 3000, 3500, 7 * 562_500, 7 * 5_134_500)]
+    fixes.append((frame.west - 20, frame.south - 20))
+    found = {}
+    for fix in fixes:
+        x, y = frame.at(fix)
+        found.setdefault((floor(x / cell), floor(y / cell)), (x, y))
+    assert thinned(fixes, frame, cell) == [*found.values()]
+    assert 100 < len(found) < 3000
+    assert thinned([], frame, cell) == []
 
 
 def test_what_is_far_is_drawn_apart():

@@ -1,10 +1,11 @@
 """Reports that were made elsewhere: what is read, and what is refused."""
+import re
 import subprocess
 from pathlib import Path
 
 import pandas
 import pytest
-from exact import cloud, hull, nearest
+from exact import area2, cloud, hull, nearest
 
 import homerange
 from homerange import FrameError, ReportError, read_report
@@ -132,6 +133,60 @@ def test_a_report_that_is_not_whole_is_refused(files, kind, change, said):
     path.write_text(changed(path.read_text(), kind, change))
     with pytest.raises(ReportError, match=said):
         read_report(path)
+
+
+@pytest.fixture(scope="module")
+def long_report(tmp_path_factory):
+    """The lines of a report of more rows than are read together, with a walk that comes back."""
+    path, points = tmp_path_factory.mktemp("long") / "walk.csv", cloud(9, 2600, spread=40)
+    lines = [f"walk,{60 * at},{east},{north}" for at, (east, north) in enumerate(points)]
+    path.write_text("\n".join(["animal,second,easting,northing", *lines, ""]))
+    return path, points, report_of([path]).read_text().splitlines(keepends=True)
+
+
+def test_many_rows_are_read(long_report):
+    path, points, lines = long_report
+    found = read_report(path.with_name("report.txt"), files=[path])
+    assert [row[0] for row in found.report.tables["walk"].rows] == [60 * at for at in range(2600)]
+    for count in (1, 999, 1000, 1001, 2000, 2600):
+        corners = hull(points[:count])
+        assert found.report.tables["walk"].rows[count - 1][1:] == (len(corners), area2(corners))
+    # Points of a small grid, many of which lie as far from the mean.
+    assert {level: found.corners(level)["walk"] for level in found.levels} == {
+        level: hull(nearest(points, level)) for level in found.levels}
+
+
+@pytest.mark.parametrize("n", [1, 2, 1000, 1001, 1002, 1700, 2600])
+@pytest.mark.parametrize("change, said", [
+    (r"row,walk,\1,\2,\3,0\4", "but 'row,walk,{n},' and numbers (3) are wanted"),
+    (r"row,walk,\1,\2,\3, \4", "but 'row,walk,{n},' and numbers (3) are wanted"),
+    (r"row,walk,0\1,\2,\3,\4", "but 'row,walk,{n},' and numbers (3) are wanted"),
+    (r"row,walks,\1,\2,\3,\4", "but 'row,walk,{n},' and numbers (3) are wanted"),
+    (r"row,walk,9\1,\2,\3,\4", "but 'row,walk,{n},' and numbers (3) are wanted"),
+    (r"row,walk,\1,\2,\3,\4\nrow,walk,\1,\2,\3,\4", None),
+    ("", None)])
+def test_a_fault_among_many_rows_is_found(long_report, n, change, said):
+    path, _, lines = long_report
+    changed = path.with_name("changed.txt")
+    changed.write_text("".join(
+        re.sub("^row,walk,([0-9]+),([0-9]+),([0-9]+),([0-9]+)", change, line) if at == n + 1 else line
+        for at, line in enumerate(lines)))
+    with pytest.raises(ReportError) as fault:
+        read_report(changed)
+    at = n + 2 + (said is None and change != "")
+    assert f": line {at}: " in str(fault.value)
+    assert said is None or said.format(n=n) in str(fault.value)
+
+
+@pytest.mark.parametrize("n, field", [(3, 3), (1000, 3), (1001, 3), (1000, 5), (1001, 5), (2600, 5)])
+def test_what_falls_among_many_rows_is_found(long_report, n, field):
+    path, _, lines = long_report
+    before, own = (line.rstrip("\n").split(",") for line in lines[n:n + 2])
+    own[field] = str(int(before[field]) - 1)
+    changed = path.with_name("changed.txt")
+    changed.write_text("".join([*lines[:n + 1], ",".join(own) + "\n", *lines[n + 2:]]))
+    with pytest.raises(ReportError, match=f": line {n + 2}: walk: seconds or areas fall"):
+        read_report(changed)
 
 
 @pytest.mark.parametrize("text", ["", "\n", "end,0\n", "unit,dm\nend,0\n"])
