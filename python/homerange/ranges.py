@@ -37,6 +37,8 @@ Moment = Union[str, date, datetime]
 Words = Union[str, Iterable[Any]]
 ROWS = 1_000  # of a file that are read together
 LAST_OF_TIMES = 9_223_372_036  # the last second since 1970 that pandas has
+EXACT = 2 ** 30  # products of two differences of smaller numbers have 64 bits
+SOME = 16  # of the corners of a polygon, at most
 SLACK = 1e-12  # by how much of itself and of 1 the square of a rounded distance is not known, with a wide margin
 # How lines begin that say what was taken, and nothing that was left out or changed.
 TAKEN = ("columns: ", "UTM coordinates are", "coordinates are those", "longitude and latitude are", "days and hours are",
@@ -69,10 +71,24 @@ def from_mean(numbers: NDArray[numpy.int64]) -> NDArray[numpy.float64]:
     return numpy.asarray(numbers - whole - rest / len(numbers), dtype="float64")
 
 
-def ends_of(track: pandas.DataFrame) -> list[tuple[int, int]]:
-    """The southernmost and the northernmost fix of each easting: no other fix is a corner."""
-    northings = track.groupby("easting")["northing"]
-    return [pair for ends in (northings.min(), northings.max()) for pair in zip(ends.index.tolist(), ends.tolist())]
+def outer_fixes(track: pandas.DataFrame, corners: Corners) -> list[tuple[int, int]]:
+    """The fixes of a track without those within a polygon of some of these corners; of fixes with one easting the southernmost
+    and the northernmost. If the corners are those of all fixes, they are those of these."""
+    is_small = -EXACT < track.min().min() and track.max().max() < EXACT
+    east, north = (track[title].to_numpy("int64" if is_small else object) for title in ("easting", "northing"))
+    some, is_within = corners[::-(-len(corners) // SOME)], numpy.full(len(track), True)
+    for (e, n), (next_e, next_n) in zip(some, [*some[1:], some[0]]):
+        is_within &= (next_e - e) * (north - n) > (next_n - n) * (east - e)
+    return ends_of(east[~is_within], north[~is_within])
+
+
+def ends_of(east: NDArray[Any], north: NDArray[Any]) -> list[tuple[int, int]]:
+    """Of points with one easting the southernmost and the northernmost."""
+    order = east.argsort()
+    east, north = east[order], north[order]
+    first = numpy.flatnonzero(numpy.append(True, east[1:] != east[:-1]))
+    ends = [numpy.minimum.reduceat(north, first), numpy.maximum.reduceat(north, first)]
+    return [pair for end in ends for pair in zip(east[first].tolist(), end.tolist())]
 
 
 def count_inside(track: Any, polygon: Corners) -> int:
@@ -573,7 +589,7 @@ def _tracks_of(report: Report, files: Iterable[str | os.PathLike[str]]) -> Track
             raise ReportError(f"no file has the animal {name} of the report")
         if read[name][0]["second"].tolist() != [second for second, _, _ in table.rows]:
             raise ReportError(f"the file of {name} has other fixes than the report")
-        if polygon_of(ends_of(read[name][0])) != table.corners:
+        if polygon_of(outer_fixes(read[name][0][["easting", "northing"]], table.corners)) != table.corners:
             raise ReportError(f"the polygon of the file of {name} is not that of the report")
     unused = {name: read[name][1] for name in report.tables}
     reasons = Counter({(name, "use"): count for name, count in unused.items()})

@@ -10,6 +10,8 @@ from exact import area2, cloud, hull, nearest
 import homerange
 from homerange import FrameError, ReportError, read_report
 from homerange.program import find_program
+from homerange.ranges import _kept, outer_fixes
+from homerange.report import kept_places
 
 TRACKS = {"vixen": cloud(7, 40), "old boar": cloud(8, 11)}
 
@@ -94,6 +96,30 @@ def test_fixes_in_other_places_are_refused(files):
     files[1].write_text(text.replace("{},{}".format(*inner), middle))
     with pytest.raises(ReportError, match="50 per cent polygon of old boar is not that of the report"):
         read_report(report, files=files).corners(50)
+
+
+@pytest.mark.parametrize("points", [
+    cloud(1, 400), cloud(2, 400, spread=9), [(7, 5)], [(7, 5), (9, 5)], [(at, 3 * at) for at in range(50)],
+    [(5, at) for at in range(50)], [(at, at * at) for at in range(99)], [(4 ** 20 * at, 9 ** 20 - at * at) for at in range(99)]])
+def test_few_fixes_have_the_polygon_of_all(points):
+    track, corners = pandas.DataFrame(points, columns=["easting", "northing"]), hull(points)
+    assert hull(outer_fixes(track, corners)) == corners
+    for place in range(len(corners)):
+        east, north = corners[place]
+        for other in ([], [(east + 1, north)], [(east, north - 1)], [(2 * east + 3, north)]):
+            wrong = [*corners[:place], *other, *corners[place + 1:]]
+            assert not wrong or hull(outer_fixes(track, wrong)) != wrong
+
+
+@pytest.mark.parametrize("level", [1, 50, 95, 100])
+@pytest.mark.parametrize("points", [
+    cloud(3, 500), cloud(4, 500, spread=4), [(0, 0), (2, 0), (0, 2), (2, 2)] * 9, [(7, 5)],
+    [(2 ** 27 - at % 2, 2 ** 27 * (at % 3 // 2)) for at in range(99)]])
+def test_fixes_that_a_level_keeps(points, level):
+    track = pandas.DataFrame(points, columns=["easting", "northing"])
+    places = kept_places(*zip(*points), level)
+    assert _kept(track, level).index.tolist() == places
+    assert sorted(points[at] for at in places) == sorted(nearest(points, level))
 
 
 def changed(text, kind, change):
