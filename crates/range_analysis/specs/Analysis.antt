@@ -24,7 +24,8 @@ pub record IsAnalysis (entries : List Entry) (levels : List ℕ) (unit : Scale) 
   pub overlaps : AllZip (IsOverlap (map points_in entries)) (pairs (length entries)) analysis.overlaps
   pub same_unit : analysis.unit ≡ unit
 
--- the fault of the first file that has one, else the first animal that stands in an earlier file; out of memory may come in between
+-- why entries have no analysis: the fault of the first file that has one, else the first animal that an earlier file
+-- has too; memory may always run out
 abbrev pub HasNoAnalysis : List Entry → AnalyseFault → Type 0
 HasNoAnalysis entries OutOfMemory = ⊤
 HasNoAnalysis entries (LineCut file) = ⊥

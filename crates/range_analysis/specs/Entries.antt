@@ -12,6 +12,7 @@ use Rattle.range_collect.specs.declared.followed.Followed.{Followed}
 use Rattle.range_analysis.specs.declared.analyse_fault.AnalyseFault.{AnalyseFault}
 use Rattle.range_analysis.specs.declared.analyse_fault.AnalyseFault.TheVariants.{OutOfMemory, LineCut, File}
 
+-- what a file gave: its animal's name and its fixes, or why it cannot be read to its end
 pub data Entry : Type 0 where
   of_animal : List ℕ → List Fix → Entry
   of_fault : ReadFault → Entry
@@ -24,22 +25,23 @@ entry_of (Err fault) fixes = of_fault fault
 abbrev pub entries_of : {A : Type 0} {clone : Ghosts A} → List (Followed A clone) → List Entry
 entries_of followed = map (λ f. entry_of f.read f.estimator.fixes) followed
 
--- the fault of the first file that has one, the first of them having this number
+-- the fault of the first of these files that has one, with its number, where the first of them has this number
 abbrev pub first_fault_from : ℕ → List Entry → Option AnalyseFault
 first_fault_from number [] = None
 first_fault_from number (of_animal name fixes ∷ entries) = first_fault_from (number + 1) entries
 first_fault_from number (of_fault fault ∷ entries) = Some (File number fault)
 
+-- the fault of the first file that has one, with its number, counted from 0
 abbrev pub first_fault : List Entry → Option AnalyseFault
 first_fault entries = first_fault_from 0 entries
 
--- the animals' names
+-- the names of the animals that entries give, in their order
 abbrev pub names_of : List Entry → List (List ℕ)
 names_of [] = []
 names_of (of_animal name fixes ∷ entries) = name ∷ names_of entries
 names_of (of_fault fault ∷ entries) = names_of entries
 
--- the points of the file
+-- the points of the fixes that a file's entry gives; none where it is a fault
 abbrev pub points_in : Entry → List Position
 points_in (of_animal name fixes) = points_of fixes
 points_in (of_fault fault) = []

@@ -4,7 +4,7 @@ use Rattle.range_fixes.specs.FaultText.{fault_text}
 use Rattle.range_analysis.specs.declared.analyse_fault.AnalyseFault.{AnalyseFault}
 use Rattle.range_analysis.specs.declared.analyse_fault.AnalyseFault.TheVariants as analyses
 
--- without the files that it is wrong with
+-- what is said of files that have no analysis, without what the files are called
 abbrev pub analyse_text : AnalyseFault → List ℕ
 analyse_text analyses.OutOfMemory = codes "out of memory, or a thread could not be started"
 analyse_text (analyses.LineCut file) = codes "its fixes were not all handed on"

@@ -14,16 +14,17 @@ use Rattle.range_numbers.specs.Number.{is_number}
 use Rattle.range_fixes.specs.Field.{Record, is_name, width}
 use Rattle.range_fixes.specs.Previous.{Previous}
 
--- another animal than that of the records before
+-- whether a name is another than that of the records before, if there are some
 abbrev pub is_other : Option Previous → List ℕ → Bool
 is_other None name = false
 is_other (Some previous) name = not (bytes_eq previous.animal name)
 
--- a second less than that of the record before
+-- whether a second is less than that of the record before, if there is one
 abbrev pub is_earlier : Option Previous → ℕ → Bool
 is_earlier None second = false
 is_earlier (Some previous) second = nat_lt second previous.second
 
+-- a check, and then a next one that is given what the first found; a fault ends them
 infixl 10 ◌>>=◌
 abbrev pub ◌>>=◌ : {A B : Type 0} → Result A ReadFault → (A → Result B ReadFault) → Result B ReadFault
 (Ok x) >>= f = f x
@@ -36,7 +37,7 @@ animal_in rec previous name =
     else if is_other previous name then Err (OtherAnimal rec)
     else Ok tt
 
--- the number in a field of record number rec, at most so great
+-- the number in a field of record number rec, or what is wrong with it: it is no number, or greater than it may be
 abbrev pub number_in : Scale → ℕ → ℕ → ℕ → List ℕ → Result ℕ ReadFault
 number_in unit rec field most bytes =
     if not (is_number bytes) then Err (NotNumber rec field)
@@ -57,7 +58,7 @@ fix_in unit rec previous name second easting northing = do
   n ← number_in unit rec 3 (limit unit) northing
   if is_earlier previous s then Err (SecondFalls rec) else Ok (record { second = s; at = position (pos e) (pos n) })
 
--- the checks of record number rec, in their order
+-- the fix of record number rec and whether it is used, or the first fault that its checks find, in their order
 abbrev pub checks_of : Scale → ℕ → Option Previous → List ℕ → List ℕ → List ℕ → List ℕ → Option (List ℕ) → Result CheckedRecord ReadFault
 checks_of unit rec previous name second easting northing used = do
   fix ← fix_in unit rec previous name second easting northing

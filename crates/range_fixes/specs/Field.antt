@@ -9,11 +9,11 @@ use Rattle.range_fixes.specs.declared.checks.TheConstants.{FIELD_COUNT, FIELD_CO
 abbrev pub Record : Type 0
 Record = List (List ℕ)
 
--- no control byte, comma, double quote or delete
+-- whether a byte may stand in a name: it is no control byte, comma, double quote or delete
 abbrev pub is_name_byte : ℕ → Bool
 is_name_byte b = nat_le 32 b && not (b == 44) && not (b == 34) && not (b == 127)
 
--- one or more such bytes, and no more than a name may have
+-- whether bytes are a name: one or more that may stand in it, and no more than a name may have
 abbrev pub is_name : List ℕ → Bool
 is_name bytes = nat_lt 0 (length bytes) && nat_le (length bytes) NAME_LIMIT && list_all is_name_byte bytes
 
@@ -21,24 +21,24 @@ is_name bytes = nat_lt 0 (length bytes) && nat_le (length bytes) NAME_LIMIT && l
 abbrev pub byte_order_mark : List ℕ
 byte_order_mark = 0xEF ∷ 0xBB ∷ 0xBF ∷ []
 
--- the header's first field, which may stand behind a byte order mark, and then between quotes
+-- whether a header's first field is `animal`; it may stand behind a byte order mark, and then between quotes
 abbrev pub names_animal : List ℕ → Bool
 names_animal field =
     bytes_eq field (codes "animal") || bytes_eq field (byte_order_mark ++ codes "animal") || bytes_eq field (byte_order_mark ++ codes "\"animal\"")
 
--- the columns that the checks of each record begin with
+-- whether four fields of a header are animal, second, easting and northing
 abbrev pub names_columns : List ℕ → List ℕ → List ℕ → List ℕ → Bool
 names_columns animal second easting northing =
     names_animal animal && bytes_eq second (codes "second") && bytes_eq easting (codes "easting") && bytes_eq northing (codes "northing")
 
--- whether a header has the column `use`; none where the record is no header
+-- whether a header has the column `use`, true or false; none where the record is no header
 abbrev pub header_of : Record → Option Bool
 header_of (animal ∷ second ∷ easting ∷ northing ∷ []) = if names_columns animal second easting northing then Some false else None
 header_of (animal ∷ second ∷ easting ∷ northing ∷ used ∷ []) =
     if names_columns animal second easting northing && bytes_eq used (codes "use") then Some true else None
 header_of _ = None
 
--- how many fields each record has below such a header
+-- how many fields each record has, below a header with the column `use` or one without it
 abbrev pub width : Bool → ℕ
 width false = FIELD_COUNT
 width true = FIELD_COUNT_WITH_USE

@@ -3,17 +3,18 @@ use Rattle.std.specs.Prelude.{ℕ, ◌≤◌, List, Option, Some, None, IsTrue, 
 use Rattle.range_plane.specs.Fix.{second_limit}
 use Rattle.range_fixes.specs.Field.{is_name}
 
--- its animal, and its second
+-- what a record is held against: the animal of the records before it, and the second of the last of them
 pub record Previous : Type 0 where
   pub animal : List ℕ
   pub second : ℕ
 
--- a record of this name and second, which passed; the name is that of the first record
+-- what the next record is held against, after one of this name and second that passed; the name stays that of the
+-- first record
 abbrev pub then_previous : Option Previous → List ℕ → ℕ → Previous
 then_previous None name second = record { animal = name; second = second }
 then_previous (Some previous) name second = record previous { second = second }
 
--- the animal of the records so far
+-- the animal of the records so far, if there are some
 abbrev pub animal_so_far : Option Previous → Option (List ℕ)
 animal_so_far previous = option_map (λ p. p.animal) previous
 

@@ -29,7 +29,7 @@ final_answer Going = None
 final_answer Ended = Some (Ok None)
 final_answer (Failed fault) = Some (Err fault)
 
--- a fault of the text, in which the source, memory and the line have no part
+-- whether a fault is one of the file's text, in which the source, memory and the line have no part
 abbrev pub is_of_text : ReadFault → Bool
 is_of_text faults.OutOfMemory = false
 is_of_text faults.Read = false

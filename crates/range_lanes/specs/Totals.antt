@@ -2,6 +2,7 @@
 use Rattle.std.specs.Prelude.{ℕ, ◌*◌, ℤ, pos, ◌+ℤ◌, ◌≤ℤ◌, List, fold}
 use Rattle.range_plane.specs.Plane.{coordinate_limit}
 
+-- the sum of some numbers
 abbrev pub total : List ℤ → ℤ
 total xs = fold ◌+ℤ◌ (pos 0) xs
 

@@ -24,18 +24,21 @@ pub record IsInTriangle (q a b c : Position) : Type 0 where
   pub second : pos 0 ≤ℤ turn b c q
   pub third : pos 0 ≤ℤ turn c a q
 
--- q lies on a segment between two members, which may be one member twice, or in a triangle of three
+-- S covers q: it lies on a segment between two members of S, which may be one member twice, or in a triangle of
+-- three
 pub data Covers (S : List Position) (q : Position) : Type 0 where
   by_segment : (a b : Position) → Contains S a → Contains S b → IsOnSegment q a b → Covers S q
   by_triangle : (a b c : Position) → Contains S a → Contains S b → Contains S c → IsInTriangle q a b c → Covers S q
 
--- the same, as a test
+-- whether q lies on the segment from a to b, its ends included
 abbrev pub is_on_segment : Position → Position → Position → Bool
 is_on_segment q a b = int_eq (turn a b q) (pos 0) && int_le (scalar_product q a b) (pos 0)
 
+-- whether q lies in the triangle a b c, which goes counterclockwise, its edges and corners included
 abbrev pub is_in_triangle : Position → Position → Position → Position → Bool
 is_in_triangle q a b c = int_lt (pos 0) (turn a b c) && int_le (pos 0) (turn a b q) && int_le (pos 0) (turn b c q) && int_le (pos 0) (turn c a q)
 
+-- whether S covers q: whether it lies on a segment between two members of S or in a triangle of three
 unfoldable pub is_covered : List Position → Position → Bool
 is_covered S q =
     list_any (λ a. list_any (λ b. is_on_segment q a b) S) S

@@ -2,7 +2,7 @@
 use Rattle.std.specs.Prelude.{ℕ, ◌+◌, ◌-◌, ◌<◌, pos, ◌<ℤ◌, List, length, slice_index_or, Contains}
 use Rattle.range_plane.specs.Plane.{Position, origin, turn, IsAtMost, IsBefore}
 
--- the corner at index i
+-- the position at index i of a list, such as a corner of a polygon; the origin past its end
 abbrev pub at : List Position → ℕ → Position
 at L i = slice_index_or L i origin
 

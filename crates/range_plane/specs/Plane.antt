@@ -6,9 +6,11 @@ pub record Position : Type 0 where
   pub e : ℤ
   pub n : ℤ
 
+-- the position with this easting and this northing
 abbrev pub position : ℤ → ℤ → Position
 position e n = record { e = e; n = n }
 
+-- the position whose easting and northing are 0
 abbrev pub origin : Position
 origin = position (pos 0) (pos 0)
 

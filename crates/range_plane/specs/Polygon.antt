@@ -6,10 +6,11 @@ use Rattle.std.specs.Ordering.{int_eq}
 use Rattle.range_plane.specs.ConvexCover.{Covers}
 use Rattle.range_plane.specs.Plane.{Position, turn, IsAtMost}
 
+-- whether two positions have the same easting and the same northing
 abbrev pub same_position : Position → Position → Bool
 same_position a b = int_eq a.e b.e && int_eq a.n b.n
 
--- the members other than p
+-- the members of a set other than p
 abbrev pub without : Position → List Position → List Position
 without p [] = []
 without p (s ∷ S) = if same_position s p then without p S else s ∷ without p S
@@ -18,7 +19,7 @@ without p (s ∷ S) = if same_position s p then without p S else s ∷ without p
 abbrev pub any_other : Position → (Position → Bool) → List Position → Bool
 any_other p test S = list_any (λ s. not (same_position s p) && test s) S
 
--- a member that the set without it does not cover
+-- p is a member of S that S without it does not cover
 pub record IsExtreme (S : List Position) (p : Position) : Type 0 where
   pub member : Contains S p
   pub needed : ¬ (Covers (without p S) p)
@@ -28,6 +29,7 @@ pub record IsLeast (S : List Position) (c : Position) : Type 0 where
   pub member : Contains S c
   pub least : (x : Position) → Contains S x → IsAtMost c x
 
+-- the first member is the least of all, by easting and then by northing, if there is one
 abbrev pub BeginsWithLeast : List Position → Type 0
 BeginsWithLeast [] = ⊤
 BeginsWithLeast (c ∷ L) = (x : Position) → Contains (c ∷ L) x → IsAtMost c x
@@ -36,14 +38,15 @@ BeginsWithLeast (c ∷ L) = (x : Position) → Contains (c ∷ L) x → IsAtMost
 abbrev pub TurnsLeft : List Position → Type 0
 TurnsLeft L = (i j k : ℕ) (d : Position) → i < j → j < k → k < length L → pos 0 <ℤ turn (slice_index_or L i d) (slice_index_or L j d) (slice_index_or L k d)
 
--- L lists the corners of S counterclockwise from the least
+-- L lists the corners of the minimum convex polygon of S counterclockwise, from the westernmost, of these the
+-- southernmost
 pub record IsPolygon (S L : List Position) : Type 0 where
   pub corners : (p : Position) → Contains L p ↔ IsExtreme S p
   pub distinct : AllPairs (λ a b. a ≢ b) L
   pub least_first : BeginsWithLeast L
   pub convex : TurnsLeft L
 
--- the sum of a.e*b.n - b.e*a.n over each member and the next one, from the last back to `first`
+-- the sum of a.e*b.n - b.e*a.n over each corner and the next one, from the last back to `first`
 abbrev pub shoelace : Position → List Position → ℤ
 shoelace first [] = pos 0
 shoelace first (a ∷ []) = a.e *ℤ first.n -ℤ first.e *ℤ a.n

@@ -4,6 +4,7 @@ use Rattle.range_plane.specs.Plane.{Position}
 use Rattle.range_plane.specs.Polygon.{IsPolygon, area2}
 use Rattle.range_plane.specs.declared.fix.Fix.{Fix}
 
+-- the points of some fixes, in order
 abbrev pub points_of : List Fix → List Position
 points_of fixes = map (λ fix. fix.at) fixes
 

@@ -5,7 +5,7 @@ use Rattle.range_plane.specs.declared.scale.Scale.{Scale}
 use Rattle.range_plane.specs.declared.scale.TheConstants.{METRE_LIMIT}
 use Rattle.range_plane.specs.declared.scale.Scale.TheVariants.{Metre, Decimetre}
 
--- the greatest easting and northing of a fix that is read from a file
+-- the greatest easting and northing in this unit of a fix that is read from a file
 abbrev pub limit : Scale → ℕ
 limit Metre = METRE_LIMIT
 limit Decimetre = coordinate_limit

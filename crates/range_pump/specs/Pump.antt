@@ -13,20 +13,22 @@ use Rattle.range_line.specs.Messages.{blocks, block_count, stream}
 abbrev pub ReadResult : Type 0
 ReadResult = Result (List ℕ) ReadFault
 
--- what was sent of these fixes in blocks of this size: all of their stream where the feeder is closed, all but the mark where only the mark was handed back,
--- and the blocks before the one that was handed back
+-- what was sent of these fixes in blocks of this size: all blocks and the mark where the feeder is closed, all but
+-- the mark where only the mark was handed back, and the blocks before the one that was handed back
 pub record IsSent (feeder : FeederView) (fixes : List Fix) (size : ℕ) (read : ReadResult) : Type 0 where
   pub closed : feeder.closed ≡ true → (feeder.sent ≡ stream feeder.file fixes size) × (read ≢ Err Gone)
   pub unmarked : feeder.closed ≡ false → read ≢ Err Gone → feeder.sent ≡ blocks feeder.file fixes size (block_count fixes size)
   pub gone : read ≡ Err Gone → (count : ℕ) × (count < block_count fixes size) × (feeder.sent ≡ blocks feeder.file fixes size count)
 
--- the fixes are the first of the reading; all of them, with its animal, where it goes to the end of the file, and all of them where its fault ends it
+-- these fixes are the first that the file says; all of them, with its animal, where it was read to its end, and all
+-- of them where its fault ended it
 pub record IsReadAs (r : Reading) (fixes : List Fix) (read : ReadResult) : Type 0 where
   pub prefix : IsPrefix fixes r.fixes
   pub name : (name : List ℕ) → read ≡ Ok name → (r.animal ≡ Some name) × (r.fixes ≡ fixes) × (r.fault ≡ None)
   pub fault : (fault : ReadFault) → read ≡ Err fault → is_of_text fault ≡ true → (r.fixes ≡ fixes) × (r.fault ≡ Some fault)
 
--- a feeder and what is said of its file, of which this is the reading where its source tells its bytes
+-- what was sent of a file in blocks of this size, and what its reader says; where its source tells its bytes, both
+-- agree with what they say
 pub record IsPumpedFrom (source : Option Reading) (size : ℕ) (feeder : FeederView) (read : ReadResult) : Type 0 where
   -- the fixes that were read, of which the last may not have been sent
   pub fixes : List Fix

@@ -9,6 +9,7 @@ use Rattle.range_plane.specs.Plane.{Position}
 use Rattle.range_plane.specs.Polygon.{IsPolygon, area2}
 use Rattle.range_stats.specs.declared.percents.PercentRow.{PercentRow}
 
+-- the square of a number
 abbrev pub square : ℤ → ℕ
 square z = unsigned_abs z * unsigned_abs z
 
@@ -20,27 +21,27 @@ scaled_distance n eastings northings p = square (pos n *ℤ p.e -ℤ eastings) +
 unfoldable pub distance : List Position → Position → ℕ
 distance points p = scaled_distance (length points) (total (map (λ q. q.e) points)) (total (map (λ q. q.n) points)) p
 
--- the indices of the points, counted from 0
+-- the indices of some points, counted from 0
 abbrev pub indices : List Position → List ℕ
 indices points = range_with_len 0 (length points)
 
--- the distance of the point at an index, and the index
+-- the distance of the point at an index from the mean of all, and the index, by which points are ranked
 abbrev pub entry : List Position → ℕ → ℕ × ℕ
 entry points i = (distance points (at points i), i)
 
--- by distance, and then by index
+-- whether one point comes before another, by distance and then by index
 abbrev pub comes_before : ℕ × ℕ → ℕ × ℕ → Bool
 comes_before a b = nat_lt a.0 b.0 || (a.0 == b.0 && nat_lt a.1 b.1)
 
--- how many indices come before index j
+-- how many points come before the one at index j, by their distance from the mean of all and then by index
 abbrev pub count_before : List Position → ℕ → ℕ
 count_before points j = count_by (λ i. comes_before (entry points i) (entry points j)) (indices points)
 
--- the indices before which fewer than k come
+-- the indices of the points that lie nearest to the mean of all: those before which fewer than k come
 unfoldable pub nearest : List Position → ℕ → List ℕ
 nearest points k = filter (λ j. nat_lt (count_before points j) k) (indices points)
 
--- the points at those indices
+-- the points that lie nearest to the mean of all: those before which fewer than k come
 abbrev pub nearest_points : List Position → ℕ → List Position
 nearest_points points k = map (at points) (nearest points k)
 
@@ -48,7 +49,8 @@ nearest_points points k = map (at points) (nearest points k)
 abbrev pub kept_count : ℕ → ℕ → ℕ
 kept_count level n = (level * n + 99) / 100
 
--- the row of the percent polygon of these points at a level
+-- the row of the percent polygon of these points at a level: how many points the level keeps, and the corners and
+-- the doubled area of their polygon
 pub record IsPercentRow (points : List Position) (level : ℕ) (row : PercentRow) : Type 0 where
   pub same_level : row.level ≡ level
   pub kept : row.kept ≡ length (nearest points (kept_count level (length points)))

@@ -9,8 +9,8 @@ use Rattle.ucd_category.specs.declared.GeneralCategory.{GeneralCategory}
 use Rattle.ucd_category.specs.declared.GeneralCategory.TheVariants.{Format, LineSeparator, ParagraphSeparator, PrivateUse, SpaceSeparator, Surrogate, Unassigned}
 use Rattle.ucd_derived.specs.Binary.{is_default_ignorable_code_point}
 
--- what Unicode has for characters that show nothing of their own: they format their neighbours, end a line or a
--- paragraph, are of private use, or are no characters
+-- whether a category of Unicode has characters that show nothing of their own: they format their neighbours, end a
+-- line or a paragraph, are of private use, or are no characters
 abbrev pub is_unseen_category : GeneralCategory → Bool
 is_unseen_category Format = true
 is_unseen_category LineSeparator = true
@@ -20,25 +20,27 @@ is_unseen_category Surrogate = true
 is_unseen_category Unassigned = true
 is_unseen_category _ = false
 
+-- whether a category of Unicode is that of spaces
 abbrev pub is_space_category : GeneralCategory → Bool
 is_space_category SpaceSeparator = true
 is_space_category _ = false
 
--- a character that cannot be seen, or that changes how its neighbours are shown: a control character, one of those
--- above, one that is shown as nothing, or a space that is not ` `
+-- whether a character cannot be seen, or changes how its neighbours are shown: a control character, one of a
+-- category that shows nothing, one that is shown as nothing, a space that is not ` `, or no character
 abbrev pub is_unseen : ℕ → Bool
 is_unseen c = is_control c || is_unseen_category (general_category c) || is_default_ignorable_code_point c
     || (is_space_category (general_category c) && not (c == 32)) || not (all_scalars (c ∷ []))
 
--- a text has one line, all of which is seen
+-- a text is one line: each of its characters is seen
 abbrev pub IsOneLine : List ℕ → Type 0
 IsOneLine text = (cs : List ℕ) × (encode_utf8_all cs ≡ text) × (list_all (λ c. not (is_unseen c)) cs ≡ true)
 
--- a character as it is shown: one that is not seen as Rust writes it, and a backslash twice where it is told from those
+-- a character as it is shown: itself where it is seen, else as Rust writes it; and a backslash twice where it has to
+-- be told from these
 abbrev pub shown_char : Bool → ℕ → List ℕ
 shown_char doubles c = if doubles && c == 92 then 92 ∷ 92 ∷ [] else (if is_unseen c then escape_default c else c ∷ [])
 
--- a text as it is shown
+-- a text as it is shown, character by character
 abbrev pub shown_text : Bool → List ℕ → List ℕ
 shown_text doubles text = encode_utf8_all (flat_map (shown_char doubles) (chars text))
 
