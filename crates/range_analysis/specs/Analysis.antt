@@ -11,12 +11,14 @@ use Rattle.range_analysis.specs.Names.{IsFirstRepeat}
 use Rattle.range_analysis.specs.declared.analyse_fault.AnalyseFault.{AnalyseFault}
 use Rattle.range_analysis.specs.declared.analyse_fault.AnalyseFault.TheVariants.{OutOfMemory, LineCut, File, SameAnimal}
 
--- the animal of a file
+-- this is the animal that a file's entry gives, with percent polygons at these levels; an entry that is a fault gives
+-- none
 abbrev pub IsAnimalOf : List ℕ → Entry → Animal → Type 0
 IsAnimalOf levels (of_animal name fixes) animal = IsAnimal levels name fixes animal
 IsAnimalOf levels (of_fault fault) animal = ⊥
 
--- all files could be read to their ends, their animals differ, and the tables are those of the files
+-- all files could be read to their ends, no two have the same animal, and the analysis has the animal of each, the
+-- overlap of each ordered pair, and this unit
 pub record IsAnalysis (entries : List Entry) (levels : List ℕ) (unit : Scale) (analysis : Analysis) : Type 0 where
   pub whole : first_fault entries ≡ None
   pub differ : IsFirstRepeat (names_of entries) None

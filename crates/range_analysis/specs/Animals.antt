@@ -12,7 +12,8 @@ use Rattle.range_estimator.specs.Estimation.{IsTable}
 use Rattle.range_analysis.specs.declared.animal.Animal.{Animal}
 use Rattle.range_analysis.specs.declared.animal.OverlapRow.{OverlapRow}
 
--- an animal with this name and these fixes, and percent polygons at these levels
+-- the animal with this name, and the box, the table, the polygon and the percent polygons at these levels of these
+-- fixes
 pub record IsAnimal (levels : List ℕ) (name : List ℕ) (fixes : List Fix) (animal : Animal) : Type 0 where
   pub same_name : animal.name ≡ name
   pub box : IsExtent (points_of fixes) animal.extent
@@ -20,7 +21,7 @@ pub record IsAnimal (levels : List ℕ) (name : List ℕ) (fixes : List Fix) (an
   pub polygon : IsPolygon (points_of fixes) animal.polygon
   pub percents : AllZip (IsPercentRow (points_of fixes)) levels animal.percents
 
--- the indexes below n but index i
+-- the indexes below n other than i
 abbrev pub other_animals : ℕ → ℕ → List ℕ
 other_animals n i = filter (λ j. not (i == j)) (range_with_len 0 n)
 
@@ -28,11 +29,12 @@ other_animals n i = filter (λ j. not (i == j)) (range_with_len 0 n)
 abbrev pub pairs : ℕ → List (ℕ × ℕ)
 pairs n = flat_map (λ i. map (λ j. (i, j)) (other_animals n i)) (range_with_len 0 n)
 
--- the points of the animal at an index
+-- the points of the animal at an index, where these are the points of each animal
 abbrev pub points_at : List (List Position) → ℕ → List Position
 points_at points index = slice_index_or points index []
 
--- how far the fixes of one animal lie in the range of another, where these are the animals' points
+-- the row of an ordered pair of animals, where these are the points of each: how many fixes of the first the points of
+-- the second cover, and how many fixes the first has
 pub record IsOverlap (points : List (List Position)) (pair : ℕ × ℕ) (row : OverlapRow) : Type 0 where
   pub animal : row.animal ≡ pair.0
   pub range : row.range ≡ pair.1

@@ -18,17 +18,19 @@ pub record IsWhole (r : Reading) (name : List ℕ) (fixes : List Fix) : Type 0 w
   pub all : r.fixes ≡ fixes
   pub to_end : r.fault ≡ None
 
--- the source gives this: an animal and at least one fix, or a fault; where it tells its bytes, its reading says the same, but for a read that failed
+-- the source gives this entry: an animal and at least one fix, or a fault; where it tells its bytes, its reading says
+-- the same, but for a read that failed
 abbrev pub Gives : Option Reading → Entry → Type 0
 Gives source (of_animal name fixes) = (0 < length fixes) × IfSome source (λ r. IsWhole r name fixes)
 Gives source (of_fault fault) =
     (fault ≢ reads.OutOfMemory) × (fault ≢ reads.Gone) × IfSome source (λ r. is_of_text fault ≡ true → r.fault ≡ Some fault)
 
--- the analysis of what the sources give in this unit
+-- this is the analysis, with percent polygons at these levels and in this unit, of entries that the sources give
 abbrev pub IsAnalysisOf : List (Option Reading) → List ℕ → Scale → Analysis → Type 0
 IsAnalysisOf sources levels unit analysis = (entries : List Entry) × AllZip Gives sources entries × IsAnalysis entries levels unit analysis
 
--- why the sources have no analysis
+-- why sources have no analysis: memory ran out, the fixes of one of the files were not all handed on, or what is wrong
+-- with entries that they give
 abbrev pub HasNoAnalysisOf : List (Option Reading) → AnalyseFault → Type 0
 HasNoAnalysisOf sources OutOfMemory = ⊤
 HasNoAnalysisOf sources (LineCut file) = file < length sources

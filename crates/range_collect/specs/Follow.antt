@@ -16,7 +16,8 @@ pub record Holds (e : Estimation) (sent : List Fix) : Type 0 where
   pub whole : e.stopped ≡ false → e.fixes ≡ sent
   pub estimate : IsEstimate e.fixes e.rows e.corners
 
--- the file with this number, of which this is the reading where its source tells its bytes, was followed in blocks of this size
+-- the file with this number was followed in blocks of this size, by its feeder, what its reader says, its estimator and
+-- its mark; where its source tells its bytes, this is what they say
 pub record IsFollowedAs (source : Option Reading) (number size : ℕ) (feeder : FeederView) (read : ReadResult) (e : Estimation) (mark : Bool) : Type 0 where
   pub file : feeder.file ≡ number
   pub ended : feeder.ended ≡ true

@@ -6,12 +6,12 @@ use Rattle.range_plane.specs.Row.{IsRow, points_of}
 use Rattle.range_plane.specs.declared.fix.Fix.{Fix}
 use Rattle.range_estimator.specs.declared.row.Row.{Row}
 
--- a row for each fix, that of the fixes up to it
+-- the table of the fixes: a row for each of them, which is that of the fixes up to it
 pub record IsTable (fixes : List Fix) (rows : List Row) : Type 0 where
   pub count : length rows ≡ length fixes
   pub each : (index : ℕ) (row : Row) → slice_get rows index ≡ Some row → IsRow fixes (index + 1) row.second row.corners row.area2
 
--- the rows and the corners are those of the fixes
+-- the rows are the table of the fixes, and the corners their polygon
 pub record IsEstimate (fixes : List Fix) (rows : List Row) (corners : List Position) : Type 0 where
   pub table : IsTable fixes rows
   pub polygon : IsPolygon (points_of fixes) corners
