@@ -12,9 +12,10 @@ use csv::ByteRecord;
 use range_numbers::{VALUE_LIMIT, value_of};
 use range_plane::{Fix, Point, SECOND_LIMIT, Scale};
 
-// How many fields the header and each record have, without the column `use` and with it.
+// How many fields the header and each record have, without the column `use`.
 pub(crate) const FIELD_COUNT: usize = 4;
 
+// How many fields the header and each record have, with the column `use`.
 pub(crate) const FIELD_COUNT_WITH_USE: usize = 5;
 
 /// The most bytes of a name.
