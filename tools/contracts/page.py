@@ -57,6 +57,8 @@ class Page:
         self.closures = {name: sources.closure(root) for name, root in self.roots.items()}
         self.uses = {key: used for closure in self.closures.values() for key, used in closure.items()}
         self.nodes = {key: sources.node(key) for key in self.uses if key[0] != "outside"}
+        of_specs = [key for user, used in self.uses.items() if user[0] == "spec" for key in used]
+        self.used_names = {self.nodes[key].name for key in of_specs if key in self.nodes}
 
     def here(self, key, crate):
         """What a key uses of its own crate."""
@@ -112,18 +114,28 @@ class Page:
         return f"### {heading}\n\n{node.sentence} *({self.marks(key)})*\n\n{quoted(node)}\n"
 
     def other_names(self, crate, module, keys, headings):
-        """What words of a module stand for: such as are not the names there, and names that the page has twice."""
+        """What words of a module stand for: such as are not the names there, and names of which the page has two."""
         imports, found = self.sources.modules[crate, module].imports, {}
         for node in (self.nodes[key] for key in keys if key[0] == "spec"):
             for word, key in self.sources.words(node):
                 base = word.partition(".")[0]
-                path, name = imports.get(base, (None, base))
-                heading = headings.get(key, "")
-                renamed = name is None or base not in antt.pieces_of(name)
-                if path and (renamed or heading.endswith(f" of {key[1]}")):
-                    there = link(heading, heading) if heading else f"`{path.removeprefix('Rattle.').removesuffix('.TheVariants')}`"
-                    found[base] = f"`{base}` for {'' if name else 'the variants of '}{there}"
+                path, name = imports.get(base, ("", base))
+                there = f"`{path.removeprefix('Rattle.').removesuffix('.TheVariants')}`"
+                if key in headings:
+                    there = link(headings[key], headings[key])
+                elif name:
+                    there = f"{name} of {there}"
+                if name is None:
+                    found[base] = f"`{base}` for the variants of {there}"
+                elif path and (base not in antt.pieces_of(name) or self.is_twice(key, headings)):
+                    found[base] = f"`{base}` for {there}"
         return f"Here {'; '.join(found.values())}.".replace("` for", "` stands for", 1) if found else ""
+
+    def is_twice(self, key, headings):
+        """Whether something else that definitions use has the name of a key."""
+        if key[0] == "outside":
+            return key[2] in self.used_names
+        return headings[key].endswith(f" of {key[1]}")
 
     def counts(self):
         lines = ["| Contract | What it promises | Definitions | Lines | Types and limits | Lines |", "|---|---|---|---|---|---|"]

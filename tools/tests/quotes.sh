@@ -2,7 +2,7 @@
 # is told, with its line.
 # shellcheck shell=sh disable=SC2154
 
-for page in README.md docs/PROOF.md; do
+for page in README.md docs/PROOF.md docs/DEFINITIONS.md; do
     holds "the quotes of $page" python3 "$tools/tests/quotes.py" "$top" "$top/$page"
 done
 
