@@ -50,7 +50,8 @@ class Sources:
         if key[0] == "spec":
             return self.modules[key[1:3]].definitions[key[3]]
         if len(self.items[key]) != 1:
-            raise Fault(f"crates/{key[1]}/src: there are {len(self.items[key])} types or constants {key[2]}, and not one")
+            found = len(self.items[key])
+            raise Fault(f"crates/{key[1]}/src: there are {found} types or constants {key[2]}, and not one")
         return self.items[key][0]
 
     def keys_of(self, crate):

@@ -14,38 +14,39 @@ ROOTS = {
 }
 ABOUT = (
     "This page has every definition of this repository that three contracts rest on, word for word, the lowest first: "
-    "nothing is used before it is shown, unless it is used by itself. Whoever has read it has read what the numbers of a "
-    "report mean, but for what the toolchain defines. `tools/definitions.py` writes it from the sources, and `./test` holds it to them. [PROOF.md](PROOF.md) "
-    "says what the contracts promise, and what they do not.",
-    "*Definitions* stand in specs. *Types and limits* are those of the code that definitions name: its types, traits and "
-    "constants. Of a type that contracts see as another kind of thing, the page has the first line and the line that says "
-    "what it is seen as (`ghost Value`). Lines are those of the blocks below. Behind the sentence of each stands which "
-    "contracts rest on it. What the toolchain defines is [named at the end](#what-the-toolchain-defines), and "
-    "[the three contracts](#the-contracts) stand below that.",
+    "nothing is used before it is shown, unless it is used by itself. Whoever has read it has read what the numbers of "
+    "a report mean, but for what the toolchain defines. `tools/definitions.py` writes it from the sources, and `./test` "
+    "holds it to them. [PROOF.md](PROOF.md) says what the contracts promise, and what they do not.",
+    "*Definitions* stand in specs. *Types and limits* are those of the code that definitions name: its types, traits "
+    "and constants. Of a type that contracts see as another kind of thing, the page has the first line and the line "
+    "that says what it is seen as (`ghost Value`). Lines are those of the blocks below. Behind the sentence of each "
+    "stands which contracts rest on it. What the toolchain defines is [named at the end](#what-the-toolchain-defines), "
+    "and [the three contracts](#the-contracts) stand below that.",
 )
-NOTATION = {
-    "`ℕ`, `ℤ`, `List T`, `Option T`": "whole numbers from 0; all whole numbers; finite lists; a `T` or nothing (`Some x`, `None`)",
-    "`[]`, `x ∷ xs`, `xs ++ ys`": "the empty list; x, and then the members of xs; one list behind the other",
-    "`A → B`, `(x : T) → P`": "if A then B, or between kinds of things a function from one to the other; P for each x of T",
-    "`A × B`, `(x : T) × P`": "A and B, or a pair; P for some x of T",
-    "`A ⊎ B`, `¬ A`, `⊤`, `⊥`": "A or B; not A; what is always true; what is never true",
-    "`a ≡ b`, `a ≢ b`, `A ↔ B`": "a is b; it is not; each of A and B follows from the other",
-    "`a == b`, `&&`, `\\|\\|`, `not`": "the same as tests, which are `true` or `false`; so are `nat_lt`, `int_le` and the like",
-    "`+ℤ`, `≤ℤ`, `pos n`": "sums and order of whole numbers that may be negative; n as one of them",
-    "`f x y`, `λ x. e`": "f of x and y, without brackets; the function that gives e for x",
-    "`x.part`, `p.0`, `p.1`": "a part of a record; the first and the second of a pair",
-    "`name : T`, `name x = e`": "what kind of thing it is; what it is of x, case by case, where the first case that fits counts",
-    "`Type 0`": "behind a last arrow: a statement; else a kind of things",
-    "`record`": "a list of named parts; where they are statements, all hold. `record r { part = e }` is r with another part",
-    "`data`": "all ways in which something is made, or holds",
-    '`codes "text"`': "the bytes of a text",
-    "`do`, `x ← e`": "one step after the other; x is what e gives, and a fault of e is that of all",
-    "`pub`, `abbrev`, `unfoldable`": "others may name it; how the prover opens it. They change no meaning",
-    "`requires`, `ensures`, `result`": "of a contract: what the caller sees to; what then holds; what the call returns",
-    "`x.old`, `x.new`, `x.now`": "of a reference: what it shows before the call; after it; where it does not change",
-    "`u8` to `u64`, `usize`, `i64`": "in contracts whole numbers, from 0 but for the last, within their bits",
-    "`xs.items`, `vec_len xs`": "the members of an array as a list; how many they are",
-}
+NOTATION = """\
+`ℕ`, `ℤ`, `List T`	whole numbers from 0; all whole numbers; finite lists
+`Option T`, `Result T E`	a `T` or nothing (`Some x`, `None`); a `T` or a fault (`Ok x`, `Err e`)
+`[]`, `x ∷ xs`, `xs ++ ys`	the empty list; x, and then the members of xs; one list behind the other
+`A → B`, `(x : T) → P`	if A then B, or between kinds of things a function; P for each x of T
+`A × B`, `(x : T) × P`	A and B, or a pair; P for some x of T
+`A ⊎ B`, `¬ A`, `⊤`, `⊥`	A or B; not A; what is always true; what is never true
+`a ≡ b`, `a ≢ b`, `A ↔ B`	a is b; it is not; each of A and B follows from the other
+`==`, `&&`, `\\|\\|`, `not`, `nat_lt`	the same as tests, which are `true` or `false`
+`+ℤ`, `≤ℤ`, `pos n`	sums and order of whole numbers that may be negative; n as one of them
+`f x y`, `λ x. e`	f of x and y, without brackets; the function that gives e for x
+`x.part`, `p.0`, `p.1`	a part of a record; the first and the second of a pair
+`name : T`, `name x = e`	what kind of thing it is; what it is of x, by cases, of which the first that fits counts
+`Type 0`	behind a last arrow: a statement; else a kind of things
+`record`, `record r { p = e }`	a list of named parts, of which statements all hold; r with another part p
+`data`	all ways in which something is made, or holds
+`codes "text"`	the bytes of a text
+`do`, `x ← e`	one step after the other; x is what e gives, and a fault of e is that of all
+`pub`, `abbrev`, `unfoldable`	others may name it; how the prover opens it. They change no meaning
+`requires`, `ensures`, `result`	of a contract: what the caller sees to; what then holds; what the call returns
+`x.old`, `x.new`, `x.now`	of a reference: what it shows before the call; after it; where it does not change
+`u8` to `u64`, `usize`, `i64`	in contracts whole numbers, from 0 but for the last, within their bits
+`xs.items`, `vec_len xs`	the members of an array as a list; how many they are
+"""
 
 
 class Page:
@@ -89,9 +90,10 @@ class Page:
         in_order = ordered(of_crate, lambda key: self.here(key, crate), f"crates/{crate}")
         shown = set()
         for module, keys in self.modules_of(crate, of_crate).items():
-            keys = [key for key in ordered(keys, lambda key: self.here(key, crate), f"crates/{crate}") if key not in shown]
-            shown.update(keys)
-            yield module, keys
+            with_below = ordered(keys, lambda key: self.here(key, crate), f"crates/{crate}")
+            new = [key for key in with_below if key not in shown]
+            shown.update(new)
+            yield module, new
         if rest := [key for key in in_order if key not in shown]:
             yield None, rest
 
@@ -99,10 +101,13 @@ class Page:
         return [(crate, *section) for crate in self.sources.crates for section in self.sections_of(crate)]
 
     def headings(self):
-        """What each is called on the page: its kind and its name, and its crate where two would be called the same."""
+        """What each is called on the page: its kind and its name, and where it stands if two would be called the same."""
         called = {key: heading_of(node) for key, node in self.nodes.items()}
         lowered = Counter(name.lower() for name in called.values())
-        return {key: f"{name} of {key[1]}" if lowered[name.lower()] > 1 else name for key, name in called.items()}
+        for key, name in called.items():
+            if lowered[name.lower()] > 1:
+                called[key] = f"{name} of {key[2]} in {key[1]}" if key[0] == "spec" else f"{name} of {key[1]}"
+        return called
 
     def marks(self, key):
         return ", ".join(label for name, (label, _) in ROOTS.items() if key in self.closures[name])
@@ -135,17 +140,17 @@ class Page:
         """Whether something else that definitions use has the name of a key."""
         if key[0] == "outside":
             return key[2] in self.used_names
-        return headings[key].endswith(f" of {key[1]}")
+        return headings[key] != heading_of(self.nodes[key])
 
     def counts(self):
-        lines = ["| Contract | What it promises | Definitions | Lines | Types and limits | Lines |", "|---|---|---|---|---|---|"]
+        rows = []
         for name, (label, promise) in ROOTS.items():
             row = [f"{label}, `{name}`", promise]
             for kind in ("spec", "code"):
                 codes = [self.nodes[key].code for key in self.closures[name] if key[0] == kind]
                 row += [str(len(codes)), f"{sum(len(code.splitlines()) for code in codes):,}"]
-            lines.append(f"| {' | '.join(row)} |")
-        return "\n".join(lines)
+            rows.append(row)
+        return table(["Contract", "What it promises", "Definitions", "Lines", "Types and limits", "Lines"], rows)
 
     def outside(self):
         """What the toolchain defines, by its modules."""
@@ -153,9 +158,8 @@ class Page:
         for key in self.uses:
             if key[0] == "outside":
                 found.setdefault(key[1].removeprefix("Rattle."), set()).add(key[2])
-        lines = ["| Module | What it defines |", "|---|---|"]
-        lines += [f"| `{path}` | {', '.join(map(named, sorted(names)))} |" for path, names in sorted(found.items())]
-        return "\n".join(lines)
+        rows = [[f"`{path}`", ", ".join(map(named, sorted(names)))] for path, names in sorted(found.items())]
+        return table(["Module", "What it defines"], rows)
 
     def text(self):
         headings, blocks, contents = self.headings(), [], []
@@ -165,15 +169,16 @@ class Page:
             contents.append(f"- {link(title, title)}: {links}")
             blocks.append(f"## {title}\n")
             if module:
-                sentences = [self.sources.modules[crate, module].sentence, self.other_names(crate, module, keys, headings)]
-                blocks += [sentence + "\n" for sentence in sentences if sentence]
+                about = self.sources.modules[crate, module].sentence, self.other_names(crate, module, keys, headings)
+                blocks += [sentence + "\n" for sentence in about if sentence]
             blocks += [self.block(key, headings[key]) for key in keys]
         blocks.append(f"## What the toolchain defines\n\n{self.outside()}\n\n## The contracts\n")
         for name, root in self.roots.items():
             label, promise = ROOTS[name]
             blocks.append(f"### the {label}: {name}\n\n{promise}\n\n{quoted(root)}\n")
         about, counted = ABOUT
-        head = ["# The definitions", about, self.counts(), counted, "## How to read it", notation()]
+        signs = table(["Sign", "How to read it"], [line.split("\t") for line in NOTATION.splitlines()])
+        head = ["# The definitions", about, self.counts(), counted, "## How to read it", signs]
         head += ["## Where to find what", "\n".join(contents) + "\n"]
         return "\n\n".join(head) + "\n" + "\n".join(blocks)
 
@@ -195,8 +200,8 @@ def named(name):
     return f"`{' '.join(filter(None, name.split('◌')))}`".replace("|", "\\|")
 
 
-def notation():
-    return "\n".join(["| Sign | How to read it |", "|---|---|", *(f"| {sign} | {text} |" for sign, text in NOTATION.items())])
+def table(heads, rows):
+    return "\n".join(f"| {' | '.join(cells)} |" for cells in [heads, ["---"] * len(heads), *rows])
 
 
 def quoted(node):

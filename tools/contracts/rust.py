@@ -70,7 +70,8 @@ def end_of(text, start, kind):
 def shown_of(text, start, kind, name):
     """What is shown of an item."""
     code = text[start : end_of(text, start, kind)]
-    model = re.search(rf"^impl\b[^{{]* Model for {name}\b.*?^(    ghost Value = \{{.*?\}};)", text, re.MULTILINE | re.DOTALL)
+    value = r"^(    ghost Value = \{.*?\};)"
+    model = re.search(rf"^impl\b[^{{]* Model for {name}\b.*?{value}", text, re.MULTILINE | re.DOTALL)
     return f"{code.splitlines()[0]}\n...\n{model[1]}" if model else code
 
 

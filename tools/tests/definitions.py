@@ -31,7 +31,7 @@ class Block:
         self.of_code, self.contract = language == "rust", re.match(r"the (\w+): ", heading)
         mark = re.search(r"\*\((.*)\)\*$", sentence)
         self.marks = set(mark[1].split(", ")) if mark else set()
-        self.name = re.sub(r" of \w+$", "", heading).split()[-1]
+        self.name = re.sub(r" of \w+(?: in \w+)?$", "", heading).split()[-1]
         self.code = re.sub(r'--.*|//.*|"(?:[^"\\]|\\.)*"', "", code)
         made = {"data": r"^  (\w+) :", "enum": r"^    ([A-Z]\w*)"}.get(heading.split()[0])
         self.parts = set(re.findall(made, self.code, re.MULTILINE)) if made else set()
