@@ -5,48 +5,9 @@ from collections import Counter
 
 from . import antt
 from .closure import Fault, Sources, ordered
+from .sayings import ABOUT, MEANINGS, NOTATION, ROOTS
 
-# The function that has each contract, what the page calls the contract, and what it promises.
-ROOTS = {
-    "follow": ("headline", "the tables and polygons of all files, in every schedule of the threads"),
-    "run_with_gate": ("report", "the bytes of the report"),
-    "answer_to": ("program", "what the program writes, its status and its line on standard error"),
-}
-ABOUT = (
-    "This page has every definition of this repository that three contracts rest on, word for word, the lowest first: "
-    "nothing is used before it is shown, unless it is used by itself. Whoever has read it has read what the numbers of "
-    "a report mean, but for what the toolchain defines. `tools/definitions.py` writes it from the sources, and `./test` "
-    "holds it to them. [PROOF.md](PROOF.md) says what the contracts promise, and what they do not.",
-    "*Definitions* stand in specs. *Types and limits* are those of the code that definitions name: its types, traits "
-    "and constants. Of a type that contracts see as another kind of thing, the page has the first line and the line "
-    "that says what it is seen as (`ghost Value`). Lines are those of the blocks below. Behind the sentence of each "
-    "stands which contracts rest on it. What the toolchain defines is [named at the end](#what-the-toolchain-defines), "
-    "and [the three contracts](#the-contracts) stand below that.",
-)
-NOTATION = """\
-`ℕ`, `ℤ`, `List T`	whole numbers from 0; all whole numbers; finite lists
-`Option T`, `Result T E`	a `T` or nothing (`Some x`, `None`); a `T` or a fault (`Ok x`, `Err e`)
-`[]`, `x ∷ xs`, `xs ++ ys`	the empty list; x, and then the members of xs; one list behind the other
-`A → B`, `(x : T) → P`	if A then B, or between kinds of things a function; P for each x of T
-`A × B`, `(x : T) × P`	A and B, or a pair; P for some x of T
-`A ⊎ B`, `¬ A`, `⊤`, `⊥`	A or B; not A; what is always true; what is never true
-`a ≡ b`, `a ≢ b`, `A ↔ B`	a is b; it is not; each of A and B follows from the other
-`==`, `&&`, `\\|\\|`, `not`, `nat_lt`	the same as tests, which are `true` or `false`
-`+ℤ`, `≤ℤ`, `pos n`	sums and order of whole numbers that may be negative; n as one of them
-`f x y`, `λ x. e`	f of x and y, without brackets; the function that gives e for x
-`x.part`, `p.0`, `p.1`	a part of a record; the first and the second of a pair
-`name : T`, `name x = e`	what kind of thing it is; what it is of x, by cases, of which the first that fits counts
-`Type 0`	behind a last arrow: a statement; else a kind of things
-`record`, `record r { p = e }`	a list of named parts, of which statements all hold; r with another part p
-`data`	all ways in which something is made, or holds
-`codes "text"`	the bytes of a text
-`do`, `x ← e`	one step after the other; x is what e gives, and a fault of e is that of all
-`pub`, `abbrev`, `unfoldable`	others may name it; how the prover opens it. They change no meaning
-`requires`, `ensures`, `result`	of a contract: what the caller sees to; what then holds; what the call returns
-`x.old`, `x.new`, `x.now`	of a reference: what it shows before the call; after it; where it does not change
-`u8` to `u64`, `usize`, `i64`	in contracts whole numbers, from 0 but for the last, within their bits
-`xs.items`, `vec_len xs`	the members of an array as a list; how many they are
-"""
+SIGNS = ["Sign", "How to read it"]
 
 
 class Page:
@@ -101,7 +62,7 @@ class Page:
         return [(crate, *section) for crate in self.sources.crates for section in self.sections_of(crate)]
 
     def headings(self):
-        """What each is called on the page: its kind and its name, and where it stands if two would be called the same."""
+        """What each is called on the page: its kind and its name, and where it stands if two have the same."""
         called = {key: heading_of(node) for key, node in self.nodes.items()}
         lowered = Counter(name.lower() for name in called.values())
         for key, name in called.items():
@@ -159,7 +120,10 @@ class Page:
             if key[0] == "outside":
                 found.setdefault(key[1].removeprefix("Rattle."), set()).add(key[2])
         rows = [[f"`{path}`", ", ".join(map(named, sorted(names)))] for path, names in sorted(found.items())]
-        return table(["Module", "What it defines"], rows)
+        every = set().union(*found.values())
+        said = [line.split("\t") for line in MEANINGS.splitlines()]
+        said = [row for row in said if every.intersection(re.findall(r"\w+", row[0]))]
+        return table(["Module", "What it defines"], rows) + "\n\nSome of them in words:\n\n" + table(SIGNS, said)
 
     def text(self):
         headings, blocks, contents = self.headings(), [], []
@@ -177,7 +141,7 @@ class Page:
             label, promise = ROOTS[name]
             blocks.append(f"### the {label}: {name}\n\n{promise}\n\n{quoted(root)}\n")
         about, counted = ABOUT
-        signs = table(["Sign", "How to read it"], [line.split("\t") for line in NOTATION.splitlines()])
+        signs = table(SIGNS, [line.split("\t") for line in NOTATION.splitlines()])
         head = ["# The definitions", about, self.counts(), counted, "## How to read it", signs]
         head += ["## Where to find what", "\n".join(contents) + "\n"]
         return "\n\n".join(head) + "\n" + "\n".join(blocks)
