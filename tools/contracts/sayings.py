@@ -9,8 +9,8 @@ ROOTS = {
 ABOUT = (
     "This page has every definition of this repository that three contracts rest on, word for word, the lowest first: "
     "nothing is used before it is shown, unless it is used by itself. Whoever has read it has read what the numbers "
-    "of a report mean, but for what the toolchain defines. `tools/definitions.py` writes it from the sources, and `./test` "
-    "holds it to them. [PROOF.md](PROOF.md) says what the contracts promise, and what they do not.",
+    "of a report mean, but for what the toolchain defines. `tools/definitions.py` writes it from the sources, and "
+    "`./test` holds it to them. [PROOF.md](PROOF.md) says what the contracts promise, and what they do not.",
     "*Definitions* stand in specs. *Types and limits* are those of the code that definitions name: its types, traits "
     "and constants. Of a type that contracts see as another kind of thing, the page has the first line and the line "
     "that says what it is seen as (`ghost Value`). Lines are those of the blocks below. Behind the sentence of each "
