@@ -20,6 +20,7 @@ pub record World : Type 0 where
   pub input : Option (List ℕ)
   pub find : List ℕ → Found
 
+-- what there is to read: these bytes of the input, and what paths come to
 abbrev pub world : Option (List ℕ) → (List ℕ → Found) → World
 world input find = record { input = input; find = find }
 
@@ -28,10 +29,11 @@ abbrev pub sources_over : World → List (String Global) → List (Option (List 
 sources_over w [] = w.input ∷ []
 sources_over w (file ∷ files) = map (λ path. bytes_in (w.find (string_bytes path))) (file ∷ files)
 
--- what they say in this unit
+-- what the bytes of each source say in this unit, where they are known
 abbrev pub said_in : Scale → List (Option (List ℕ)) → List (Option Reading)
 said_in unit sources = map (option_map (reading unit)) sources
 
+-- what the files say that good words name, or the input where they name none
 abbrev pub sources_of : Words → World → List (Option Reading)
 sources_of read w = said_in read.options.plan.unit (sources_over w read.files.items)
 
@@ -39,7 +41,7 @@ sources_of read w = said_in read.options.plan.unit (sources_over w read.files.it
 abbrev pub Reports : Words → World → Option (List ℕ) → Option (List ℕ) → Type 0
 Reports read w old new = WritesReport (sources_of read w) read.options.levels read.options.plan.unit old new
 
--- the words ask for help, or for the version, and this is its text
+-- the words ask for help or for the version, and this is its text
 abbrev pub AskFor : List Text → String Global → Type 0
 AskFor said text = IsRefusalOf said (words.Help text) ⊎ IsRefusalOf said (words.Version text)
 
@@ -70,7 +72,7 @@ IsOfBadWords refusals.OutOfMemory = ⊤
 IsOfBadWords (refusals.BadWords line) = ⊤
 IsOfBadWords refusal = ⊥
 
--- why good words have no report
+-- why good words have no report: memory ran out, a file cannot be opened, or what is wrong with the run
 abbrev pub IsOfRun : Words → World → Refusal → Type 0
 IsOfRun read w refusals.OutOfMemory = ⊤
 IsOfRun read w (refusals.Unopened path reason) = IsFirstRefused w.find read.files.items (string_bytes path) (string_bytes reason)
@@ -84,7 +86,7 @@ IsToldAlone (words.Version text) = ⊥
 IsToldAlone (words.BadWords text) = ⊥
 IsToldAlone fault = ⊤
 
--- why the words are not obeyed: each refusal only where the words allow it
+-- the refusal is one that these words and what there is to read allow
 abbrev pub IsTold : List Text → World → Refusal → Type 0
 IsTold said w refusals.OutOfMemory = ⊤
 IsTold said w (refusals.NotText word) = ⊥

@@ -8,7 +8,7 @@ use Rattle.range_command.specs.declared.opener.OpenFault.TheVariants.{OutOfMemor
 abbrev pub Found : Type 0
 Found = Option (Result (List ℕ) (List ℕ))
 
--- the bytes of the file, where they are known
+-- the bytes of the file of a path, where they are known
 abbrev pub bytes_in : Found → Option (List ℕ)
 bytes_in None = None
 bytes_in (Some (Ok bytes)) = Some bytes
@@ -20,7 +20,7 @@ MayOpen None = ⊤
 MayOpen (Some (Ok bytes)) = ⊤
 MayOpen (Some (Err reason)) = ⊥
 
--- it may be that of a file that cannot be, for this reason
+-- the path may be that of a file that cannot be opened, for this reason
 abbrev pub MayRefuse : Found → List ℕ → Type 0
 MayRefuse None reason = ⊤
 MayRefuse (Some (Ok bytes)) reason = ⊥
@@ -30,7 +30,7 @@ MayRefuse (Some (Err words)) reason = reason ≡ words
 abbrev pub IsOpened : Found → Option (List ℕ) → Type 0
 IsOpened found told = MayOpen found × (told ≡ bytes_in found)
 
--- it was not
+-- no file was opened: memory ran out, or the path may be that of a file that cannot be opened, for this reason
 abbrev pub IsNotOpened : Found → OpenFault → Type 0
 IsNotOpened found OutOfMemory = ⊤
 IsNotOpened found (Refused reason) = MayRefuse found (string_bytes reason)

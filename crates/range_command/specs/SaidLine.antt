@@ -19,7 +19,7 @@ abbrev pub IsSaid : {X : Type 0} → Option Error → Refusal → (X → Option 
 IsSaid failure refusal contents old new = (HasLeft failure × (new ≡ old))
     ⊎ (¬ (HasLeft failure) × (new.failure ≡ None → IsTelling refusal (contents old.writer) (contents new.writer)))
 
--- one line was said there, and nothing else
+-- one line and nothing else was said on the errors, if they took it, or nothing where the output's reader has gone
 abbrev pub SaysOneLine : {X : Type 0} → Option Error → (X → Option (List ℕ)) → Outlet X → Outlet X → Type 0
 SaysOneLine failure contents old new = (HasLeft failure × (new ≡ old))
     ⊎ (new.failure ≡ None → (text : List ℕ) × IsOneLine text × Appends (contents old.writer) (contents new.writer) (line_of text))

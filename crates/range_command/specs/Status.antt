@@ -5,6 +5,7 @@ use Rattle.range_words.specs.declared.words.WordFault.TheVariants as words
 use Rattle.range_command.specs.declared.refusal.Refusal.{Refusal}
 use Rattle.range_command.specs.declared.refusal.Refusal.TheVariants as refusals
 
+-- the status with which the program ends, for each refusal
 abbrev pub refusal_status : Refusal → ℕ
 refusal_status refusals.OutOfMemory = 3
 refusal_status (refusals.NotText word) = 2

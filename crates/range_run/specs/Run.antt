@@ -14,7 +14,7 @@ use Rattle.range_run.specs.declared.run_fault.RunFault.TheVariants as runs
 abbrev pub WritesReport : List (Option Reading) → List ℕ → Scale → Option (List ℕ) → Option (List ℕ) → Type 0
 WritesReport sources levels unit old new = (analysis : Analysis) × IsAnalysisOf sources levels unit analysis × Appends old new (report_text analysis)
 
--- a prefix of it was
+-- a beginning of the report of an analysis of the sources was written, and nothing else
 abbrev pub WritesPrefix : List (Option Reading) → List ℕ → Scale → Option (List ℕ) → Option (List ℕ) → Type 0
 WritesPrefix sources levels unit old new = (analysis : Analysis) × IsAnalysisOf sources levels unit analysis × AppendsPrefix old new (report_text analysis)
 

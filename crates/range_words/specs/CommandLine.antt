@@ -20,6 +20,7 @@ option_rule name = record (new_rule name) { long = Some name; value_names = 1 }
 abbrev pub number_rule : Text → ℕ → Rule
 number_rule name limit = record (option_rule name) { parser = Some (value_parser.Signed (pos 1) (pos limit)) }
 
+-- the files: any number of words that are no options
 abbrev pub files_rule : Rule
 files_rule = record (new_rule (codes "FILE")) { action = Some Append; value_names = 1 }
 
@@ -27,7 +28,7 @@ files_rule = record (new_rule (codes "FILE")) { action = Some Append; value_name
 abbrev pub program : App
 program = on_top (λ top. record top { has_version = true }) (new_app (codes "homerange"))
 
--- the options in the order in which they stand, and then the files
+-- the command: its options in the order in which they stand, and then the files
 abbrev pub homerange : App
 homerange =
     let percent = with_rule program (option_rule (codes "percent")) in
@@ -37,14 +38,15 @@ homerange =
     let unit = with_rule workers (option_rule (codes "unit")) in
     with_rule unit files_rule
 
--- what `clap` finds
+-- what `clap` finds in the words of the command line
 abbrev pub found_in : List Text → List Row
 found_in words = matches_of homerange words
 
+-- the files that the words name
 abbrev pub files_in : List Row → List Text
 files_in rows = unwrap_or (all_of (codes "FILE") rows) []
 
--- the text of the levels, or what stands for it
+-- the text that the words give for the levels, or the default where they give none
 abbrev pub levels_in : List Row → Text
 levels_in rows = unwrap_or (first_of (codes "percent") rows) (codes "50,95,100")
 
@@ -56,7 +58,7 @@ unit_of text = if bytes_eq text (codes "m") then Some Metre else if bytes_eq tex
 abbrev pub unit_in : List Row → Option Scale
 unit_in rows = unit_of (unwrap_or (first_of (codes "unit") rows) (codes "m"))
 
--- the number of an option, or what stands for it
+-- the number that the words give for an option, or its default where they give none
 abbrev pub option_number : Text → ℕ → List Row → ℕ
 option_number name default rows = option_map_or (λ text. digits_value 10 (without_leading_plus text)) (one_of name rows) default
 

@@ -7,14 +7,14 @@ use Rattle.range_words.specs.declared.level.LevelFault.TheVariants as level_faul
 use Rattle.range_words.specs.declared.words.WordFault.{WordFault}
 use Rattle.range_words.specs.declared.words.WordFault.TheVariants as words
 
--- levels are counted from 1
+-- what is said of a list of levels that is refused; its levels are counted from 1
 abbrev pub level_text : LevelFault → List ℕ
 level_text level_fault.OutOfMemory = codes "out of memory"
 level_text (level_fault.BadLevel index) =
     codes "level " ++ (decimal (index + 1) ++ (codes " is not a whole number from 1 to " ++ decimal level_limit))
 level_text level_fault.TooMany = codes "more than " ++ (decimal level_count_limit ++ codes " levels")
 
--- help, the version and what `clap` says are their own texts
+-- what is said of words that are refused; help, the version and what `clap` says are their own texts
 abbrev pub word_text : WordFault → List ℕ
 word_text words.OutOfMemory = codes "out of memory"
 word_text (words.Help text) = string_bytes text

@@ -7,7 +7,7 @@ use Rattle.range_options.specs.Limits.{level_count_limit, level_limit}
 use Rattle.range_words.specs.declared.level.LevelFault.{LevelFault}
 use Rattle.range_words.specs.declared.level.LevelFault.TheVariants.{OutOfMemory, BadLevel, TooMany}
 
--- what stands between the commas
+-- the parts of a text between its commas
 abbrev pub parts : List ℕ → List (List ℕ)
 parts text = slice_split (λ byte. byte == 44) text
 
@@ -17,6 +17,7 @@ level_in part =
     let value = digits_value 10 part in
     if is_number part && (nat_le 1 value && nat_le value level_limit) then Some value else None
 
+-- the part at an index, empty past the last
 abbrev pub part_at : List (List ℕ) → ℕ → List ℕ
 part_at parts i = slice_index_or parts i []
 

@@ -13,7 +13,7 @@ use Rattle.range_words.specs.declared.words.WordFault.{WordFault}
 use Rattle.range_words.specs.declared.words.WordFault.TheVariants.{OutOfMemory, Help, Version, BadWords, TooManyFiles, BadLevels}
 use Rattle.range_words.specs.declared.defaults.TheConstants.{DEFAULT_BLOCK, DEFAULT_DEPTH, DEFAULT_WORKERS}
 
--- the words say this, where `clap` finds these rows
+-- what the words ask for, where `clap` finds these rows: files, levels, block, depth, workers and unit
 pub record AreFrom (rows : List Row) (words : Words) : Type 0 where
   pub files : map string_bytes words.files.items ≡ files_in rows
   pub few_files : length words.files.items ≤ file_limit
@@ -24,7 +24,7 @@ pub record AreFrom (rows : List Row) (words : Words) : Type 0 where
   pub workers : words.options.plan.workers ≡ option_number (codes "workers") DEFAULT_WORKERS rows
   pub unit : unit_in rows ≡ Some words.options.plan.unit
 
--- `clap` refuses none of the words, and they say this
+-- `clap` refuses none of the words, and this is what they ask for
 abbrev pub AreWordsOf : List Text → Words → Type 0
 AreWordsOf words read = (fault_of homerange words ≡ []) × AreFrom (found_in words) read
 
@@ -34,7 +34,7 @@ IsFilesRefusal rows OutOfMemory = ⊤
 IsFilesRefusal rows TooManyFiles = file_limit < length (files_in rows)
 IsFilesRefusal rows fault = ⊥
 
--- neither help nor the version is asked for
+-- a kind of refusal by `clap` is neither a wish for help nor one for the version
 abbrev pub IsNoWish : ErrorKind → Type 0
 IsNoWish k = (k ≢ kind.DisplayHelp) × (k ≢ kind.DisplayVersion)
 
@@ -50,6 +50,7 @@ IsRefusal kinds rows (BadLevels fault) =
     (kinds ≡ []) × IsSome (unit_in rows) × (length (files_in rows) ≤ file_limit) × IsRefusedFor fault (parts (levels_in rows))
     × (fault ≢ level_fault.OutOfMemory)
 
+-- why these words are refused
 abbrev pub IsRefusalOf : List Text → WordFault → Type 0
 IsRefusalOf words fault = IsRefusal (fault_of homerange words) (found_in words) fault
 
