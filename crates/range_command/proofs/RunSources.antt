@@ -1,24 +1,28 @@
 -- From what a run over sources comes to, to what its words ask for.
-use Rattle.std.proofs.Common.{◌≡◌, ℕ, ◌+◌, ◌<◌, ◌==◌, zero, suc, true, false, inl, inr, List, [], ◌∷◌, ◌++◌, length, map, take, slice_index_or, Option, Result, Ok, Err, String, Global}
+use Rattle.std.proofs.Common.{◌≡◌, ℕ, ◌+◌, ◌<◌, ◌==◌, zero, suc, true, false, inl, inr, List, [], ◌∷◌, ◌++◌, length, map, take, slice_index_or, Option, None, Some, Result, Ok, Err, String, Global}
 use Rattle.std.proofs.Common.{string_bytes, ap, ap₂, ◌∙◌, sym, subst, refl, rules, arith}
 use Rattle.std.proofs.lemmas.List.{map-append, take_more}
-use Rattle.std.specs.Prelude.{⊤, IfErr, OnOk}
+use Rattle.std.proofs.Math.Seq.{take-length}
+use Rattle.std.specs.Io.KnownBytes.{Appends, Keeps}
+use Rattle.std.specs.Prelude.{⊤, IfErr, OnErr, OnOk}
+use Rattle.core.specs.Result.{result_or}
+use Rattle.std.specs.declared.io.Error.{Error}
 use Rattle.clap.specs.Words.{Text}
 use Rattle.range_fixes.specs.Reading.{Reading, readings}
 use Rattle.range_plane.specs.declared.scale.Scale.{Scale}
 use Rattle.range_words.specs.WordList.{AreWordsOf}
 use Rattle.range_words.specs.declared.words.Words.{Words}
-use Rattle.range_run.specs.Run.{Explains, WritesReport}
+use Rattle.range_run.specs.Run.{Explains, WritesPrefix, WritesReport}
+use Rattle.range_run.specs.WrittenPrefix.{AppendsPrefix}
+use Rattle.range_run.specs.Status.{fault_status}
+use Rattle.range_run.specs.declared.run_fault.RunFault.TheVariants as runs
+use Rattle.range_analysis.specs.declared.analyse_fault.AnalyseFault.TheVariants as analyses
 use Rattle.range_run.specs.declared.run_fault.RunFault.{RunFault}
-use Rattle.range_command.specs.Command.{AskFor, IsOfFiles, IsOfReply, IsOfRun, IsTold, IsUnopened, Reports, World, said_in, sources_of, sources_over}
-use Rattle.range_command.specs.Opener.{Found, IsFirstRefused, MayOpen, MayRefuse, bytes_in}
+use Rattle.range_command.specs.Command.{AskFor, BeginsReport, IsBegun, IsOfFiles, IsOfReply, IsOfRun, IsTold, IsUnopened, Reports, World, said_in, sources_of, sources_over}
+use Rattle.range_command.specs.Opener.{AllMayOpen, Found, IsFirstRefused, MayOpen, MayRefuse, bytes_in}
+use Rattle.range_command.specs.Status.{refusal_status}
 use Rattle.range_command.specs.declared.refusal.Refusal.{Refusal}
 use Rattle.range_command.specs.declared.refusal.Refusal.TheVariants as refusals
-
--- the files may all be opened
-abbrev pub AllMayOpen : (List ℕ → Found) → List (String Global) → Type 0
-AllMayOpen find [] = ⊤
-AllMayOpen find (file ∷ files) = MayOpen (find (string_bytes file)) × AllMayOpen find files
 
 pub may_open_more : (find : List ℕ → Found) (files : List (String Global)) (file : String Global) → AllMayOpen find files → MayOpen (find (string_bytes file))
     → AllMayOpen find (files ++ file ∷ [])
@@ -113,17 +117,83 @@ pub files_said : {S : Type 0} (tells : S → Option (List ℕ)) (unit : Scale) (
 files_said tells unit w [] sources some told = search rules
 files_said tells unit w (file ∷ files) sources some told = readings_told tells unit sources ∙ ap (said_in unit) told
 
+-- known bytes that grew by a text, and then stay, have grown by it
+pub appends_kept : (old mid new : Option (List ℕ)) (text : List ℕ) → Appends old mid text → Keeps mid new → Appends old new text
+appends_kept None mid new text written kept = tt
+appends_kept (Some x) None new text written kept = absurd written
+appends_kept (Some x) (Some y) None text written kept = absurd kept
+appends_kept (Some x) (Some y) (Some z) text written kept = kept ∙ written
+
+-- a text is a beginning of itself
+pub whole_prefix : (old new : Option (List ℕ)) (text : List ℕ) → Appends old new text → AppendsPrefix old new text
+whole_prefix old new text written = (length text, subst (λ (t : List ℕ). Appends old new t) (sym (take-length text)) written)
+
+-- a report that was written, and is still there
+pub report_kept : (sources : List (Option Reading)) (levels : List ℕ) (unit : Scale) (old mid new : Option (List ℕ)) → WritesReport sources levels unit old mid
+    → Keeps mid new → WritesReport sources levels unit old new
+report_kept sources levels unit old mid new written kept = (written.0, written.1, appends_kept old mid new _ written.2 kept)
+
+-- and so a beginning of it was written
+pub report_begun : (sources : List (Option Reading)) (levels : List ℕ) (unit : Scale) (old new : Option (List ℕ)) → WritesReport sources levels unit old new
+    → WritesPrefix sources levels unit old new
+report_begun sources levels unit old new written = (written.0, written.1, whole_prefix old new _ written.2)
+
+-- what holds, holds where a call succeeds
+pub on_ok : {T E P : Type 0} (r : Result T E) → P → OnOk r P
+on_ok (Ok x) holds = holds
+on_ok (Err e) holds = tt
+
+-- the fault of a run whose report is not out is that of a write
+pub of_finish : (P : RunFault → Type 0) (finished : Result (Unit {0}) Error) (r : Result (Unit {0}) RunFault) → r ≡ result_or finished (Err runs.Write) → P runs.Write
+    → IfErr r P
+of_finish P (Ok done) r is holds = subst (λ s. IfErr s P) (sym is) tt
+of_finish P (Err error) r is holds = subst (λ s. IfErr s P) (sym is) holds
+
+-- what holds, holds where a call fails
+pub on_err : {T E P : Type 0} (r : Result T E) → P → OnErr r P
+on_err (Ok x) holds = tt
+on_err (Err e) holds = holds
+
+-- where a beginning of what was asked for was written, the words are obeyed to there
+pub reply_begun : {T : Type 0} (said : List Text) (w : World) (text : String Global) (old new : Option (List ℕ)) (r : Result T Refusal) → AskFor said text
+    → OnErr r (AppendsPrefix old new (string_bytes text)) → IfErr r (λ refusal. refusal_status refusal ≡ 4 → IsBegun said w old new)
+reply_begun said w text old new (Ok done) asked prefix = tt
+reply_begun said w text old new (Err refusal) asked prefix = λ status. inr (text, asked, prefix)
+
 -- a report of these sources is that of the words
 pub reported : {E : Type 0} (read : Words) (w : World) (sources : List (Option Reading)) (old written new : Option (List ℕ)) (r : Result (Unit {0}) E)
     (done : Unit {0})
     → OnOk r (WritesReport sources read.options.levels read.options.plan.unit old written) → r ≡ Ok done → sources ≡ sources_of read w → written ≡ new
-    → Reports read w old new
-reported read w sources old written new r done report ended same is =
+    → AllMayOpen w.find read.files.items → Reports read w old new
+reported read w sources old written new r done report ended same is opened =
     let of_words = subst (λ s. OnOk s (WritesReport sources read.options.levels read.options.plan.unit old written)) ended report in
     let to_new = subst (λ n. WritesReport sources read.options.levels read.options.plan.unit old n) is of_words in
-    subst (λ s. WritesReport s read.options.levels read.options.plan.unit old new) same to_new
+    (opened, subst (λ s. WritesReport s read.options.levels read.options.plan.unit old new) same to_new)
 
--- and so is what explains its fault
+-- a fault of this status is that of a write
+pub of_write : (fault : RunFault) → fault_status fault ≡ 4 → fault ≡ runs.Write
+of_write runs.Write is = refl
+of_write runs.OutOfMemory is = search rules
+of_write (runs.Analyse analyses.OutOfMemory) is = search rules
+of_write (runs.Analyse (analyses.LineCut file)) is = search rules
+of_write (runs.Analyse (analyses.File file fault)) is = search rules
+of_write (runs.Analyse (analyses.SameAnimal first second animal)) is = search rules
+
+-- and so is a beginning of it, where it could not be written whole
+pub begun : {T : Type 0} (read : Words) (w : World) (sources : List (Option Reading)) (old written new : Option (List ℕ)) (r : Result T RunFault) (fault : RunFault)
+    → (r ≡ Err runs.Write → WritesPrefix sources read.options.levels read.options.plan.unit old written) → r ≡ Err fault → fault_status fault ≡ 4
+    → sources ≡ sources_of read w → written ≡ new → AllMayOpen w.find read.files.items → BeginsReport read w old new
+begun read w sources old written new r fault report ended status same is opened =
+    let prefix = report (ended ∙ ap Err (of_write fault status)) in
+    let to_new = subst (λ n. WritesPrefix sources read.options.levels read.options.plan.unit old n) is prefix in
+    (opened, subst (λ s. WritesPrefix s read.options.levels read.options.plan.unit old new) same to_new)
+
+-- without files all may be opened
+pub none_refused : (find : List ℕ → Found) (files : List (String Global)) → (length files == 0) ≡ true → AllMayOpen find files
+none_refused find [] none = tt
+none_refused find (file ∷ files) none = search rules
+
+-- what explains the fault of a run over sources is what explains that of the words
 pub explained : {T : Type 0} (read : Words) (w : World) (sources : List (Option Reading)) (r : Result T RunFault) (fault : RunFault)
     → IfErr r (Explains sources read.options.levels read.options.plan.unit) → r ≡ Err fault → sources ≡ sources_of read w
     → Explains (sources_of read w) read.options.levels read.options.plan.unit fault

@@ -1,12 +1,14 @@
 -- From what is said of a refusal to one line.
-use Rattle.std.proofs.Common.{inl, inr, List, ℕ, Option, subst}
+use Rattle.std.proofs.Common.{◌≡◌, ◌⊎◌, ◌∙◌, refl, Bool, true, false, inl, inr, List, ℕ, Option, Some, Result, Ok, Err, String, Global, string_bytes, subst}
+use Rattle.std.specs.Prelude.{IfErr, IfOk, OnOk}
+use Rattle.core.specs.declared.alloc.AllocError.{AllocError}
 use Rattle.std.specs.declared.io.Error.{Error}
 use Rattle.std.specs.Io.KnownBytes.{Appends}
 use Rattle.range_texts.specs.Seen.{IsOneLine}
-use Rattle.range_command.specs.SaidLine.{IsSaid, SaysOneLine}
+use Rattle.range_command.specs.SaidLine.{HasLeft, IsSaid, SaysOneLine}
 use Rattle.range_command.specs.Command.{IsOfSystem, IsTold, World}
-use Rattle.range_command.specs.Output.{Outlet}
-use Rattle.range_command.specs.RefusalText.{IsOfOneLine, IsTelling, line_of, refusal_text}
+use Rattle.range_command.specs.Outlet.{HasFailed, IsKnown}
+use Rattle.range_command.specs.RefusalText.{IsOfOneLine, IsTelling, line_of, refusal_text, short_line}
 use Rattle.range_command.specs.declared.refusal.Refusal.{Refusal}
 use Rattle.range_command.specs.declared.refusal.Refusal.TheVariants as refusals
 use Rattle.range_command.proofs.OneLine.{refusal_line, short_is_one_line}
@@ -32,15 +34,50 @@ system_in_one (refusals.Unopened path reason) told = absurd told
 system_in_one (refusals.Unwritten reason) told = absurd told
 system_in_one (refusals.Run files fault reason) told = absurd told
 
-line_in_one : {X : Type 0} (contents : X → Option (List ℕ)) (refusal : Refusal) (old new : Outlet X)
-    → IsOfOneLine refusal → IsTelling refusal (contents old.writer) (contents new.writer)
-    → (text : List ℕ) × IsOneLine text × Appends (contents old.writer) (contents new.writer) (line_of text)
-line_in_one contents refusal old new alone (inl told) = (refusal_text refusal, refusal_line refusal alone, told)
-line_in_one contents refusal old new alone (inr told) =
-    let line = short_is_one_line refusal in (line.0, line.1, subst (λ (l : List ℕ). Appends (contents old.writer) (contents new.writer) l) line.2 told)
+-- a line that was written whole is the one of the refusal, or the short one where there was no memory for that
+pub told_or_failed : {T : Type 0} (refusal : Refusal) (line : Result (String Global) AllocError) (text : List ℕ) (old new : Option (List ℕ))
+    (last_failure : Option (Option Error)) (r : Result T Error)
+    → IfOk line (λ l. string_bytes l ≡ line_of (refusal_text refusal)) → IfOk line (λ l. text ≡ string_bytes l) → IfErr line (λ _. text ≡ short_line refusal)
+    → OnOk r (Appends old new text) → IfErr r (λ error. IsKnown (Some error) last_failure)
+    → IsTelling refusal old new ⊎ HasFailed last_failure
+told_or_failed refusal line text old new last_failure (Err error) is whole short written failed = inr (error, failed)
+told_or_failed refusal (Ok l) text old new last_failure (Ok done) is whole short written failed =
+    inl (inl (subst (λ (t : List ℕ). Appends old new t) (whole ∙ is) written))
+told_or_failed refusal (Err refused) text old new last_failure (Ok done) is whole short written failed =
+    inl (inr (subst (λ (t : List ℕ). Appends old new t) short written))
+
+-- what was told by what is known of the output's last failure is said
+pub said_or_left : {X : Type 0} (last : Option (Option Error)) (contents : X → Option (List ℕ)) (last_failure : X → Option (Option Error)) (refusal : Refusal)
+    (old new : X) (failure : Option Error) (left : Bool)
+    → IsKnown failure last → (left ≡ true → HasLeft failure) → (left ≡ false → ¬ (HasLeft failure)) → (left ≡ true → new ≡ old)
+    → (left ≡ false → IsTelling refusal (contents old) (contents new) ⊎ HasFailed (last_failure new))
+    → IsSaid last refusal contents last_failure old new
+said_or_left last contents last_failure refusal old new failure true known has_left has_not kept told = (failure, known, inl (has_left refl, kept refl))
+said_or_left last contents last_failure refusal old new failure false known has_left has_not kept told = (failure, known, inr (has_not refl, told refl))
+
+line_in_one : (refusal : Refusal) (old new : Option (List ℕ)) → IsOfOneLine refusal → IsTelling refusal old new
+    → (text : List ℕ) × IsOneLine text × Appends old new (line_of text)
+line_in_one refusal old new alone (inl told) = (refusal_text refusal, refusal_line refusal alone, told)
+line_in_one refusal old new alone (inr told) =
+    let line = short_is_one_line refusal in (line.0, line.1, subst (λ (l : List ℕ). Appends old new l) line.2 told)
+
+one_or_failed : (refusal : Refusal) (old new : Option (List ℕ)) (last_failure : Option (Option Error)) → IsOfOneLine refusal
+    → IsTelling refusal old new ⊎ HasFailed last_failure
+    → ((text : List ℕ) × IsOneLine text × Appends old new (line_of text)) ⊎ HasFailed last_failure
+one_or_failed refusal old new last_failure alone (inl told) = inl (line_in_one refusal old new alone told)
+one_or_failed refusal old new last_failure alone (inr failed) = inr failed
+
+in_one : {X : Type 0} (contents : X → Option (List ℕ)) (last_failure : X → Option (Option Error)) (failure : Option Error) (refusal : Refusal) (old new : X)
+    → IsOfOneLine refusal
+    → (HasLeft failure × (new ≡ old)) ⊎ (¬ (HasLeft failure) × (IsTelling refusal (contents old) (contents new) ⊎ HasFailed (last_failure new)))
+    → (HasLeft failure × (new ≡ old))
+    ⊎ (((text : List ℕ) × IsOneLine text × Appends (contents old) (contents new) (line_of text)) ⊎ HasFailed (last_failure new))
+in_one contents last_failure failure refusal old new alone (inl left) = inl left
+in_one contents last_failure failure refusal old new alone (inr said) =
+    inr (one_or_failed refusal (contents old) (contents new) (last_failure new) alone said.1)
 
 -- what is said is one line
-pub said_in_one : {X : Type 0} (contents : X → Option (List ℕ)) (failure : Option Error) (refusal : Refusal) (old new : Outlet X)
-    → IsOfOneLine refusal → IsSaid failure refusal contents old new → SaysOneLine failure contents old new
-said_in_one contents failure refusal old new alone (inl left) = inl left
-said_in_one contents failure refusal old new alone (inr said) = inr (λ unfailed. line_in_one contents refusal old new alone (said.1 unfailed))
+pub said_in_one : {X : Type 0} (last : Option (Option Error)) (contents : X → Option (List ℕ)) (last_failure : X → Option (Option Error)) (refusal : Refusal)
+    (old new : X) → IsOfOneLine refusal → IsSaid last refusal contents last_failure old new → SaysOneLine last contents last_failure old new
+said_in_one last contents last_failure refusal old new alone said =
+    (said.0, said.1, in_one contents last_failure said.0 refusal old new alone said.2)

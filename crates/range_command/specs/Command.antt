@@ -10,8 +10,9 @@ use Rattle.range_words.specs.WordList.{AreWordsOf, IsRefusalOf}
 use Rattle.range_words.specs.declared.words.Words.{Words}
 use Rattle.range_words.specs.declared.words.WordFault.{WordFault}
 use Rattle.range_words.specs.declared.words.WordFault.TheVariants as words
-use Rattle.range_run.specs.Run.{Explains, WritesReport}
-use Rattle.range_command.specs.Opener.{Found, IsFirstRefused, MayRefuse, bytes_in}
+use Rattle.range_run.specs.Run.{Explains, WritesPrefix, WritesReport}
+use Rattle.range_run.specs.WrittenPrefix.{AppendsPrefix}
+use Rattle.range_command.specs.Opener.{AllMayOpen, Found, IsFirstRefused, MayRefuse, bytes_in}
 use Rattle.range_command.specs.declared.refusal.Refusal.{Refusal}
 use Rattle.range_command.specs.declared.refusal.Refusal.TheVariants as refusals
 
@@ -37,9 +38,13 @@ said_in unit sources = map (option_map (reading unit)) sources
 abbrev pub sources_of : Words → World → List (Option Reading)
 sources_of read w = said_in read.options.plan.unit (sources_over w read.files.items)
 
--- the report that the words ask for was written, and nothing else
+-- each file that the words name may be opened; the report that they ask for was written, and nothing else
 abbrev pub Reports : Words → World → Option (List ℕ) → Option (List ℕ) → Type 0
-Reports read w old new = WritesReport (sources_of read w) read.options.levels read.options.plan.unit old new
+Reports read w old new = AllMayOpen w.find read.files.items × WritesReport (sources_of read w) read.options.levels read.options.plan.unit old new
+
+-- each file that the words name may be opened; a beginning of the report that they ask for was written, and nothing else
+abbrev pub BeginsReport : Words → World → Option (List ℕ) → Option (List ℕ) → Type 0
+BeginsReport read w old new = AllMayOpen w.find read.files.items × WritesPrefix (sources_of read w) read.options.levels read.options.plan.unit old new
 
 -- the words ask for help or for the version, and this is its text
 abbrev pub AskFor : List Text → String Global → Type 0
@@ -48,6 +53,12 @@ AskFor said text = IsRefusalOf said (words.Help text) ⊎ IsRefusalOf said (word
 -- the words are good and their report was written, or they ask for help or for the version and it was
 abbrev pub IsObeyed : List Text → World → Option (List ℕ) → Option (List ℕ) → Type 0
 IsObeyed said w old new = ((read : Words) × AreWordsOf said read × Reports read w old new) ⊎ ((text : String Global) × AskFor said text × Appends old new (string_bytes text))
+
+-- the words are good and a beginning of their report was written, or they ask for help or for the version and a
+-- beginning of that was; and nothing else
+abbrev pub IsBegun : List Text → World → Option (List ℕ) → Option (List ℕ) → Type 0
+IsBegun said w old new =
+    ((read : Words) × AreWordsOf said read × BeginsReport read w old new) ⊎ ((text : String Global) × AskFor said text × AppendsPrefix old new (string_bytes text))
 
 -- why files are not opened: one of them cannot be, and none before it, or memory is wanted
 abbrev pub IsOfFiles : (List ℕ → Found) → List (String Global) → Refusal → Type 0
@@ -76,7 +87,7 @@ IsOfBadWords refusal = ⊥
 abbrev pub IsOfRun : Words → World → Refusal → Type 0
 IsOfRun read w refusals.OutOfMemory = ⊤
 IsOfRun read w (refusals.Unopened path reason) = IsFirstRefused w.find read.files.items (string_bytes path) (string_bytes reason)
-IsOfRun read w (refusals.Run files fault reason) = (files ≡ read.files) × Explains (sources_of read w) read.options.levels read.options.plan.unit fault
+IsOfRun read w (refusals.Run files fault reason) = (files ≡ read.files) × AllMayOpen w.find read.files.items × Explains (sources_of read w) read.options.levels read.options.plan.unit fault
 IsOfRun read w refusal = ⊥
 
 -- a fault of words that is told by itself: not a wish for help or for the version, and not what `clap` says

@@ -1,6 +1,6 @@
 pub mod Command
 pub mod Opener
-pub mod Output
+pub mod Outlet
 pub mod RefusalText
 pub mod SaidLine
 pub mod Status

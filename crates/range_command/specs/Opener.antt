@@ -41,3 +41,8 @@ IsFirstRefused find [] path reason = ⊥
 IsFirstRefused find (file ∷ files) path reason =
     ((path ≡ string_bytes file) × MayRefuse (find (string_bytes file)) reason)
     ⊎ (MayOpen (find (string_bytes file)) × IsFirstRefused find files path reason)
+
+-- each of the files may be opened
+abbrev pub AllMayOpen : (List ℕ → Found) → List (String Global) → Type 0
+AllMayOpen find [] = ⊤
+AllMayOpen find (file ∷ files) = MayOpen (find (string_bytes file)) × AllMayOpen find files

@@ -5,21 +5,24 @@ use Rattle.std.specs.declared.io.Error.{Error}
 use Rattle.std.specs.declared.io.ErrorKind.TheVariants as kind
 use Rattle.std.specs.IoError.{error_kind}
 use Rattle.range_texts.specs.Seen.{IsOneLine}
-use Rattle.range_command.specs.Output.{Outlet}
+use Rattle.range_command.specs.Outlet.{HasFailed, IsKnown}
 use Rattle.range_command.specs.RefusalText.{IsTelling, line_of}
 use Rattle.range_command.specs.declared.refusal.Refusal.{Refusal}
 
--- the last failure of an output was that its reader has gone
+-- the last failure of an output, if there was one, is that its reader has gone
 abbrev pub HasLeft : Option Error → Type 0
 HasLeft None = ⊥
 HasLeft (Some error) = error_kind error ≡ kind.BrokenPipe
 
--- a refusal was said on the errors, if they took it, but not where the output's reader has gone
-abbrev pub IsSaid : {X : Type 0} → Option Error → Refusal → (X → Option (List ℕ)) → Outlet X → Outlet X → Type 0
-IsSaid failure refusal contents old new = (HasLeft failure × (new ≡ old))
-    ⊎ (¬ (HasLeft failure) × (new.failure ≡ None → IsTelling refusal (contents old.writer) (contents new.writer)))
+-- where the last failure of the output, as far as it is known, is that its reader has gone, the errors stay as they
+-- were; else the refusal was said there, unless one of their calls has failed
+abbrev pub IsSaid : {X : Type 0} → Option (Option Error) → Refusal → (X → Option (List ℕ)) → (X → Option (Option Error)) → X → X → Type 0
+IsSaid last refusal contents last_failure old new = (failure : Option Error) × IsKnown failure last
+    × ((HasLeft failure × (new ≡ old)) ⊎ (¬ (HasLeft failure) × (IsTelling refusal (contents old) (contents new) ⊎ HasFailed (last_failure new))))
 
--- one line and nothing else was said on the errors, if they took it, or nothing where the output's reader has gone
-abbrev pub SaysOneLine : {X : Type 0} → Option Error → (X → Option (List ℕ)) → Outlet X → Outlet X → Type 0
-SaysOneLine failure contents old new = (HasLeft failure × (new ≡ old))
-    ⊎ (new.failure ≡ None → (text : List ℕ) × IsOneLine text × Appends (contents old.writer) (contents new.writer) (line_of text))
+-- one line and nothing else was said on the errors, unless one of their calls has failed, or nothing where the output's
+-- reader has gone
+abbrev pub SaysOneLine : {X : Type 0} → Option (Option Error) → (X → Option (List ℕ)) → (X → Option (Option Error)) → X → X → Type 0
+SaysOneLine last contents last_failure old new = (failure : Option Error) × IsKnown failure last
+    × ((HasLeft failure × (new ≡ old))
+    ⊎ (((text : List ℕ) × IsOneLine text × Appends (contents old) (contents new) (line_of text)) ⊎ HasFailed (last_failure new)))

@@ -1,7 +1,9 @@
-// A writer that asks the system whether all that was written is out.
+// Where texts go by the system.
 
-ghost use Rattle.std.specs.Prelude.{◌≡◌};
+ghost use Rattle.std.specs.Prelude.{◌≡◌, IfErr, None, OnOk, Some};
+ghost use Rattle.std.specs.Io.KnownBytes.{Keeps};
 
+use crate::outlet::Outlet;
 use std::io::{ErrorKind, Write};
 use std::os::fd::AsFd;
 use std::rt::Files;
@@ -14,33 +16,79 @@ const BAD_DESCRIPTOR: i32 = 9;
 // How often in all a copy of the descriptor is closed, where signals interrupt it.
 const TRIES: u32 = 16;
 
-/// A writer over a descriptor, such as standard output. Its flush closes a copy of the descriptor: some file systems
-/// tell only then that they had no room. A descriptor that is not open has nothing to tell.
+/// An outlet over a descriptor, such as standard output. That it is finished is asked by closing a copy of the
+/// descriptor: some file systems tell only then that they had no room. A descriptor that is not open has nothing to
+/// tell. A write that takes no byte has failed.
 #[derive(Drop)]
 pub struct Confirmed<'a, R, W> {
     runtime: &'a R,
     writer: W,
+    is_finished: bool,
+    failure: Option<io::Error>,
 }
 
 impl<'a, R, W> Confirmed<'a, R, W> {
+    /// An outlet that has not failed.
     pub fn new(runtime: &'a R, writer: W) -> Confirmed<'a, R, W>
-        ensures { result.writer ≡ writer }
+        ensures writer { result.writer ≡ writer }
+        ensures failure { result.failure ≡ None }
     {
-        Confirmed { runtime, writer }
+        Confirmed {
+            runtime,
+            writer,
+            is_finished: false,
+            failure: None,
+        }
+    }
+
+    // Keeps why a call has failed.
+    fn note<T>(&mut self, answer: &io::Result<T>)
+        ensures writer { self.new.writer ≡ self.old.writer }
+        ensures finished { self.new.is_finished ≡ self.old.is_finished }
+        ensures failed { IfErr answer.now (λ error. self.new.failure ≡ Some error) }
+        ensures kept { OnOk answer.now (self.new.failure ≡ self.old.failure) }
+    {
+        if let Err(error) = answer {
+            self.failure = Some(*error);
+        }
     }
 }
 
-impl<R: Files, W: Write + AsFd> Write for Confirmed<'_, R, W> {
+impl<R: Files, W: Write + AsFd> Outlet for Confirmed<'_, R, W> {
     ghost contents = { λ confirmed. W.contents confirmed.writer };
 
-    fn write(&mut self, buf: &[u8]) -> io::Result<usize> {
-        self.writer.write(buf)
+    ghost is_finished = { λ confirmed. Some confirmed.is_finished };
+
+    ghost last_failure = { λ confirmed. Some confirmed.failure };
+
+    fn put(&mut self, text: &[u8]) -> io::Result<usize> {
+        self.is_finished = false;
+        let put = match self.writer.write(text) {
+            Ok(0) if !text.is_empty() => Err(io::Error::from(ErrorKind::WriteZero)),
+            put => put,
+        };
+        self.note(&put);
+        put
     }
 
-    fn flush(&mut self) -> io::Result<()> {
-        self.writer.flush()?;
-        confirm(self.runtime, &self.writer)
+    fn finish(&mut self) -> io::Result<()> {
+        let finished = ask(self.runtime, &mut self.writer);
+        self.is_finished = finished.is_ok();
+        self.note(&finished);
+        finished
     }
+
+    fn failure(&self) -> Option<io::Error> {
+        self.failure
+    }
+}
+
+// Asks the system, after a flush.
+fn ask<R: Files, W: Write + AsFd>(rt: &R, writer: &mut W) -> io::Result<()>
+    ensures { Keeps (W.contents writer.old) (W.contents writer.new) }
+{
+    writer.flush()?;
+    confirm(rt, writer)
 }
 
 // What the system says where a copy of the descriptor is closed.

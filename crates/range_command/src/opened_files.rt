@@ -2,7 +2,7 @@
 
 ghost use Rattle.std.specs.Prelude.{◌≡◌, IfErr, IfOk, length, map, string_bytes};
 ghost use Rattle.range_command.specs.Command.{IsOfFiles, IsUnopened};
-ghost use Rattle.range_command.specs.Opener.{Found, IsNotOpened, bytes_in};
+ghost use Rattle.range_command.specs.Opener.{AllMayOpen, Found, IsNotOpened, bytes_in};
 
 use crate::opener::{OpenFault, Opener};
 use crate::refusal::Refusal;
@@ -25,6 +25,7 @@ pub(crate) fn open_all<'a, O: Opener>(
     ensures files { IfOk result (λ sources.
         map (λ source. O.File.remaining source.source) sources.items
         ≡ map (λ path. bytes_in (O.finds opener.now (string_bytes path))) paths.now) }
+    ensures opened { IfOk result (λ _. AllMayOpen (O.finds opener.now) paths.now) }
     ensures refusal { IfErr result (IsOfFiles (O.finds opener.now) paths.now) }
 {
     let mut sources = Vec::new(alloc);

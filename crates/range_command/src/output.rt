@@ -1,106 +1,88 @@
-// Where the program writes, and why a write failed.
+// Where the program writes.
 
-ghost use Rattle.std.specs.Prelude.{◌≡◌, ◌↔◌, IfErr, IsTrue, None, OnOk, Some};
+ghost use Rattle.std.specs.Prelude.{◌≡◌, ◌<◌, IfErr, IfOk, OnOk, Some, length, true};
 ghost use Rattle.std.specs.Io.{WritesAtMost};
-ghost use Rattle.std.specs.Io.KnownBytes.{Appends, WriteAppends};
-ghost use Rattle.range_command.specs.SaidLine.{HasLeft};
+ghost use Rattle.std.specs.Io.KnownBytes.{Appends, Keeps, WriteAppends};
+ghost use Rattle.range_command.specs.Outlet.{IsKnown};
 
-use crate::retry::write_again;
+use crate::outlet::Outlet;
+use crate::retry::put_again;
 use std::io;
-use std::io::{ErrorKind, Write};
+use std::io::Write;
 use std::marker::Model;
 
-/// A writer that tries a write again, up to 16 times in all, where a signal interrupts it, and that keeps
-/// the reason of its last failure.
+/// A writer over an outlet, which tries again, up to 16 times in all, where a signal interrupts a write.
 #[derive(Drop)]
 pub struct Output<W> {
-    writer: W,
-    failure: Option<io::Error>,
+    outlet: W,
 }
 
 impl<W> Model for Output<W> {
-    ghost use Rattle.range_command.specs.Output.{Outlet};
+    ghost Value = { W };
 
-    ghost Value = { Outlet W };
-
-    ghost view = { λ o. record { writer = o.writer; failure = o.failure } };
+    ghost view = { λ o. o.outlet };
 }
 
 impl<W> Output<W> {
-    /// An output that has not failed.
-    pub fn new(writer: W) -> Output<W>
-        ensures { result ≡ record { writer = writer; failure = None } }
+    pub fn new(outlet: W) -> Output<W>
+        ensures { result ≡ outlet }
     {
-        Output {
-            writer,
-            failure: None,
-        }
+        Output { outlet }
     }
 
-    /// What is written to.
-    pub fn writer(&self) -> &W
-        ensures { result.now ≡ self.now.writer }
+    /// Where it writes.
+    pub fn outlet(&self) -> &W
+        ensures { result.now ≡ self.now }
     {
-        &self.writer
-    }
-
-    /// Why the last write or flush that failed has failed.
-    pub fn failure(&self) -> Option<io::Error>
-        ensures { result ≡ self.now.failure }
-    {
-        self.failure
-    }
-
-    /// Whether the last failure was a pipe's whose reader has gone.
-    pub fn is_closed(&self) -> bool
-        ensures { IsTrue result ↔ HasLeft self.now.failure }
-    {
-        matches!(&self.failure, Some(error) if error.kind() == ErrorKind::BrokenPipe)
+        &self.outlet
     }
 }
 
-impl<W: Write> Output<W> {
-    /// Writes a text whole, in one write where the writer takes it. The reason of a failure is kept.
-    pub(crate) fn write_whole(&mut self, text: &[u8])
-        ensures whole { self.new.failure ≡ None
-            → Appends (W.contents self.old.writer) (W.contents self.new.writer) text.now }
+impl<W: Outlet> Output<W> {
+    /// Why the last write, or the last look whether all is out, that failed has failed.
+    pub fn failure(&self) -> Option<io::Error>
+        ensures { IsKnown result (W.last_failure self.now) }
+    {
+        self.outlet.failure()
+    }
+
+    /// Answers whether all that was written is out.
+    pub(crate) fn finish(&mut self) -> io::Result<()>
+        ensures bytes { Keeps (W.contents self.old) (W.contents self.new) }
+        ensures finished { OnOk result (IsKnown true (W.is_finished self.new)) }
+        ensures failed { IfErr result (λ error. IsKnown (Some error) (W.last_failure self.new)) }
+        ensures kept { OnOk result (W.last_failure self.new ≡ W.last_failure self.old) }
+    {
+        self.outlet.finish()
+    }
+
+    /// Writes a text whole, in one write where the outlet takes it.
+    pub(crate) fn write_whole(&mut self, text: &[u8]) -> io::Result<()>
+        ensures whole { OnOk result (Appends (W.contents self.old) (W.contents self.new) text.now) }
+        ensures failed { IfErr result (λ error. IsKnown (Some error) (W.last_failure self.new)) }
     {
         let mut at = 0;
         while at < text.len() {
-            match self.write(&text[at..]) {
-                Ok(0) => {
-                    self.failure = Some(io::Error::from(ErrorKind::WriteZero));
-                    return;
-                }
-                Ok(n) => at += n,
-                Err(_) => return,
-            }
+            at += self.write(&text[at..])?;
         }
+        Ok(())
     }
 }
 
-impl<W: Write> Write for Output<W> {
-    ghost contents = { λ output. W.contents output.writer };
+impl<W: Outlet> Write for Output<W> {
+    ghost contents = { λ output. W.contents output };
 
     fn write(&mut self, buf: &[u8]) -> io::Result<usize>
         ensures bound { WritesAtMost result buf.now }
-        ensures bytes { WriteAppends (W.contents self.old.writer)
-            (W.contents self.new.writer) result buf.now }
-        ensures failed { IfErr result (λ error. self.new.failure ≡ Some error) }
-        ensures kept { OnOk result (self.new.failure ≡ self.old.failure) }
+        ensures some { IfOk result (λ n. 0 < length buf.now → 0 < n) }
+        ensures bytes { WriteAppends (W.contents self.old) (W.contents self.new) result buf.now }
+        ensures failed { IfErr result (λ error. IsKnown (Some error) (W.last_failure self.new)) }
     {
-        let written = write_again(&mut self.writer, buf);
-        if let Err(error) = &written {
-            self.failure = Some(*error);
-        }
-        written
+        put_again(&mut self.outlet, buf)
     }
 
+    /// Nothing is kept back.
     fn flush(&mut self) -> io::Result<()> {
-        let flushed = self.writer.flush();
-        if let Err(error) = &flushed {
-            self.failure = Some(*error);
-        }
-        flushed
+        Ok(())
     }
 }

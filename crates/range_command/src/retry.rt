@@ -1,10 +1,13 @@
 // Reads and writes that a signal interrupts are tried again.
 
+ghost use Rattle.std.specs.Prelude.{◌<◌, IfErr, IfOk, Some, length};
 ghost use Rattle.std.specs.Io.{ReadsAtMost, WritesAtMost};
 ghost use Rattle.std.specs.Io.KnownBytes.{ReadConsumes, WriteAppends};
+ghost use Rattle.range_command.specs.Outlet.{IsKnown};
 
+use crate::outlet::Outlet;
 use std::io;
-use std::io::{Read, Write};
+use std::io::Read;
 
 // How often in all a read or a write is tried that signals interrupt.
 const TRIES: u32 = 16;
@@ -24,15 +27,17 @@ pub(crate) fn read_again<S: Read>(source: &mut S, buf: &mut [u8]) -> io::Result<
 }
 
 /// One write.
-pub(crate) fn write_again<W: Write>(writer: &mut W, buf: &[u8]) -> io::Result<usize>
-    ensures bound { WritesAtMost result buf.now }
-    ensures bytes { WriteAppends (W.contents writer.old) (W.contents writer.new) result buf.now }
+pub(crate) fn put_again<W: Outlet>(outlet: &mut W, text: &[u8]) -> io::Result<usize>
+    ensures bound { WritesAtMost result text.now }
+    ensures some { IfOk result (λ n. 0 < length text.now → 0 < n) }
+    ensures bytes { WriteAppends (W.contents outlet.old) (W.contents outlet.new) result text.now }
+    ensures failed { IfErr result (λ error. IsKnown (Some error) (W.last_failure outlet.new)) }
 {
     for _ in 1..TRIES {
-        match writer.write(buf) {
+        match outlet.put(text) {
             Err(error) if error.kind() == io::ErrorKind::Interrupted => {}
-            written => return written,
+            put => return put,
         }
     }
-    writer.write(buf)
+    outlet.put(text)
 }

@@ -68,7 +68,7 @@ files_text = lines_text ++ (name_and_time_text ++ coordinates_text)
 
 -- the help's last lines: what the report is, percent polygons, an example, and the status
 abbrev pub end_text : List ℕ
-end_text = codes "Report:\n  unit,dm\n      the first line, with --unit dm alone\n  animal,NAME,fixes,N\n      an animal, and how many fixes it has\n  box,NAME,minE,minN,maxE,maxN\n      the least and the greatest easting and northing\n  row,NAME,n,second,corners,area2\n      the range of the first n fixes, for each n: the second of fix n, and the\n      corners and doubled area of the polygon\n  corner,NAME,i,easting,northing\n      the corners of the polygon of all fixes, counterclockwise from the\n      westernmost\n  percent,NAME,level,kept,corners,area2\n      the polygon of the fixes that a level keeps\n  overlap,A,B,count,fixes\n      how many of the fixes of A lie in the polygon of B, edges included, and\n      how many fixes A has\n  end,ANIMALS\n      the last line: how many animals there are\n  The lines of each animal come together, in the order of the files, and then\n  the overlaps. area2 is twice the area in square metres: divide it by 2, or by\n  20000 for hectares. With --unit dm it is twice the area in square decimetres:\n  divide it by 2000000 for hectares.\n\nPercent polygons:\n  Of n fixes level p keeps the (p*n + 99)/100 nearest to the mean of all fixes,\n  division cutting off; of fixes at one distance the earlier in the file goes\n  first. The polygon is that of those.\n\nExample:\n  homerange --percent 50,95 fox.csv badger.csv > report.csv\n\nExit status:\n  0  the report, or this help or the version, was written\n  1  a file cannot be opened or read, or is not as above; or two files have the\n     same animal\n  2  the words of the command line are refused\n  3  there is not enough memory\n  4  the output cannot be written\n  5  the fixes of a file were not all handed on from its reader to its worker\nWith a status from 1 to 5, one line on standard error says why.\n"
+end_text = codes "Report:\n  unit,dm\n      the first line, with --unit dm alone\n  animal,NAME,fixes,N\n      an animal, and how many fixes it has\n  box,NAME,minE,minN,maxE,maxN\n      the least and the greatest easting and northing\n  row,NAME,n,second,corners,area2\n      the range of the first n fixes, for each n: the second of fix n, and the\n      corners and doubled area of the polygon\n  corner,NAME,i,easting,northing\n      the corners of the polygon of all fixes, counterclockwise from the\n      westernmost\n  percent,NAME,level,kept,corners,area2\n      the polygon of the fixes that a level keeps\n  overlap,A,B,count,fixes\n      how many of the fixes of A lie in the polygon of B, edges included, and\n      how many fixes A has\n  end,ANIMALS\n      the last line: how many animals there are\n  The lines of each animal come together, in the order of the files, and then\n  the overlaps. area2 is twice the area in square metres: divide it by 2, or by\n  20000 for hectares. With --unit dm it is twice the area in square decimetres:\n  divide it by 2000000 for hectares.\n\nPercent polygons:\n  Of n fixes level p keeps the (p*n + 99)/100 nearest to the mean of all fixes,\n  division cutting off; of fixes at one distance the earlier in the file goes\n  first. The polygon is that of those.\n\nExample:\n  homerange --percent 50,95 fox.csv badger.csv > report.csv\n\nExit status:\n  0  the report, or this help or the version, was written\n  1  a file cannot be opened or read, or is not as above; or two files have the\n     same animal\n  2  the words of the command line are refused\n  3  there is not enough memory\n  4  the output cannot be written\n  5  the fixes of a file were not all handed on from its reader to its worker\nWith a status from 1 to 5, one line on standard error says why, unless the\nreader of the output has gone.\n"
 
 -- the whole help
 abbrev pub help_text : List ℕ

@@ -209,5 +209,6 @@ Exit status:
   3  there is not enough memory
   4  the output cannot be written
   5  the fixes of a file were not all handed on from its reader to its worker
-With a status from 1 to 5, one line on standard error says why.
+With a status from 1 to 5, one line on standard error says why, unless the
+reader of the output has gone.
 ";

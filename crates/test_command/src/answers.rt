@@ -1,6 +1,7 @@
 // What the program answers to whole command lines: its status, its report and its line of fault.
 
 use crate::failures::{Failures, Output};
+use crate::memory::Memory;
 use crate::options::{LEVELS_WORD, UNIT_WORD};
 use crate::runs::REPORT_A;
 use crate::started::status_of;
@@ -19,13 +20,14 @@ pub(crate) fn expect<R: ThreadRuntime + Files<File = File> + AllocGlobal + Abort
     line: &str,
 ) {
     let alloc = rt.alloc();
-    let mut out = range_command::Output::new(Vec::new(alloc));
-    let mut errors = range_command::Output::new(Vec::new(alloc));
+    let mut out = range_command::Output::new(Memory::new(Vec::new(alloc)));
+    let mut errors = range_command::Output::new(Memory::new(Vec::new(alloc)));
     let answered = status_of(rt, words, input, &mut out, &mut errors);
     assert!(rt; answered == status, "{answered}");
-    assert!(rt; errors.writer().as_slice() == line.as_bytes());
+    assert!(rt; errors.outlet().writer.as_slice() == line.as_bytes());
+    assert!(rt; out.outlet().is_finished == (status == 0));
     let report = if status == 0 { REPORT_A } else { b"" };
-    assert!(rt; out.writer().as_slice() == report);
+    assert!(rt; out.outlet().writer.as_slice() == report);
 }
 
 #[test]
@@ -92,10 +94,14 @@ fn an_output_that_fails_is_told_but_not_a_closed_pipe(rt: HostRuntime) {
             &[b"homerange", b"--help"],
         ] {
             let failures = Failures::one_after(1, number);
-            let mut out = range_command::Output::new(Output::new(Vec::new(alloc), 8, failures));
-            let mut errors = range_command::Output::new(Vec::new(alloc));
+            let mut out = range_command::Output::new(Memory::new(Output::new(
+                Vec::new(alloc),
+                8,
+                failures,
+            )));
+            let mut errors = range_command::Output::new(Memory::new(Vec::new(alloc)));
             let status = status_of(&rt, words, FILE_A, &mut out, &mut errors);
-            assert!(rt; status == 4 && errors.writer().as_slice() == line.as_bytes());
+            assert!(rt; status == 4 && errors.outlet().writer.as_slice() == line.as_bytes());
         }
     }
 }

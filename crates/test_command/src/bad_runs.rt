@@ -1,6 +1,7 @@
 // Runs over files with each fault of their reader but too many records, which runs over sources without end have.
 
 use crate::commands::expect_ended;
+use crate::memory::Memory;
 use crate::runs::run_in;
 use range_analysis::AnalyseFault;
 use range_command::Output;
@@ -33,10 +34,10 @@ fn expect_refused<R: ThreadRuntime + Files<File = File> + AllocGlobal + Abort>(
     let alloc = rt.alloc();
     let fault = bad.fault;
     let text = format!(in alloc; "standard input: {fault}")?;
-    let (source, mut out) = (bad.source(), Output::new(Vec::new(alloc)));
+    let (source, mut out) = (bad.source(), Output::new(Memory::new(Vec::new(alloc))));
     let ended = (1, text.as_str());
     expect_ended(rt, &["--unit", "dm"], source, &mut out, ended)?;
-    assert!(rt; out.writer().is_empty(), "{fault}");
+    assert!(rt; out.outlet().writer.is_empty(), "{fault}");
     Ok(())
 }
 

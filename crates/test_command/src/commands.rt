@@ -1,10 +1,9 @@
 // Commands as the program obeys them, over files that the system has.
 
 use crate::line::line;
-use range_command::{Output, SystemFiles, obey};
+use range_command::{Outlet, Output, SystemFiles, obey};
 use range_pump::{FileSource, FreeGate, ThreadRuntime};
 use std::fs::File;
-use std::io::Write;
 use std::process::Abort;
 use std::rt::Files;
 use std::test::Fail;
@@ -13,7 +12,7 @@ use std::test::Fail;
 pub(crate) fn expect_ended<
     R: ThreadRuntime + Files<File = File> + AllocGlobal + Abort,
     S: FileSource,
-    W: Write,
+    W: Outlet,
 >(rt: &R, words: &[&str], input: S, out: &mut Output<W>, ended: (u8, &str)) -> Result<(), Fail> {
     let alloc = rt.alloc();
     let (words, files) = (line(alloc, words)?, SystemFiles::new(rt));

@@ -1,6 +1,7 @@
 // Runs over files that words name, in the order of the words.
 
 use crate::commands::expect_ended;
+use crate::memory::Memory;
 use range_command::Output;
 use range_pump::ThreadRuntime;
 use std::fs;
@@ -35,10 +36,10 @@ fn expect<R: ThreadRuntime + Files<File = File> + AllocGlobal + Abort>(
     for part in parts {
         report.extend_from_slice(part)?;
     }
-    let mut out = Output::new(Vec::new(alloc));
+    let mut out = Output::new(Memory::new(Vec::new(alloc)));
     let status = u8::from(!text.is_empty());
     expect_ended(rt, words, b"".as_slice(), &mut out, (status, text))?;
-    assert!(rt; out.writer().as_slice() == report.as_slice());
+    assert!(rt; out.outlet().writer.as_slice() == report.as_slice());
     Ok(())
 }
 

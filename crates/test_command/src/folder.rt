@@ -4,6 +4,7 @@ ghost use Rattle.std.specs.Prelude.{Err, List, Ok, Option, Result, Some, codes, 
 ghost use Rattle.std.specs.Str.{bytes_eq};
 
 use crate::line::line;
+use crate::memory::Memory;
 use range_command::{OpenFault, Opener, Output, answer_to};
 use range_pump::ThreadRuntime;
 use std::alloc::Global;
@@ -66,14 +67,14 @@ fn expect<R: ThreadRuntime + AllocGlobal + Abort>(
         },
     };
     let words = line(alloc, words)?;
-    let mut out = Output::new(Vec::new(alloc));
-    let mut errors = Output::new(Vec::new(alloc));
+    let mut out = Output::new(Memory::new(Vec::new(alloc)));
+    let mut errors = Output::new(Memory::new(Vec::new(alloc)));
     let input = b"".as_slice();
     let answered = answer_to(rt, &folder, words.as_slice(), input, &mut out, &mut errors);
     assert!(rt; answered == status, "{answered}");
-    assert!(rt; errors.writer().as_slice() == said.as_bytes());
-    assert!(rt; out.writer().as_slice().starts_with(report));
-    assert!(rt; out.writer().is_empty() == report.is_empty());
+    assert!(rt; errors.outlet().writer.as_slice() == said.as_bytes());
+    assert!(rt; out.outlet().writer.as_slice().starts_with(report));
+    assert!(rt; out.outlet().writer.is_empty() == report.is_empty());
     Ok(())
 }
 

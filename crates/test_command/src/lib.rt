@@ -26,6 +26,8 @@ mod line;
 #[cfg(test)]
 mod lines;
 #[cfg(test)]
+mod memory;
+#[cfg(test)]
 mod options;
 #[cfg(test)]
 mod plans;

@@ -1,5 +1,6 @@
 // The line of a refusal goes out in one write, and whole.
 
+use crate::memory::Memory;
 use crate::started::status_of;
 use range_command::Output;
 use std::io;
@@ -46,10 +47,10 @@ fn a_refusal_goes_out_in_one_write(rt: HostRuntime) -> Result<(), Fail> {
                 most,
                 writes: 0,
             };
-            let mut errors = Output::new(counted);
-            let mut out = Output::new(Vec::new(alloc));
+            let mut errors = Output::new(Memory::new(counted));
+            let mut out = Output::new(Memory::new(Vec::new(alloc)));
             let status = status_of(&rt, &words, b"", &mut out, &mut errors);
-            let said = errors.writer();
+            let said = &errors.outlet().writer;
             assert!(rt; status == 1 || status == 2);
             assert!(rt; said.held.starts_with(b"homerange: ") && said.held.ends_with(b"\n"));
             let ends = said.held.iter().filter(|byte| **byte == b'\n').count();

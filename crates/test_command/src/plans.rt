@@ -2,6 +2,7 @@
 // them, as a gate hears of them. Each wait ends after so many turns, and then the test fails.
 
 use crate::line::line;
+use crate::memory::Memory;
 use crate::options::options_of;
 use range_command::{Output, SystemFiles, obey};
 use range_plane::Scale;
@@ -95,7 +96,7 @@ fn expect_obeyed<R: ThreadRuntime + Files<File = File> + AllocGlobal + Abort>(
     let alloc = rt.alloc();
     let gate = Holding::new(held, 0);
     let words = line(alloc, words)?;
-    let mut out = Output::new(Vec::new(alloc));
+    let mut out = Output::new(Memory::new(Vec::new(alloc)));
     assert!(rt;
         obey(
             rt,

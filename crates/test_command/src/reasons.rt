@@ -2,9 +2,11 @@
 
 use crate::commands::expect_ended;
 use crate::failures::{Failures, Output, Source};
+use crate::memory::Memory;
 use crate::runs::REPORT_A;
 use range_pump::ThreadRuntime;
 use std::fs::File;
+use std::io::ErrorKind;
 use std::process::Abort;
 use std::rt::Files;
 use std::test::Fail;
@@ -31,12 +33,17 @@ fn is_left<R: ThreadRuntime + Files<File = File> + AllocGlobal + Abort>(
     let (failures, writes) = failures;
     let pieces = ScriptedSource::new(FILE_A, 8);
     let source = Source { pieces, failures };
-    let mut out = range_command::Output::new(Output::new(Vec::new(rt.alloc()), 8, writes));
+    let mut out = range_command::Output::new(Memory::new(Output::new(
+        Vec::new(rt.alloc()),
+        8,
+        writes,
+    )));
     expect_ended(rt, words, source, &mut out, ended)?;
-    let held = out.writer().held.as_slice();
+    let held = out.outlet().writer.held.as_slice();
     assert!(rt; held.len() == written, "{written} bytes");
     assert!(rt; !words.is_empty() || REPORT_A.starts_with(held));
-    Ok(out.is_closed())
+    let failure = out.failure();
+    Ok(failure.is_some_and(|error| error.kind() == ErrorKind::BrokenPipe))
 }
 
 // The reason of a failed read, and nothing is written.
@@ -80,10 +87,12 @@ fn a_failed_write_is_told_by_its_reason(rt: HostRuntime) -> Result<(), Fail> {
 fn a_failed_flush_is_told_by_its_reason(rt: HostRuntime) -> Result<(), Fail> {
     let mut full = Output::new(Vec::new(rt.alloc()), 8, Failures::none());
     full.can_flush = false;
-    let mut out = range_command::Output::new(full);
+    let mut out = range_command::Output::new(Memory::new(full));
     let text = "standard output: No space left on device";
     expect_ended(&rt, &[], FILE_A, &mut out, (4, text))?;
-    assert!(rt; out.writer().held.as_slice() == REPORT_A && out.writer().flushes == 1);
+    assert!(rt;
+        out.outlet().writer.held.as_slice() == REPORT_A && out.outlet().writer.flushes == 1
+    );
     Ok(())
 }
 

@@ -2,6 +2,7 @@
 
 use crate::commands::expect_ended;
 use crate::line::texts;
+use crate::memory::Memory;
 use range_analysis::AnalyseFault;
 use range_command::{Output, Refusal};
 use range_fixes::{Name, ReadFault};
@@ -35,9 +36,9 @@ fn expect_refused<R: ThreadRuntime + Files<File = File> + AllocGlobal + Abort>(
     status: u8,
     text: &str,
 ) -> Result<(), Fail> {
-    let mut out = Output::new(Vec::new(rt.alloc()));
+    let mut out = Output::new(Memory::new(Vec::new(rt.alloc())));
     expect_ended(rt, words, b"".as_slice(), &mut out, (status, text))?;
-    assert!(rt; out.writer().is_empty());
+    assert!(rt; out.outlet().writer.is_empty());
     Ok(())
 }
 
@@ -144,16 +145,16 @@ fn expect_written<R: ThreadRuntime + Files<File = File> + AllocGlobal + Abort>(
     first: &[u8],
     last: &[u8],
 ) -> Result<(), Fail> {
-    let mut out = Output::new(Vec::new(rt.alloc()));
+    let mut out = Output::new(Memory::new(Vec::new(rt.alloc())));
     expect_ended(rt, words, b"".as_slice(), &mut out, (0, ""))?;
-    assert!(rt; out.writer().starts_with(first) && out.writer().ends_with(last));
+    assert!(rt; out.outlet().writer.starts_with(first) && out.outlet().writer.ends_with(last));
     Ok(())
 }
 
 #[test]
 fn help_is_written(rt: HostRuntime) -> Result<(), Fail> {
     let first = b"Home ranges of tagged animals".as_slice();
-    expect_written(&rt, &["--help"], first, b"says why.\n")
+    expect_written(&rt, &["--help"], first, b"has gone.\n")
 }
 
 #[test]
@@ -270,9 +271,9 @@ fn a_name_has_at_most_the_bytes_that_the_help_tells(rt: HostRuntime) -> Result<(
         ),
     ];
     for (file, ended) in cases {
-        let mut out = Output::new(Vec::new(alloc));
+        let mut out = Output::new(Memory::new(Vec::new(alloc)));
         expect_ended(&rt, &[], file, &mut out, ended)?;
-        assert!(rt; out.writer().is_empty() == (ended.0 == 1));
+        assert!(rt; out.outlet().writer.is_empty() == (ended.0 == 1));
     }
     Ok(())
 }

@@ -1,11 +1,11 @@
 // The program, with the words that the system gives it.
 
 use crate::answers::expect;
-use range_command::{Output, SystemFiles, answer};
+use crate::memory::Memory;
+use range_command::{Outlet, Output, SystemFiles, answer};
 use range_pump::ThreadRuntime;
 use std::env::{Env, FillError};
 use std::fs::File;
-use std::io::Write;
 use std::process::Abort;
 use std::rt::Files;
 use std::test::Fail;
@@ -37,7 +37,7 @@ impl Env for Line<'_> {
 }
 
 /// The status that these words over an input are answered with.
-pub(crate) fn status_of<R: ThreadRuntime + Files<File = File> + AllocGlobal, W: Write, E: Write>(
+pub(crate) fn status_of<R: ThreadRuntime + Files<File = File> + AllocGlobal, W: Outlet, E: Outlet>(
     rt: &R,
     words: &[&[u8]],
     input: &[u8],
@@ -73,12 +73,16 @@ fn the_first_word_that_is_no_text_is_told_by_its_number(rt: HostRuntime) {
 
 // A file that is missing is told by its whole path, whatever the reason.
 fn expect_told<R: ThreadRuntime + Files<File = File> + AllocGlobal + Abort>(rt: &R, path: &[u8]) {
-    let mut out = Output::new(Vec::new(rt.alloc()));
-    let mut errors = Output::new(Vec::new(rt.alloc()));
+    let mut out = Output::new(Memory::new(Vec::new(rt.alloc())));
+    let mut errors = Output::new(Memory::new(Vec::new(rt.alloc())));
     let words = [b"homerange".as_slice(), path];
     let status = status_of(rt, &words, FILE_A, &mut out, &mut errors);
-    assert!(rt; out.writer().is_empty() && status == 1);
-    let rest = errors.writer().as_slice().strip_prefix(b"homerange: ");
+    assert!(rt; out.outlet().writer.is_empty() && status == 1);
+    let rest = errors
+        .outlet()
+        .writer
+        .as_slice()
+        .strip_prefix(b"homerange: ");
     let rest = rest.and_then(|rest| rest.strip_prefix(path));
     assert!(rt; rest.is_some_and(|rest| rest.starts_with(b": ")));
 }

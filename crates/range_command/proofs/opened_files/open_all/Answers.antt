@@ -1,5 +1,6 @@
-use Rattle.std.proofs.Common.{◌≡◌, ◌++◌, ◌∷◌, [], ℕ, List, String, Global, string_bytes, subst, ap, ◌∙◌, rules, arith}
-use Rattle.range_command.specs.Opener.{Found, MayOpen, bytes_in}
+use Rattle.std.proofs.Common.{◌≡◌, ◌++◌, ◌∷◌, [], ℕ, List, String, Global, length, string_bytes, take, subst, ap, ◌∙◌, rules, arith}
+use Rattle.std.proofs.Math.Seq.{take-length}
+use Rattle.range_command.specs.Opener.{AllMayOpen, Found, MayOpen, bytes_in}
 use Rattle.range_command.specs.Command.{IsUnopened}
 use Rattle.range_command.proofs.RunSources.{may_open_of, told_more, unopened_of_files}
 use Rattle.range_command.proofs.opened_files.open_all.Goals as goal
@@ -27,3 +28,10 @@ loop-path-preserved g c =
           (search rules) c.loop-path.invariant.1 here pushed,
       may_open_of find paths i path (search (rules, arith)) (search rules) c.loop-path.invariant.2 opened.0,
     )
+
+pub returns-clause-opened : goal.returns-clause-opened
+returns-clause-opened g c =
+    let find : List ℕ → Found = g.O.Opener.finds c.args.opener.now in
+    let paths = c.args.paths.now in
+    let ended : c.loop-path.path-index ≡ length paths = omega (arith, c.loop-path.auto.path-index-end, c.loop-path-test.false) in
+    subst (AllMayOpen find) (ap (λ (k : ℕ). take k paths) ended ∙ take-length paths) c.loop-path.invariant.2

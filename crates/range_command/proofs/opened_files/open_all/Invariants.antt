@@ -1,6 +1,5 @@
 use Rattle.std.proofs.Common.{◌≡◌, map, string_bytes, take, vec_len}
-use Rattle.range_command.specs.Opener.{bytes_in}
-use Rattle.range_command.proofs.RunSources.{AllMayOpen}
+use Rattle.range_command.specs.Opener.{AllMayOpen, bytes_in}
 use Rattle.range_command.proofs.opened_files.open_all.Given as goal
 
 abbrev pub invariant-loop-path : goal.invariant-loop-path

@@ -1,8 +1,10 @@
-use Rattle.std.proofs.Common.{inl, inr, map, string_bytes, subst, rules}
+use Rattle.std.proofs.Common.{◌≡◌, inl, inr, map, string_bytes, subst, rules}
 use Rattle.std.proofs.lemmas.Result.{IfErr-weaker, on_ok_weaker}
 use Rattle.range_words.specs.WordList.{IsRefusalOf}
-use Rattle.range_command.specs.Command.{IsOfReply, IsOfRun, IsTold, world}
-use Rattle.range_command.proofs.RunSources.{reply_told, told_of_run}
+use Rattle.range_command.specs.Command.{BeginsReport, IsBegun, IsOfReply, IsOfRun, IsTold, world}
+use Rattle.range_command.specs.Status.{refusal_status}
+use Rattle.range_command.specs.declared.refusal.Refusal.{Refusal}
+use Rattle.range_command.proofs.RunSources.{reply_begun, reply_told, told_of_run}
 use Rattle.range_command.proofs.program.obey.Goals as goal
 
 pub returns-in-Ok-clause-done : goal.returns-in-Ok-clause-done
@@ -41,3 +43,27 @@ returns-in-Err-Version-clause-told g c =
     let asked = subst (IsRefusalOf said) c.in-Err-Version.field-0-is c.in-Err-Version.ensures.err in
     IfErr-weaker c.write_reply-in-Err-Version.result IsOfReply (IsTold said there) (reply_told said there c.in-Err-Version.text (inr asked))
     c.write_reply-in-Err-Version.ensures.refusal
+
+pub returns-in-Ok-clause-begun : goal.returns-in-Ok-clause-begun
+returns-in-Ok-clause-begun g c =
+    let there = world (g.S.Read.remaining c.args.input) (g.O.Opener.finds c.args.opener.now) in
+    let said = map string_bytes c.args.words.now in
+    let old = g.W.Outlet.contents c.args.out.now in
+    let new = g.W.Outlet.contents c.run_over.new.out in
+    IfErr-weaker c.run_over.result (λ (refusal : Refusal). refusal_status refusal ≡ 4 → BeginsReport c.in-Ok.words there old new)
+    (λ (refusal : Refusal). refusal_status refusal ≡ 4 → IsBegun said there old new)
+    (λ refusal begun status. inl (c.in-Ok.words, c.in-Ok.ensures.ok, begun status)) c.run_over.ensures.begun
+
+pub returns-in-Err-Help-clause-begun : goal.returns-in-Err-Help-clause-begun
+returns-in-Err-Help-clause-begun g c =
+    let there = world (g.S.Read.remaining c.args.input) (g.O.Opener.finds c.args.opener.now) in
+    let said = map string_bytes c.args.words.now in
+    let asked = subst (IsRefusalOf said) c.in-Err-Help.field-0-is c.in-Err-Help.ensures.err in
+    reply_begun said there c.in-Err-Help.text _ _ c.write_reply.result (inl asked) (search rules)
+
+pub returns-in-Err-Version-clause-begun : goal.returns-in-Err-Version-clause-begun
+returns-in-Err-Version-clause-begun g c =
+    let there = world (g.S.Read.remaining c.args.input) (g.O.Opener.finds c.args.opener.now) in
+    let said = map string_bytes c.args.words.now in
+    let asked = subst (IsRefusalOf said) c.in-Err-Version.field-0-is c.in-Err-Version.ensures.err in
+    reply_begun said there c.in-Err-Version.text _ _ c.write_reply-in-Err-Version.result (inr asked) (search rules)

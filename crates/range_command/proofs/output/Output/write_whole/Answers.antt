@@ -1,4 +1,4 @@
-use Rattle.std.proofs.Common.{◌≡◌, ◌-◌, length, take, drop, arith, sym, length-drop}
+use Rattle.std.proofs.Common.{◌≡◌, ◌-◌, ◌<◌, length, take, drop, arith, sym, length-drop}
 use Rattle.std.proofs.KnownBytes.{Appends-trans}
 use Rattle.std.proofs.Math.Seq.{take-add, take-length}
 use Rattle.range_command.proofs.output.Output.write_whole.Goals as goal
@@ -10,6 +10,6 @@ loop-at-preserved g c =
     let at = c.loop-at.at in
     let rest : length text - at ≡ length (drop at text) = sym (length-drop at text) in
     let whole : take (length text - at) (drop at text) ≡ drop at text = rw rest (take-length (drop at text)) in
-    let bytes = rw whole at c.in-Ok.ensures.bytes in
-    let bound = rw whole at c.in-Ok.ensures.bound in
-    (omega (arith, length-drop at text, bound), rw (take-add at c.in-Ok.n text) (Appends-trans _ _ _ _ _ inv.1 bytes))
+    let bytes = rw whole at c.in_ok-at.ensures.bytes in
+    let bound = rw whole at c.in_ok-at.ensures.bound in
+    (omega (arith, length-drop at text, bound), rw (take-add at c.in_ok-at.field-0 text) (Appends-trans _ _ _ _ _ inv.1 bytes))

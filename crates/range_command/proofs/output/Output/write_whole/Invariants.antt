@@ -4,8 +4,8 @@ use Rattle.range_command.proofs.output.Output.write_whole.Given as goal
 
 abbrev pub invariant-loop-at : goal.invariant-loop-at
 invariant-loop-at g l =
-    let contents = g.W.Write.contents in
-    (l.at ≤ length l.text) × Appends (contents l.fn.self.writer) (contents l.self.writer) (take l.at l.text)
+    let contents = g.W.Outlet.contents in
+    (l.at ≤ length l.text) × Appends (contents l.fn.self) (contents l.self) (take l.at l.text)
 
 abbrev pub decreases-loop-at : goal.decreases-loop-at
 decreases-loop-at g l = length l.text - l.at
