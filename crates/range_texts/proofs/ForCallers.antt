@@ -1,6 +1,7 @@
--- What is one line, for the proofs of crates above: the laws of `src/laws.rt`.
-use Rattle.range_texts.specs.Laws.{JoinedLinesAreOneLine, NumbersAreOneLine, PrintableTextsAreOneLine, ShownNamesAreOneLine, ShownTextsAreOneLine}
+-- Texts as they are shown, for the proofs of crates above: the laws of `src/laws.rt`.
+use Rattle.range_texts.specs.Laws.{JoinedLinesAreOneLine, NumbersAreOneLine, PrintableTextsAreOneLine, ShownNamesAreOneLine, ShownTextsAreOneLine, ShownTextsDiffer}
 use Rattle.range_texts.proofs.OneLines.{joined, name_line, number, printable, shown_line}
+use Rattle.range_texts.proofs.ReadBack.{shown_alike}
 
 -- two lines, one after the other
 pub joined_lines_are_one_line : JoinedLinesAreOneLine
@@ -21,3 +22,7 @@ shown_texts_are_one_line = shown_line
 -- each name as it is shown
 pub shown_names_are_one_line : ShownNamesAreOneLine
 shown_names_are_one_line = name_line
+
+-- two texts that are shown alike are the same text
+pub shown_texts_differ : ShownTextsDiffer
+shown_texts_differ = shown_alike

@@ -1,3 +1,4 @@
 pub mod ForCallers
 mod OneLines
 mod Printable
+mod ReadBack

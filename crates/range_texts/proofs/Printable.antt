@@ -1,5 +1,5 @@
 -- What ASCII prints is seen, and so is how an unseen character is written.
-use Rattle.std.proofs.Common.{◌≡◌, ℕ, ◌+◌, ◌/◌, ◌%◌, ◌<◌, ◌≤◌, Bool, true, false, not, cond, ◌&&◌, ◌||◌, ◌==◌, nat_lt, List, [], ◌∷◌, ◌++◌, refl, sym, ap₂, ◌∙◌, subst, arith, zero, suc}
+use Rattle.std.proofs.Common.{◌≡◌, ℕ, ◌+◌, ◌/◌, ◌%◌, ◌<◌, ◌≤◌, Bool, true, false, not, cond, ◌&&◌, ◌||◌, ◌==◌, nat_lt, List, [], ◌∷◌, ◌++◌, refl, sym, ap₂, subst, arith, zero, suc}
 use Rattle.std.proofs.lemmas.Bool.{and_parts}
 use Rattle.std.proofs.lemmas.Grind.{common_steps}
 use Rattle.std.proofs.lemmas.Str.{encode_ascii}
@@ -19,14 +19,14 @@ use Rattle.ucd_derived.specs.Binary.{is_default_ignorable_code_point}
 use Rattle.range_texts.specs.Seen.{is_printable, is_space_category, is_unseen, is_unseen_category}
 
 -- a test of either answer of a choice
-in_cond : {A : Type 0} (P : A → Type 0) (b : Bool) (x y : A) → (b ≡ true → P x) → (b ≡ false → P y) → P (cond b x y)
+pub in_cond : {A : Type 0} (P : A → Type 0) (b : Bool) (x y : A) → (b ≡ true → P x) → (b ≡ false → P y) → P (cond b x y)
 in_cond P true x y f g = f refl
 in_cond P false x y f g = g refl
 
 abbrev implied : Bool → Bool → Bool
 implied a b = not a || b
 
-never : {A : Type 0} → false ≡ true → A
+pub never : {A : Type 0} → false ≡ true → A
 never e = absurd (subst T (sym e) tt)
 
 from_implied : (a b : Bool) → implied a b ≡ true → a ≡ true → b ≡ true

@@ -1,5 +1,5 @@
--- What is one line.
-use Rattle.std.specs.Prelude.{◌≡◌, ℕ, Bool, true, List, ◌++◌}
+-- What is one line, and that no two texts are shown alike.
+use Rattle.std.specs.Prelude.{◌≡◌, ℕ, Bool, true, List, ◌++◌, IsUtf8}
 use Rattle.std.specs.List.{list_all}
 use Rattle.std.specs.Fmt.{decimal}
 use Rattle.range_texts.specs.Seen.{IsOneLine, is_printable, shown_text, shown_name}
@@ -21,3 +21,7 @@ ShownTextsAreOneLine = (doubles : Bool) (text : List ℕ) → IsOneLine (shown_t
 
 abbrev pub ShownNamesAreOneLine : Type 0
 ShownNamesAreOneLine = (name : List ℕ) → IsOneLine (shown_name name)
+
+-- two texts that are shown alike, with a backslash doubled, are the same text
+abbrev pub ShownTextsDiffer : Type 0
+ShownTextsDiffer = (a b : List ℕ) → IsUtf8 a → IsUtf8 b → shown_text true a ≡ shown_text true b → a ≡ b

@@ -1,7 +1,7 @@
-// Laws of texts of one line, for who reads what is promised. Each is a function that does nothing and promises the
-// law; nobody calls it, since proofs of crates above cite `proofs/ForCallers.antt`.
+// Laws of texts as they are shown, for who reads what is promised. Each is a function that does nothing and promises
+// the law; nobody calls it, since proofs of crates above cite `proofs/ForCallers.antt`.
 
-ghost use Rattle.range_texts.specs.Laws.{JoinedLinesAreOneLine, NumbersAreOneLine, PrintableTextsAreOneLine, ShownNamesAreOneLine, ShownTextsAreOneLine};
+ghost use Rattle.range_texts.specs.Laws.{JoinedLinesAreOneLine, NumbersAreOneLine, PrintableTextsAreOneLine, ShownNamesAreOneLine, ShownTextsAreOneLine, ShownTextsDiffer};
 
 /// Two texts of one line, one after the other, are one line.
 pub fn joined_lines_are_one_line()
@@ -26,4 +26,9 @@ pub fn shown_texts_are_one_line()
 /// A name as [`Name`](crate::Name) shows it is one line, whatever its bytes are.
 pub fn shown_names_are_one_line()
     ensures { ShownNamesAreOneLine }
+{}
+
+/// Two texts that are shown alike, with a backslash doubled, are the same text.
+pub fn shown_texts_differ()
+    ensures { ShownTextsDiffer }
 {}
