@@ -25,8 +25,8 @@ abbrev pub is_space_category : GeneralCategory → Bool
 is_space_category SpaceSeparator = true
 is_space_category _ = false
 
--- whether a character cannot be seen, or changes how its neighbours are shown: a control character, one of a
--- category that shows nothing, one that is shown as nothing, a space that is not ` `, or no character
+-- whether a character cannot be seen: a control character, one of a category that shows nothing, one that is shown as
+-- nothing, a space that is not ` `, or no character
 abbrev pub is_unseen : ℕ → Bool
 is_unseen c = is_control c || is_unseen_category (general_category c) || is_default_ignorable_code_point c
     || (is_space_category (general_category c) && not (c == 32)) || not (all_scalars (c ∷ []))
