@@ -137,7 +137,7 @@ class Sources:
             elif word != "Self":
                 yield word, ("outside", path or "prelude", word)
         for word in ghosts:
-            if word in NOTATION:
+            if word in NOTATION or word == "Self":
                 continue
             key = self.resolve(word, item.imports, where) or self.rust_key(word, item)
             if not key:

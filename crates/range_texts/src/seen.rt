@@ -6,7 +6,7 @@ ghost use Rattle.range_texts.specs.Seen.{is_unseen};
 use ucd_category::GeneralCategory;
 use ucd_derived::is_default_ignorable_code_point;
 
-/// Whether the character cannot be seen, or changes how its neighbours are shown: it controls, formats, ends a line
+/// Whether the character cannot be seen: it controls, formats, ends a line
 /// or a paragraph, is shown as nothing, is of private use or unassigned in Unicode 18, or is a space other than ' '.
 pub fn is_unseen(character: char) -> bool
     ensures { result ≡ is_unseen character }
