@@ -20,7 +20,7 @@ OTHER = re.compile(r"`(\w+)` (?:stands )?for (?:[\w ]+ of )?(?:\[([^]]+)\]|`)")
 ROW = re.compile(r"^\| `([\w.:]+)` \| (`.*`) \|$", re.MULTILINE)
 WORD = re.compile(r"[^\s(){},;.\"]+")
 GHOST = re.compile(r"(?:ghost \w+ ?[:=]|ensures \w+|requires \w+|\} =) (\{[^{}]*\})")
-NOTATION = set(": → × = ← ¬ ⊥ _ λ Type Unit tt record data where let in do pub abbrev unfoldable infixl".split())
+NOTATION = set(": → × = ← ¬ ⊥ _ λ Type Self Unit tt record data where let in do pub abbrev unfoldable infixl".split())
 
 
 class Block:
