@@ -329,15 +329,14 @@ class Verification:
         tables: list[bytes] = []
         overlaps: dict[tuple[bytes, ...], bytes] = {}
         for one, other in combinations_with_replacement(range(len(groups)), 2):
-            files = groups[one] if one == other else groups[one] + groups[other]
-            lines = self.call(files).split(b"\n")
+            report = self.call(groups[one] if one == other else groups[one] + groups[other])
+            behind = report.find(b"\noverlap,") + 1 or report.rfind(b"\nend,") + 1
             if one == other:
-                tables += [line for line in lines if not line.startswith((b"overlap,", b"end,")) and line
-                           and (one == 0 or line != b"unit,dm")]
-            overlaps.update((tuple(line.split(b",")[1:3]), line) for line in lines if line.startswith(b"overlap,"))
-        names = [line.split(b",")[1] for line in tables if line.startswith(b"animal,")]
-        pairs = [overlaps[one, other] for one in names for other in names if one != other]
-        return b"\n".join([*tables, *pairs, b"end,%d" % len(names), b""])
+                tables.append(report[:behind].removeprefix(b"unit,dm\n") if one else report[:behind])
+            overlaps.update((tuple(line.split(b",")[1:3]), line) for line in report[behind:].split(b"\n")[:-2])
+        names = [self.read[name].name.encode("latin-1") for name in self.files]
+        pairs = [overlaps.get((one, other), b"") + b"\n" for one in names for other in names if one != other]
+        return b"".join([*tables, *pairs, b"end,%d\n" % len(names)])
 
     def recompute(self) -> None:
         fault, count = first_difference(self.report, report_lines(self.ranges, self.overlaps, self.about.unit))
