@@ -3,6 +3,7 @@ pictures follows from these files and from boundary.csv, where there is one, so 
 
 from __future__ import annotations
 
+import csv
 import sys
 from importlib.util import find_spec
 from pathlib import Path
@@ -83,16 +84,22 @@ def main() -> None:
     the records say, has not what is needed."""
     folder, program = Path(), sys.argv[1]
     try:
+        from .output import write_tables
+
         about = read_about(folder / ABOUT)
         record = record_in(folder / TRACKS)
         text = about.words.crs or record and record.system_text
+        ranges = read_ranges(folder, about, program)
         if text and crs_of(about.words, record) is None:
+            write_tables(ranges, folder)
             refuse_here(f"the reference system '{text}' has no code and no definition, so they cannot be made again")
-        write_results(folder, read_ranges(folder, about, program), about)
+        write_results(folder, ranges, about)
     except ImportError as fault:
         refuse_here(f"to make them again {fault.name} is needed: apt-get install python3-geopandas")
-    except (HomeRangeError, OSError, ValueError) as fault:
+    except (HomeRangeError, OSError, ValueError, csv.Error) as fault:
         sys.exit(one_line(str(fault)))
+    except (OverflowError, LookupError) as fault:
+        sys.exit(one_line(f"a moment or a zone of dates in {ABOUT} is none that can be shown: {fault}"))
 
 
 def refuse_here(text: str) -> NoReturn:
