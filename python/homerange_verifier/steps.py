@@ -271,7 +271,8 @@ class Verification:
             self.findings.unseen("whether the tracks are those of the data frame that they were made of, which is not there")
             return
         if self.export is None:
-            self.findings.unseen("whether the tracks are those of an export: name it behind the folder")
+            self.findings.unseen("whether the tracks are those of an export: name it behind the folder; one in it has the plain name that "
+                                 "split.txt says")
             return
         if self.split is None:
             raise Fault("the tracks have no record by which they could be made again")
@@ -424,11 +425,11 @@ class Verification:
         content, wanted = own.read_bytes(), wish.read_bytes()
         if content == wanted:
             return None
-        lines, wishes = (text.decode("utf-8", "replace").split("\n") for text in (content, wanted))
+        lines, wishes = (text.decode("utf-8", "surrogateescape").split("\n") for text in (content, wanted))
         number = next((at for at, pair in enumerate(zip(lines, wishes)) if pair[0] != pair[1]), min(len(lines), len(wishes)))
         line, other = (each[number] if number < len(each) else "" for each in (lines, wishes))
-        if line == other:  # both are empty, and one is the end
-            return f"{name} is another one than is made again: line {number} has {'a' if len(lines) > len(wishes) else 'no'} line end more"
+        if line == other:  # nothing is behind the last line end, which only one of them has
+            return f"{name} is another one than is made again: it has {'no' if len(lines) < len(wishes) else 'one more'} line end at its end"
         at = len(os.path.commonprefix([line, other]))
         said, wanted_text = (f"'{text[max(0, at - 20):at + 40]}'" if text else "nothing" for text in (line, other))
         return f"{name} is another one than is made again: line {number + 1} has {said}, and {wanted_text} is wanted"
