@@ -80,6 +80,6 @@ def listed(words: Sequence[str], most: int = MOST) -> str:
     return " and ".join(filter(None, (", ".join(some[:-1]), some[-1])))
 
 
-def quoted(names: Sequence[str]) -> str:
-    """Names that a stranger gave, as a sentence has them."""
-    return listed([f"'{name}'" for name in names])
+def having(names: Sequence[str]) -> str:
+    """Names that a stranger gave, with the verb of a sentence on what their files have."""
+    return listed([f"'{name}'" for name in names]) + (" has" if len(names) == 1 else " have")

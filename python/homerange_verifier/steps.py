@@ -18,7 +18,7 @@ from homerange.record import Record, read_record, record_text
 from homerange.zones import CODE
 
 from . import beside
-from .findings import Findings, listed, quoted
+from .findings import Findings, having, listed
 from .folder import checksum_of, is_signature, sums_fault, sums_of, unlisted
 from .intake import (
     ABOUT, BOUNDARY, KNOWN, LAYERS, LOG, PAGE, PICTURES, PIECE, REPORT, SIGNATURES, SPLIT, SUMS, TABLES, TRACKS,
@@ -34,7 +34,6 @@ EXPORT = "export"  # the name under which it is split again, whatever the record
 RESULTS = (*TABLES, LAYERS, PAGE)
 NOT_THERE = 3  # the status of a maker that lacks something of this machine
 OUT_OF_MEMORY = 3  # that of the program
-DECIMETRES = b"unit,dm\n"  # how a report begins
 # What a call says last that has not the room which it needs.
 SHORT = re.compile(rb"[A-Za-z_.]*MemoryError(: .*)?|split: again[^:]*: No space left on device|\[Errno (12|28)\] .*")
 LINE = 128  # more bytes than a line of a report can have
@@ -95,12 +94,13 @@ class Verification:
     def laid_in(self) -> str | None:
         """The export that lies in the folder: the file with the name and the checksum that the record has of it."""
         try:
-            name, wanted = (self.split.export, self.split.checksum) if self.split else (None, None)
+            name = self.split and self.split.export
         except HomeRangeError:
             return None
         if name is None or name not in self.intake.names or not is_plain_export(name):
             return None
-        return name if wanted in (self.intake.sums.get(name), self.intake.take(name)) else None
+        checksum = self.intake.sums.get(name) or self.intake.take(name)
+        return name if self.split and self.split.checksum == checksum else None
 
     @cached_property
     def is_of_this_form(self) -> bool:
@@ -159,12 +159,11 @@ class Verification:
         path, animals, fixes = self.given / REPORT, len(self.files), sum(len(self.read[name].points) for name in self.files)
         few = fixes + animals * (animals + len(self.levels) + 2) + 1  # where each animal has one corner, and no unit is said
         most = few + fixes - animals + 1
-        if path.stat().st_size > LINE * most:
-            raise Fault(f"{REPORT} has {path.stat().st_size} bytes, and a report of these tracks has at most {LINE * most}: no "
-                        "program was run")
-        count = count_of_lines(path)
+        size, count = path.stat().st_size, 0 if path.stat().st_size > LINE * most else count_of_lines(path)
+        if size > LINE * most:
+            raise Fault(f"{REPORT} has {size} bytes, and a report of these tracks has at most {LINE * most}: it was not made again")
         if not few <= count <= most:
-            raise Fault(f"{REPORT} has {count} lines, and a report of these tracks has from {few} to {most}: no program was run")
+            raise Fault(f"{REPORT} has {count} lines, and a report of these tracks has from {few} to {most}: it was not made again")
         return path
 
     @cached_property
@@ -207,7 +206,7 @@ class Verification:
         split = self.split
         if split and split.unit != about.unit:
             return f"the tracks are in {split.unit}, by split.txt, and the run was made in {about.unit}"
-        if (first_bytes(self.given / REPORT, len(DECIMETRES)) == DECIMETRES) != (about.unit == "dm"):
+        if has_decimetres(self.given / REPORT) != (about.unit == "dm"):
             return f"the report is in another unit than {about.unit}, that of {ABOUT}"
         own = None if split is None else ("none", None) if split.export is None else (split.export, split.checksum)
         if own != about.export:
@@ -239,8 +238,7 @@ class Verification:
             self.findings.hold(fault, f"the run was one of the {len(self.files)} files of tracks that have used fixes")
             self.findings.unseen("from what the tracks were made: they have no record")
             if unused:
-                self.findings.unseen(f"what {quoted(unused)} {'has' if len(unused) == 1 else 'have'}: no fix of it is used, and no record "
-                                     "says why")
+                self.findings.unseen(f"what {having(unused)}: no fix is used, and no record says why")
             return
         made = self.split.tracks
         fault = None
@@ -271,8 +269,7 @@ class Verification:
             self.findings.unseen("whether the tracks are those of the data frame that they were made of, which is not there")
             return
         if self.export is None:
-            self.findings.unseen("whether the tracks are those of an export: name it behind the folder; one in it has the plain name that "
-                                 "split.txt says")
+            self.findings.unseen("whether the tracks are those of an export: name it behind the folder (in it by its plain name)")
             return
         if self.split is None:
             raise Fault("the tracks have no record by which they could be made again")
@@ -315,9 +312,8 @@ class Verification:
         if wanted != (self.given / SPLIT).read_bytes():
             self.differs("split again the export comes to another record than split.txt")
             return
-        where = " in the folder" if self.export and self.export.parent == self.intake.folder else ""
-        self.findings.held(f"split again with the options of the record the export{where}, '{self.export and self.export.name}', comes to "
-                           "the same tracks and the same record, byte for byte but for its name and what made them")
+        self.findings.held(f"split again with the options of the record the export '{self.export}' comes to the same tracks and the "
+                           "same record, byte for byte but for its name and what made them")
 
     def program_of_record(self) -> None:
         """Which program the record names: the one that is here, or a released one."""
@@ -334,9 +330,7 @@ class Verification:
             self.findings.held(f"the program of the record is {self.whose}, {said}")
 
     def said_by_program(self) -> str:
-        """What the program says that it is; on another system what the list of releases says of it."""
-        if os.name == "nt" and self.release:
-            return self.release.program
+        """What the program says that it is."""
         return ran([str(self.program.resolve()), "--version"], self.given).stdout.decode("utf-8", "replace").rstrip("\n")
 
     def run_again(self) -> None:
@@ -481,16 +475,16 @@ class Verification:
         """Names the files that no step looks at."""
         left = self.intake.passed_over
         if left:
-            self.findings.note(f"what {quoted(left)} {'has' if len(left) == 1 else 'have'}, named as what a system leaves: passed over")
+            self.findings.note(f"what {having(left)}, named as what a system leaves: passed over")
         known = {*KNOWN, *SIGNATURES, self.laid_in}
         unknown = sorted(name for name in self.sums if name not in known and not name.startswith(f"{TRACKS}/"))
         if unknown:
-            self.findings.unseen(f"what {quoted(unknown)} {'has' if len(unknown) == 1 else 'have'}: no step knows such a file")
+            self.findings.unseen(f"what {having(unknown)}: no step knows such a file")
 
 
-def first_bytes(path: Path, count: int) -> bytes:
-    with open(path, "rb") as file:
-        return file.read(count)
+def has_decimetres(report: Path) -> bool:
+    with open(report, "rb") as file:
+        return file.readline(LINE) == b"unit,dm\n"
 
 
 def count_of_lines(path: Path) -> int:

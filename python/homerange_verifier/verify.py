@@ -60,13 +60,11 @@ def read_options(name: str) -> argparse.Namespace:
 def program_fault(program: str | None, folder: Path, export: Path | None) -> str | None:
     """How a program may be one that was handed in, which nobody named: a file --program=x beside the folder is an option where
     a shell puts names in the place of *."""
-    if program is None:
-        return None
-    own, above = Path(program).resolve(), {path.resolve().parent for path in (folder, *filter(None, [export]))}
-    if "/" not in program:
-        return "has no / in it: name the program by its path, such as ./homerange"
-    return "lies where the folder or the export lies: no program that was handed in is run" \
-        if above & {own.parent} or folder.resolve() in own.parents else None
+    if program is None or "/" not in program:
+        return program and "has no / in it: name the program by its path, such as ./homerange"
+    above, handed_in = Path(program).resolve().parents, {path.resolve().parent for path in (folder, *filter(None, [export]))}
+    is_handed_in = above[0] in handed_in or folder.resolve() in above
+    return "lies where the folder or the export lies: no program that was handed in is run" if is_handed_in else None
 
 
 def verify(options: argparse.Namespace, findings: Findings) -> None:

@@ -16,7 +16,7 @@ NO_EXPORT = "not looked at: whether the tracks are those of an export: name it b
 UNKNOWN_FILE = "not looked at: what '{}' has: no step knows such a file"
 UNLISTED = "'{}' is there and not in SHA256SUMS: nothing else was looked at. An export may lie in the folder by the plain name"
 ONE_NAME = "'{}' and '{}' are one name on other systems: nothing was looked at"
-NO_RUN = ": no program was run"
+NO_RUN = ": it was not made again"
 NOTHING = ": nothing was looked at"
 
 
@@ -182,7 +182,7 @@ def note(what, content, *wanted):
 
 
 TITLES, NO_NAME = b"animal,second,easting,northing,use\n", "NOTE.csv has an animal whose name is none of 1 to 32 bytes without"
-note("no fix of one is used", TITLES + b"approved,1,1,1,0\n", "not looked at: what 'tracks/NOTE.csv' has: no fix of it is used")
+note("no fix of one is used", TITLES + b"approved,1,1,1,0\n", "not looked at: what 'tracks/NOTE.csv' has: no fix is used, and no record says why")
 note("a name of 33 bytes", TITLES + 33 * b"x" + b",1,1,1,0\n", NO_NAME)
 note("a name with a line end", TITLES + b'"seen\nby",1,1,1,0\n', NO_NAME)
 note("no name", TITLES + b",1,1,1,0\n", NO_NAME)

@@ -60,7 +60,7 @@ def _(hand):
 
 
 @forgery("05 an animal is cut from the report", "report.txt was changed since",
-         "report.txt has 72 lines, and a report of these tracks has from [0-9]* to [0-9]*: no program was run")
+         "report.txt has 72 lines, and a report of these tracks has from [0-9]* to [0-9]*: it was not made again")
 def _(hand):
     hand.edit("report.txt", lambda text: b"\n".join(line for line in text.split(b"\n") if b"Vesna" not in line))
 
