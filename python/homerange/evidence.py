@@ -17,7 +17,7 @@ from .about import BESIDE, NO_COMMIT, About, Words, export_of, now, write_about
 from .errors import FAULTS, UNPRINTABLE, ProgramError, ReportError, one_line, refuse
 from .program import CLONE, MOST_ANIMALS, Program, checksum_of, steps_of, workers
 from .record import Record, difference_from_record, record_in
-from .report import TEXT, Animal, Lines, check_end
+from .report import TEXT, Animal, Lines, Report, Table, check_end, overlaps_of
 
 SOURCES = ["crates.txt", "HANDLES", *(f":(glob)crates/*/{part}/**" for part in ("src", "specs", "proofs")), "python/homerange",
            "python/homerange_verifier", "r/R", "release", "tools"]
@@ -77,25 +77,27 @@ def unit_of(wish: Wish, record: Record | None) -> str:
     return unit
 
 
-def check_report(path: Path, unit: str, levels: str, animals: dict[str, int]) -> None:
-    """Refuses a report that is not whole, or of another unit, other levels, animals or numbers of fixes."""
+def check_report(path: Path, unit: str, levels: str, animals: dict[str, int], keeps_rows: bool) -> Report:
+    """The report in a file, whose rows are kept where that is wanted. One that is not whole, or of another unit, other levels,
+    animals or numbers of fixes is refused."""
     fixes: dict[str, int] = {}
-    wanted = list(map(int, levels.split(",")))
+    report, wanted = Report(unit, {}, {}), list(map(int, levels.split(",")))
     with open(path, **TEXT) as file:
         lines = Lines(file, str(path.name))
         if lines.unit() != unit:
             raise ReportError(f"{path.name} is of another unit than {unit}")
         while lines.line.startswith("animal,") or not fixes:
-            animal = Animal(lines, None)
+            animal = Animal(lines, None, keeps_rows=keeps_rows)
             if animal.levels != wanted:
                 raise ReportError(f"{path.name} has other levels than {levels} for {one_line(animal.name)}")
             fixes[animal.name] = animal.fixes
+            report.tables[animal.name] = Table(animal.rows, animal.corners, animal.percents)
         if fixes != animals:
             name = sorted({*fixes.items()} ^ {*animals.items()})[0][0]
             raise ReportError(f"{path.name} has {fixes.get(name, 0)} fixes of {one_line(name)}, and the tracks have "
                               f"{animals.get(name, 0)}")
-        lines.overlaps(fixes)
-        lines.end(len(fixes))
+        report.overlaps.update(overlaps_of(lines, fixes))
+    return report
 
 
 def run_once(program: str, words: Sequence[str], folder: Path, into: Path) -> None:
@@ -128,19 +130,28 @@ def join_reports(parts: Sequence[Path], groups: int, report: TextIO) -> None:
         tables, lines = tables_and_overlaps(part)
         overlaps.update((tuple(line.split(",")[1:3]), line) for line in lines)
         if number < groups:
-            names += re.findall("^animal,([^,]*),", tables, re.M)
+            names += animals_of(tables)
             report.write(tables.removeprefix("unit,dm\n") if number else tables)
     report.writelines(f"{overlaps.get(pair, '')}\n" for pair in itertools.permutations(names, 2))
     report.write(f"end,{len(names)}\n")
 
 
 def tables_and_overlaps(path: Path) -> tuple[str, list[str]]:
-    """The tables of a report, and its lines of overlaps."""
+    """The tables of a report, and its lines of overlaps, which are its last but one."""
     with open(path, **TEXT) as file:
         text = file.read()
     check_end(text, "the report of a group")
-    tables = re.split("^(?=overlap,|end,)", text, maxsplit=1, flags=re.M)[0]
-    return tables, text[len(tables):].split("\n")[:-2]
+    found = text.find("\noverlap,") + 1 or text.rfind("\nend,") + 1
+    return text[:found], text[found:].split("\n")[:-2]
+
+
+def animals_of(tables: str) -> list[str]:
+    """The names of the animals of tables."""
+    names, at = list[str](), tables.find("animal,")
+    while at >= 0:
+        names.append(tables[at:tables.index("\n", at)].split(",")[1])
+        at = tables.find("\nanimal,", at) + 1 or -1
+    return names
 
 
 def used_tracks(folder: Path) -> dict[str, tuple[str, int]]:
@@ -155,8 +166,9 @@ def used_tracks(folder: Path) -> dict[str, tuple[str, int]]:
     return found
 
 
-def make_report(folder: Path, wish: Wish, words: Words = Words()) -> None:
-    """Has the program report of the tracks in a folder, and writes the record of the run."""
+def make_report(folder: Path, wish: Wish, words: Words = Words(), keeps_rows: bool = False) -> Report:
+    """Has the program report of the tracks in a folder, and writes the record of the run. Answers the report, with its rows
+    where these are wanted."""
     record = record_in(folder / TRACKS)
     if record:
         check_record(folder / TRACKS, record)
@@ -170,13 +182,15 @@ def make_report(folder: Path, wish: Wish, words: Words = Words()) -> None:
     for name, checksum in before.items():
         if checksum_of(folder / name) != checksum:
             refuse(f"{name} changed while it was read", "text")
-    finish(folder, wish, unit, record, words)
+    return finish(folder, wish, unit, tracks, record, words, keeps_rows)
 
 
-def finish(folder: Path, wish: Wish, unit: str, record: Record | None, words: Words = Words()) -> None:
-    """Looks whether a report is that of the tracks, and writes the record of the run."""
-    tracks, program = used_tracks(folder), wish.program
-    check_report(folder / REPORT, unit, wish.levels, dict(tracks.values()))
+def finish(folder: Path, wish: Wish, unit: str, tracks: dict[str, tuple[str, int]], record: Record | None, words: Words = Words(),
+           keeps_rows: bool = False) -> Report:
+    """Looks whether a report is that of the tracks, and writes the record of the run. Answers the report, with its rows where
+    these are wanted."""
+    program = wish.program
+    report = check_report(folder / REPORT, unit, wish.levels, dict(tracks.values()), keeps_rows)
     fault = record and difference_from_record(record, dict(tracks.values()))
     if fault:
         raise ReportError(fault)
@@ -186,6 +200,7 @@ def finish(folder: Path, wish: Wish, unit: str, record: Record | None, words: Wo
     if log.is_file():
         shutil.copyfile(log, folder / "build.log")
     write_about(folder / ABOUT, about_of(wish, [*tracks], unit, record, words))
+    return report
 
 
 def about_of(wish: Wish, files: Sequence[str], unit: str, record: Record | None, words: Words) -> About:
@@ -320,6 +335,6 @@ def write_herd_evidence(into: str | os.PathLike[str], out: Path, program: Progra
             check_record(folder / TRACKS, record)
         wish = Wish(options["percent"], options["unit"], program)
         shutil.copyfile(out / REPORT, folder / REPORT)
-        finish(folder, wish, unit_of(wish, record), record)
+        finish(folder, wish, unit_of(wish, record), used_tracks(folder), record)
 
     new_folder(Path(into), fill)

@@ -31,6 +31,9 @@ PIECE = 1 << 16  # signs that are read at once; with more, time goes into waitin
 ROWS = 1_000  # that are written at once, or read of a text with quotes
 MARKS = {"utf-8": codecs.BOM_UTF8, "utf-16-le": codecs.BOM_UTF16_LE, "utf-16-be": codecs.BOM_UTF16_BE,
          "utf-32-le": codecs.BOM_UTF32_LE, "utf-32-be": codecs.BOM_UTF32_BE}  # byte order marks that Python leaves in texts
+MOST_COLUMNS = 16_384  # of a table, as many as spreadsheets have
+# Codings that Python has, and that are no character sets; of some the time grows with the square of a text.
+NO_CHARACTERS = {"idna", "mbcs", "oem", "punycode", "raw-unicode-escape", "undefined", "unicode-escape"}
 LISTS = ("animal", "time", "na", "sensor", "argos-class", "fix-type")  # options that are several words between commas
 
 
@@ -113,6 +116,8 @@ def codec_of(encoding: str) -> str:
         io.TextIOWrapper(io.BytesIO(), encoding=codec)  # refuses what is no coding of text
     except (LookupError, ValueError):
         refuse(f"encoding: there is no coding {encoding}")
+    if codec.replace("_", "-") in NO_CHARACTERS:
+        refuse(f"encoding: {encoding} is no character set: name that of the table, such as --encoding latin-1")
     return codec
 
 
@@ -202,6 +207,8 @@ class Reader:
         csv.field_size_limit(sys.maxsize)
         self.rows = csv.reader(chain([text.first], text.lines, ["end"]), delimiter=self.separator)
         self.titles = next(self.rows) if text.has_quotes else text.first.rstrip("\n").split(self.separator)
+        if len(self.titles) > MOST_COLUMNS:
+            refuse(f"{path} has {len(self.titles)} columns, and a table may have {MOST_COLUMNS}: is its separator another?", "columns")
         self.pieces = self.quoted() if text.has_quotes else self.plain()
 
     def plain(self) -> Iterator[Lines]:

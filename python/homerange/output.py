@@ -17,9 +17,9 @@ from .frames import Tracks
 from .names import file_names, refuse_same_names
 from .page import rings_given, words_typed, write_rings
 from .program import Program, checksum_of, find_program, program_of
-from .ranges import HomeRanges, check_whole, read_report
+from .ranges import HomeRanges, check_whole, ranges_of
 from .record import Made, Record, given, in_order, read_record, record_in, tools_of, write_record
-from .report import Report, read
+from .report import Report
 from .results import BOUNDARY, words_beside, write_results
 from .tracks import Track
 from .zones import text_of_crs, zone_of_crs
@@ -119,15 +119,16 @@ def tracks_in_order(tracks: Tracks, names: Mapping[str, str], report: Report) ->
     return replace(tracks, by_name=by_name, left_out=left_out)
 
 
-def ranges_in(folder: Path, ranges: HomeRanges, tracks: Tracks, names: Mapping[str, str], program: Program) -> HomeRanges:
+def ranges_in(folder: Path, report: Report, ranges: HomeRanges, tracks: Tracks, names: Mapping[str, str],
+              program: Program) -> HomeRanges:
     """The ranges of the report that a program made in a folder, which has to have the numbers of these."""
-    report, split = read(folder / REPORT), folder / TRACKS / "split.txt"
+    split = folder / TRACKS / "split.txt"
     if report != renamed(ranges.report, names):
         raise ReportError("the program reports other numbers of these tracks than the ranges have: make them again")
     if ranges.files:
-        return read_report(
-            folder / REPORT, files=[folder / name for name in used_tracks(folder)], crs=ranges.crs, tz=ranges.tz,
-            shift=ranges.shift, program=program.path, record=split if split.is_file() else None)
+        files = [folder / name for name in used_tracks(folder)]
+        return ranges_of(report, folder / REPORT, files, ranges.crs, ranges.tz, ranges.shift, split if split.is_file() else None,
+                         program.path)
     own = tracks_in_order(tracks, names, report)
     found = HomeRanges(report, own, crs=ranges.crs, tz=ranges.tz, program=program)
     found.record, found.checksum = read_record(split), checksum_of(folder / REPORT)
@@ -149,8 +150,8 @@ def write_folder(ranges: HomeRanges, into: str | os.PathLike[str], page: Mapping
         put_tracks(ranges, tracks, names, folder)
         if rings is not None:
             write_rings(rings, folder / BOUNDARY)
-        make_report(folder, wish, words_beside(record_in(folder / TRACKS), ranges, words))
-        found = ranges_in(folder, ranges, tracks, names, wish.program)
+        report = make_report(folder, wish, words_beside(record_in(folder / TRACKS), ranges, words), keeps_rows=True)
+        found = ranges_in(folder, report, ranges, tracks, names, wish.program)
         said.extend(write_results(folder, found, read_about(folder / ABOUT)))
 
     new_folder(path, fill)

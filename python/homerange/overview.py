@@ -11,12 +11,9 @@ from .record import REASONS
 from .report import Percent, Table
 
 
-class Row(NamedTuple):
-    """The facts of an animal. Times are seconds, areas doubled squares of the unit."""
+class Facts(NamedTuple):
+    """What the table of an animal says. Times are seconds, areas doubled squares of the unit."""
 
-    animal: str
-    records: int | None  # fixes of the export or the frame; None where it is not known
-    left: Mapping[str, int]  # left out, by reason
     used: int
     first: int
     last: int
@@ -27,30 +24,45 @@ class Row(NamedTuple):
     within_second: int | None  # the time of the fix from which on the area stayed at 95 per cent or more
 
 
+class Row(NamedTuple):
+    """The facts of an animal, and what was left out. Their fields are as those of Facts."""
+
+    animal: str
+    records: int | None  # fixes of the export or the frame; None where it is not known
+    left: Mapping[str, int]  # left out, by reason
+    used: int
+    first: int
+    last: int
+    median2: int | None
+    longest: int | None
+    percents: Mapping[int, Percent]
+    growth: Growth
+    within_second: int | None
+
+
 def twice_median(numbers: Sequence[int]) -> int:
     """Twice the median, which is a whole number."""
     order, middle = sorted(numbers), len(numbers) // 2
     return 2 * order[middle] if len(order) % 2 else order[middle - 1] + order[middle]
 
 
-def row_of(name: str, table: Table, records: int | None, left: Mapping[str, int]) -> Row:
+def facts_of(table: Table) -> Facts:
     """The facts of an animal of a report."""
     seconds = [second for second, _, _ in table.rows]
     intervals = [later - former for former, later in zip(seconds, seconds[1:])]
     growth = growth_of([area2 for _, _, area2 in table.rows])
-    return Row(
-        name, records, left, len(seconds), seconds[0], seconds[-1], twice_median(intervals) if intervals else None,
-        max(intervals, default=None), {percent.level: percent for percent in table.percents}, growth,
-        seconds[growth.within - 1] if growth.within else None)
+    return Facts(
+        len(seconds), seconds[0], seconds[-1], twice_median(intervals) if intervals else None, max(intervals, default=None),
+        {percent.level: percent for percent in table.percents}, growth, seconds[growth.within - 1] if growth.within else None)
 
 
-def rows_of(tables: Mapping[str, Table], records: Mapping[str, int], left: Counter[tuple[str, str]]) -> list[Row]:
-    """The facts of all animals of a report."""
+def rows_of(facts: Mapping[str, Facts], records: Mapping[str, int], left: Counter[tuple[str, str]]) -> list[Row]:
+    """The rows of all animals, with how many fixes were left out, by animal and reason."""
     by_animal: dict[str, dict[str, int]] = {}
     for (name, reason), count in sorted(left.items(), key=lambda item: REASONS.index(item[0][1])):
         if count:
             by_animal.setdefault(name, {})[reason] = count
-    return [row_of(name, table, records.get(name), by_animal.get(name, {})) for name, table in tables.items()]
+    return [Row(name, records.get(name), by_animal.get(name, {}), *own) for name, own in facts.items()]
 
 
 def reasons_of(rows: Sequence[Row]) -> list[str]:

@@ -3,13 +3,14 @@
 from __future__ import annotations
 
 import csv
-import hashlib
 import itertools
 import math
 import os
 import warnings
 from collections import Counter
 from datetime import date, datetime
+from functools import cached_property
+from operator import itemgetter
 from pathlib import Path
 from typing import TYPE_CHECKING, Any, Callable, Iterable, Sequence, Union
 
@@ -23,8 +24,8 @@ from .exports import LISTS, read_text
 from .frames import Tracks, crs_named, frame_given, read_frame
 from .groups import Group, check_by, group_tracks
 from .growth import share
-from .overview import Row, reasons_of, rows_of
-from .program import MOST_ANIMALS, Program, Runs, find_program, program_of
+from .overview import Facts, Row, facts_of, reasons_of, rows_of
+from .program import MOST_ANIMALS, Program, Runs, checksum_of, find_program, program_of
 from .record import Record, read_record
 from .report import Corners, Percent, Report, Table, kept_count, nearest, polygon_of, read as read_lines
 from .tables import Said
@@ -51,6 +52,20 @@ def times_of(seconds: pandas.Series, tz: str) -> pandas.Series:
     nanoseconds = numpy.where(whole <= LAST_OF_TIMES, 10 ** 9 * whole, numpy.iinfo("int64").min)
     times = pandas.Series(nanoseconds.view("datetime64[ns]"), seconds.index, name=seconds.name)
     return times.dt.tz_localize("UTC").dt.tz_convert(tz)
+
+
+def _outer_kept(track: pandas.DataFrame, level: int) -> pandas.DataFrame:
+    """Of the fixes of a track that a level keeps some whose polygon is that of all of them."""
+    kept = _kept(track, level)[["easting", "northing"]]
+    return pandas.DataFrame(outer_fixes(kept, far_ends(kept)), columns=["easting", "northing"]).assign(second=0)
+
+
+def far_ends(track: pandas.DataFrame) -> Corners:
+    """The fixes of a track that lie farthest in some directions, counterclockwise."""
+    east, north = track["easting"].to_numpy(), track["northing"].to_numpy()
+    angles = [2 * math.pi * at / SOME for at in range(SOME)]
+    places = dict.fromkeys(int((east * math.cos(angle) + north * math.sin(angle)).argmax()) for angle in angles)
+    return [(int(east[at]), int(north[at])) for at in places]
 
 
 def _kept(track: pandas.DataFrame, level: int) -> pandas.DataFrame:
@@ -193,7 +208,12 @@ class HomeRanges:
 
     def rows(self) -> list[Row]:
         """The facts of each animal in whole numbers, of which ``overview`` makes a table."""
-        return rows_of(self._report.tables, self.of_source(), Counter() if self.groups else self.reasons())
+        return rows_of(self._facts, self.of_source(), Counter() if self.groups else self.reasons())
+
+    @cached_property
+    def _facts(self) -> dict[str, Facts]:
+        """What follows from the report alone."""
+        return {name: facts_of(table) for name, table in self._report.tables.items()}
 
     def overview(self) -> pandas.DataFrame:
         """A row for each animal: ``animal``; ``records``, its fixes in the export or the frame (missing where it is not
@@ -298,14 +318,14 @@ class HomeRanges:
         """The tables of the fixes that a level keeps."""
         if self._tracks is None:
             refuse("polygons below 100 per cent need the fixes: read_report(path, files=..)")
-        kept = {name: _kept(track, level) for name, track in self._tracks.by_name.items()}
+        kept = {name: _outer_kept(track, level) for name, track in self._tracks.by_name.items()}
         tables: dict[str, Table] = {}
         for first in range(0, len(kept), MOST_ANIMALS):
             part = dict(itertools.islice(kept.items(), first, first + MOST_ANIMALS))
             runs = Runs(find_program(self.named), part, "100", self.unit, skips_rows=True)
             tables.update(runs.report(progress_of(None), self.jobs).tables)
         for name, table in tables.items():
-            if Percent(level, len(table.rows), *table.rows[-1][1:]) != self._percent(name, level):
+            if table.rows[-1][1:] != self._percent(name, level)[2:]:
                 raise ReportError(f"the {level} per cent polygon of {name} is not that of the report")
         return tables
 
@@ -569,7 +589,7 @@ def _read_track(path: str | os.PathLike[str]) -> tuple[str, pandas.DataFrame, in
             used = [row for row in some if row[at["use"]:][:1] == ["1"]] if "use" in at else some
             try:
                 for title, column in numbers.items():
-                    column += [int(row[at[title]]) for row in used]
+                    column += map(int, map(itemgetter(at[title]), used))
             except (IndexError, ValueError) as fault:
                 raise FrameError(f"{path} has a fix whose second, easting or northing is no number") from fault
             animals, count = animals or some[0][at["animal"]:], count + len(some)
@@ -615,18 +635,30 @@ def read_report(
     """
     if isinstance(files, (str, os.PathLike)) or not isinstance(files, Iterable):
         refuse(f"files={files!r} are not several paths, such as [{files!r}]")
+    check_grid(crs, tz, shift)
+    report, paths = read_lines(path_of(path, "path")), [path_of(file, "files") for file in files]
+    split = None if record is None else path_of(record, "record")
+    return ranges_of(report, Path(path), paths, crs, tz, shift, split, program)
+
+
+def check_grid(crs: Any, tz: str, shift: Any) -> None:
+    """Refuses what is no reference system, no time zone, or no two whole metres."""
     zone_of_time(tz)
     if crs is not None:
         crs_named(crs)
     if not isinstance(shift, tuple) or len(shift) != 2 or None in map(whole_number, shift):
         refuse(f"shift={shift!r} are not two whole numbers, such as (1000000, 0)")
-    report, paths = read_lines(path_of(path, "path")), [path_of(file, "files") for file in files]
-    split = read_record(path_of(record, "record")) if record is not None else None
-    if split is not None:
-        shift, crs = split.shift, split.system if crs is None else crs
-    ranges = HomeRanges(report, _tracks_of(report, paths), crs=crs, tz=tz, named=program)
-    ranges.shift, ranges.record, ranges.checksum = shift, split, hashlib.sha256(Path(path).read_bytes()).hexdigest()
-    ranges.files, ranges.split = paths, None if record is None else Path(record)
+
+
+def ranges_of(report: Report, path: Path, files: Sequence[Path], crs: Any, tz: str, shift: tuple[int, int], split: Path | None,
+              program: str | os.PathLike[str] | None) -> HomeRanges:
+    """The home ranges of a report, of its file, of those that it was made from and of their record."""
+    record = None if split is None else read_record(split)
+    if record is not None:
+        shift, crs = record.shift, record.system if crs is None else crs
+    ranges = HomeRanges(report, _tracks_of(report, files), crs=crs, tz=tz, named=program)
+    ranges.shift, ranges.record, ranges.checksum = shift, record, checksum_of(path)
+    ranges.files, ranges.split = [*files], split
     return ranges
 
 

@@ -3,6 +3,7 @@ pictures follows from these files and from boundary.csv, where there is one, so 
 
 from __future__ import annotations
 
+import csv
 import sys
 from importlib.util import find_spec
 from pathlib import Path
@@ -10,8 +11,9 @@ from typing import TYPE_CHECKING, NoReturn
 
 from .about import About, Words, read_about
 from .errors import HomeRangeError, one_line, refuse
-from .evidence import ABOUT, REPORT, TRACKS, used_tracks
+from .evidence import ABOUT, REPORT, TRACKS
 from .record import Record, difference_from_record, record_in
+from .report import Report, read
 from .zones import system_of_text, text_of_crs
 
 if TYPE_CHECKING:
@@ -38,16 +40,20 @@ def words_beside(record: Record | None, ranges: HomeRanges, words: Words) -> Wor
     return words._replace(crs=None if has_own else own, shift=(0, 0) if has_shift else ranges.shift)
 
 
-def read_ranges(folder: Path, about: About, program: str | None) -> HomeRanges:
-    """The ranges of the report, once it is seen that they are those of the tracks as they were split."""
-    from .ranges import read_report
+def read_ranges(folder: Path, about: About, program: str | None, report: Report | None = None) -> HomeRanges:
+    """The ranges of the report, which may be known, once it is seen that they are those of the tracks as they were split."""
+    from .ranges import check_grid, ranges_of
 
     record = record_in(folder / TRACKS)
     split = folder / TRACKS / "split.txt" if record else None
-    crs = crs_of(about.words, record)
-    ranges = read_report(
-        folder / REPORT, files=[folder / name for name in used_tracks(folder)], crs=crs, tz=about.words.clock or "UTC",
-        shift=about.words.shift, record=split, program=program)
+    there = {f"{TRACKS}/{path.name}" for path in (folder / TRACKS).iterdir()}
+    odd = [name for name in about.files if name not in there]
+    if odd:
+        refuse(f"{odd[0]} is not there", "text")
+    crs, tz = crs_of(about.words, record), about.words.clock or "UTC"
+    check_grid(crs, tz, about.words.shift)
+    ranges = ranges_of(report or read(folder / REPORT), folder / REPORT, [folder / name for name in about.files], crs, tz,
+                       about.words.shift, split, program)
     fixes = {row.animal: row.used for row in ranges.rows()}
     fault = record and difference_from_record(record, fixes)
     if fault:
@@ -78,16 +84,22 @@ def main() -> None:
     the records say, has not what is needed."""
     folder, program = Path(), sys.argv[1]
     try:
+        from .output import write_tables
+
         about = read_about(folder / ABOUT)
         record = record_in(folder / TRACKS)
         text = about.words.crs or record and record.system_text
+        ranges = read_ranges(folder, about, program)
         if text and crs_of(about.words, record) is None:
+            write_tables(ranges, folder)
             refuse_here(f"the reference system '{text}' has no code and no definition, so they cannot be made again")
-        write_results(folder, read_ranges(folder, about, program), about)
+        write_results(folder, ranges, about)
     except ImportError as fault:
         refuse_here(f"to make them again {fault.name} is needed: apt-get install python3-geopandas")
-    except (HomeRangeError, OSError, ValueError) as fault:
+    except (HomeRangeError, OSError, ValueError, csv.Error) as fault:
         sys.exit(one_line(str(fault)))
+    except (OverflowError, LookupError) as fault:
+        sys.exit(one_line(f"a moment or a zone of dates in {ABOUT} is none that can be shown: {fault}"))
 
 
 def refuse_here(text: str) -> NoReturn:

@@ -25,7 +25,7 @@ def read_options(name: str) -> argparse.Namespace:
     parser.add_argument("files", metavar="FILE", nargs="+", type=Path, help="the files of the run, in its order")
     parser.add_argument("--percent", metavar="LIST", help="the levels that were asked for [default: as in the report]")
     parser.add_argument("--unit", choices=("m", "dm"), help="the unit that was asked for [default: as in the report]")
-    options = parser.parse_args()
+    options = parser.read()
     if options.percent is not None and not LEVELS.fullmatch(options.percent):
         parser.error(f"--percent {options.percent}: up to eight levels from 1 to 100 are wanted, such as 50,95,100")
     return options

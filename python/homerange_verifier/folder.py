@@ -31,10 +31,11 @@ def lines_of(path: Path) -> list[str]:
     return lines
 
 
-def is_within(name: str) -> bool:
-    """Whether a name is a plain one of a file in the folder: relative, and without a way out of it."""
-    parts = name.split("/")
-    return not ("\\" in name or ":" in parts[0] or {"", ".", ".."} & {*parts})
+def name_fault(name: str) -> str | None:
+    """How a name is no plain one of a file in the folder: relative, without a way out of it, and one that other systems have."""
+    if "\\" in name or {"", ".", ".."} & {*name.split("/")}:
+        return "which is not a file in the folder: such a name is never looked at in a copy"
+    return "and other systems cannot have ':' in a name: hand an export of that name in beside the folder" if ":" in name else None
 
 
 def sums_of(path: Path) -> dict[str, str]:
@@ -46,8 +47,9 @@ def sums_of(path: Path) -> dict[str, str]:
             raise Fault(f"line {number} of {path.name} is no checksum and name")
         if found[2] in sums:
             raise Fault(f"{path.name} has {found[2]} twice")
-        if not is_within(found[2]):
-            raise Fault(f"{path.name} names {found[2]}, which is not a file in the folder: such a name is never looked at in a copy")
+        fault = name_fault(found[2])
+        if fault:
+            raise Fault(f"{path.name} names '{found[2]}', {fault}")
         sums[found[2]] = found[1]
     return sums
 

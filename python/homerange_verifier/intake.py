@@ -8,8 +8,11 @@ import hashlib
 import os
 import re
 import stat
+import unicodedata
 from pathlib import Path
-from typing import BinaryIO, Iterator
+from typing import BinaryIO, Iterable, Iterator, Mapping
+
+from homerange.names import folded
 
 from .lines import Fault
 
@@ -21,7 +24,12 @@ TRACKS, SPLIT = "tracks", "tracks/split.txt"
 TABLES, PICTURES = ("summary.csv", "animals.csv", "overlaps.csv"), ("curves.png", "ranges.png")
 KEPT = {ABOUT, REPORT, BOUNDARY, LAYERS, PAGE, *TABLES}  # that steps look at
 KNOWN = {*KEPT, LOG, *PICTURES}
-LEFT_BY_SYSTEMS = re.compile(r"(.*/)?(\.DS_Store|Thumbs\.db|desktop\.ini|\._[^/]+)")  # by a Mac or by Windows, where one looked
+LEFT_BY_SYSTEMS = re.compile(r"(.*/)?(?:\.DS_Store|Thumbs\.db|desktop\.ini|\._([^/]+))")  # by a Mac or by Windows, where one looked
+APPLE_DOUBLE, MOST_LEFT = b"\0\5\x16\7", 1 << 16  # how a file ._x begins, and how many bytes what a system leaves may have
+SIDECAR = re.compile(r"ranges\.(gpkg.+|qml|qmd|sld)", re.I)  # what SQLite, GDAL or QGIS look for beside the layers
+TABULAR = (".csv", ".txt", ".tsv", ".gpx")  # how the name of an export may end that lies in the folder
+ODD = re.compile('[<>:"|?*]|  |^[ .]')  # what it may not have, since other systems cannot, or since it is not seen
+UNSEEN = ("Cf", "Zl", "Zp", "Zs", "Co", "Cn", "Cc")  # signs that it may not have, by their kinds in Unicode
 UNPRINTABLE = re.compile("[\x00-\x1f\x7f-\x9f\u2028\u2029\\\\\ud800-\udfff]")
 MEBIBYTE = 1 << 20
 MOST_FILES, MOST_BYTES, DEEPEST = 20_000, 4096 * MEBIBYTE, 4
@@ -70,6 +78,23 @@ def walked(folder: Path, above: str = "") -> Iterator[tuple[str, int | None]]:
             yield path, about.st_size
 
 
+def check_beside(names: Iterable[str]) -> None:
+    """Refuses names that are one on other systems, and files that change what a reader finds in the layers."""
+    seen: dict[str, str] = {}
+    for name in names:
+        other = seen.setdefault(folded(name), name)
+        if other != name:
+            raise Fault(f"'{other}' and '{name}' are one name on other systems: nothing was looked at")
+        if SIDECAR.fullmatch(name):
+            raise Fault(f"{name} lies beside {LAYERS}, and can change what a reader finds in it: nothing was looked at")
+
+
+def is_plain_export(name: str) -> bool:
+    """Whether an export may lie in the folder by this name: a table's, which looks as what it is, and as no other file."""
+    is_seen = not any(sign != " " and unicodedata.category(sign) in UNSEEN for sign in name)
+    return is_seen and name.lower().endswith(TABULAR) and not ODD.search(name) and name not in KNOWN and not name.startswith(SUMS)
+
+
 def opened(path: Path, name: str) -> BinaryIO:
     """A file of the folder, which has to be what it was when it was walked."""
     try:
@@ -93,13 +118,31 @@ class Intake:
 
     def walk(self) -> None:
         """Takes the names, and refuses what no such folder has."""
-        left = MOST_BYTES
-        for path, size in walked(self.folder):
-            left -= size or 0
-            kind = self.folders if size is None else self.passed_over if LEFT_BY_SYSTEMS.fullmatch(path) else self.names
+        sizes = self.sizes()
+        check_beside(sizes)
+        for path, size in sizes.items():
+            kind = self.folders if size is None else self.passed_over if self.is_left(path, sizes) else self.names
             kind.append(path)
-            if left < 0 or len(self.names) + len(self.folders) + len(self.passed_over) > MOST_FILES:
+
+    def sizes(self) -> dict[str, int | None]:
+        """All that lies in the folder, with its sizes; folders have none."""
+        left, sizes = MOST_BYTES, dict[str, int | None]()
+        for path, size in walked(self.folder):
+            sizes[path] = size
+            left -= size or 0
+            if left < 0 or len(sizes) > MOST_FILES:
                 raise Fault(f"the folder has more than {MOST_FILES} files or {MOST_BYTES} bytes: nothing was looked at")
+        return sizes
+
+    def is_left(self, path: str, sizes: Mapping[str, int | None]) -> bool:
+        """Whether a file has the name, and may have the size and the head, of what a system leaves."""
+        found = LEFT_BY_SYSTEMS.fullmatch(path)
+        if not found or (sizes[path] or 0) > MOST_LEFT:
+            return False
+        if found[2] is None:
+            return True
+        with opened(self.folder / path, path) as file:
+            return f"{found[1] or ''}{found[2]}" in sizes and file.read(len(APPLE_DOUBLE)) == APPLE_DOUBLE
 
     def take(self, name: str) -> str:
         """Reads a file once, puts a copy into the room where a step looks at it, and answers its checksum."""

@@ -23,13 +23,14 @@ VERSION, VERSIONS = slice(60, 64), (10200, 10300, 10400)  # of the format, by it
 # Bytes of the head that count changes and pages, and that say which version of SQLite wrote.
 COUNTED = [range(24, 28), range(28, 32), range(40, 44), range(92, 100)]
 Entry = tuple[str, str, str, str | None]  # of a schema: type, name, table and statement
+Row = tuple[Any, ...]
 SCHEMA = "SELECT type, name, tbl_name, sql FROM sqlite_master"
 STYLES = "layer_styles"
 # What GDAL makes of the styles where they come from R; Python makes the table by a statement of its own.
 BY_R = re.compile('CREATE TABLE "layer_styles" [(] "id" INTEGER PRIMARY KEY AUTOINCREMENT NOT NULL(, "[A-Za-z_]+" '
                   '(TEXT|BOOLEAN|DATETIME)){12}[)]')
 COUNTERS = [f"trigger_{what}_feature_count_fixes" for what in ("insert", "delete")]
-MICROMETRE = 1e-6
+MICROMETRE, MILLIMETRE = 1e-6, 5e-9  # in metres; in degrees, and less
 MOMENT = re.compile("([0-9]{4}-[0-9]{2}-[0-9]{2}T[0-9]{2}:[0-9]{2}:[0-9]{2})[.]000Z")
 SYSTEMS, ALWAYS = "gpkg_spatial_ref_sys", (-1, 0, 4326)  # the numbers of the reference systems that each file has
 # Names within the definition of a reference system, which versions of PROJ change.
@@ -118,16 +119,44 @@ def is_near(table: str, value: Any, other: Any) -> bool:
     return table == "gpkg_contents" and isinstance(value, float) and abs(value - other) <= MICROMETRE
 
 
-def is_same_system(row: tuple[Any, ...], wish: tuple[Any, ...], names: Sequence[str]) -> bool:
-    """Whether a row has the reference system that is wanted: its code, its numbers and its name, which may be the one that the
-    record of the tracks has."""
-    own, other = (AUTHORITY.sub("", NAME.sub(r"\1", str(each[4]))) for each in (row, wish))
+def is_same_system(row: Row, wish: Row, names: Sequence[str], wanted: Connection) -> bool:
+    """Whether a row has the reference system that is wanted: its code, its numbers, its place on the earth and its name, which
+    may be the one that the record of the tracks has."""
     title = NAME.match(str(row[4]))
     is_named = {row[0], title[0].split('"')[1] if title else row[0]} <= {wish[0], *names}
-    return is_named and own == other and row[1] not in ALWAYS and row[1:4] == wish[1:4] and row[5] in (None, wish[5])
+    is_it = is_named and row[1] not in ALWAYS and row[1:4] == wish[1:4] and row[5] in (None, wish[5])
+    place = wanted.execute("SELECT min(min_x), min(min_y) FROM gpkg_contents WHERE data_type = 'features'").fetchone()
+    return is_it and has_same_numbers(row, wish) and is_same_place(str(row[4]), str(wish[4]), place)
 
 
-def rows_of(base: Connection, table: str, order: str = "") -> Iterator[tuple[Any, ...]]:
+def has_same_numbers(row: Row, wish: Row) -> bool:
+    """Whether the definitions of two systems are the same but for names and codes of their parts."""
+    own, other = (AUTHORITY.sub("", NAME.sub(r"\1", str(each[4]))) for each in (row, wish))
+    return own == other
+
+
+def is_same_place(definition: str, wanted: str, place: Row) -> bool:
+    """Whether a place of two definitions is one on the earth, to a millimetre."""
+    if definition == wanted:
+        return True
+    from pyproj import Transformer
+    from pyproj.exceptions import ProjError
+
+    try:
+        ends = [Transformer.from_crs(text, "EPSG:4326", always_xy=True).transform(*place) for text in (definition, wanted)]
+    except ProjError:
+        return False
+    return all(abs(one - other) <= MILLIMETRE for one, other in zip(*ends))
+
+
+def has_other_form(row: Row, wish: Row, names: Sequence[str]) -> bool:
+    """Whether a system without a code, and thus without names, differs from the one that is wanted in the form of its definition
+    alone."""
+    is_it = not names and row[1] not in ALWAYS and (*row[:4], row[5]) == (*wish[:4], wish[5])
+    return is_it and not has_same_numbers(row, wish)
+
+
+def rows_of(base: Connection, table: str, order: str = "") -> Iterator[Row]:
     return base.execute(f'SELECT * FROM "{table}"{order}')
 
 
@@ -141,7 +170,7 @@ def table_fault(base: Connection, wanted: Connection, table: str, names: Sequenc
             continue
         if row is None or wish is None:
             return f"has {'too few' if row is None else 'too many'} rows in {table}"
-        if table == SYSTEMS and is_same_system(row, wish, names):
+        if table == SYSTEMS and (is_same_system(row, wish, names, wanted) or has_other_form(row, wish, names)):
             continue
         for at, (value, other) in enumerate(zip(row, wish)):
             if type(value) is not type(other) or normal(value) != normal(other) and not is_near(table, value, other):
@@ -188,16 +217,19 @@ def opened(path: Path) -> Connection:
     return sqlite3.connect(f"{path.resolve().as_uri()}?mode=ro&immutable=1", uri=True)
 
 
-def difference(path: Path, wanted: Path, names: Sequence[str] = ()) -> str | None:
-    """How a GeoPackage is not the one that was made again; None where it is. Its reference system may have one of these names."""
+def difference(path: Path, wanted: Path, names: Sequence[str] = ()) -> tuple[str | None, bool]:
+    """How a GeoPackage is not the one that was made again; None where it is. Its reference system may have one of these names.
+    Without one it has no code, and its definition may have another form: whether it has."""
     if path.read_bytes() == wanted.read_bytes():
-        return None
+        return None, False
     fault = head_fault(path, wanted)
     if fault:
-        return fault
+        return fault, False
     try:
         with closing(opened(path)) as base, closing(opened(wanted)) as other:
             base.execute("PRAGMA trusted_schema = OFF")
-            return fault_of(base, other, path.name, names)
-    except (sqlite3.Error, UnicodeDecodeError) as fault:
-        raise Fault(f"{path.name} cannot be read: {fault}") from None
+            fault = fault_of(base, other, path.name, names)
+            rows, wishes = ([*rows_of(each, SYSTEMS)] if fault is None else [] for each in (base, other))
+            return fault, any(has_other_form(row, wish, names) for row, wish in zip(rows, wishes))
+    except (sqlite3.Error, UnicodeDecodeError) as error:
+        raise Fault(f"{path.name} cannot be read: {error}") from None

@@ -8,6 +8,7 @@ from __future__ import annotations
 import csv
 import io
 import itertools
+import re
 from bisect import bisect_left, bisect_right
 from collections import Counter
 from pathlib import Path
@@ -18,6 +19,7 @@ from .hull import Hull, Point, Strips
 Counts = dict[tuple[int, int], int]  # of fixes, by the places of two ranges
 
 TITLES = ["animal", "second", "easting", "northing"]
+NUMBER = re.compile("[0-9]{1,13}")  # as a file may have it
 ROWS = 256  # of a file that are read together
 IN_RING = 7  # bits of the number of points that a ring may have
 SOME = 32  # of so many points one is taken first
@@ -39,18 +41,27 @@ class Track(NamedTuple):
     unused: int
 
 
-def rows_of(text: str) -> Iterator[list[list[str]]]:
+def rows_of(text: str, path: Path) -> Iterator[list[list[str]]]:
     """The rows of a file that are not empty, many at once."""
     rows = (row for row in csv.reader(io.StringIO(text, newline="")) if row)
-    while some := list(itertools.islice(rows, ROWS)):
-        yield some
+    try:
+        while some := list(itertools.islice(rows, ROWS)):
+            yield some
+    except csv.Error as fault:
+        raise Fault(f"{path.name} is no table: {fault}") from None
+
+
+def check_unused(rows: Sequence[Sequence[str]]) -> None:
+    """Refuses rows that are not used and have other things than numbers."""
+    if not all(NUMBER.fullmatch(field) for row in rows if row[4:] == ["0"] for field in row[1:4]):
+        raise ValueError
 
 
 def read_track(path: Path) -> Track:
     text = path.read_bytes().decode("latin-1")
     for mark in MARKS:
         text = text.removeprefix(mark)
-    pieces = rows_of(text)
+    pieces = rows_of(text, path)
     first = next(pieces, list[list[str]]())
     if first[:1] not in ([TITLES], [[*TITLES, "use"]]):
         raise Fault(f"{path.name} does not begin with the titles of a file of fixes")
@@ -60,6 +71,8 @@ def read_track(path: Path) -> Track:
             if {*map(len, rows)} - {len(first[0])}:
                 raise ValueError
             used = [row for row in rows if row[4:] != ["0"]]
+            if len(used) < len(rows):
+                check_unused(rows)
             seconds += [int(row[1]) for row in used]
             points += [(int(row[2]), int(row[3])) for row in used]
             names.update(row[0] for row in rows)

@@ -8,11 +8,11 @@ from pathlib import Path
 
 from homerange.about import About, Words
 
+from .check import LEVELS
 from .folder import lines_of
 from .lines import Fault
 
 NUMBER = re.compile("form: ([1-9][0-9]{0,3})")
-LEVELS = re.compile("(100|[1-9][0-9]?)(,(100|[1-9][0-9]?)){0,7}")
 NEEDED = ("made", "program", "program sha256", "arguments", "unit", "levels")
 
 

@@ -25,5 +25,13 @@ class Options(argparse.ArgumentParser):
         super().__init__(prog=name, description=about, formatter_class=argparse.RawDescriptionHelpFormatter, allow_abbrev=False)
         self.add_argument("--version", action="version", version=f"homerange for Python {beside.version()}")
 
+    def read(self) -> argparse.Namespace:
+        """The options of this call. A file may be called as an option is, so that one which ends a call has to be alone."""
+        words = sys.argv[1:]
+        ends = [word for word in words if word in ("-h", "--help", "--version")]
+        if ends and len(words) > 1:
+            self.error(f"{ends[0]} is taken alone: a file of this name is ./{ends[0]}")
+        return self.parse_args()
+
     def error(self, message: str) -> NoReturn:
         self.exit(2, f"{self.prog}: {one_line(message)}\n")

@@ -12,6 +12,7 @@ from homerange.zones import CODE, UTM
 SPLIT = set(
     "zone sensor from animal name time time-format tz lon lat easting northing na encoding argos-class argos max-dop dop "
     "fix-type fix since until max-speed every skip-lines mark skip-unnamed".split())
+TEXTS = sorted(SPLIT - {*"zone from tz encoding max-dop since until max-speed every skip-lines mark skip-unnamed".split()})  # any text
 FRAME = SPLIT - set("from time-format na encoding skip-lines mark".split()) | {"crs", "use", "months", "hours"}
 # What makes tracks, and what projects for it.
 TOOLS = (r"(split\.py|split\.R|homerange for (Python|R)) [0-9.]+,[0-9a-f]{64}", r"(pyproj|sf) [0-9.]+[a-z0-9.]* \(PROJ [0-9.]+\)")

@@ -3,6 +3,8 @@
 from __future__ import annotations
 
 import os
+import re
+import signal
 import subprocess
 from functools import cached_property
 from itertools import combinations_with_replacement
@@ -12,24 +14,30 @@ from typing import Callable, Sequence
 
 from homerange.about import BESIDE, FORM, About, read_about, text_of
 from homerange.errors import HomeRangeError
-from homerange.record import Record, read_record
+from homerange.record import Record, read_record, record_text
 from homerange.zones import CODE
 
 from . import beside
-from .findings import Findings, listed
+from .findings import Findings, having, listed
 from .folder import checksum_of, is_signature, sums_fault, sums_of, unlisted
 from .intake import (
-    ABOUT, BOUNDARY, KNOWN, LAYERS, LOG, PAGE, PICTURES, REPORT, SIGNATURES, SPLIT, SUMS, TABLES, TRACKS, Intake, most_of)
+    ABOUT, BOUNDARY, KNOWN, LAYERS, LOG, PAGE, PICTURES, PIECE, REPORT, SIGNATURES, SPLIT, SUMS, TABLES, TRACKS,
+    Intake, is_plain_export, most_of)
 from .layers import difference as layers_difference
 from .lines import Counts, Fault, Range, Track, first_difference, overlaps_of, read_track, report_lines
 from .older import form_of, read_older
-from .records import SPLIT as OPTIONS, fault_of as split_fault
+from .records import SPLIT as OPTIONS, TEXTS, fault_of as split_fault
 from .releases import Release, releases
 
 MOST_ANIMALS, GROUP = 64, 32
 EXPORT = "export"  # the name under which it is split again, whatever the record calls it
 RESULTS = (*TABLES, LAYERS, PAGE)
 NOT_THERE = 3  # the status of a maker that lacks something of this machine
+OUT_OF_MEMORY = 3  # that of the program
+# What a call says last that has not the room which it needs.
+SHORT = re.compile(rb"[A-Za-z_.]*MemoryError(: .*)?|split: again[^:]*: No space left on device|\[Errno (12|28)\] .*")
+LINE = 128  # more bytes than a line of a report can have
+NAME = re.compile("[^\x00-\x1f\x7f,\"]{1,32}")  # of an animal, as the program takes it
 
 
 class Verification:
@@ -48,16 +56,11 @@ class Verification:
         """Takes the folder in, and takes all steps. What hinders several of them is said once; what is wrong with the folder as
         such ends the verification."""
         self.take_in()
-        said = set()
         for step in self.steps():
             try:
                 step()
-            except (Fault, HomeRangeError, OSError) as fault:
-                text = f"{fault.filename}: {fault.strerror}" if isinstance(fault, OSError) else str(fault)
-                text = text.replace(f"{self.given}/", "").replace(f"{self.room}/", "")
-                if text not in said:
-                    self.findings.failed(text)
-                said.add(text)
+            except (Fault, HomeRangeError, OSError, MemoryError) as fault:
+                self.findings.stopped(fault, self.room)
 
     def steps(self) -> Sequence[Callable[[], None]]:
         return (self.record, self.tracks, self.split_again, self.program_of_record, self.run_again, self.recompute, self.results,
@@ -72,12 +75,12 @@ class Verification:
         for name in self.intake.names:
             if name in self.sums or name in SIGNATURES:
                 self.intake.take(name)
-        odd = unlisted(self.intake, self.sums)
-        export = next(filter(self.is_export, self.intake.names), None)
-        if export in odd:
-            odd.remove(export)
+        odd = [name for name in unlisted(self.intake, self.sums) if name != self.laid_in]
         if odd:
-            raise Fault(f"{odd[0]} is there and not in {SUMS}: nothing else was looked at")
+            raise Fault(f"'{odd[0]}' is there and not in {SUMS}: nothing else was looked at. An export may lie in the folder by the "
+                        "plain name that split.txt has, and else beside it")
+        if self.laid_in and self.export is None:
+            self.export = self.intake.folder / self.laid_in
         count = len(self.sums)
         self.findings.hold(sums_fault(self.intake, self.sums),
                            f"{SUMS} has the checksum of each of the {count} files of the folder, and no other")
@@ -87,18 +90,17 @@ class Verification:
             elif name in self.intake.names:
                 self.findings.note(f"whose {name} is: docs/EVIDENCE.md says how to look")
 
-    def is_export(self, name: str) -> bool:
-        """Whether a file of the folder has the checksum of the export of the record; it is taken for that then."""
+    @cached_property
+    def laid_in(self) -> str | None:
+        """The export that lies in the folder: the file with the name and the checksum that the record has of it."""
         try:
-            wanted = self.split and self.split.checksum
+            name = self.split and self.split.export
         except HomeRangeError:
-            return False
-        if wanted is None or name in KNOWN or name.startswith((SUMS, f"{TRACKS}/")):
-            return False
-        if self.intake.sums.get(name) != wanted and self.intake.take(name) != wanted:
-            return False
-        self.export = self.export or self.intake.folder / name
-        return True
+            return None
+        if name is None or name not in self.intake.names or not is_plain_export(name):
+            return None
+        checksum = self.intake.sums.get(name) or self.intake.take(name)
+        return name if self.split and self.split.checksum == checksum else None
 
     @cached_property
     def is_of_this_form(self) -> bool:
@@ -152,8 +154,21 @@ class Verification:
         return overlaps_of(self.ranges)
 
     @cached_property
+    def report_file(self) -> Path:
+        """The report, once it is seen that these tracks can have one of its size."""
+        path, animals, fixes = self.given / REPORT, len(self.files), sum(len(self.read[name].points) for name in self.files)
+        few = fixes + animals * (animals + len(self.levels) + 2) + 1  # where each animal has one corner, and no unit is said
+        most = few + fixes - animals + 1
+        size, count = path.stat().st_size, 0 if path.stat().st_size > LINE * most else count_of_lines(path)
+        if size > LINE * most:
+            raise Fault(f"{REPORT} has {size} bytes, and a report of these tracks has at most {LINE * most}: it was not made again")
+        if not few <= count <= most:
+            raise Fault(f"{REPORT} has {count} lines, and a report of these tracks has from {few} to {most}: it was not made again")
+        return path
+
+    @cached_property
     def report(self) -> bytes:
-        return (self.given / REPORT).read_bytes()
+        return self.report_file.read_bytes()
 
     @cached_property
     def release(self) -> Release | None:
@@ -177,7 +192,8 @@ class Verification:
         """Each field of the record of the run, made again of what else is known."""
         about = self.about
         if not self.is_of_this_form:
-            self.findings.unseen(f"{ABOUT} as a whole: {self.other_form()}")
+            say = self.findings.failed if self.release and not self.is_older else self.findings.unseen
+            say(f"{ABOUT} as a whole: {self.other_form()}")
             return
         fault = self.record_fault(about)
         if fault is None and text_of(about).encode("utf-8", "surrogateescape") != (self.given / ABOUT).read_bytes():
@@ -187,10 +203,10 @@ class Verification:
 
     def record_fault(self, about: About) -> str | None:
         """How the record of the run says other things than are found elsewhere."""
-        split, report = self.split, self.report
+        split = self.split
         if split and split.unit != about.unit:
             return f"the tracks are in {split.unit}, by split.txt, and the run was made in {about.unit}"
-        if report.startswith(b"unit,dm\n") != (about.unit == "dm"):
+        if has_decimetres(self.given / REPORT) != (about.unit == "dm"):
             return f"the report is in another unit than {about.unit}, that of {ABOUT}"
         own = None if split is None else ("none", None) if split.export is None else (split.export, split.checksum)
         if own != about.export:
@@ -215,10 +231,14 @@ class Verification:
         """The files of the folder, those of the run, and those of the record."""
         there = {*self.read}
         if not self.split:
-            unused = {name for name, track in self.read.items() if not track.points}
-            self.findings.hold(f"{ABOUT} names other files than there are" if there - unused != {*self.files} else None,
-                               f"the run was one of the {len(self.files)} files of tracks that have used fixes")
+            unused = sorted(name for name, track in self.read.items() if not track.points)
+            odd = [name for name, track in self.read.items() if not NAME.fullmatch(track.name)]
+            fault = f"{odd[0]} has an animal whose name is none of 1 to 32 bytes without control characters" if odd else None
+            fault = fault or (f"{ABOUT} names other files than there are" if there - {*unused} != {*self.files} else None)
+            self.findings.hold(fault, f"the run was one of the {len(self.files)} files of tracks that have used fixes")
             self.findings.unseen("from what the tracks were made: they have no record")
+            if unused:
+                self.findings.unseen(f"what {having(unused)}: no fix is used, and no record says why")
             return
         made = self.split.tracks
         fault = None
@@ -249,7 +269,7 @@ class Verification:
             self.findings.unseen("whether the tracks are those of the data frame that they were made of, which is not there")
             return
         if self.export is None:
-            self.findings.unseen("whether the tracks are those of an export: name it behind the folder")
+            self.findings.unseen("whether the tracks are those of an export: name it behind the folder (in it by its plain name)")
             return
         if self.split is None:
             raise Fault("the tracks have no record by which they could be made again")
@@ -261,16 +281,24 @@ class Verification:
         odd = [name for name, _ in self.split.options if name not in OPTIONS]
         if odd:
             raise Fault(f"split.txt has the option {odd[0]}, which a split has not")
-        words = [*beside.SPLIT, *beside.words_of_split(self.split), "--into", "again", "--", EXPORT]
-        run = subprocess.run(words, cwd=self.room, stdin=subprocess.DEVNULL, capture_output=True)
+        self.name_export(self.export, self.split)
+        run = ran([*beside.SPLIT, *beside.words_of_split(self.split), "--into", "again", "--", EXPORT], self.room)
         if run.returncode == 0:
             self.compare_tracks(self.split, self.room / "again")
             return
-        said = run.stderr.decode("utf-8", "replace").strip().split("\n")[-1]
+        said = last_line(run)
         if "pyproj" in said:
             self.findings.unseen(f"whether the tracks are those of the export: {said}")
         else:
             self.differs(f"the export cannot be split as split.txt says: {said}")
+
+    def name_export(self, export: Path, split: Record) -> None:
+        """Says what of the export is known by the record alone, and what of it no split looks at."""
+        if export.name != split.export:
+            self.findings.note(f"whether the export is called '{split.export}', as the records say: '{export.name}' was named")
+        skipped = next((value for name, value in split.options if name == "skip-lines"), None)
+        if skipped is not None:
+            self.findings.note(f"what the first lines of the export say ({skipped}): they were skipped, and not looked at")
 
     def compare_tracks(self, split: Record, made: Path) -> None:
         """Whether tracks and record are those that were made again. What made them, and how the export is called, may differ."""
@@ -280,11 +308,12 @@ class Verification:
             if own != split.tracks[name] or own is None or own.checksum != self.intake.sums.get(f"{TRACKS}/{name}.csv"):
                 self.differs(f"split again the export comes to another track of {name}")
                 return
-        if again._replace(export=split.export, tools=split.tools) != split:
+        wanted = record_text(again._replace(export=split.export, tools=split.tools)).encode("utf-8", "surrogateescape")
+        if wanted != (self.given / SPLIT).read_bytes():
             self.differs("split again the export comes to another record than split.txt")
             return
-        self.findings.held("split again with the options of the record the export comes to the same tracks and the same record, "
-                           "byte for byte")
+        self.findings.held(f"split again with the options of the record the export '{self.export}' comes to the same tracks and the "
+                           "same record, byte for byte but for its name and what made them")
 
     def program_of_record(self) -> None:
         """Which program the record names: the one that is here, or a released one."""
@@ -301,23 +330,22 @@ class Verification:
             self.findings.held(f"the program of the record is {self.whose}, {said}")
 
     def said_by_program(self) -> str:
-        """What the program says that it is; on another system what the list of releases says of it."""
-        if os.name == "nt" and self.release:
-            return self.release.program
-        run = subprocess.run([str(self.program.resolve()), "--version"], stdin=subprocess.DEVNULL, capture_output=True)
-        return run.stdout.decode("utf-8", "replace").rstrip("\n")
+        """What the program says that it is."""
+        return ran([str(self.program.resolve()), "--version"], self.given).stdout.decode("utf-8", "replace").rstrip("\n")
 
     def run_again(self) -> None:
         by = " by this copy's program" if self.is_older else ""
-        self.findings.hold(None if self.made_again() == self.report else f"run again{by} the program makes another report",
+        self.findings.hold(None if self.report == self.made_again() else f"run again{by} the program makes another report",
                            f"run again{by} the program makes the same report, byte for byte")
 
     def call(self, files: Sequence[str]) -> bytes:
         """What the program reports of these files."""
         words = ["--percent", self.about.levels, "--unit", self.about.unit, "--", *files]
-        run = subprocess.run([str(self.program.resolve()), *words], cwd=self.given, stdin=subprocess.DEVNULL, capture_output=True)
+        run = ran([str(self.program.resolve()), *words], self.given)
+        if run.returncode == OUT_OF_MEMORY:
+            raise MemoryError
         if run.returncode != 0:
-            raise Fault("the program refuses the tracks: " + run.stderr.decode("utf-8", "replace").strip())
+            raise Fault(f"the program refuses the tracks: {last_line(run)}")
         return run.stdout
 
     def made_again(self) -> bytes:
@@ -329,15 +357,14 @@ class Verification:
         tables: list[bytes] = []
         overlaps: dict[tuple[bytes, ...], bytes] = {}
         for one, other in combinations_with_replacement(range(len(groups)), 2):
-            files = groups[one] if one == other else groups[one] + groups[other]
-            lines = self.call(files).split(b"\n")
+            report = self.call(groups[one] if one == other else groups[one] + groups[other])
+            behind = report.find(b"\noverlap,") + 1 or report.rfind(b"\nend,") + 1
             if one == other:
-                tables += [line for line in lines if not line.startswith((b"overlap,", b"end,")) and line
-                           and (one == 0 or line != b"unit,dm")]
-            overlaps.update((tuple(line.split(b",")[1:3]), line) for line in lines if line.startswith(b"overlap,"))
-        names = [line.split(b",")[1] for line in tables if line.startswith(b"animal,")]
-        pairs = [overlaps[one, other] for one in names for other in names if one != other]
-        return b"\n".join([*tables, *pairs, b"end,%d" % len(names), b""])
+                tables.append(report[:behind].removeprefix(b"unit,dm\n") if one else report[:behind])
+            overlaps.update((tuple(line.split(b",")[1:3]), line) for line in report[behind:].split(b"\n")[:-2])
+        names = [self.read[name].name.encode("latin-1") for name in self.files]
+        pairs = [overlaps.get((one, other), b"") + b"\n" for one in names for other in names if one != other]
+        return b"".join([*tables, *pairs, b"end,%d\n" % len(names)])
 
     def recompute(self) -> None:
         fault, count = first_difference(self.report, report_lines(self.ranges, self.overlaps, self.about.unit))
@@ -358,25 +385,23 @@ class Verification:
         elif self.about.words.clock is None:
             self.findings.failed(f"{listed(there)} {'is' if len(there) == 1 else 'are'} there, and evidence.txt says that no page was made")
         elif there and self.make_results():
-            self.compare_texts([name for name in there if name != LAYERS])
-            if LAYERS in there:
+            self.compare_texts([name for name in there if name != LAYERS and (self.made / name).is_file()])
+            if LAYERS in there and (self.made / PAGE).is_file():
                 self.compare_layers()
 
     def make_results(self) -> bool:
         """Makes the results again, and says whether they could be made."""
         self.made.mkdir()
-        for name in (REPORT, ABOUT, *[BOUNDARY] * (BOUNDARY in self.sums)):
-            os.link(self.given / name, self.made / name)
+        for path in (self.report_file, self.given / ABOUT, *[self.given / BOUNDARY] * (BOUNDARY in self.sums)):
+            os.link(path, self.made / path.name)
         (self.made / TRACKS).symlink_to(self.given / TRACKS)
-        run = subprocess.run([*beside.MAKE, str(self.program.resolve())], cwd=self.made, stdin=subprocess.DEVNULL, capture_output=True)
-        if run.returncode == 0:
-            return True
-        said = run.stderr.decode("utf-8", "replace").strip().split("\n")[-1]
+        run = ran([*beside.MAKE, str(self.program.resolve())], self.made)
+        has_tables = all((self.made / name).is_file() for name in TABLES)
         if run.returncode == NOT_THERE:
-            self.findings.unseen(f"tables, layers and page: {said}")
-        else:
-            self.differs(f"tables, layers and page cannot be made of this folder: {said}")
-        return False
+            self.findings.unseen(f"{'' if has_tables else 'tables, '}layers and page: {last_line(run)}")
+        elif run.returncode != 0:
+            self.differs(f"tables, layers and page cannot be made of this folder: {last_line(run)}")
+        return run.returncode == 0 or run.returncode == NOT_THERE and has_tables
 
     def compare_texts(self, names: Sequence[str]) -> None:
         """Whether tables and page are the same bytes as those that were made again."""
@@ -394,9 +419,11 @@ class Verification:
         content, wanted = own.read_bytes(), wish.read_bytes()
         if content == wanted:
             return None
-        lines, wishes = (text.decode("utf-8", "replace").split("\n") for text in (content, wanted))
+        lines, wishes = (text.decode("utf-8", "surrogateescape").split("\n") for text in (content, wanted))
         number = next((at for at, pair in enumerate(zip(lines, wishes)) if pair[0] != pair[1]), min(len(lines), len(wishes)))
         line, other = (each[number] if number < len(each) else "" for each in (lines, wishes))
+        if line == other:  # nothing is behind the last line end, which only one of them has
+            return f"{name} is another one than is made again: it has {'no' if len(lines) < len(wishes) else 'one more'} line end at its end"
         at = len(os.path.commonprefix([line, other]))
         said, wanted_text = (f"'{text[max(0, at - 20):at + 40]}'" if text else "nothing" for text in (line, other))
         return f"{name} is another one than is made again: line {number + 1} has {said}, and {wanted_text} is wanted"
@@ -407,17 +434,20 @@ class Verification:
             return
         text = self.about.words.crs or (self.split.system_text if self.split else None)
         code = CODE.fullmatch(text) if text else None
-        fault = layers_difference(self.given / LAYERS, self.made / LAYERS, [code[2]] if code else [])
-        if fault and text and not code:
-            self.findings.unseen(f"{fault}; the reference system '{text}' has no code, and writers have several ways for such ones")
-        elif fault:
+        fault, has_other_system = layers_difference(self.given / LAYERS, self.made / LAYERS, [code[2]] if code else [])
+        if fault:
             self.differs(fault)
+        elif has_other_system:
+            self.findings.unseen(f"the definition of the reference system in {LAYERS}: '{text}' has no code, and writers have several "
+                                 "forms of such ones; all else is as it is made again")
         else:
             self.findings.held(f"{LAYERS}: made again it has the same layers, schema, rows and shapes, spatial index, reference "
                                "system and looks")
 
     def other_form(self) -> str:
         form = form_of(self.given / ABOUT)
+        if self.release and not self.is_older:
+            return f"it says form {form}, and version {self.release.version}, whose program it names, makes form {FORM}"
         by = f"version {self.release.version}" if self.release else "the version that made it"
         return f"made in form {form}, and this copy knows form {FORM}; use a copy of {by}"
 
@@ -425,9 +455,11 @@ class Verification:
         """What nobody can know of the folder, and what no step knows."""
         about, words = self.about, self.about.words
         typed = [name for name in ("crs", "title", "study", "species", "by", "day", "boundary", "clock") if getattr(words, name)]
+        typed += [f"the option {name}" for name in TEXTS if self.split and name in dict(self.split.options)]
+        typed += ["the name of the export"] * (self.split is not None and self.split.export is not None)
         if typed:
-            self.findings.note(f"whether what was typed in is right: {listed(typed)}")
-        if self.split and self.split.crs:
+            self.findings.note(f"whether what was typed in is right: {listed(typed, len(typed))}")
+        if self.split and self.split.crs and CODE.fullmatch(self.split.crs):
             self.findings.note(f"whether the reference system '{self.split.crs}' is called so: it is known by its code alone")
         self.findings.note(f"whether the run was on {about.made}, of the commit that {ABOUT} names ({about.commit})")
         if self.release is None:
@@ -437,12 +469,37 @@ class Verification:
         seen = [name for name in (*PICTURES, LOG) if name in self.sums]
         if seen:
             self.findings.note(f"what {listed(seen)} {'shows' if len(seen) == 1 else 'show'}: not looked at")
-        if self.intake.passed_over:
-            self.findings.note(f"what {listed(self.intake.passed_over[:9])} has, which a system leaves: passed over")
-        unknown = sorted(name for name in self.sums if name not in KNOWN and not name.startswith(f"{TRACKS}/")
-                         and not self.is_export(name))
-        layers = [name for name in unknown if name.startswith(f"{LAYERS}-")]
-        if layers:
-            self.findings.failed(f"{layers[0]} lies beside {LAYERS}, and can change what a reader finds in it")
-        elif unknown:
-            self.findings.unseen(f"what {listed(unknown)} {'has' if len(unknown) == 1 else 'have'}: no step knows such a file")
+        self.name_files()
+
+    def name_files(self) -> None:
+        """Names the files that no step looks at."""
+        left = self.intake.passed_over
+        if left:
+            self.findings.note(f"what {having(left)}, named as what a system leaves: passed over")
+        known = {*KNOWN, *SIGNATURES, self.laid_in}
+        unknown = sorted(name for name in self.sums if name not in known and not name.startswith(f"{TRACKS}/"))
+        if unknown:
+            self.findings.unseen(f"what {having(unknown)}: no step knows such a file")
+
+
+def has_decimetres(report: Path) -> bool:
+    with open(report, "rb") as file:
+        return file.readline(LINE) == b"unit,dm\n"
+
+
+def count_of_lines(path: Path) -> int:
+    with open(path, "rb") as file:
+        return sum(piece.count(b"\n") for piece in iter(lambda: file.read(PIECE), b""))
+
+
+def ran(words: Sequence[str], folder: Path) -> subprocess.CompletedProcess[bytes]:
+    """A call in a folder, once it has ended. One for which this machine has not the room is out of memory."""
+    run = subprocess.run(words, cwd=folder, stdin=subprocess.DEVNULL, capture_output=True)
+    if run.returncode == -signal.SIGKILL or run.returncode != 0 and SHORT.fullmatch(run.stderr.rstrip().split(b"\n")[-1]):
+        raise MemoryError
+    return run
+
+
+def last_line(run: subprocess.CompletedProcess[bytes]) -> str:
+    """What a call said last."""
+    return run.stderr.decode("utf-8", "replace").strip().split("\n")[-1]

@@ -10,7 +10,7 @@ What can be made again is made again, by this copy's code, and compared byte for
     summary.csv, animals.csv, overlaps.csv and report.html are what is made of tracks, records and report
     ranges.gpkg is the same as one that is made of them, in its schema, its rows, its shapes and how it is drawn
 
-The EXPORT may also lie in the folder. The folder is a stranger's: nothing in it is run, no name, path or option is taken from it
+The EXPORT may also lie in the folder, by its own name. The folder is a stranger's: nothing in it is run, no name, path or option is taken from it
 that is none of the few that such folders have, and all that is looked at is copied into a room of its own first. The program
 is the release of this clone or package, unless --program names another one. Needs Python 3.11; to split an export that has to be
 projected pyproj, and to make tables, layers and page again geopandas. Sentences say what held, what did not, and what was not
@@ -44,30 +44,48 @@ def read_options(name: str) -> argparse.Namespace:
     parser = Options(name, __doc__)
     parser.add_argument("folder", metavar="FOLDER", type=Path, help="the folder that was handed in")
     parser.add_argument("export", metavar="EXPORT", type=Path, nargs="?", help="the export that its tracks were made of")
-    parser.add_argument("--program", metavar="FILE", type=Path, help="the program [default: the release]")
-    options = parser.parse_args()
+    parser.add_argument("--program", metavar="PATH", help="the program, by a path with a / in it [default: the release]")
+    options = parser.read()
     if not options.folder.is_dir():
         parser.error(f"there is no folder {options.folder}")
     for path in (options.export, options.program):
-        if path is not None and not path.is_file():
+        if path is not None and not Path(path).is_file():
             parser.error(f"there is no file {path}")
+    fault = program_fault(options.program, options.folder, options.export)
+    if fault:
+        parser.error(f"--program {options.program} {fault}")
     return options
+
+
+def program_fault(program: str | None, folder: Path, export: Path | None) -> str | None:
+    """How a program may be one that was handed in, which nobody named: a file --program=x beside the folder is an option where
+    a shell puts names in the place of *."""
+    if program is None or "/" not in program:
+        return program and "has no / in it: name the program by its path, such as ./homerange"
+    above, handed_in = Path(program).resolve().parents, {path.resolve().parent for path in (folder, *filter(None, [export]))}
+    is_handed_in = above[0] in handed_in or folder.resolve() in above
+    return "lies where the folder or the export lies: no program that was handed in is run" if is_handed_in else None
 
 
 def verify(options: argparse.Namespace, findings: Findings) -> None:
     """Takes all steps; what ends them is said."""
-    with tempfile.TemporaryDirectory(prefix="homerange-") as room:
-        try:
-            Verification(findings, options.folder, options.export, options.program, Path(room)).run()
-        except (Fault, HomeRangeError) as fault:
-            findings.failed(str(fault))
-        except OSError as fault:
-            findings.failed(f"{fault.filename}: {fault.strerror}")
-        except MemoryError:
-            findings.failed("this machine has not memory enough for such a folder")
+    room, program = "", options.program and Path(options.program)
+    try:
+        with tempfile.TemporaryDirectory(prefix="homerange-") as room:
+            Verification(findings, options.folder, options.export, program, Path(room)).run()
+    except (Fault, HomeRangeError, OSError, MemoryError) as fault:
+        findings.stopped(fault, room)
+
+
+def speak_utf8() -> None:
+    """Begins anew in UTF-8 where the locale has names of files in another coding, which those of the folder are not in."""
+    if sys.getfilesystemencoding() != "utf-8" and os.environ.get("PYTHONUTF8") != "1":
+        os.environ["PYTHONUTF8"] = "1"
+        os.execv(sys.executable, [sys.executable, *sys.orig_argv[1:]])
 
 
 def main(name: str = "homerange-verify") -> None:
+    speak_utf8()
     options = read_options(name)
     if os.name == "nt":
         sys.exit(f"{name}: it runs on Linux, and on Windows within WSL: the program is for Linux")

@@ -5,7 +5,7 @@ import pytest
 from pages import area, length, share
 
 from homerange.formats import Clock, fixed, hectares, interval, listed, share_of_fixes, with_sign
-from homerange.overview import row_of
+from homerange.overview import Row, facts_of
 from homerange.page_tables import without_range
 from homerange.page_text import difference, said, system_of
 from homerange.report import Table
@@ -88,7 +88,7 @@ def test_what_was_said_is_quoted_without_lines_on_one_animal_and_files():
 
 
 def test_animals_without_a_range_are_named():
-    rows = [row_of("a", Table([(0, 1, 0)], [(1, 1)], []), None, {})]
+    rows = [Row("a", None, {}, *facts_of(Table([(0, 1, 0)], [(1, 1)], [])))]
     assert without_range(rows, {"a": 5, "": 3}, "data") == ""
     assert without_range(rows, {"a": 5, "b": 1}, "data").endswith(" (fixes of the data): <bdi>b</bdi> (1).")
     assert without_range(rows, {f"{n:02}": 1 for n in range(25)}, "export").endswith("<bdi>19</bdi> (1), and 5 more.")

@@ -10,7 +10,7 @@ from exact import area2, cloud, hull, nearest
 import homerange
 from homerange import FrameError, ReportError, read_report
 from homerange.program import find_program
-from homerange.ranges import _kept, outer_fixes
+from homerange.ranges import _kept, _outer_kept, outer_fixes
 from homerange.report import kept_places
 
 TRACKS = {"vixen": cloud(7, 40), "old boar": cloud(8, 11)}
@@ -120,6 +120,7 @@ def test_fixes_that_a_level_keeps(points, level):
     places = kept_places(*zip(*points), level)
     assert _kept(track, level).index.tolist() == places
     assert sorted(points[at] for at in places) == sorted(nearest(points, level))
+    assert hull([*map(tuple, _outer_kept(track, level)[["easting", "northing"]].to_numpy().tolist())]) == hull(nearest(points, level))
 
 
 def changed(text, kind, change):

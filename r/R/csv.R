@@ -2,6 +2,7 @@
 # another place is a letter. Lines with such quotes are read slower.
 
 line_ends <- as.raw(c(10, 13))
+most_columns <- 16384  # of a table, as many as spreadsheets have
 bytes_of_tail <- 4096  # where the end of the last line is looked for first
 bare_number <- "(-?0*[0-9]{1,12}([.][0-9]+)?|)"
 plain_number <- sprintf("(?|\"%s\"|%s)", bare_number, bare_number)  # in quotes or none, found as the same
@@ -99,6 +100,10 @@ take_titles <- function(csv, line, behind) {
   records <- whole_records(csv, line)
   if (length(records) > 1) put_back(csv, c(records[-1], lines_of_text(csv$waiting)))
   csv$titles <- fields_of_records(records[1], csv$sign)[[1]]
+  if (length(csv$titles) > most_columns) {
+    refuse("columns", csv$path, " has ", length(csv$titles), " columns, and a table may have ", most_columns,
+           ": is its separator another?")
+  }
 }
 
 # Sets which columns are wanted, and which of them are numbers, of which the bare and the plain form know the plain ones, and

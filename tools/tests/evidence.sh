@@ -198,9 +198,52 @@ rm first/SHA256SUMS
 verify first
 holds 'a folder without a list is refused' grep -q '^did not hold: there is no SHA256SUMS in the folder' said
 
+# Files that are called as options are, where a shell puts names in the place of *; and a program that was handed in.
+mkdir zip
+cp -r second zip/hand-in
+cp "$HOMERANGE" zip/export.csv
+refuses_call() {
+    wanted=$1
+    shift
+    (cd zip && PYTHONDONTWRITEBYTECODE=1 python3 "$tools/verify.py" "$@" >../said 2>../errors)
+    holds "a call is wrong: $wanted" [ $? -eq 2 ]
+    holds "it is said: $wanted" grep -qF -- "$wanted" errors
+    holds "nothing else is said: $wanted" [ ! -s said ]
+}
+: >zip/--program=export.csv
+refuses_call '--program export.csv has no / in it' --program=export.csv hand-in export.csv
+refuses_call '--program ./export.csv lies where the folder or the export lies' hand-in --program ./export.csv
+refuses_call 'export.csv lies where the folder or the export lies' ../second export.csv --program "$PWD/zip/export.csv"
+mv zip/export.csv zip/hand-in/run
+refuses_call 'hand-in/run lies where the folder or the export lies' hand-in --program hand-in/run
+refuses_call '--version is taken alone: a file of this name is ./--version' --version hand-in
+refuses_call '--help is taken alone' hand-in --help
+rm -r zip
+
+# A locale of ASCII; a machine without room, which is no fault of the folder.
+cp "$top/examples/fox.csv" 'Bär.csv'
+sed -i 's/^fox,/Bär,/' 'Bär.csv'
+holds 'evidence of a name with an umlaut' "$make" umlaut 'Bär.csv'
+LC_ALL=C PYTHONCOERCECLOCALE=0 PYTHONUTF8=0 verify umlaut --program "$HOMERANGE"
+holds 'it is verified in a locale of ASCII' [ $? -eq 3 ]
+holds 'the track is named' grep -q '^held: the run was one of the 1 files' said
+(ulimit -f 1 && TMPDIR=$PWD verify many --program "$HOMERANGE")
+holds 'files that cannot be written are no fault of the folder' is_refused grep '^did not hold' said
+holds 'a machine without room' python3 -c 'import sys
+sys.path.insert(0, sys.argv[1])
+from homerange_verifier.findings import Findings
+for fault in (OSError(28, "No space left on device"), OSError(28, "No space left on device", "x"), MemoryError()):
+    findings = Findings()
+    findings.stopped(fault, "")
+    assert findings.status() == 3, fault
+findings.stopped(FileNotFoundError(2, "No such file", "x"), "")
+assert findings.status() == 1' "$top/python"
+
 # What forgers could do.
-PYTHONDONTWRITEBYTECODE=1 python3 "$tools/tests/forgeries.py" "$HOMERANGE" >forged 2>&1
-holds 'all forgeries were tried' [ "$(grep -c '^ok ' forged)" -ge 110 ]
+for forgeries in forgeries forged_files; do
+    PYTHONDONTWRITEBYTECODE=1 python3 "$tools/tests/$forgeries.py" "$HOMERANGE" 2>&1
+done >forged
+holds 'all forgeries were tried' [ "$(grep -c '^ok ' forged)" -ge 204 ]
 while read -r how name; do
     holds "forgery $name" [ "$how" = ok ]
 done <forged

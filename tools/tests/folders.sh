@@ -27,15 +27,23 @@ if python3 -c 'import geopandas' 2>errors; then
             *) holds "$name: it is said what is not looked at" grep -q "^not looked at: .*made in form" kept ;;
         esac
     done
-    # An older version of this form, and a folder of another form.
+    # A folder of another form: by this version, which makes none such; and by one that a copy lists as another version.
     cp -r "$tools/tests/folders/form$form/one" other
     sed -i '1s/.*/form: 999/' other/evidence.txt
     (cd other && find . -type f ! -name SHA256SUMS -printf '%P\n' | LC_ALL=C sort | xargs sha256sum >../sums && mv ../sums SHA256SUMS)
-    holds 'another form: nothing is held to be false' verify_kept other
-    holds 'another form: the report is verified' grep -q '^held: run again the program makes the same report' kept
+    holds 'another form of this version is false' is_refused verify_kept other
+    holds 'that is said' grep -q "^did not hold: evidence.txt as a whole: it says form 999, and version .* makes form $form" kept
+    mkdir copy copy/tools
+    cp -r "$top/python" "$top/release" copy
+    cp "$tools/verify.py" copy/tools
+    sed -i 's/^[0-9.]* /0.0.1 /' copy/release/RELEASES
+    holds 'another form: nothing is held to be false' env PYTHONDONTWRITEBYTECODE=1 sh -c \
+        'python3 copy/tools/verify.py other >kept; [ $? -eq 3 ] && ! grep -q "^did not hold" kept'
+    holds 'another form: the program is asked for by its version' grep -q '^not looked at: .*use a copy of version 0.0.1' kept
+    holds 'another form: the report is verified' grep -q '^held: run again by this copy.s program the program makes the same' kept
     holds 'another form: so is each line' grep -q '^held: each of the [0-9]* lines of the report' kept
     holds 'another form: it is said which copy is wanted' grep -q '^not looked at: .*made in form 999, and this copy knows form' kept
-    rm -r other
+    rm -r other copy
 else
     skip "kept folders: $(tail -n 1 errors)"
 fi

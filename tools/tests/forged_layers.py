@@ -230,7 +230,7 @@ of_schema("another name of whole numbers", None, "ranges", '"level" (INTEGER|MED
 def fault_of(path, made, wanted):
     """How the verifier does not say what is wanted; None where it does."""
     try:
-        said = difference(path, made, [NAME])
+        said, _ = difference(path, made, [NAME])
     except Fault as fault:
         said = str(fault)
     is_said = said == wanted or None not in (said, wanted) and re.search(f"^ranges.gpkg .*{wanted}", said)
@@ -239,7 +239,7 @@ def fault_of(path, made, wanted):
 
 def main(given, made):
     """Tries all forgeries."""
-    said = difference(given, made, [NAME])
+    said, _ = difference(given, made, [NAME])
     print(f"failed an honest base: {said!r}" if said else "ok an honest base")
     with tempfile.TemporaryDirectory() as room:
         for name, (forge, wanted) in FORGERIES.items():

@@ -113,6 +113,47 @@ of_page("another title than was typed in", "Wolves", "Wolves of the park", 0)
 of_page("another day than that of making", "Made on [^<]* with", "Made on 1 May 2026 with")
 
 
+of_page("a byte order mark", "<!DOCTYPE html>", "\ufeff<!DOCTYPE html>", said="<!DOCTYPE")
+of_page("line ends of another system", "\n", "\r\n", 0, said=r"\\r'")
+of_page("no kind of document", "<!DOCTYPE html>\n", "")
+of_page("an address that others begin with", "<title>", '<base href="https://park.example/"><title>')
+of_page("a page that others come behind", "<title>", '<meta http-equiv="refresh" content="0;url=other.html"><title>')
+of_page("a blank that breaks no line", "Made on ", "Made on\u00a0")
+of_page("a sign that is not seen", "Wolves</bdi>", "Wol\u200bves</bdi>")
+of_page("digits of another width", '(<td data-field="hectares_95">)[0-9]', r"\1４", said="４")
+of_page("a quote of another kind", 'class="scroll"', "class='scroll'")
+of_page("an attribute more", "<h1>", '<h1 title="900 ha">')
+of_page("a remark behind its end", "</html>\n", "</html>\n<!-- seen -->\n", said="nothing is wanted")
+of_page("a byte 0", "</html>", "\0</html>")
+forgery.sealed("page: no line end at its end", "report.html is another one than is made again: it has no line end at its end",
+               file="report.html", old="</html>\n", new="</html>")
+
+for name in ("summary.csv", "animals.csv", "overlaps.csv"):
+    forgery.sealed(f"a byte order mark of {name}", f"{name} {AGAIN} 1 has '.ufeff", file=name, old="\\A", new="\ufeff")
+    forgery.sealed(f"no line end at the end of {name}", f"{name} is another one than is made again: it has no line end at its end",
+                   file=name, old="\n\\Z", new="")
+    forgery.sealed(f"an empty line behind {name}", f"{name} is another one than is made again: it has one more line end at its end",
+                   file=name, old="\\Z", new="\n")
+forgery.sealed("a quote in summary.csv", f"summary.csv {AGAIN} 2 has", file="summary.csv", old="^Bor,", new='"Bor",')
+forgery.sealed("a zero in summary.csv", f"summary.csv {AGAIN} 2 has", file="summary.csv", old="^(Bor,.*)$", new=r"\g<1>0")
+
+
+@forgery("the rows of summary.csv change places", f"summary.csv {AGAIN} 2 has 'Vesna,.*', and 'Bor,.*' is wanted")
+def _(hand):
+    hand.sealed_edit("summary.csv", lambda content: b"".join([(lines := content.splitlines(True))[0], *lines[:0:-1]]))
+
+
+
+@forgery("a moment of making past which no clock goes", "a moment or a zone of dates in evidence.txt is none that can be shown")
+def _(hand):
+    hand.sub("evidence.txt", "^made: .*", "made: 9999-12-31T23:59:59Z")
+    hand.sealed_sub("evidence.txt", "^clock: UTC", "clock: Asia/Tokyo")
+
+
+forgery.sealed("a clock of this machine", "a moment or a zone of dates in evidence.txt is none that can be shown: 'localtime'",
+               file="evidence.txt", old="^clock: UTC", new="clock: localtime")
+
+
 @forgery("page: no text of UTF-8", PAGE)
 def _(hand):
     hand.sealed_edit("report.html", lambda content: content.replace(b"Wolves", b"Wolves\xff"))
@@ -128,7 +169,7 @@ def _(hand):
 
 
 @forgery("another title in the record of the run and on the page",
-         "not known: whether what was typed in is right: title, boundary and")
+         "not known: whether what was typed in is right: title, boundary, clock and the name of the export$")
 def _(hand):
     hand.sub("evidence.txt", "^title: Wolves", "title: Wolves of the park")
     hand.sealed_sub("report.html", "Wolves", "Wolves of the park", 0)

@@ -13,6 +13,7 @@ import sys
 from forging import SUM, TOOLS, Forgeries, Hand, checksum, try_export
 
 HOMOGLYPH = "Vеsna"  # its second letter is Cyrillic
+APPLE_DOUBLE = b"\0\5\x16\7"
 forgery = Forgeries()
 
 
@@ -58,7 +59,8 @@ def _(hand):
     hand.sealed_run()
 
 
-@forgery("05 an animal is cut from the report", "report.txt was changed since", "not what another method computes")
+@forgery("05 an animal is cut from the report", "report.txt was changed since",
+         "report.txt has 72 lines, and a report of these tracks has from [0-9]* to [0-9]*: it was not made again")
 def _(hand):
     hand.edit("report.txt", lambda text: b"\n".join(line for line in text.split(b"\n") if b"Vesna" not in line))
 
@@ -105,7 +107,7 @@ forgery.sealed("14 the export is taken out of the record of the run, sealed",
                file="evidence.txt", old="^export.*\n", new="", count=0)
 
 
-@forgery("15 a checksum is taken out, and its track edited", "tracks/Bor.csv is there and not in SHA256SUMS")
+@forgery("15 a checksum is taken out, and its track edited", "'tracks/Bor.csv' is there and not in SHA256SUMS")
 def _(hand):
     move_fix(hand)
     hand.sub("SHA256SUMS", "^.*tracks/Bor.csv\n", "")
@@ -360,7 +362,7 @@ def _(hand):
     hand.seal()
 
 
-@forgery("58 a file that is not listed is put beside the others", "maps/ranges.png is there and not in SHA256SUMS")
+@forgery("58 a file that is not listed is put beside the others", "'maps/ranges.png' is there and not in SHA256SUMS")
 def _(hand):
     hand.path("maps").mkdir()
     hand.path("maps/ranges.png").write_bytes(b"x")
@@ -449,7 +451,7 @@ forgery.sealed("78 fields in another order", OTHER_FORM + "their order",
 forgery.sealed("79 another form, whose number is no number", "evidence.txt does not begin with the number of its form",
                file="evidence.txt", old="^form: 1", new="form: one")
 forgery.sealed("80 another form",
-               "not looked at: evidence.txt as a whole: made in form 2, and this copy knows form 1; use a copy of",
+               "evidence.txt as a whole: it says form 2, and version 1.0.0, whose program it names, makes form 1",
                file="evidence.txt", old="^form: 1", new="form: 2")
 forgery.sealed("81 what makes tracks says more", "split.txt has a line 'tool' that is none of what makes tracks",
                file="tracks/split.txt", old="^(tool,split.py .*)", new=r"\1 seen by the authority")
@@ -471,7 +473,7 @@ forgery.sealed("88 a boundary that is not there", "names a boundary, and there i
                file="evidence.txt", old="^(export sha256: .*)", new=r"\1\nboundary: park")
 
 
-@forgery("89 an empty folder", "maps is there and not in SHA256SUMS: nothing else was looked at")
+@forgery("89 an empty folder", "'maps' is there and not in SHA256SUMS: nothing else was looked at")
 def _(hand):
     hand.path("maps").mkdir()
 
@@ -541,7 +543,7 @@ def _(hand):
     hand.path("SHA256SUMS.tsr").write_bytes(b"\x30\x05Friday")
 
 
-@forgery("102 a listed file that no step knows", "not looked at: what seal.txt has: no step knows such a file")
+@forgery("102 a listed file that no step knows", "not looked at: what 'seal.txt' has: no step knows such a file")
 def _(hand):
     hand.path("seal.txt").write_text("seen by the authority\n")
     hand.seal()
@@ -553,33 +555,33 @@ def _(hand):
 
 
 @forgery("104 what systems leave in folders that were looked at",
-         "not known: what .DS_Store, Thumbs.db, tracks/._Bor.csv and tracks/desktop.ini has, which a system leaves: passed")
+         "not known: what '.DS_Store', 'Thumbs.db', 'tracks/._Bor.csv' and 'tracks/desktop.ini' have, named as what a system leaves")
 def _(hand):
     for name in (".DS_Store", "Thumbs.db", "tracks/._Bor.csv", "tracks/desktop.ini"):
-        hand.path(name).write_bytes(b"\x00\x01")
+        hand.path(name).write_bytes(APPLE_DOUBLE)
 
 
-def lay_in(hand):
-    """Lays the export into the folder, where it is not named."""
-    hand.export.rename(hand.path("collars of 2024.csv"))
+def lay_in(hand, name):
+    """Lays the export into the folder by a name, where it is not named."""
+    hand.export.rename(hand.path(name))
     hand.export = None
 
 
 @forgery("105 the export lies in the folder")
 def _(hand):
-    lay_in(hand)
+    lay_in(hand, "export.csv")
 
 
 @forgery("106 the export lies in the folder and is listed")
 def _(hand):
-    lay_in(hand)
+    lay_in(hand, "export.csv")
     hand.seal()
 
 
-@forgery("107 an edited export lies in the folder", "collars of 2024.csv is there and not in SHA256SUMS")
+@forgery("107 an edited export lies in the folder", "'export.csv' is there and not in SHA256SUMS")
 def _(hand):
-    lay_in(hand)
-    hand.sub("collars of 2024.csv", "5134", "5135")
+    lay_in(hand, "export.csv")
+    hand.sub("export.csv", "5134", "5135")
 
 
 @forgery("108 the export is not there", "not looked at: whether the tracks are those of an export: name it behind the folder")

@@ -104,7 +104,7 @@ assert page.animals["vixen"]["left_coordinates"] == "1"
 assert ("class", "boundary") in page.attributes' "$top/python/tests"
     holds 'the page is verified' verify_ranges plan/page "$top/examples/export.csv"
     holds 'what was typed in is named' \
-        grep -qx 'not known: whether what was typed in is right: title, study, species, by, boundary and clock' verified
+        grep -qx 'not known: whether what was typed in is right: title, study, species, by, boundary, clock and the name of the export' verified
     holds 'the page has the checksum of its report' grep -qF "$(sha256sum <plan/page/report.txt | cut -c 1-64)" plan/page/report.html
     holds 'the page has the checksum of the export' \
         grep -qF "$(sha256sum <"$top/examples/export.csv" | cut -c 1-64)" plan/page/report.html
@@ -215,9 +215,10 @@ assert {*corners} == {(-300, -400), (-200, -400), (-200, -300)}, [*corners]'
     (cd plan/odd && sha256sum seal.txt >>SHA256SUMS)
     verify_ranges plan/odd plan/export.csv
     holds 'a file that no step knows is not looked at' [ $? -eq 3 ]
-    holds 'it is named' grep -qx 'not looked at: what seal.txt has: no step knows such a file' verified
+    holds 'it is named' grep -qx 'not looked at: what '\''seal.txt'\'' has: no step knows such a file' verified
     PYTHONDONTWRITEBYTECODE=1 python3 "$tools/tests/forged_tables.py" "$HOMERANGE" >plan/forged 2>&1
     python3 "$tools/tests/forged_layers.py" plan/first/ranges.gpkg plan/first/ranges.gpkg >>plan/forged 2>&1
+    PYTHONDONTWRITEBYTECODE=1 python3 "$tools/tests/forged_systems.py" "$HOMERANGE" >>plan/forged 2>&1
     holds 'all tables, layers and pages were forged' [ "$(grep -c '^ok ' plan/forged)" -ge 104 ]
     while read -r how name; do
         holds "forgery: $name" [ "$how" = ok ]

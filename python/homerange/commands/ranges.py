@@ -65,8 +65,8 @@ def fill(folder: Path, options: argparse.Namespace, log: Log, program: str) -> N
     split_text(str(options.export), "tracks", wishes, lambda line: log.say(line, by="split"))
     log.at("running the program")
     words = words_of(options, options.clock or options.tz or "UTC")
-    make_report(Path(), Wish(options.percent, None, program_of(program)), words)
-    write_all(Path(), options.over, read_about(Path(ABOUT)), log, program)
+    report = make_report(Path(), Wish(options.percent, None, program_of(program)), words, keeps_rows=True)
+    write_all(Path(), options.over, read_about(Path(ABOUT)), log, program, report)
 
 
 def make(options: argparse.Namespace, name: str) -> None:

@@ -36,6 +36,7 @@ from .options import Options
 
 if TYPE_CHECKING:
     from ..ranges import HomeRanges
+    from ..report import Report
 
 PICTURES = ("curves.png", "ranges.png")
 MANY = 12  # animals whose curves are drawn into one picture at most
@@ -71,12 +72,13 @@ def write_pictures(ranges: HomeRanges, folder: Path) -> None:
         axes.figure.savefig(folder / name, dpi=300)
 
 
-def write_all(folder: Path, over: Path | None, about: About, log: Log, program: str | None = None) -> None:
-    """Writes all that is made of a report into its folder; the page has what the record of the run says."""
+def write_all(folder: Path, over: Path | None, about: About, log: Log, program: str | None = None,
+              report: Report | None = None) -> None:
+    """Writes all that is made of a report, which may be known, into its folder; the page has what the record of the run says."""
     from ..page import rings_given, write_rings
 
     log.at("reading the report")
-    ranges = read_ranges(folder, about, program)
+    ranges = read_ranges(folder, about, program, report)
     if ranges.crs is None:
         log.say("no reference system is known: that of ranges.gpkg is an undefined one of metres")
     rings = rings_given(ranges, boundary_in(over))
