@@ -1,7 +1,7 @@
 #!/bin/sh
 # release.sh [--check | --deb [FOLDER]]: builds the program and makes the release of it: the folder release with homerange,
-# SOURCES (the checksum of what it was made from, and of the logic that it was proved in), SHA256SUMS (of it and its
-# manual page) and a line in RELEASES, the list of all programs that were ever released: version, checksum, logic and sources. No
+# SOURCES (the checksum of what it was made from, and of the logic that it was proved in; the number of the toolchain's kit
+# and the checksum of its archive), SHA256SUMS (of it and its manual page) and a line in RELEASES, the list of all programs that were ever released: version, checksum, logic and sources. No
 # line is taken out, since folders that such a program made are to be verified for ever.
 #
 # With --check it changes nothing. The status is 0 where the release is whole, of these sources and of the logic that is
@@ -41,6 +41,12 @@ release_line() {
     echo "${version%% *} ${checksum%% *} $(sed -n 's/^logic //p' "$release/SOURCES") $(sed -n 's/^sources //p' "$release/SOURCES")"
 }
 
+# The kit of the toolchain that is here: its number, and the checksum of the archive that it came in, where it says it.
+kit() {
+    rt version | sed -n 's/^\([^ ]*\) .*/kit \1/p'
+    sed -n 's/^archive /archive /p' "$(dirname "$(rt doc)")/WHAT" 2>/dev/null
+}
+
 # Whether the release is in the list of releases.
 is_listed() {
     grep -qxF "$(release_line)" "$release/RELEASES" 2>/dev/null
@@ -57,7 +63,8 @@ check_whole() {
 check() {
     check_whole
     build
-    cmp "$built/SOURCES" "$release/SOURCES" || fail 'the release is of another logic'
+    # Another kit may build the same program.
+    grep -v -e '^kit ' -e '^archive ' "$release/SOURCES" | cmp "$built/SOURCES" - || fail 'the release is of another logic'
     cmp "$built/homerange" "$release/homerange" || fail 'the release is not what these sources build'
     echo 'release.sh: the release is what these sources build, byte for byte'
 }
@@ -78,6 +85,7 @@ case $*: in
         mkdir -p "$release"
         install -m 755 "$built/homerange" "$release/homerange"
         install -m 644 "$built/SOURCES" "$release/SOURCES"
+        kit >>"$release/SOURCES"
         checksums >"$release/SHA256SUMS"
         is_listed || release_line >>"$release/RELEASES"
         ;;

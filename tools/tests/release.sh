@@ -50,7 +50,7 @@ evidence() {
     holds "$1: its checksums hold" sh -c "cd $2 && sha256sum -c --strict SHA256SUMS"
 }
 evidence 'evidence of the release' released
-holds 'its sources and logic' [ "$(sed 's/ /: /' "$top/release/SOURCES")" = "$(grep -e '^sources' -e '^logic' released/evidence.txt)" ]
+holds 'its sources and logic' [ "$(sed -n '/^sources\|^logic/s/ /: /p' "$top/release/SOURCES")" = "$(grep -e '^sources' -e '^logic' released/evidence.txt)" ]
 holds 'no log of a build' [ ! -e released/build.log ]
 holds 'no commit outside git' grep -qx 'commit: not known, since git finds no clone here' released/evidence.txt
 git -C house init -q
