@@ -54,7 +54,7 @@ the version	CITATION.cff	^version: (.*)$
 the logic	release/SOURCES	logic ([0-9a-f]+)
 the logic	docs/PROOF.md	its logic, `([0-9a-f]+)`
 the logic	docs/PROOF.md	sum=([0-9a-f]+)
-the logic	docs/EVIDENCE.md	both end with `logic ([0-9a-f]+)`
+the logic	docs/EVIDENCE.md	both have `logic ([0-9a-f]+)`
 the logic	docs/EVIDENCE.md	proved in the logic ([0-9a-f]+)
 """
 
