@@ -4,8 +4,8 @@ use Rattle.std.proofs.Common.{string_bytes, ap, ap₂, ◌∙◌, sym, subst, re
 use Rattle.std.proofs.lemmas.List.{map-append, take_more}
 use Rattle.std.proofs.Math.Seq.{take-length}
 use Rattle.std.specs.Io.KnownBytes.{Appends, Keeps}
-use Rattle.std.specs.Prelude.{⊤, IfErr, OnErr, OnOk}
-use Rattle.core.specs.Result.{result_or}
+use Rattle.std.specs.Prelude.{IfErr, OnErr, OnOk}
+use Rattle.std.specs.Result.{result_or}
 use Rattle.std.specs.declared.io.Error.{Error}
 use Rattle.clap.specs.Words.{Text}
 use Rattle.range_fixes.specs.Reading.{Reading, readings}

@@ -1,7 +1,7 @@
 -- From what is said of a refusal to one line.
 use Rattle.std.proofs.Common.{◌≡◌, ◌⊎◌, ◌∙◌, refl, Bool, true, false, inl, inr, List, ℕ, Option, Some, Result, Ok, Err, String, Global, string_bytes, subst}
 use Rattle.std.specs.Prelude.{IfErr, IfOk, OnOk}
-use Rattle.core.specs.declared.alloc.AllocError.{AllocError}
+use Rattle.std.specs.declared.alloc.AllocError.{AllocError}
 use Rattle.std.specs.declared.io.Error.{Error}
 use Rattle.std.specs.Io.KnownBytes.{Appends}
 use Rattle.range_texts.specs.Seen.{IsOneLine}

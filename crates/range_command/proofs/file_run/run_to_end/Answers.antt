@@ -1,4 +1,3 @@
-use Rattle.std.proofs.Common.{rules}
 use Rattle.range_command.proofs.RunSources.{of_finish, on_ok, report_begun, report_kept}
 use Rattle.range_command.proofs.file_run.run_to_end.Goals as goal
 

@@ -1,4 +1,3 @@
-use Rattle.std.proofs.Common.{rules}
 use Rattle.range_command.proofs.RunSources.{appends_kept, on_err, on_ok, whole_prefix}
 use Rattle.range_command.proofs.program.write_to_end.Goals as goal
 
