@@ -4,6 +4,7 @@ sizes, and of the export that lies in it.
 
 A folder is made of an export of two animals, by PROGRAM, as by forgeries.py, which has more. Prints 'ok NAME' or 'failed NAME: ..'
 for each."""
+import base64
 import os
 import sys
 import unicodedata
@@ -240,9 +241,10 @@ of_list("no end of its last line", "the last line of SHA256SUMS has no end", cha
 of_list("nothing", "is there and not in SHA256SUMS", change=lambda text: b"")
 
 
-@forgery("a signature that is listed", "SHA256SUMS.sig is no signature and no stamp of time")
+@forgery("a signature that is listed", "not known: whose SHA256SUMS.sig is: docs/EVIDENCE.md says how to look")
 def _(hand):
-    hand.path("SHA256SUMS.sig").write_text("seen\n")
+    text = base64.b64encode(b"SSHSIG of nobody").decode()
+    hand.path("SHA256SUMS.sig").write_text(f"-----BEGIN SSH SIGNATURE-----\n{text}\n-----END SSH SIGNATURE-----\n")
     hand.seal()
 
 

@@ -70,6 +70,14 @@ renamed(of_laea, "another name beside a definition", "ranges.gpkg has 'approved'
         changes=[("unknown", "approved", "srs_name")])
 
 
+@of_laea("a table beside a system of words alone", "summary.csv is another one than is made again: line 2 has",
+         "not looked at: layers and page: the reference system 'grid of the park' has no code and no definition")
+def _(hand):
+    hand.sub("tracks/split.txt", "^crs,.*", "crs,grid of the park")
+    hand.sub("summary.csv", "[0-9]$", "")
+    hand.seal_files()
+
+
 @of_laea("an area beside another form of a definition", "ranges.gpkg has 12.5 in row 1 of ranges, column 8")
 def _(hand):
     execute(hand.path("ranges.gpkg"), ("UPDATE ranges SET hectares = 12.5 WHERE fid = 1",))

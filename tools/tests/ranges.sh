@@ -56,7 +56,7 @@ tracks" ]
         'ranges.gpkg: made again it has the same layers, schema, rows and shapes'; do
         holds "it is said: $part" grep -qF "held: $part" verified
     done
-    holds 'it is said what nobody knows' grep -qx 'not known: whether what was typed in is right: clock' verified
+    holds 'it is said what nobody knows' grep -qx 'not known: whether what was typed in is right: clock and the name of the export' verified
     "$HOMERANGE" plan/first/tracks/*.csv >direct
     holds 'its report is that of homerange' cmp direct plan/first/report.txt
     cat >plan/fixes <<END
@@ -219,7 +219,7 @@ assert {*corners} == {(-300, -400), (-200, -400), (-200, -300)}, [*corners]'
     PYTHONDONTWRITEBYTECODE=1 python3 "$tools/tests/forged_tables.py" "$HOMERANGE" >plan/forged 2>&1
     python3 "$tools/tests/forged_layers.py" plan/first/ranges.gpkg plan/first/ranges.gpkg >>plan/forged 2>&1
     PYTHONDONTWRITEBYTECODE=1 python3 "$tools/tests/forged_systems.py" "$HOMERANGE" >>plan/forged 2>&1
-    holds 'all tables, layers and pages were forged' [ "$(grep -c '^ok ' plan/forged)" -ge 104 ]
+    holds 'all tables, layers and pages were forged' [ "$(grep -c '^ok ' plan/forged)" -ge 150 ]
     while read -r how name; do
         holds "forgery: $name" [ "$how" = ok ]
     done <plan/forged
