@@ -44,7 +44,8 @@ release_line() {
 # The kit of the toolchain that is here: its number, and the checksum of the archive that it came in, where it says it.
 kit() {
     rt version | sed -n 's/^\([^ ]*\) .*/kit \1/p'
-    sed -n 's/^archive /archive /p' "$(dirname "$(rt doc)")/WHAT" 2>/dev/null
+    what=$(dirname "$(rt doc)")/WHAT
+    [ ! -r "$what" ] || sed -n '/^archive /p' "$what"
 }
 
 # Whether the release is in the list of releases.
