@@ -4,13 +4,22 @@
 definition that it does not bind itself, in their order: these are the names that it uses, and notation.
 """
 
+from __future__ import annotations
+
 import re
+from collections.abc import Callable, Iterable
 from dataclasses import dataclass
 from pathlib import Path
 
 TOKEN = re.compile(r'"(?:[^"\\]|\\.)*"|--.*|(?<=[\w)\]])\.\w+|[(){},;.]|[^\s(){},;."]+')
 USE = re.compile(r"use ((?:\w|\.)+?)(?:\.\{([^}]*)\}| as (\w+));?$")
 START = re.compile(r"(?:abbrev |unfoldable )?pub (record |data )?([^\s:({]+)")
+
+# What tells definitions and items apart: where from, the crate or the path, perhaps the module, and the name.
+Key = tuple[str, ...]
+# What imported words stand for: a path, and a name there.
+Imports = dict[str, tuple[str, str | None]]
+IsMaker = Callable[[str], bool]
 
 
 @dataclass
@@ -26,15 +35,15 @@ class Definition:
     lines: list[str]
 
     @property
-    def key(self):
+    def key(self) -> Key:
         return ("spec", self.crate, self.module, self.name)
 
     @property
-    def code(self):
+    def code(self) -> str:
         return "\n".join(self.lines)
 
     @property
-    def makers(self):
+    def makers(self) -> list[str]:
         """The names by which a data type makes its values."""
         named = (re.match(r"  (\w+) :", line) for line in self.lines[1:] if self.kind == "data")
         return [name[1] for name in named if name]
@@ -46,23 +55,23 @@ class Module:
 
     file: Path
     sentence: str
-    imports: dict
-    definitions: dict
+    imports: Imports
+    definitions: dict[str, Definition]
 
 
-def sentence_of(comment):
+def sentence_of(comment: Iterable[str]) -> str:
     """Comment lines as one text, without their signs."""
     return " ".join(re.sub(r"^\s*(--|//[/!]?) ?", "", line).strip() for line in comment)
 
 
-def pieces_of(name):
+def pieces_of(name: str) -> list[str]:
     """The words that stand for a name in code: itself, and the parts of an operator between what it is applied to."""
     return [name, *filter(None, name.split("◌"))] if "◌" in name else [name]
 
 
-def imports_of(text):
+def imports_of(text: str) -> Imports:
     """What each imported word stands for: a path, and a name there, which is None where the word is the path's."""
-    found = {}
+    found: Imports = {}
     for line in text.splitlines():
         if not (use := USE.match(line.strip().removeprefix("ghost "))):
             continue
@@ -75,11 +84,13 @@ def imports_of(text):
     return found
 
 
-def read_module(crate, file, text):
+def read_module(crate: str, file: Path, text: str) -> Module:
     lines = text.splitlines()
     head = next((at for at, line in enumerate(lines) if not line.startswith("--")), len(lines))
     module = Module(file, sentence_of(lines[:head]), imports_of(text), {})
-    comment, prefix, current = [], [], None
+    comment: list[str] = []
+    prefix: list[str] = []
+    current: Definition | None = None
     for line in lines[head:]:
         if start := START.match(line):
             kind, name = (start[1] or "function").strip(), start[2]
@@ -97,13 +108,13 @@ def read_module(crate, file, text):
     return module
 
 
-def tokens_of(code):
+def tokens_of(code: str) -> list[str]:
     return [token for token in TOKEN.findall(code) if not token.startswith("--")]
 
 
-def bound_by(tokens, at):
+def bound_by(tokens: list[str], at: int) -> list[str]:
     """The words that the group which begins here binds: those before its colon."""
-    names = []
+    names: list[str] = []
     for token in tokens[at + 1 :]:
         if token == ":":
             return names
@@ -116,12 +127,12 @@ def bound_by(tokens, at):
 class Scope:
     """Goes through a piece of code and keeps which words are bound, group by group."""
 
-    def __init__(self, bound=()):
+    def __init__(self, bound: Iterable[str] = ()) -> None:
         self.frames = [set(bound)]
-        self.groups = []
-        self.free = []
+        self.groups: list[list[str]] = []
+        self.free: list[str] = []
 
-    def read(self, tokens):
+    def read(self, tokens: list[str]) -> list[str]:
         """The words that are not bound, with what stands behind their dots."""
         at = 0
         while at < len(tokens):
@@ -143,7 +154,7 @@ class Scope:
             at += 1
         return self.free
 
-    def word(self, word, before, after):
+    def word(self, word: str, before: list[str], after: str) -> None:
         """A word is bound behind `let` or before an arrow of `do`, names a part before its value, or is used."""
         if before == ["let"] or after == "←":
             self.frames[-1].add(word)
@@ -153,14 +164,14 @@ class Scope:
             self.free.append(word + (after if re.match(r"\.\w", after) else ""))
 
 
-def free_words(code, bound=()):
+def free_words(code: str, bound: Iterable[str] = ()) -> list[str]:
     return Scope(bound).read(tokens_of(code))
 
 
-def parts_of(definition):
+def parts_of(definition: Definition) -> list[list[str]]:
     """The parts of a definition as tokens: its type and its clauses, or its parameters and its fields."""
     indent = "" if definition.kind == "function" else "  "
-    parts = []
+    parts: list[list[str]] = []
     for line in definition.lines:
         if line.startswith("infix") or line.lstrip().startswith("--"):
             continue
@@ -171,7 +182,7 @@ def parts_of(definition):
     return [tokens_of("\n".join(part)) for part in parts]
 
 
-def words_of_clauses(definition, clauses, is_maker):
+def words_of_clauses(definition: Definition, clauses: list[list[str]], is_maker: IsMaker) -> list[str]:
     """The words that clauses use, where the words on the left that make no value are bound on the right."""
     found = []
     for clause in clauses:
@@ -182,7 +193,7 @@ def words_of_clauses(definition, clauses, is_maker):
     return found
 
 
-def words_of_fields(definition, fields, bound):
+def words_of_fields(definition: Definition, fields: list[list[str]], bound: set[str]) -> list[str]:
     """The words that fields use, each of which is bound in those behind it."""
     found = []
     for field in fields:
@@ -193,7 +204,7 @@ def words_of_fields(definition, fields, bound):
     return found
 
 
-def words_of(definition, is_maker):
+def words_of(definition: Definition, is_maker: IsMaker) -> list[str]:
     """The words that a definition uses; `is_maker` tells words that make values from those that a pattern binds."""
     head, *rest = parts_of(definition)
     scope = Scope()
