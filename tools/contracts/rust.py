@@ -4,7 +4,10 @@
 to its first line and the line that says what it is seen as. `contract_of` gives a function up to its body.
 """
 
+from __future__ import annotations
+
 import re
+from collections.abc import Iterator
 from dataclasses import dataclass
 from pathlib import Path
 
@@ -25,17 +28,17 @@ class Item:
     kind: str
     sentence: str
     code: str
-    imports: dict
-    uses: dict
+    imports: antt.Imports
+    uses: dict[str, str]
 
     @property
-    def key(self):
+    def key(self) -> antt.Key:
         return ("code", self.crate, self.name)
 
 
-def uses_of(text):
+def uses_of(text: str) -> dict[str, str]:
     """The path of each name that a file takes from elsewhere."""
-    found = {}
+    found: dict[str, str] = {}
     for path, names in USE.findall(text):
         if names:
             found.update((name.strip(), path) for name in names.split(",") if name.strip())
@@ -45,9 +48,9 @@ def uses_of(text):
     return found
 
 
-def sentence_above(text, at):
+def sentence_above(text: str, at: int) -> str:
     """The first paragraph of the comment above what begins here, also above its attributes."""
-    comment = []
+    comment: list[str] = []
     for line in reversed(text[:at].splitlines()):
         if line in ("//", "///"):
             comment = []
@@ -58,7 +61,7 @@ def sentence_above(text, at):
     return re.sub(r"\[(`[^`]+`)\](?:\([^)]*\))?", r"\1", antt.sentence_of(comment))
 
 
-def end_of(text, start, kind):
+def end_of(text: str, start: int, kind: str) -> int:
     """Where an item ends: with its first line, with its value, or with a brace at the edge."""
     line = text.index("\n", start)
     if text[start:line].endswith((";", "}")):
@@ -67,7 +70,7 @@ def end_of(text, start, kind):
     return text.index(end, start) + len(end)
 
 
-def shown_of(text, start, kind, name):
+def shown_of(text: str, start: int, kind: str, name: str) -> str:
     """What is shown of an item."""
     code = text[start : end_of(text, start, kind)]
     value = r"^(    ghost Value = \{.*?\};)"
@@ -75,7 +78,7 @@ def shown_of(text, start, kind, name):
     return f"{code.splitlines()[0]}\n...\n{model[1]}" if model else code
 
 
-def read_file(crate, file, text):
+def read_file(crate: str, file: Path, text: str) -> Iterator[Item]:
     imports, uses = antt.imports_of(text), uses_of(text)
     for found in ITEM.finditer(text):
         kind, name = found.groups()
@@ -83,7 +86,7 @@ def read_file(crate, file, text):
         yield Item(crate, file, name, kind, sentence_above(text, found.start()), shown, imports, uses)
 
 
-def contract_of(crate, file, text, name):
+def contract_of(crate: str, file: Path, text: str, name: str) -> Item | None:
     """The function of this name that others may call, as an item; None where the file has none."""
     if found := re.search(rf"^pub fn {name}\b.*?(?=\n\{{)", text, re.MULTILINE | re.DOTALL):
         sentence = sentence_above(text, found.start())
@@ -91,7 +94,7 @@ def contract_of(crate, file, text, name):
     return None
 
 
-def brace_end(code, start):
+def brace_end(code: str, start: int) -> int:
     """Where the group ends whose first character stands here."""
     depth = 1
     for at in range(start, len(code)):
@@ -101,7 +104,7 @@ def brace_end(code, start):
     return len(code)
 
 
-def split_ghost(code):
+def split_ghost(code: str) -> tuple[str, list[str]]:
     """Code without what proofs alone see, and each piece of that."""
     code = re.sub(r'//.*|"(?:[^"\\]|\\.)*"', "", code)
     plain, ghosts, at = "", [], 0
@@ -118,14 +121,14 @@ def split_ghost(code):
     return plain + code[at:], ghosts
 
 
-def generics_of(code):
+def generics_of(code: str) -> set[str]:
     """The parameters that a type or a function takes, and the types that a trait has its own."""
     head = re.search(r"\w<([^(){}]*?)>+\s*(?:[({;=]|$)", code.splitlines()[0])
-    names = [re.match(r"\s*(?:const )?'?(\w*)", part)[1] for part in head[1].split(",")] if head else []
-    return {*names, *re.findall(r"\btype (\w+)\s*[:;=]", code)}
+    named = (re.match(r"\s*(?:const )?'?(\w*)", part) for part in (head[1].split(",") if head else []))
+    return {*(name[1] for name in named if name), *re.findall(r"\btype (\w+)\s*[:;=]", code)}
 
 
-def words_of(item):
+def words_of(item: Item) -> tuple[list[str], list[str]]:
     """The words of the code that an item uses, and those of its contracts and of what proofs alone see."""
     plain, ghosts = split_ghost(item.code)
     bound = {*re.findall(r"\w+", plain), *re.findall(r"ghost (\w+)", item.code), "result"}
