@@ -4,7 +4,18 @@ stands before what uses it.
 `Sources` has all of them. What the toolchain defines is named alone.
 """
 
+from __future__ import annotations
+
+from collections.abc import Callable, Iterable, Iterator
+from pathlib import Path
+from typing import TypeVar
+
 from . import antt, rust
+from .antt import Key
+
+Node = antt.Definition | rust.Item
+# What is brought into an order.
+Member = TypeVar("Member")
 
 # What is written in definitions and is no name.
 NOTATION = set("→ : × = ← ¬ ⊥ _ Type Unit tt record where let in do".split())
@@ -18,11 +29,13 @@ class Fault(Exception):
 class Sources:
     """The crates from the lowest to the highest, their modules of specs, and the items of their code."""
 
-    def __init__(self, top):
+    def __init__(self, top: Path) -> None:
         self.top = top
         lines = (top / "crates.txt").read_text().splitlines()
         self.crates = [line.split()[0].rstrip(":") for line in lines if line and not line.startswith("#")]
-        self.modules, self.items, self.texts = {}, {}, {}
+        self.modules: dict[tuple[str, str], antt.Module] = {}
+        self.items: dict[Key, list[rust.Item]] = {}
+        self.texts: dict[tuple[str, Path], str] = {}
         for crate in self.crates:
             folder = top / "crates" / crate
             for file in sorted(folder.glob("specs/*.antt")):
@@ -31,62 +44,62 @@ class Sources:
             for file in sorted(folder.glob("src/**/*.rt")):
                 self.read_code(crate, file)
 
-    def read_code(self, crate, file):
+    def read_code(self, crate: str, file: Path) -> None:
         text = file.read_text()
         self.texts[crate, file.relative_to(self.top)] = text
         for item in rust.read_file(crate, file.relative_to(self.top), text):
             self.items.setdefault(item.key, []).append(item)
 
-    def contract(self, name):
+    def contract(self, name: str) -> rust.Item:
         """The one function of this name that others may call."""
-        found = [rust.contract_of(crate, file, text, name) for (crate, file), text in self.texts.items()]
-        found = [item for item in found if item]
+        every = (rust.contract_of(crate, file, text, name) for (crate, file), text in self.texts.items())
+        found = [item for item in every if item]
         if len(found) != 1:
             raise Fault(f"crates: there are {len(found)} public functions {name}, and not one")
         return found[0]
 
-    def node(self, key):
+    def node(self, key: Key) -> Node:
         """The definition or the item of a key."""
         if key[0] == "spec":
-            return self.modules[key[1:3]].definitions[key[3]]
+            return self.modules[key[1], key[2]].definitions[key[3]]
         if len(self.items[key]) != 1:
             found = len(self.items[key])
             raise Fault(f"crates/{key[1]}/src: there are {found} types or constants {key[2]}, and not one")
         return self.items[key][0]
 
-    def keys_of(self, crate):
+    def keys_of(self, crate: str) -> list[Key]:
         """The keys of all that a crate has, as it stands in its files."""
         modules = [module for (of, _), module in self.modules.items() if of == crate]
         keys = [definition.key for module in modules for definition in module.definitions.values()]
         return keys + [key for key in self.items if key[1] == crate]
 
-    def code_key(self, crate, name, where):
+    def code_key(self, crate: str, name: str, where: str) -> Key:
         if ("code", crate, name) not in self.items:
             raise Fault(f"{where}: crates/{crate}/src has no type, trait or constant {name}")
         return ("code", crate, name)
 
-    def target(self, path, name, where):
+    def target(self, path: str, name: str | None, where: str) -> Key:
         """The key of what is imported: of this repository, or else its place in the toolchain and its name."""
         parts = path.split(".")
         if parts[0] != "Rattle" or parts[1] not in self.crates:
-            return ("outside", path, name)
+            return ("outside", path, name or "")
         if "declared" in parts:
-            of_a_type = name is None or parts[-1] in ("TheVariants", "TheInside")
-            return self.code_key(parts[1], parts[-2] if of_a_type else name, where)
+            item = parts[-2] if name is None or parts[-1] in ("TheVariants", "TheInside") else name
+            return self.code_key(parts[1], item, where)
         module = self.modules.get((parts[1], parts[-1]))
         found = module and self.in_module(module, name)
         if not found:
             raise Fault(f"{where}: {path} has no definition {name}")
         return found
 
-    def in_module(self, module, word):
+    def in_module(self, module: antt.Module, word: str | None) -> Key | None:
         """The key of the definition of a module that has this word as its name, in it, or as one of its makers."""
         for definition in module.definitions.values():
             if word in antt.pieces_of(definition.name) or word in definition.makers:
                 return definition.key
         return None
 
-    def resolve(self, word, imports, where):
+    def resolve(self, word: str, imports: antt.Imports, where: str) -> Key | None:
         """The key of an imported word; what stands behind its dot counts where the word is that of a path."""
         base, _, behind = word.partition(".")
         if base not in imports:
@@ -95,7 +108,7 @@ class Sources:
         found = self.target(path, name, where)
         return (*found[:2], behind) if name is None and found[0] == "outside" else found
 
-    def is_maker(self, word, module):
+    def is_maker(self, word: str, module: antt.Module) -> bool:
         """Whether a word makes values, which a pattern then takes apart."""
         base = word.partition(".")[0]
         if any(word in definition.makers for definition in module.definitions.values()):
@@ -103,10 +116,11 @@ class Sources:
         path, name = module.imports.get(base, ("", ""))
         if name is None or "TheVariants" in path or name in MAKERS:
             return True
-        there = self.modules.get(tuple(path.split(".")[1::2])[:2]) if path.count(".") == 3 else None
-        return bool(there) and any(name in definition.makers for definition in there.definitions.values())
+        parts = path.split(".")
+        there = self.modules.get((parts[1], parts[3])) if len(parts) == 4 else None
+        return there is not None and any(name in definition.makers for definition in there.definitions.values())
 
-    def used_by_definition(self, definition):
+    def used_by_definition(self, definition: antt.Definition) -> Iterator[tuple[str, Key]]:
         """Each word that a definition uses, and its key."""
         module = self.modules[definition.crate, definition.module]
         where = f"{definition.file}: {definition.name}"
@@ -123,7 +137,7 @@ class Sources:
                     raise Fault(f"{where}: nothing says what {word} is")
                 yield word, key
 
-    def used_by_item(self, item):
+    def used_by_item(self, item: rust.Item) -> Iterator[tuple[str, Key]]:
         """Each word that an item or a contract uses, and its key."""
         words, ghosts = rust.words_of(item)
         where = f"{item.file}: {item.name}"
@@ -144,24 +158,25 @@ class Sources:
                 raise Fault(f"{where}: nothing says what {word} is")
             yield word, key
 
-    def rust_key(self, word, item):
+    def rust_key(self, word: str, item: rust.Item) -> Key | None:
         """The key of a type of the code that a clause names as the code does."""
         base = word.partition(".")[0]
         crate = item.uses.get(base, "").split("::")[0].replace("crate", item.crate)
         key = ("code", crate or item.crate, base)
         return key if key in self.items else None
 
-    def words(self, node):
+    def words(self, node: Node) -> Iterator[tuple[str, Key]]:
         """Each word that a definition, an item or a contract uses, and its key."""
-        return self.used_by_definition(node) if node.key[0] == "spec" else self.used_by_item(node)
+        return self.used_by_definition(node) if isinstance(node, antt.Definition) else self.used_by_item(node)
 
-    def uses(self, node):
+    def uses(self, node: Node) -> list[Key]:
         """The keys of what it uses, each once and without its own."""
         return [key for key in dict.fromkeys(key for _, key in self.words(node)) if key != node.key]
 
-    def closure(self, root):
+    def closure(self, root: Node) -> dict[Key, list[Key]]:
         """All that a contract rests on: of each key, what that uses."""
-        found, waiting = {}, self.uses(root)
+        found: dict[Key, list[Key]] = {}
+        waiting = self.uses(root)
         while waiting:
             key = waiting.pop()
             if key not in found:
@@ -170,11 +185,12 @@ class Sources:
         return found
 
 
-def ordered(keys, before, where):
+def ordered(keys: Iterable[Member], before: Callable[[Member], list[Member]], where: str) -> list[Member]:
     """The keys, each behind those that are before it; a circle is a fault."""
-    done, open_keys = [], []
+    done: list[Member] = []
+    open_keys: list[Member] = []
 
-    def visit(key):
+    def visit(key: Member) -> None:
         if key in open_keys:
             raise Fault(f"{where}: {' and '.join(map(str, open_keys))} use each other")
         if key not in done:
