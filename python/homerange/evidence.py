@@ -6,12 +6,11 @@ from __future__ import annotations
 import csv
 import itertools
 import os
-import re
 import shutil
 import subprocess
 import tempfile
 from pathlib import Path
-from typing import Any, Callable, Iterable, Iterator, NamedTuple, Sequence, TextIO
+from typing import Any, Callable, Iterable, NamedTuple, Sequence, TextIO
 
 from .about import BESIDE, NO_COMMIT, About, Words, export_of, now, write_about
 from .errors import FAULTS, UNPRINTABLE, ProgramError, ReportError, one_line, refuse
