@@ -1,3 +1,4 @@
+pub mod Failures
 pub mod OneLine
 pub mod RunSources
 pub mod Sayings

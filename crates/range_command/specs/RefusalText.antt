@@ -2,7 +2,7 @@
 use Rattle.std.specs.Prelude.{◌≡◌, ◌⊎◌, ⊤, ℕ, true, false, List, ◌++◌, Option, None, Some, String, codes, string_bytes, slice_get}
 use Rattle.std.specs.Fmt.{decimal}
 use Rattle.std.specs.Global.{Global}
-use Rattle.std.specs.Io.KnownBytes.{Appends}
+use Rattle.std.specs.declared.io.Error.{Error}
 use Rattle.range_texts.specs.Seen.{IsOneLine, shown_text, shown_name}
 use Rattle.range_fixes.specs.FaultText.{fault_text}
 use Rattle.range_fixes.specs.declared.read_fault.ReadFault.{ReadFault}
@@ -16,6 +16,7 @@ use Rattle.range_run.specs.declared.run_fault.RunFault.TheVariants as runs
 use Rattle.range_words.specs.FaultText.{word_text}
 use Rattle.range_words.specs.declared.words.WordFault.TheVariants as words
 use Rattle.range_command.specs.Command.{IsToldAlone}
+use Rattle.range_command.specs.Outlet.{AppendsOrFails}
 use Rattle.range_command.specs.declared.refusal.Refusal.{Refusal}
 use Rattle.range_command.specs.declared.refusal.Refusal.TheVariants as refusals
 
@@ -90,9 +91,11 @@ short_line (refusals.Unopened path reason) = codes "homerange: a file cannot be 
 short_line (refusals.Unwritten reason) = codes "homerange: the help or the version could not be written\n"
 short_line (refusals.Run files fault reason) = short_run_line fault
 
--- the line with the text of the refusal was written, or the shorter one, and nothing else
-abbrev pub IsTelling : Refusal → Option (List ℕ) → Option (List ℕ) → Type 0
-IsTelling refusal old new = Appends old new (line_of (refusal_text refusal)) ⊎ Appends old new (short_line refusal)
+-- the line with the text of the refusal was written, or the shorter one, or of one of them a beginning where a call has
+-- failed; and nothing else
+abbrev pub IsTelling : Refusal → Option (Option Error) → Option (List ℕ) → Option (List ℕ) → Type 0
+IsTelling refusal last_failure old new =
+    AppendsOrFails last_failure old new (line_of (refusal_text refusal)) ⊎ AppendsOrFails last_failure old new (short_line refusal)
 
 -- a fault of words that is no text of many lines
 abbrev pub IsOfOneLine : Refusal → Type 0

@@ -4,7 +4,7 @@ ghost use Rattle.std.specs.Prelude.{◌≡◌, ◌≢◌, ◌⊎◌, IfErr, IfOk
 ghost use Rattle.clap.specs.Words.{Text};
 ghost use Rattle.range_command.specs.SaidLine.{HasLeft, IsSaid, SaysOneLine};
 ghost use Rattle.range_command.specs.Command.{IsBegun, IsObeyed, IsOfSystem, IsTold, world};
-ghost use Rattle.range_command.specs.Outlet.{HasFailed, IsKnown};
+ghost use Rattle.range_command.specs.Outlet.{IsKnown};
 ghost use Rattle.range_command.specs.Status.{refusal_status};
 ghost use Rattle.range_command.specs.RefusalText.{IsTelling, line_of, refusal_text, short_line};
 ghost use Rattle.range_command.specs.declared.refusal.Refusal.{Refusal};
@@ -98,8 +98,8 @@ fn tell<X: Outlet>(alloc: Global, refusal: &Refusal, has_left: bool, errors: &mu
     ensures status { result ≡ refusal_status refusal.now }
     ensures left { has_left ≡ true → errors.new ≡ errors.old }
     ensures line { has_left ≡ false
-        → IsTelling refusal.now (X.contents errors.old) (X.contents errors.new)
-        ⊎ HasFailed (X.last_failure errors.new) }
+        → IsTelling refusal.now (X.last_failure errors.new)
+        (X.contents errors.old) (X.contents errors.new) }
 {
     if !has_left {
         say(alloc, refusal, errors);
@@ -109,8 +109,8 @@ fn tell<X: Outlet>(alloc: Global, refusal: &Refusal, has_left: bool, errors: &mu
 
 // Says in one line why there is no report.
 fn say<X: Outlet>(alloc: Global, refusal: &Refusal, errors: &mut Output<X>)
-    ensures { IsTelling refusal.now (X.contents errors.old) (X.contents errors.new)
-        ⊎ HasFailed (X.last_failure errors.new) }
+    ensures { IsTelling refusal.now (X.last_failure errors.new)
+        (X.contents errors.old) (X.contents errors.new) }
 {
     let line = whole_line(alloc, refusal);
     // Who does not take the line cannot be told so.

@@ -1,6 +1,6 @@
 // Where a text goes.
 
-ghost use Rattle.std.specs.Prelude.{◌≡◌, ◌<◌, Bool, IfErr, IfOk, List, None, OnOk, Option, Some, length, true, ℕ};
+ghost use Rattle.std.specs.Prelude.{◌≡◌, ◌<◌, Bool, IfErr, IfOk, List, None, OnErr, OnOk, Option, Some, false, length, true, ℕ};
 ghost use Rattle.std.specs.Io.{WritesAtMost};
 ghost use Rattle.std.specs.Io.KnownBytes.{Keeps, WriteAppends};
 ghost use Rattle.std.specs.declared.io.Error.{Error};
@@ -24,6 +24,7 @@ pub trait Outlet {
         ensures bound { WritesAtMost result text.now }
         ensures some { IfOk result (λ n. 0 < length text.now → 0 < n) }
         ensures bytes { WriteAppends (contents self.old) (contents self.new) result text.now }
+        ensures unfinished { IsKnown false (is_finished self.new) }
         ensures failed { IfErr result (λ error. IsKnown (Some error) (last_failure self.new)) }
         ensures kept { OnOk result (last_failure self.new ≡ last_failure self.old) };
 
@@ -31,6 +32,7 @@ pub trait Outlet {
     fn finish(&mut self) -> io::Result<()>
         ensures bytes { Keeps (contents self.old) (contents self.new) }
         ensures finished { OnOk result (IsKnown true (is_finished self.new)) }
+        ensures unfinished { OnErr result (IsKnown false (is_finished self.new)) }
         ensures failed { IfErr result (λ error. IsKnown (Some error) (last_failure self.new)) }
         ensures kept { OnOk result (last_failure self.new ≡ last_failure self.old) };
 

@@ -1,9 +1,10 @@
 // Where the program writes.
 
-ghost use Rattle.std.specs.Prelude.{◌≡◌, ◌<◌, IfErr, IfOk, OnOk, Some, length, true};
+ghost use Rattle.std.specs.Prelude.{◌≡◌, ◌<◌, IfErr, IfOk, OnErr, OnOk, Some, false, length, true};
 ghost use Rattle.std.specs.Io.{WritesAtMost};
 ghost use Rattle.std.specs.Io.KnownBytes.{Appends, Keeps, WriteAppends};
-ghost use Rattle.range_command.specs.Outlet.{IsKnown};
+ghost use Rattle.range_run.specs.WrittenPrefix.{AppendsPrefix};
+ghost use Rattle.range_command.specs.Outlet.{IsKnown, IsSteady};
 
 use crate::outlet::Outlet;
 use crate::retry::put_again;
@@ -59,7 +60,10 @@ impl<W: Outlet> Output<W> {
     /// Writes a text whole, in one write where the outlet takes it.
     pub(crate) fn write_whole(&mut self, text: &[u8]) -> io::Result<()>
         ensures whole { OnOk result (Appends (W.contents self.old) (W.contents self.new) text.now) }
+        ensures prefix { OnErr result
+            (AppendsPrefix (W.contents self.old) (W.contents self.new) text.now) }
         ensures failed { IfErr result (λ error. IsKnown (Some error) (W.last_failure self.new)) }
+        ensures steady { OnOk result (IsSteady (W.last_failure self.old) (W.last_failure self.new)) }
     {
         let mut at = 0;
         while at < text.len() {
@@ -76,7 +80,9 @@ impl<W: Outlet> Write for Output<W> {
         ensures bound { WritesAtMost result buf.now }
         ensures some { IfOk result (λ n. 0 < length buf.now → 0 < n) }
         ensures bytes { WriteAppends (W.contents self.old) (W.contents self.new) result buf.now }
+        ensures unfinished { IsKnown false (W.is_finished self.new) }
         ensures failed { IfErr result (λ error. IsKnown (Some error) (W.last_failure self.new)) }
+        ensures steady { OnOk result (IsSteady (W.last_failure self.old) (W.last_failure self.new)) }
     {
         put_again(&mut self.outlet, buf)
     }

@@ -1,9 +1,9 @@
 // Reads and writes that a signal interrupts are tried again.
 
-ghost use Rattle.std.specs.Prelude.{◌<◌, IfErr, IfOk, Some, length};
+ghost use Rattle.std.specs.Prelude.{◌<◌, IfErr, IfOk, OnOk, Some, false, length};
 ghost use Rattle.std.specs.Io.{ReadsAtMost, WritesAtMost};
 ghost use Rattle.std.specs.Io.KnownBytes.{ReadConsumes, WriteAppends};
-ghost use Rattle.range_command.specs.Outlet.{IsKnown};
+ghost use Rattle.range_command.specs.Outlet.{IsKnown, IsSteady};
 
 use crate::outlet::Outlet;
 use std::io;
@@ -31,7 +31,10 @@ pub(crate) fn put_again<W: Outlet>(outlet: &mut W, text: &[u8]) -> io::Result<us
     ensures bound { WritesAtMost result text.now }
     ensures some { IfOk result (λ n. 0 < length text.now → 0 < n) }
     ensures bytes { WriteAppends (W.contents outlet.old) (W.contents outlet.new) result text.now }
+    ensures unfinished { IsKnown false (W.is_finished outlet.new) }
     ensures failed { IfErr result (λ error. IsKnown (Some error) (W.last_failure outlet.new)) }
+    ensures steady { OnOk result
+        (IsSteady (W.last_failure outlet.old) (W.last_failure outlet.new)) }
 {
     for _ in 1..TRIES {
         match outlet.put(text) {
