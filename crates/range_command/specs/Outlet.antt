@@ -28,3 +28,7 @@ IsInterrupted (Some (Some error)) = error_kind error ≡ kind.Interrupted
 -- the last call that failed is still the same, or a signal interrupted it
 abbrev pub IsSteady : Option (Option Error) → Option (Option Error) → Type 0
 IsSteady old new = (new ≡ old) ⊎ IsInterrupted new
+
+-- as far as it is known, no call has failed, or the last that has was interrupted by a signal
+abbrev pub IsIntact : Option (Option Error) → Type 0
+IsIntact last_failure = IsKnown None last_failure ⊎ IsInterrupted last_failure

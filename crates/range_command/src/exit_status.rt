@@ -4,7 +4,7 @@ ghost use Rattle.std.specs.Prelude.{◌≡◌, ◌≢◌, ◌⊎◌, IfErr, IfOk
 ghost use Rattle.clap.specs.Words.{Text};
 ghost use Rattle.range_command.specs.SaidLine.{HasLeft, IsSaid, SaysOneLine};
 ghost use Rattle.range_command.specs.Command.{IsBegun, IsObeyed, IsOfSystem, IsTold, world};
-ghost use Rattle.range_command.specs.Outlet.{IsKnown};
+ghost use Rattle.range_command.specs.Outlet.{IsIntact, IsKnown};
 ghost use Rattle.range_command.specs.Status.{refusal_status};
 ghost use Rattle.range_command.specs.RefusalText.{IsTelling, line_of, refusal_text, short_line};
 ghost use Rattle.range_command.specs.declared.refusal.Refusal.{Refusal};
@@ -35,6 +35,7 @@ pub fn answer<
         × IsObeyed said (world (S.remaining input) (O.finds opener.now))
         (W.contents out.old) (W.contents out.new) }
     ensures finished { result ≡ 0 → IsKnown true (W.is_finished out.new) }
+    ensures intact { result ≡ 0 → IsIntact (W.last_failure out.new) }
     ensures begun { result ≡ 4 → (said : List Text)
         × IsBegun said (world (S.remaining input) (O.finds opener.now))
         (W.contents out.old) (W.contents out.new) }
@@ -68,6 +69,7 @@ pub fn answer_to<R: ThreadRuntime + AllocGlobal, O: Opener, S: FileSource, W: Ou
         → IsObeyed (map string_bytes words.now) (world (S.remaining input) (O.finds opener.now))
         (W.contents out.old) (W.contents out.new) }
     ensures finished { result ≡ 0 → IsKnown true (W.is_finished out.new) }
+    ensures intact { result ≡ 0 → IsIntact (W.last_failure out.new) }
     ensures begun { result ≡ 4
         → IsBegun (map string_bytes words.now) (world (S.remaining input) (O.finds opener.now))
         (W.contents out.old) (W.contents out.new) }

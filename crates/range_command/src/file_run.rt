@@ -5,7 +5,7 @@ ghost use Rattle.range_fixes.specs.Reading.{readings};
 ghost use Rattle.range_options.specs.Limits.{file_limit};
 ghost use Rattle.range_run.specs.Run.{Explains, WritesPrefix, WritesReport};
 ghost use Rattle.range_command.specs.Command.{BeginsReport, IsOfRun, Reports, world};
-ghost use Rattle.range_command.specs.Outlet.{IsKnown};
+ghost use Rattle.range_command.specs.Outlet.{IsIntact, IsKnown};
 ghost use Rattle.range_command.specs.Status.{refusal_status};
 
 use crate::opened_files::open_all;
@@ -38,6 +38,7 @@ pub(crate) fn run_over<
         (Reports words (world (S.remaining input) (O.finds opener.now))
         (W.contents out.old) (W.contents out.new)) }
     ensures finished { OnOk result (IsKnown true (W.is_finished out.new)) }
+    ensures intact { OnOk result (IsIntact (W.last_failure out.new)) }
     ensures begun { IfErr result (λ refusal. refusal_status refusal ≡ 4
         → BeginsReport words (world (S.remaining input) (O.finds opener.now))
         (W.contents out.old) (W.contents out.new)) }
@@ -84,6 +85,7 @@ fn run_to_end<R: ThreadRuntime, S: FileSource, W: Outlet, G: Gate>(
         options.now.levels options.now.plan.unit
         (W.contents out.old) (W.contents out.new)) }
     ensures finished { OnOk result (IsKnown true (W.is_finished out.new)) }
+    ensures intact { OnOk result (IsIntact (W.last_failure out.new)) }
     ensures prefix { result ≡ Err RunFault.Write
         → WritesPrefix
         (readings S.remaining options.now.plan.unit sources.items)

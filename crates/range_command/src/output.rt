@@ -4,12 +4,12 @@ ghost use Rattle.std.specs.Prelude.{◌≡◌, ◌<◌, IfErr, IfOk, OnErr, OnOk
 ghost use Rattle.std.specs.Io.{WritesAtMost};
 ghost use Rattle.std.specs.Io.KnownBytes.{Appends, Keeps, WriteAppends};
 ghost use Rattle.range_run.specs.WrittenPrefix.{AppendsPrefix};
-ghost use Rattle.range_command.specs.Outlet.{IsKnown, IsSteady};
+ghost use Rattle.range_command.specs.Outlet.{IsIntact, IsKnown, IsSteady};
 
 use crate::outlet::Outlet;
 use crate::retry::put_again;
 use std::io;
-use std::io::Write;
+use std::io::{ErrorKind, Write};
 use std::marker::Model;
 
 /// A writer over an outlet, which tries again, up to 16 times in all, where a signal interrupts a write.
@@ -47,14 +47,18 @@ impl<W: Outlet> Output<W> {
         self.outlet.failure()
     }
 
-    /// Answers whether all that was written is out.
+    /// Answers whether all that was written is out: not where a call has failed that no signal interrupted.
     pub(crate) fn finish(&mut self) -> io::Result<()>
         ensures bytes { Keeps (W.contents self.old) (W.contents self.new) }
         ensures finished { OnOk result (IsKnown true (W.is_finished self.new)) }
         ensures failed { IfErr result (λ error. IsKnown (Some error) (W.last_failure self.new)) }
+        ensures intact { OnOk result (IsIntact (W.last_failure self.new)) }
         ensures kept { OnOk result (W.last_failure self.new ≡ W.last_failure self.old) }
     {
-        self.outlet.finish()
+        match self.outlet.failure() {
+            Some(error) if error.kind() != ErrorKind::Interrupted => Err(error),
+            _ => self.outlet.finish(),
+        }
     }
 
     /// Writes a text whole, in one write where the outlet takes it.

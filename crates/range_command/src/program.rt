@@ -4,7 +4,7 @@ ghost use Rattle.std.specs.Prelude.{◌≡◌, ◌≢◌, IfErr, OnErr, OnOk, ma
 ghost use Rattle.std.specs.Io.KnownBytes.{Appends};
 ghost use Rattle.range_run.specs.WrittenPrefix.{AppendsPrefix};
 ghost use Rattle.range_command.specs.Command.{IsBegun, IsObeyed, IsOfReply, IsTold, world};
-ghost use Rattle.range_command.specs.Outlet.{IsKnown};
+ghost use Rattle.range_command.specs.Outlet.{IsIntact, IsKnown};
 ghost use Rattle.range_command.specs.Status.{refusal_status};
 
 use crate::bad_words::bad_words;
@@ -35,6 +35,7 @@ pub fn obey<R: ThreadRuntime + AllocGlobal, O: Opener, S: FileSource, W: Outlet,
         (IsObeyed (map string_bytes words.now) (world (S.remaining input) (O.finds opener.now))
         (W.contents out.old) (W.contents out.new)) }
     ensures finished { OnOk result (IsKnown true (W.is_finished out.new)) }
+    ensures intact { OnOk result (IsIntact (W.last_failure out.new)) }
     ensures begun { IfErr result (λ refusal. refusal_status refusal ≡ 4
         → IsBegun (map string_bytes words.now) (world (S.remaining input) (O.finds opener.now))
         (W.contents out.old) (W.contents out.new)) }
@@ -56,6 +57,7 @@ pub fn obey<R: ThreadRuntime + AllocGlobal, O: Opener, S: FileSource, W: Outlet,
 fn write_reply<W: Outlet>(alloc: Global, text: &str, out: &mut Output<W>) -> Result<(), Refusal>
     ensures text { OnOk result (Appends (W.contents out.old) (W.contents out.new) text.now) }
     ensures finished { OnOk result (IsKnown true (W.is_finished out.new)) }
+    ensures intact { OnOk result (IsIntact (W.last_failure out.new)) }
     ensures prefix { OnErr result
         (AppendsPrefix (W.contents out.old) (W.contents out.new) text.now) }
     ensures refusal { IfErr result IsOfReply }
@@ -71,6 +73,7 @@ fn write_reply<W: Outlet>(alloc: Global, text: &str, out: &mut Output<W>) -> Res
 fn write_to_end<W: Outlet>(text: &[u8], out: &mut Output<W>) -> Result<(), RunFault>
     ensures whole { OnOk result (Appends (W.contents out.old) (W.contents out.new) text.now) }
     ensures finished { OnOk result (IsKnown true (W.is_finished out.new)) }
+    ensures intact { OnOk result (IsIntact (W.last_failure out.new)) }
     ensures prefix { OnErr result
         (AppendsPrefix (W.contents out.old) (W.contents out.new) text.now) }
 {

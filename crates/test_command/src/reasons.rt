@@ -96,6 +96,31 @@ fn a_failed_flush_is_told_by_its_reason(rt: HostRuntime) -> Result<(), Fail> {
     Ok(())
 }
 
+// After a failed write the output does not answer again that all is out, though later writes pass; but it does where a
+// signal interrupted that write.
+#[test]
+fn an_output_that_has_failed_stays_failed(rt: HostRuntime) -> Result<(), Fail> {
+    let full = "standard output: No space left on device";
+    let interrupted = "standard output: Interrupted system call";
+    for (count, number, text, later) in [
+        (1, NO_SPACE, full, (4, full)),
+        (16, INTERRUPTED, interrupted, (0, "")),
+    ] {
+        let failures = Failures {
+            before: 0,
+            count,
+            number,
+        };
+        let failing = Output::new(Vec::new(rt.alloc()), 8, failures);
+        let mut out = range_command::Output::new(Memory::new(failing));
+        expect_ended(&rt, &[], FILE_A, &mut out, (4, text))?;
+        expect_ended(&rt, &[], FILE_A, &mut out, later)?;
+        assert!(rt; out.outlet().writer.held.as_slice() == REPORT_A);
+        assert!(rt; out.outlet().is_finished == (later.0 == 0));
+    }
+    Ok(())
+}
+
 // A read or a write that a signal interrupts fifteen times is as if it had not been, and one that is
 // interrupted sixteen times has failed.
 #[test]
