@@ -1,0 +1,2 @@
+pub mod PlainFields
+pub mod ReadBack

@@ -1,0 +1,8 @@
+//! Tests of the crates that make tracks of a table: the order of entries and the text of a track, against worked ones,
+//! what is written and read back, and memory refused, an allocation at a time.
+#![tactic(auto)]
+
+#[cfg(test)]
+mod order;
+#[cfg(test)]
+mod text;
