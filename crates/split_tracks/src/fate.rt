@@ -1,11 +1,6 @@
 // What became of the records of a table.
 
-/// When a fix was: a whole second, since 1970 or since a start of the user's choice, and the rest of a second.
-#[derive(Clone, Copy, PartialEq, Eq, Debug)]
-pub struct Moment {
-    pub second: u64,
-    pub nanosecond: u32,
-}
+use split_times::Moment;
 
 /// A fix as its track has it.
 #[derive(Clone, Copy, PartialEq, Eq, Debug)]

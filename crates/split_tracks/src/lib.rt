@@ -5,6 +5,6 @@ mod fate;
 mod laws;
 mod tracks;
 
-pub use fate::{Entry, Fate, Moment, Reason};
+pub use fate::{Entry, Fate, Reason};
 pub use laws::{every_record_has_one_place, tracks_are_in_the_order_of_time};
 pub use tracks::tracks_of;

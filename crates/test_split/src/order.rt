@@ -1,7 +1,8 @@
 // Tests of the order of tracks.
 
 use range_plane::OutOfMemory;
-use split_tracks::{Entry, Fate, Moment, Reason, tracks_of};
+use split_times::Moment;
+use split_tracks::{Entry, Fate, Reason, tracks_of};
 use std::alloc::{AllocError, Allocator, Global};
 use std::process::Abort;
 use std::test::Fail;

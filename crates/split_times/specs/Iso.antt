@@ -1,0 +1,57 @@
+-- Moments of ISO texts.
+use Rattle.std.specs.Prelude.{ℕ, ◌-◌, ◌*◌, ◌^◌, ◌==◌, nat_lt, ◌||◌, if◌then◌else◌, List, [], length, take, drop, Option, Some, None, Result, Ok, Err, ℤ, pos, ◌+ℤ◌, ◌-ℤ◌, ◌*ℤ◌, int_lt, unsigned_abs}
+use Rattle.std.specs.List.{position_or_len}
+use Rattle.std.specs.Option.{unwrap_or}
+use Rattle.split_times.specs.Fields.{◌>>=◌, number_in, day_in, clock_in, second_in, offset_in}
+use Rattle.split_times.specs.declared.moment.Moment.{Moment}
+use Rattle.split_times.specs.declared.moment.TimeFault.{TimeFault}
+use Rattle.split_times.specs.declared.moment.TimeFault.TheVariants.{NotTime, MoreThanNineDecimals, Before1970}
+
+-- a time: the second since 1970 in UTC, negative before it, and the digits of its fraction
+pub record IsoTime : Type 0 where
+  pub second : ℤ
+  pub decimals : List ℕ
+
+-- where an offset begins behind the minutes: at the first `Z`, `+` or `-`
+abbrev pub offset_place : List ℕ → ℕ
+offset_place rest = position_or_len (λ b. b == 90 || b == 43 || b == 45) rest
+
+-- the time of seconds and of an offset behind a minute
+unfoldable pub time_behind_minute : ℤ → List ℕ → List ℕ → Option IsoTime
+time_behind_minute minute seconds offset = do
+  second ← second_in seconds
+  ahead ← offset_in offset
+  Some (record { second = minute +ℤ pos second -ℤ ahead; decimals = drop 4 seconds })
+
+-- the time of what stands behind a day: of nothing it is midnight
+unfoldable pub time_behind_day : ℤ → List ℕ → Option IsoTime
+time_behind_day day [] = Some (record { second = day *ℤ pos 86400; decimals = [] })
+time_behind_day day behind =
+    if nat_lt (length behind) 6 then None
+    else do
+      clock ← clock_in (take 6 behind)
+      time_behind_minute (day *ℤ pos 86400 +ℤ pos clock) (take (offset_place (drop 6 behind)) (drop 6 behind)) (drop (offset_place (drop 6 behind)) (drop 6 behind))
+
+-- the time of a text; none where it has another form, or there is no such day or clock
+unfoldable pub time_in : List ℕ → Option IsoTime
+time_in text =
+    if nat_lt (length text) 10 then None
+    else do
+      day ← day_in (take 10 text)
+      time_behind_day day (drop 10 text)
+
+-- the nanoseconds of a fraction of at most nine digits: with zeros behind them they are nine
+abbrev pub nanoseconds : List ℕ → ℕ
+nanoseconds decimals = unwrap_or (number_in decimals) 0 * 10 ^ (9 - length decimals)
+
+-- the moment of a time, or the first fault that it has
+unfoldable pub moment_of : Option IsoTime → Result Moment TimeFault
+moment_of None = Err NotTime
+moment_of (Some t) =
+    if nat_lt 9 (length t.decimals) then Err MoreThanNineDecimals
+    else if int_lt t.second (pos 0) then Err Before1970
+    else Ok (record { second = unsigned_abs t.second; nanosecond = nanoseconds t.decimals })
+
+-- the moment of an ISO text
+abbrev pub iso_moment_in : List ℕ → Result Moment TimeFault
+iso_moment_in text = moment_of (time_in text)

@@ -1,0 +1,3 @@
+pub mod Fields
+pub mod Iso
+pub mod Limits
