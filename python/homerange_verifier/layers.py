@@ -34,7 +34,7 @@ MICROMETRE, MILLIMETRE = 1e-6, 5e-9  # in metres; in degrees, and less
 MOMENT = re.compile("([0-9]{4}-[0-9]{2}-[0-9]{2}T[0-9]{2}:[0-9]{2}:[0-9]{2})[.]000Z")
 SYSTEMS, ALWAYS = "gpkg_spatial_ref_sys", (-1, 0, 4326)  # the numbers of the reference systems that each file has
 # Names within the definition of a reference system, which versions of PROJ change.
-NAME = re.compile('\\b(PROJCS|GEOGCS|DATUM|SPHEROID|PRIMEM)\\["[^"]*"')
+NAME = re.compile('\\b(COMPD_CS|PROJCS|GEOGCS|DATUM|SPHEROID|PRIMEM|VERT_CS|VERT_DATUM)\\["[^"]*"')
 AUTHORITY = re.compile(',AUTHORITY\\["[A-Za-z]+","[0-9]+"\\]')
 # How GDAL before 3.13 has a spatial index follow its layer where a shape is another, or a row has another number, and how it does
 # since.
@@ -121,10 +121,11 @@ def is_near(table: str, value: Any, other: Any) -> bool:
 
 def is_same_system(row: Row, wish: Row, names: Sequence[str], wanted: Connection) -> bool:
     """Whether a row has the reference system that is wanted: its code, its numbers, its place on the earth and its name, which
-    may be the one that the record of the tracks has."""
+    may be the one that the record of the tracks has. What is behind the sixth column, such as a second definition, has no other
+    form."""
     title = NAME.match(str(row[4]))
     is_named = {row[0], title[0].split('"')[1] if title else row[0]} <= {wish[0], *names}
-    is_it = is_named and row[1] not in ALWAYS and row[1:4] == wish[1:4] and row[5] in (None, wish[5])
+    is_it = is_named and row[1] not in ALWAYS and (row[1:4], row[6:]) == (wish[1:4], wish[6:]) and row[5] in (None, wish[5])
     place = wanted.execute("SELECT min(min_x), min(min_y) FROM gpkg_contents WHERE data_type = 'features'").fetchone()
     return is_it and has_same_numbers(row, wish) and is_same_place(str(row[4]), str(wish[4]), place)
 
@@ -152,7 +153,7 @@ def is_same_place(definition: str, wanted: str, place: Row) -> bool:
 def has_other_form(row: Row, wish: Row, names: Sequence[str]) -> bool:
     """Whether a system without a code, and thus without names, differs from the one that is wanted in the form of its definition
     alone."""
-    is_it = not names and row[1] not in ALWAYS and (*row[:4], row[5]) == (*wish[:4], wish[5])
+    is_it = not names and row[1] not in ALWAYS and (*row[:4], *row[5:]) == (*wish[:4], *wish[5:])
     return is_it and not has_same_numbers(row, wish)
 
 

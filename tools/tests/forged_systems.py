@@ -1,9 +1,9 @@
 #!/usr/bin/env python3
 """forged_systems.py PROGRAM: whether tools/verify.py finds layers that lie elsewhere, by another reference system.
 
-Folders are made of a data frame on a grid of ESRI, and on one that has a definition and no code, by PROGRAM. Each forgery changes
-the definition in ranges.gpkg, or a row beside it, with all checksums made anew, and names what verify.py has to say; where it
-names nothing, nobody can know. Prints 'ok NAME' or 'failed NAME: ..' for each. Needs geopandas."""
+Folders are made of a data frame on a grid of ESRI, on one that has a definition and no code, on one with heights, and on one that
+has a second definition in ranges.gpkg, by PROGRAM. Each forgery changes the definition in ranges.gpkg, or a row beside it, with all
+checksums made anew, and names what verify.py has to say; where it names nothing, nobody can know. Prints 'ok NAME' or 'failed NAME: ..' for each. Needs geopandas."""
 import os
 import sqlite3
 import sys
@@ -18,7 +18,8 @@ from honest import frame  # which finds the package
 ESRI, LAEA = "ESRI:102013", "+proj=laea +lat_0=46 +lon_0=14 +x_0=100000 +y_0=100000 +datum=WGS84 +units=m +no_defs"
 ELSEWHERE = "ranges.gpkg has .* in row 4 of gpkg_spatial_ref_sys, column 5; 'PROJCS.*' is wanted"
 OTHER_FORM = "not looked at: the definition of the reference system in ranges.gpkg: '.*' has no code, and writers have several"
-of_esri, of_laea = Forgeries(), Forgeries()
+HEIGHTS, EQUAL_EARTH = "EPSG:5972", "EPSG:8857"
+of_esri, of_laea, of_heights, of_equal_earth = Forgeries(), Forgeries(), Forgeries(), Forgeries()
 
 
 class Grid(Hand):
@@ -69,6 +70,17 @@ renamed(of_laea, "another form of a definition", OTHER_FORM, changes=[(',AXIS["E
 renamed(of_laea, "another name beside a definition", "ranges.gpkg has 'approved' in row 4 of gpkg_spatial_ref_sys, column 1",
         changes=[("unknown", "approved", "srs_name")])
 
+renamed(of_heights, "the names of parts that a later version of PROJ has",
+        changes=[('PROJCS["ETRS89 / UTM', 'PROJCS["ETRS89-NOR [EUREF89] / UTM'), ('GEOGCS["ETRS89"', 'GEOGCS["ETRS89-NOR [EUREF89]"'),
+                 ('VERT_CS["NN2000 height"', 'VERT_CS["NN2000:2018 height"'),
+                 ('VERT_DATUM["Norway Normal Null 2000"', 'VERT_DATUM["Norway Normal Null 2000:2018"')])
+renamed(of_heights, "another name of the system with heights", "ranges.gpkg has .* of gpkg_spatial_ref_sys, column 5",
+        changes=[('COMPD_CS["ETRS89', 'COMPD_CS["Approved')])
+renamed(of_heights, "another meridian of the system with heights", "ranges.gpkg has .* of gpkg_spatial_ref_sys, column 5",
+        changes=[('PARAMETER["central_meridian",9]', 'PARAMETER["central_meridian",15]')])
+renamed(of_equal_earth, "another meridian of a second definition", "ranges.gpkg has .* of gpkg_spatial_ref_sys, column 7",
+        changes=[('natural origin",0,', 'natural origin",10,', "definition_12_063")])
+
 
 @of_laea("a table beside a system of words alone", "summary.csv is another one than is made again: line 2 has",
          "not looked at: layers and page: the reference system 'grid of the park' has no code and no definition")
@@ -90,3 +102,5 @@ if __name__ == "__main__":
     program = Path(sys.argv[1]).resolve()
     try_all(lambda room: Grid(program, room, ESRI, (460_000, 2_200_000)), of_esri)
     try_all(lambda room: Grid(program, room, LAEA, (100_000, 100_000)), of_laea)
+    try_all(lambda room: Grid(program, room, HEIGHTS, (834_000, 6_667_000)), of_heights)
+    try_all(lambda room: Grid(program, room, EQUAL_EARTH, (1_426_600, 1_281_600)), of_equal_earth)
