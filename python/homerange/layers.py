@@ -16,6 +16,7 @@ import pandas
 from .asked import UNITS
 from .errors import path_of
 from .ranges import HomeRanges, tell, times_of
+from .zones import code_of_crs
 
 if TYPE_CHECKING:
     import geopandas
@@ -53,10 +54,17 @@ def without_date() -> Iterator[None]:
 
 
 def placed(layer: geopandas.GeoDataFrame) -> geopandas.GeoDataFrame:
-    """A layer with a reference system: its own, or an undefined one of metres."""
+    """A layer with a reference system: its own, or an undefined one of metres. A definition without a code stays one: pyogrio,
+    which asks for a code, would write that of a system which looks like it, and fiona would not."""
     from pyproj import CRS
 
-    return layer if layer.crs is not None else layer.set_crs(CRS.from_wkt(LOCAL))
+    class Definition(CRS):
+        def to_epsg(self, min_confidence: int = 100) -> None:
+            return None
+
+    if layer.crs is None:
+        return layer.set_crs(CRS.from_wkt(LOCAL))
+    return layer.set_crs(Definition(layer.crs), allow_override=True) if code_of_crs(layer.crs) == "unknown" else layer
 
 
 def polygons_of(ranges: HomeRanges) -> geopandas.GeoDataFrame:

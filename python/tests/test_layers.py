@@ -43,6 +43,19 @@ def test_polygons_of_all_levels_stand_in_one_layer(herd, tmp_path):
         assert {(round(x), round(y)) for x, y in row.geometry.exterior.coords} == {*hull(kept)}
 
 
+@pytest.mark.parametrize("text", ["+proj=utm +zone=33 +datum=WGS84 +units=m", "+proj=laea +lat_0=46 +lon_0=15 +units=m"])
+def test_a_definition_has_no_code_in_the_layers(tmp_path, text):
+    """Whatever writes them: pyogrio would write the code of the first, EPSG:32633, and fiona writes none."""
+    from homerange.layers import placed
+
+    frame = geopandas.GeoDataFrame(geometry=geopandas.points_from_xy([500000], [5000000]), crs=text)
+    assert placed(frame).crs.to_epsg() is None and placed(frame).crs == frame.crs
+    put_layers(home_range(frame_of(fox=SQUARE), 100, crs=text), tmp_path / "ranges.gpkg")
+    systems = "SELECT srs_name, organization FROM gpkg_spatial_ref_sys WHERE srs_id = {}"
+    for layer, system in query(tmp_path / "ranges.gpkg", "SELECT table_name, srs_id FROM gpkg_geometry_columns"):
+        assert query(tmp_path / "ranges.gpkg", systems.format(system)) == [("unknown", "NONE")], layer
+
+
 def test_fixes_are_numbered_with_their_times(herd, tmp_path):
     put_layers(home_range(frame_of(**herd), 100), tmp_path / "ranges.gpkg")
     layer = geopandas.read_file(tmp_path / "ranges.gpkg", layer="fixes")
