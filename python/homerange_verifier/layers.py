@@ -48,6 +48,10 @@ SET = ('UPDATE "rtree_ranges_geom" SET minx = ST_MinX(NEW."geom"), maxx = ST_Max
        'maxy = ST_MaxY(NEW."geom") WHERE id = NEW."fid";END')
 BEFORE = {1: f"{SHAPE} BEGIN INSERT OR REPLACE {PUT}", 3: f"{ROW}INSERT OR REPLACE {PUT}"}
 SINCE = {5: BEFORE[3], 6: f"{SHAPE} AND {OLD} BEGIN {SET}", 7: f"{SHAPE} AND {WAS_NONE} BEGIN INSERT {PUT}"}
+# What GDAL since 3.13 has besides where a reference system has a second definition: an epoch, which no system here has.
+EXTENSIONS, EPOCH, SECOND = "gpkg_extensions", ", epoch DOUBLE)", "gpkg_crs_wkt"
+OF_EPOCH = (SYSTEMS, "epoch", f"{SECOND}_1_1", "http://www.geopackage.org/spec/#extension_crs_wkt", "read-write")
+OF_SECOND = (SYSTEMS, "definition_12_063", f"{SECOND}_1_1", "http://www.geopackage.org/spec120/#extension_crs_wkt", "read-write")
 INDEX = re.compile('CREATE VIRTUAL TABLE "(rtree_[a-z]+_geom)" USING rtree[(]id, minx, maxx, miny, maxy[)]')
 
 
@@ -84,6 +88,8 @@ def entries_of(base: Connection) -> set[Entry]:
             continue
         if kind == "table" and name in ("ranges", "fixes"):
             statement = str(statement).replace(" MEDIUMINT", " INTEGER")
+        elif kind == "table" and name == SYSTEMS:
+            statement = str(statement).replace(EPOCH, ")")
         elif kind == "table" and name == STYLES:
             statement = "" if BY_R.fullmatch(str(statement)) else statement
         found.add((kind, name, table, statement))
@@ -158,7 +164,13 @@ def has_other_form(row: Row, wish: Row, names: Sequence[str]) -> bool:
 
 
 def rows_of(base: Connection, table: str, order: str = "") -> Iterator[Row]:
-    return base.execute(f'SELECT * FROM "{table}"{order}')
+    """The rows of a table, without an epoch that is none."""
+    rows: Iterator[Row] = base.execute(f'SELECT * FROM "{table}"{order}')
+    if table == SYSTEMS:
+        return (row[:7] if row[7:] == (None,) else row for row in rows)
+    if table == EXTENSIONS:
+        return ((*row[:2], SECOND, *row[3:]) if row == OF_SECOND else row for row in rows if row != OF_EPOCH)
+    return rows
 
 
 def table_fault(base: Connection, wanted: Connection, table: str, names: Sequence[str]) -> str | None:
@@ -173,7 +185,7 @@ def table_fault(base: Connection, wanted: Connection, table: str, names: Sequenc
             return f"has {'too few' if row is None else 'too many'} rows in {table}"
         if table == SYSTEMS and (is_same_system(row, wish, names, wanted) or has_other_form(row, wish, names)):
             continue
-        for at, (value, other) in enumerate(zip(row, wish)):
+        for at, (value, other) in enumerate(zip_longest(row, wish)):
             if type(value) is not type(other) or normal(value) != normal(other) and not is_near(table, value, other):
                 return f"has {shown(value)} in row {number} of {table}, column {at + 1}; {shown(other)} is wanted"
     return None

@@ -81,6 +81,23 @@ renamed(of_heights, "another meridian of the system with heights", "ranges.gpkg 
 renamed(of_equal_earth, "another meridian of a second definition", "ranges.gpkg has .* of gpkg_spatial_ref_sys, column 7",
         changes=[('natural origin",0,', 'natural origin",10,', "definition_12_063")])
 
+EPOCH = [("ALTER TABLE gpkg_spatial_ref_sys ADD COLUMN epoch DOUBLE",),
+         ("UPDATE gpkg_extensions SET extension_name = 'gpkg_crs_wkt_1_1' WHERE extension_name = 'gpkg_crs_wkt'",),
+         ("INSERT INTO gpkg_extensions VALUES ('gpkg_spatial_ref_sys', 'epoch', 'gpkg_crs_wkt_1_1', "
+          "'http://www.geopackage.org/spec/#extension_crs_wkt', 'read-write')",)]
+
+
+@of_equal_earth("a second definition as GDAL 3.13 writes it")
+def _(hand):
+    execute(hand.path("ranges.gpkg"), *EPOCH)
+    hand.seal()
+
+
+@of_equal_earth("an epoch", "ranges.gpkg has 2040.5 in row 4 of gpkg_spatial_ref_sys, column 8; None is wanted")
+def _(hand):
+    execute(hand.path("ranges.gpkg"), *EPOCH, ("UPDATE gpkg_spatial_ref_sys SET epoch = 2040.5 WHERE srs_id = ?", 8857))
+    hand.seal()
+
 
 @of_laea("a table beside a system of words alone", "summary.csv is another one than is made again: line 2 has",
          "not looked at: layers and page: the reference system 'grid of the park' has no code and no definition")
