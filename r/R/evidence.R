@@ -10,6 +10,7 @@ homerange_evidence <- function(x, folder, ...) {
   check_ranges(x)
   if (isTRUE(x$is_part)) refuse("option", "x: evidence is made of the ranges of one call or one report, with all their animals")
   if (is.null(x$fixes)) refuse("option", "evidence needs the fixes: read_report(file, files = ..)")
+  check_definition(x)
   if (!is_text(folder) || !nzchar(folder)) refuse("option", "folder: the name of a new folder is wanted")
   folder <- sub("(.)/+$", "\\1", folder)
   if (is_there(folder)) refuse("text", folder, " is there already: name another folder")
@@ -23,6 +24,13 @@ homerange_evidence <- function(x, folder, ...) {
   fill_evidence(x, part, names, program, ...)
   if (!file.rename(part, folder)) refuse("text", folder, ": it cannot be made")
   invisible(folder)
+}
+
+# Refuses a definition of a UTM zone, since GDAL would write the code that it stands for into the layers, and not the definition.
+check_definition <- function(x) {
+  if (!is.null(x$zone) || is.null(x$crs) || !is.null(zone_of_crs(x$crs)) || !grepl("^[+]proj=utm ", text_of_crs(x$crs))) return(invisible())
+  refuse("crs", "the reference system is the definition of a UTM zone: name it by its code, as by home_range(x, crs = 32633), ",
+         "so that the layers are those of the record")
 }
 
 # The names of the files of a folder that have this form, in UTF-8.

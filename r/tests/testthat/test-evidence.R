@@ -146,6 +146,17 @@ test_that("what a call was told is in the record", {
   expect_null(option_lines(options_told(new_asked(list(), is_frame = TRUE), c(TRUE, FALSE))))
 })
 
+test_that("a definition of a UTM zone is refused, and its code is taken", {
+  skip_if_not_installed("sf")
+  for (crs in c("+proj=utm +zone=33 +datum=WGS84", "+proj=utm +zone=12 +datum=NAD83 +units=m")) {
+    ranges <- quietly(home_range(walk("a", 40, 1), crs = crs))
+    folder <- file.path(tempdir(), "defined")
+    expect_error(homerange_evidence(ranges, folder), "name it by its code, as by home_range(x, crs = 32633)", fixed = TRUE, class = "homerange_crs_error")
+    expect_false(file.exists(folder))
+  }
+  expect_true(dir.exists(local_evidence(quietly(home_range(walk("a", 40, 1), crs = 26912)))))
+})
+
 test_that("another reference system than that of a zone is in the record", {
   skip_without_program()
   skip_if_not_installed("sf")
