@@ -120,3 +120,13 @@ for file in release/homerange release/SOURCES release/SHA256SUMS docs/homerange.
 done
 holds 'a release as it was passes again' checked
 rm -rf house stand-in
+
+# What the prover listed of the program: docs/EVIDENCE.md, How to check what is trusted.
+is_list_whole() {
+    (cd "$top" && sha256sum -c --quiet --strict release/checked/SHA256SUMS)
+}
+has_axioms() {
+    grep -qF "(\`axioms=$(grep -c 'reached$' "$top/release/checked/axioms.txt")\`)" "$top/docs/EVIDENCE.md"
+}
+holds 'the lists of axioms and of calls' is_list_whole
+holds 'there are as many axioms as a build says' has_axioms
