@@ -132,15 +132,15 @@ fn many_records_are_each_in_one_track_and_in_order(rt: HostRuntime) -> Result<()
     let fates = drawn(rt.alloc(), 3000)?;
     let tracks = tracks_of(rt.alloc(), &fates, 5)?;
     assert!(&rt; fates.len() == 3000 && tracks.len() == 5, "all are there");
-    let mut count = 0;
+    let mut count: usize = 0;
     let mut sum: u64 = 0;
     for track in &tracks {
-        count += track.len();
+        count = count.saturating_add(track.len());
         for pair in track.windows(2) {
             assert!(&rt; may_precede(&pair[0], &pair[1]), "in order");
         }
         for entry in track {
-            sum += u64::from(entry.record);
+            sum = sum.saturating_add(u64::from(entry.record));
         }
     }
     assert!(&rt; count == 3000 && sum == 4_501_500, "each once");

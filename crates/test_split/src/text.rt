@@ -93,7 +93,7 @@ fn what_is_written_is_read_back(rt: HostRuntime) -> Result<(), Fail> {
 
 #[test]
 fn each_allocation_may_fail(rt: HostRuntime) -> Result<(), Fail> {
-    let mut refused = 0;
+    let mut is_refused = false;
     for number in 1..MANY_ALLOCATIONS {
         let refusing = Refusing::new(rt.alloc(), number);
         if track_text(&refusing, true, b"vixen", &FIXES).is_ok() {
@@ -101,8 +101,8 @@ fn each_allocation_may_fail(rt: HostRuntime) -> Result<(), Fail> {
             break;
         }
         assert!(&rt; refusing.has_refused(), "at allocation {number}");
-        refused += 1;
+        is_refused = true;
     }
-    assert!(&rt; refused > 0, "none was refused");
+    assert!(&rt; is_refused, "none was refused");
     Ok(())
 }
