@@ -147,6 +147,7 @@ test_that("what a call was told is in the record", {
 })
 
 test_that("a definition of a UTM zone is refused, and its code is taken", {
+  skip_without_program()
   skip_if_not_installed("sf")
   for (crs in c("+proj=utm +zone=33 +datum=WGS84", "+proj=utm +zone=12 +datum=NAD83 +units=m")) {
     ranges <- quietly(home_range(walk("a", 40, 1), crs = crs))
