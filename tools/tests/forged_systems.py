@@ -3,7 +3,8 @@
 
 Folders are made of a data frame on a grid of ESRI, on one that has a definition and no code, on one with heights, and on one that
 has a second definition in ranges.gpkg, by PROGRAM. Each forgery changes the definition in ranges.gpkg, or a row beside it, with all
-checksums made anew, and names what verify.py has to say; where it names nothing, nobody can know. Prints 'ok NAME' or 'failed NAME: ..' for each. Needs geopandas."""
+checksums made anew, and names what verify.py has to say; where it names nothing, nobody can know. Prints 'ok NAME' or
+'failed NAME: ..' for each. Needs geopandas."""
 import os
 import sqlite3
 import sys

@@ -3,7 +3,7 @@
 
 ghost use Rattle.split_tracks.specs.Laws.{EveryRecordHasOnePlace, TracksAreInTheOrderOfTime};
 
-/// Each record is in exactly one track, once, or left out.
+/// Each record is in exactly one track, once, or left out, where each entry is of one of the animals that were counted.
 pub fn every_record_has_one_place()
     ensures { EveryRecordHasOnePlace }
 {}

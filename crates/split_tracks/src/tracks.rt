@@ -81,7 +81,7 @@ fn put_all_in_order<A: Allocator + Copy>(
 }
 
 /// The track of each animal, of which there are so many: its entries in the order of time, also of the rest of a
-/// second, and those of one time in the order of their records.
+/// second, and those of one time in the order of their records. An entry of any other animal is in none.
 ///
 /// # Errors
 ///
