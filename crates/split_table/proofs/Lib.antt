@@ -1,0 +1,5 @@
+pub mod Marks
+pub mod Places
+pub mod PlainLines
+pub mod QuoteFacts
+pub mod RecordFacts

@@ -1,0 +1,5 @@
+pub mod Laws
+pub mod Quotes
+pub mod Separator
+pub mod Table
+pub mod TableLeft
