@@ -1,0 +1,21 @@
+//! Which columns of a table are read, by its titles and by those that were named; and the sentences in which a table
+//! is refused for its titles.
+#![tactic(auto)]
+
+mod columns;
+mod fault;
+mod find;
+mod lookup;
+mod named;
+mod passed_over;
+mod places;
+mod plain;
+mod sentences;
+mod usual;
+
+pub use columns::{Columns, Marks, Pair, not_read};
+pub use fault::{FaultKind, PassedOver, TitleFault};
+pub use find::find_columns;
+pub use named::{Named, Role};
+pub use sentences::fault_text;
+pub use usual::COLUMN_LIMIT;

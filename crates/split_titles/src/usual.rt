@@ -1,0 +1,159 @@
+// The usual titles of columns, and the families of tables that have them.
+
+/// The most columns of a table, as many as spreadsheets have.
+pub const COLUMN_LIMIT: usize = 16_384;
+
+const LOCAL_IDENTIFIER: &str = "individual-local-identifier";
+
+const ANIMAL: &str = "animal";
+
+const ID: &str = "id";
+
+const TIMESTAMP: &str = "timestamp";
+
+pub(crate) const SECOND: &str = "second";
+
+const TIME_OF_AMT: &str = "t_";
+
+const DATE: &str = "date";
+
+pub(crate) const UTM_EASTING: &str = "utm-easting";
+
+pub(crate) const UTM_NORTHING: &str = "utm-northing";
+
+pub(crate) const UTM_ZONE: &str = "utm-zone";
+
+const LAT: &str = "lat";
+
+pub(crate) const ANIMALS: [&str; 11] = [
+    LOCAL_IDENTIFIER,
+    ANIMAL,
+    ID,
+    "animal-id",
+    "animals-id",
+    "individual-id",
+    "individual",
+    "traj-id",
+    "trajectory-id",
+    "track-id",
+    "user-id",
+];
+
+pub(crate) const TIMES: [&str; 9] = [
+    TIMESTAMP,
+    SECOND,
+    TIME_OF_AMT,
+    DATE,
+    "time",
+    "datetime",
+    "date-time",
+    "acquisition-time",
+    "tracked-at",
+];
+// Longitude and latitude of Movebank.
+pub(crate) const LOCATION: (&str, &str) = ("location-long", "location-lat");
+
+pub(crate) const DEGREES: [(&str, &str); 5] = [
+    LOCATION,
+    ("longitude", "latitude"),
+    ("lon", LAT),
+    ("long", LAT),
+    ("lng", LAT),
+];
+
+pub(crate) const USE: &str = "use";
+
+pub(crate) const VISIBLE: &str = "visible";
+
+pub(crate) const MANUAL_OUTLIER: &str = "manually-marked-outlier";
+
+pub(crate) const ALGORITHM_OUTLIER: &str = "algorithm-marked-outlier";
+
+pub(crate) const IMPORT_OUTLIER: &str = "import-marked-outlier";
+
+pub(crate) const MANUAL_VALID: &str = "manually-marked-valid";
+// Titles of marks that are not read.
+pub(crate) const ODD_MARKS: [&str; 3] = ["outlier", "valid", "event-visible"];
+
+pub(crate) const SENSOR: &str = "sensor-type";
+
+pub(crate) const SENSOR_NUMBER: &str = "sensor-type-id";
+
+pub(crate) const ARGOS_CLASSES: [&str; 5] = [
+    "argos-lc",
+    "argos-class",
+    "loc. quality",
+    "location-quality",
+    "location-class",
+];
+// Titles that classes of Argos have too, and other classes.
+pub(crate) const ODD_CLASSES: [&str; 3] = ["lc", "class", "argos-loc-class"];
+
+pub(crate) const DOPS: [&str; 5] = ["gps-dop", "dop", "gps-hdop", "hdop", "pdop"];
+
+pub(crate) const FIX_TYPES: [&str; 6] = [
+    "gps-fix-type",
+    "fix-type",
+    "fixtype",
+    "fix-status",
+    "fixstatus",
+    "type-of-fix",
+];
+
+// Tables of one kind, by the titles of their metres.
+#[derive(Clone, Copy, PartialEq, Eq, Debug)]
+pub(crate) enum Family {
+    Movebank,
+    Homerange,
+    Amt,
+    Adehabitat,
+    Sp,
+}
+
+pub(crate) const FAMILIES: [Family; 5] = [
+    Family::Movebank,
+    Family::Homerange,
+    Family::Amt,
+    Family::Adehabitat,
+    Family::Sp,
+];
+
+impl Family {
+    // Its title of the animal.
+    pub(crate) fn animal(self) -> &'static str {
+        match self {
+            Family::Movebank => LOCAL_IDENTIFIER,
+            Family::Homerange => ANIMAL,
+            Family::Amt | Family::Adehabitat | Family::Sp => ID,
+        }
+    }
+
+    // Its title of the time.
+    pub(crate) fn time(self) -> &'static str {
+        match self {
+            Family::Movebank => TIMESTAMP,
+            Family::Homerange => SECOND,
+            Family::Amt => TIME_OF_AMT,
+            Family::Adehabitat | Family::Sp => DATE,
+        }
+    }
+
+    // Whether its title of the time often is that of the day alone.
+    pub(crate) fn has_days(self) -> bool {
+        match self {
+            Family::Movebank | Family::Homerange | Family::Amt => false,
+            Family::Adehabitat | Family::Sp => true,
+        }
+    }
+
+    // Its titles of easting and northing.
+    pub(crate) fn metres(self) -> (&'static str, &'static str) {
+        match self {
+            Family::Movebank => (UTM_EASTING, UTM_NORTHING),
+            Family::Homerange => ("easting", "northing"),
+            Family::Amt => ("x_", "y_"),
+            Family::Adehabitat => ("x", "y"),
+            Family::Sp => ("coords.x1", "coords.x2"),
+        }
+    }
+}
