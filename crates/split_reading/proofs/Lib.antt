@@ -1,0 +1,3 @@
+pub mod LedgerFacts
+pub mod Places
+pub mod WordFacts

@@ -1,0 +1,21 @@
+//! What the records of a table say: of which animal each is, when and where that was, and whether the fix is used; or why
+//! the record is left out, or what is wrong with it.
+#![tactic(auto)]
+
+mod cells;
+mod fault;
+mod ledger;
+mod marks;
+mod moment;
+mod place;
+mod rules;
+mod told;
+mod words;
+mod zone;
+
+pub use fault::{CellFault, ReadingFault};
+pub use ledger::{Ledger, Row, read_records};
+pub use place::Place;
+pub use rules::Rules;
+pub use told::{Told, ToldFix};
+pub use zone::Zone;

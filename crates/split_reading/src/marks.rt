@@ -1,0 +1,60 @@
+// Whether the marks of a record have its fix as used.
+
+ghost use Rattle.std.specs.Prelude.{◌≡◌};
+ghost use Rattle.csv.specs.Records.{fields_of};
+ghost use Rattle.split_reading.specs.Marks.{is_used_by, is_used_in, mark_in, usage_in};
+
+use crate::cells::{cell, truth_in};
+use crate::fault::CellFault;
+use csv::ByteRecord;
+use split_titles::Marks;
+
+// The truth of a mark, or none where the table does not have it or it is missing.
+fn mark_in(fields: &ByteRecord, column: Option<usize>) -> Result<Option<bool>, CellFault>
+    ensures { result ≡ mark_in column (fields_of «fields».now) }
+{
+    match column {
+        Some(column) => truth_in(cell(fields, column), column),
+        None => Ok(None),
+    }
+}
+
+// Whether a fix is used, by a column that has to say so.
+fn usage_in(fields: &ByteRecord, column: usize) -> Result<bool, CellFault>
+    ensures { result ≡ usage_in column (fields_of «fields».now) }
+{
+    match truth_in(cell(fields, column), column)? {
+        Some(truth) => Ok(truth),
+        None => Err(CellFault::NoTruth { column }),
+    }
+}
+
+// Whether a fix is used, by its marks: it is seen, its owner did not mark it as an outlier, and neither the algorithm nor the
+// import did, unless its owner marked it as valid.
+fn is_used_by(
+    visible: Option<bool>,
+    manual: Option<bool>,
+    algorithm: Option<bool>,
+    import: Option<bool>,
+    valid: Option<bool>,
+) -> bool
+    ensures { result ≡ is_used_by visible manual algorithm import valid }
+{
+    let is_marked = algorithm == Some(true) || import == Some(true);
+    visible != Some(false) && manual != Some(true) && (valid == Some(true) || !is_marked)
+}
+
+// Whether the marks of a record have its fix as used.
+pub(crate) fn is_used_in(fields: &ByteRecord, marks: Marks) -> Result<bool, CellFault>
+    ensures { result ≡ is_used_in marks (fields_of «fields».now) }
+{
+    if let Some(column) = marks.usage {
+        return usage_in(fields, column);
+    }
+    let visible = mark_in(fields, marks.visible)?;
+    let manual = mark_in(fields, marks.manual_outlier)?;
+    let algorithm = mark_in(fields, marks.algorithm_outlier)?;
+    let import = mark_in(fields, marks.import_outlier)?;
+    let valid = mark_in(fields, marks.manual_valid)?;
+    Ok(is_used_by(visible, manual, algorithm, import, valid))
+}

@@ -1,0 +1,78 @@
+// UTM zones.
+
+ghost use Rattle.std.specs.Prelude.{◌≡◌};
+ghost use Rattle.csv.specs.Records.{fields_of};
+ghost use Rattle.split_reading.specs.Zones.{is_south_in, number_text, zone_in, zone_number, zone_of};
+
+use crate::cells::{cell, is_missing};
+use crate::fault::CellFault;
+use csv::ByteRecord;
+use range_numbers::value_of;
+
+/// A UTM zone.
+#[derive(Clone, Copy, PartialEq, Eq, Debug)]
+pub struct Zone {
+    /// From 1 to 60.
+    pub number: u8,
+    pub is_south: bool,
+}
+
+// Whether a letter is that of the south; `None` where it is of neither hemisphere.
+fn is_south_in(letter: u8) -> Option<bool>
+    ensures { result ≡ is_south_in letter }
+{
+    match letter {
+        b'N' | b'n' => Some(false),
+        b'S' | b's' => Some(true),
+        _ => None,
+    }
+}
+
+// A number before its hemisphere, from which one blank may part it.
+fn number_text(text: &[u8]) -> &[u8]
+    ensures { result.now ≡ number_text text.entry.now }
+{
+    match text.split_last() {
+        Some((b' ', digits)) => digits,
+        _ => text,
+    }
+}
+
+// The number of a zone: of one digit or two, before which a 0 may stand.
+fn zone_number(digits: &[u8]) -> Option<u8>
+    ensures { result ≡ zone_number digits.now }
+{
+    let has_form = digits.len() < 3
+        || (digits.len() == 3 && digits[0] == b'0' && digits[1] != b'0');
+    match value_of(digits, 60) {
+        Some(number) if has_form && 1 <= number && number <= 60 => Some(number as u8),
+        _ => None,
+    }
+}
+
+// The zone of a text.
+fn zone_of(text: &[u8]) -> Option<Zone>
+    ensures { result ≡ zone_of text.now }
+{
+    let (letter, before) = text.split_last()?;
+    let is_south = is_south_in(*letter)?;
+    let number = zone_number(number_text(before))?;
+    Some(Zone { number, is_south })
+}
+
+// The zone that a record names, if it names one.
+pub(crate) fn zone_in(fields: &ByteRecord, column: Option<usize>) -> Result<Option<Zone>, CellFault>
+    ensures { result ≡ zone_in column (fields_of «fields».now) }
+{
+    let Some(column) = column else {
+        return Ok(None);
+    };
+    let text = cell(fields, column);
+    if is_missing(text) {
+        return Ok(None);
+    }
+    match zone_of(text) {
+        Some(zone) => Ok(Some(zone)),
+        None => Err(CellFault::NotZone { column }),
+    }
+}
