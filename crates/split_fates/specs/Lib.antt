@@ -1,0 +1,4 @@
+pub mod Fates
+pub mod Laws
+pub mod Marked
+pub mod Shift

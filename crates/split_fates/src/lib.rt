@@ -1,0 +1,14 @@
+//! From what the records of a table say to what became of each: which fixes are taken, on which grid, and in which track.
+#![tactic(auto)]
+
+mod choice;
+mod fates;
+mod laws;
+mod marked;
+mod shift;
+
+pub use choice::Choice;
+pub use fates::{FatesFault, fates_of};
+pub use laws::tracks_may_be_written;
+pub use marked::{MarkedFault, marked_fixes};
+pub use shift::{Extent, extent_of, shift_of};
