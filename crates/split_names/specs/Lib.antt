@@ -1,0 +1,5 @@
+pub mod Clean
+pub mod Cut
+pub mod Device
+pub mod Laws
+pub mod Names
