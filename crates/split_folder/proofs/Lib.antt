@@ -1,0 +1,2 @@
+pub mod GoodNames
+pub mod Calls
