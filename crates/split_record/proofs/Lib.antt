@@ -1,0 +1,4 @@
+pub mod Joined
+pub mod LineFacts
+pub mod OneLineFacts
+pub mod SeparatorFacts
