@@ -115,7 +115,10 @@ fn a_used_fix_off_the_grid_is_a_fault(rt: HostRuntime) {
         Some((0, i64::MAX)),
         None,
     ] {
-        let rows = [fix_row(Some((0, 16_777_216)), None, true), fix_row(metres, None, true)];
+        let rows = [
+            fix_row(Some((0, 16_777_216)), None, true),
+            fix_row(metres, None, true),
+        ];
         let fates = fates_of(rt.alloc(), &choice(None, false), &rows);
         assert!(&rt;
             fates.err() == Some(FatesFault::OffGrid { record: 2 }),
@@ -137,7 +140,12 @@ fn a_shift_brings_the_least_within_a_thousand_kilometres(rt: HostRuntime) {
         (Scale::Metre, i64::MIN, 0, None),
         (Scale::Metre, i64::MAX, i64::MAX, None),
         (Scale::Decimetre, -1, 5, Some(1_000_000)),
-        (Scale::Decimetre, 134_217_729, 134_217_800, Some(-13_000_000)),
+        (
+            Scale::Decimetre,
+            134_217_729,
+            134_217_800,
+            Some(-13_000_000),
+        ),
     ] {
         assert!(rt; shift_of(unit, least, most) == shift, "{least} to {most}");
     }
@@ -163,15 +171,27 @@ fn the_extent_is_that_of_used_fixes(rt: HostRuntime) {
 fn fixes_of_a_track_are_shifted(rt: HostRuntime) -> Result<(), Fail> {
     let track = [entry(4, -5, 7, true), entry(9, -6, 8, false)];
     let fixes = marked_fixes(rt.alloc(), &track, (1_000_000, 0))?;
-    let expected = [(999_995, 7, true), (999_994, 8, false)].map(|(e, n, is_used)| MarkedFix {
-        fix: Fix {
-            second: 60,
-            at: Point { e, n },
+    let expected = [
+        MarkedFix {
+            fix: Fix {
+                second: 60,
+                at: Point { e: 999_995, n: 7 },
+            },
+            is_used: true,
         },
-        is_used,
-    });
+        MarkedFix {
+            fix: Fix {
+                second: 60,
+                at: Point { e: 999_994, n: 8 },
+            },
+            is_used: false,
+        },
+    ];
     assert!(&rt; fixes.as_slice() == expected.as_slice(), "shifted");
     let off = marked_fixes(rt.alloc(), &track, (5, 0));
-    assert!(&rt; off.err() == Some(MarkedFault::OffPlane { record: 9 }), "off the plane");
+    assert!(&rt;
+        off.err() == Some(MarkedFault::OffPlane { record: 9 }),
+        "off the plane"
+    );
     Ok(())
 }

@@ -19,10 +19,9 @@ mod names;
 #[cfg(test)]
 mod order;
 #[cfg(test)]
-//! Tests of the crates that make tracks of a table: its text, its columns and what its records say, decimals in whole units
-//! and moments of texts, what becomes of records, the order of entries and the text of a track, against worked ones; what
-//! is written and read back; the folder, whole or not at all, and its record; and, but for the text and the records of a
-//! table, memory refused, an allocation at a time.
+mod reading;
+#[cfg(test)]
+mod record_text;
 #[cfg(test)]
 mod refused_titles;
 #[cfg(test)]
