@@ -4,7 +4,7 @@ use Rattle.split_reading.specs.declared.ledger.Row.{Row}
 use Rattle.split_tracks.specs.declared.fate.Fate.{Fate}
 use Rattle.split_fates.specs.declared.choice.Choice.{Choice}
 use Rattle.split_fates.specs.declared.fates.FatesFault.{FatesFault}
-use Rattle.split_fates.specs.Fates.{fate_of, fates_from, fates_of, with_fate}
+use Rattle.split_fates.specs.Fates.{fate_of, fates_from, with_fate}
 
 -- fates before others
 abbrev pub with_fates : List Fate → Result (List Fate) FatesFault → Result (List Fate) FatesFault
@@ -24,13 +24,6 @@ pub fates_fail : (choice : Choice) (count : ℕ) (done : List Fate) (row : Row) 
     → with_fates done (fates_from choice count (row ∷ rows)) ≡ Err fault
 unfolding fates_from
 fates_fail choice count done row rows fault e = rw e refl
-
-pub fates_begin : (choice : Choice) (rows : List Row) → fates_of choice rows ≡ with_fates [] (fates_from choice 0 rows)
-fates_begin choice rows = by (fates_from choice 0 rows)
-  where
-    by : (r : Result (List Fate) FatesFault) → r ≡ with_fates [] r
-    by (Ok fates) = refl
-    by (Err fault) = refl
 
 pub fates_end : (choice : Choice) (count : ℕ) (done : List Fate) → with_fates done (fates_from choice count []) ≡ Ok done
 unfolding fates_from

@@ -9,7 +9,7 @@ use Rattle.split_reading.specs.declared.fault.ReadingFault.TheVariants as faults
 use Rattle.split_reading.specs.declared.ledger.Row.{Row}
 use Rattle.split_reading.specs.declared.rules.Rules.{Rules}
 use Rattle.split_reading.specs.Cells.{Record}
-use Rattle.split_reading.specs.Ledger.{AreTimely, GoesOn, IsFaultAt, IsLedgerFault, IsRowFault, IsWithin, Written, Writes, finished, ledger_from, ledger_of, names_with, row_by, sensor_in, sensors_with, with_name, with_row, with_rows}
+use Rattle.split_reading.specs.Ledger.{AreTimely, GoesOn, IsFaultAt, IsRowFault, IsWithin, Written, Writes, finished, ledger_from, ledger_of, names_with, row_by, sensor_in, sensors_with, with_name, with_row, with_rows}
 use Rattle.split_reading.specs.Told.{IsTimely, name_in, told_in}
 use Rattle.split_table.specs.Table.{TakesRecord}
 use Rattle.split_reading.specs.Words.{with_word}
@@ -78,10 +78,6 @@ row_fault rules count old (Some records) after fields fault (more, is, then) f =
   | inr own ↦ inr (inr (rw is (finished_fault rules count old fields more own.0 own.1) ∙ ap (λ (x : ReadingFault). Err x) (sym own.2)))
 ]
 
-pub counted : (rules : Rules) (count : ℕ) (old new : Written) (left after : Option (List Record)) → GoesOn rules count old left true new after → count < 4_294_967_295
-counted rules count old new None after g = cc g
-counted rules count old new (Some records) after g = g.3
-
 pub no_rows : (r : Result Written ReadingFault) → with_rows [] r ≡ r
 no_rows (Err fault) = refl
 no_rows (Ok ledger) = refl
@@ -95,36 +91,3 @@ begins rules empty records names sensors rows = rw (names, sensors, rows) (sym (
 abbrev pub SoFar : Rules → Option (List Record) → ℕ → Written → Option (List Record) → Type 0
 SoFar rules all count ledger left = (records : List Record) → all ≡ Some records → (more : List Record) × (left ≡ Some more)
     × (ledger_of rules records ≡ finished rules count ledger more) × (length records ≡ count + length more)
-
-pub so_far_more : (rules : Rules) (all left after : Option (List Record)) (count : ℕ) (old new : Written) → SoFar rules all count old left
-    → GoesOn rules count old left true new after → SoFar rules all (count + 1) new after
-so_far_more rules all left after count old new so_far g records is = by (so_far records is)
-  where
-    by : (more : List Record) × (left ≡ Some more) × (ledger_of rules records ≡ finished rules count old more) × (length records ≡ count + length more)
-        → (more : List Record) × (after ≡ Some more) × (ledger_of rules records ≡ finished rules (count + 1) new more) × (length records ≡ count + 1 + length more)
-    by (more, there, comes, long) = with (subst (λ l. GoesOn rules count old l true new after) there g)
-      where
-        with : GoesOn rules count old (Some more) true new after
-            → (more : List Record) × (after ≡ Some more) × (ledger_of rules records ≡ finished rules (count + 1) new more) × (length records ≡ count + 1 + length more)
-        with (rest, then, one, few, within, same) = (rest, then, comes ∙ same, omega (arith, long, one))
-
-pub so_far_ends : (rules : Rules) (all left after : Option (List Record)) (count : ℕ) (old new : Written) → SoFar rules all count old left
-    → GoesOn rules count old left false new after → IfSome all (λ records. ledger_of rules records ≡ Ok new)
-so_far_ends rules None left after count old new so_far g = tt
-so_far_ends rules (Some records) left after count old new so_far g = by (so_far records refl)
-  where
-    by : (more : List Record) × (left ≡ Some more) × (ledger_of rules records ≡ finished rules count old more) × (length records ≡ count + length more) → ledger_of rules records ≡ Ok new
-    by (more, there, comes, long) = comes ∙ subst (λ l. GoesOn rules count old l false new after) there g
-
-pub so_far_fails : (rules : Rules) (all left : Option (List Record)) (count : ℕ) (old : Written) (fault : ReadingFault) → SoFar rules all count old left
-    → IfSome left (IsFaultAt rules count old fault) → IfSome all (IsLedgerFault rules fault)
-so_far_fails rules None left count old fault so_far f = tt
-so_far_fails rules (Some records) left count old fault so_far f = by (so_far records refl)
-  where
-    by : (more : List Record) × (left ≡ Some more) × (ledger_of rules records ≡ finished rules count old more) × (length records ≡ count + length more) → IsLedgerFault rules fault records
-    by (more, there, comes, long) = with (subst (λ l. IfSome l (IsFaultAt rules count old fault)) there f)
-      where
-        with : IsFaultAt rules count old fault more → IsLedgerFault rules fault records
-        with (inl memory) = inl memory
-        with (inr (inl (many, least))) = inr (inl (many, omega (arith, least, long)))
-        with (inr (inr is)) = inr (inr (comes ∙ is))
