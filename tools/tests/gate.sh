@@ -3,7 +3,7 @@
 # shellcheck shell=sh disable=SC2154,SC2016
 
 rm -rf gate
-mkdir -p gate/tools gate/hostile gate/release gate/crates gate/with
+mkdir -p gate/tools/tests/tables gate/hostile gate/release gate/crates gate/with
 cd gate || exit 1
 cp "$top/test" tried
 echo program >release/homerange
@@ -15,6 +15,7 @@ printf '#!/bin/sh\ncat tools/says\n' >tools/test.sh
 printf '#!/bin/sh\n[ "$#" -eq 0 ] || { cat missing; exit; }\necho it is installed >>called\n: >missing\n' >tools/setup.sh
 printf '#!/bin/sh\necho release.sh: the same\n' >tools/release.sh
 echo 'print("2 passed, 0 failed")' >hostile/allocations.py
+echo 'print("8 passed, 0 failed")' >tools/tests/tables/run_program.py
 printf '#!/bin/sh\necho "9 passed, 0 failed"\n' >with/rt
 chmod +x tools/*.sh with/rt
 echo '4 passed, 0 failed' >tools/says
@@ -36,12 +37,12 @@ ends() {
 }
 
 holds 'all parts' says
-holds 'the quick ones come first' ran 'release tools gate built allocations'
-holds 'all are counted' ends '17 passed, 0 failed'
+holds 'the quick ones come first' ran 'release tools gate built split allocations'
+holds 'all are counted' ends '25 passed, 0 failed'
 holds 'the program of the gate is kept' grep -q '9 passed' kept
 touch anew
 holds 'without a program of these sources' says
-holds 'the gate comes first' ran 'release gate tools built allocations'
+holds 'the gate comes first' ran 'release gate tools built split allocations'
 rm anew
 holds 'the quick parts alone' says --quick
 holds 'they are these' ran 'release tools allocations'
@@ -53,11 +54,11 @@ if [ ! -x /usr/bin/rt ] && [ ! -x /bin/rt ]; then
 fi
 echo '3 passed, 1 failed, 2 skipped' >tools/says
 holds 'a part that fails' is_refused says
-holds 'it is counted' ends '16 passed, 1 failed, 2 skipped'
+holds 'it is counted' ends '24 passed, 1 failed, 2 skipped'
 echo nothing >tools/says
 printf '#!/bin/sh\nexit 3\n' >tools/test.sh
 holds 'a part that is ended' is_refused says
-holds 'it is counted as one' ends '13 passed, 1 failed'
+holds 'it is counted as one' ends '21 passed, 1 failed'
 printf '#!/bin/sh\ncat tools/says\n' >tools/test.sh
 echo changed >release/homerange
 echo '4 passed, 0 failed' >tools/says

@@ -18,4 +18,4 @@ pub use ledger::{Ledger, Row, read_records};
 pub use place::Place;
 pub use rules::Rules;
 pub use told::{Told, ToldFix};
-pub use zone::Zone;
+pub use zone::{Zone, zone_of};

@@ -50,8 +50,9 @@ fn zone_number(digits: &[u8]) -> Option<u8>
     }
 }
 
-// The zone of a text.
-fn zone_of(text: &[u8]) -> Option<Zone>
+/// The zone of a text, as `33N`: a number from 1 to 60, where a 0 may stand before one digit or two, with the letter of
+/// the hemisphere, which may be small and have one blank before it.
+pub fn zone_of(text: &[u8]) -> Option<Zone>
     ensures { result ≡ zone_of text.now }
 {
     let (letter, before) = text.split_last()?;

@@ -12,6 +12,7 @@ mod text;
 pub use laws::{
     each_line_is_one_that_was_given, lines_have_no_control_characters, lines_have_no_separators,
 };
+pub use one_line::push_one_line;
 pub use reasons::reason_words;
 pub use record::{Left, OptionGiven, Record, TrackMade};
 pub use sum::sum_of;

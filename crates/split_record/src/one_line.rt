@@ -72,11 +72,13 @@ fn push_sign<A: Allocator>(text: &mut Vec<u8, A>, line: &[u8]) -> Result<(), All
     }
 }
 
-// Appends a text in one line.
-pub(crate) fn push_one_line<A: Allocator>(
-    text: &mut Vec<u8, A>,
-    line: &[u8],
-) -> Result<(), AllocError>
+/// Appends a text in one line: each control character of it is escaped as `\x1b`, and each separator of lines or of
+/// paragraphs as `\u2028`.
+///
+/// # Errors
+///
+/// Memory ran out.
+pub fn push_one_line<A: Allocator>(text: &mut Vec<u8, A>, line: &[u8]) -> Result<(), AllocError>
     ensures { OnOk result (text.new.items ≡ text.old.items ++ one_line line.now) }
 {
     let mut behind = 0;

@@ -17,5 +17,6 @@ pub use columns::{Columns, Marks, Pair, not_read};
 pub use fault::{FaultKind, PassedOver, TitleFault};
 pub use find::find_columns;
 pub use named::{Named, Role};
-pub use sentences::fault_text;
+pub use plain::trimmed;
+pub use sentences::{fault_text, push_shown, start_of_sign};
 pub use usual::COLUMN_LIMIT;

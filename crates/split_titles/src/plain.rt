@@ -40,8 +40,8 @@ fn before_blanks(text: &[u8]) -> &[u8]
     rest
 }
 
-// A title without blanks beside it.
-pub(crate) fn trimmed(title: &[u8]) -> &[u8]
+/// A title without blanks and tabs beside it.
+pub fn trimmed(title: &[u8]) -> &[u8]
     ensures { result.now ≡ trimmed title.now }
 {
     before_blanks(behind_blanks(title))

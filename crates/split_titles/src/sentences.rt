@@ -86,8 +86,8 @@ fn push_option<A: Allocator>(
     }
 }
 
-// Where in a text the sign of this number begins, counted from 0; its length where it has no more signs.
-fn start_of_sign(text: &[u8], sign: usize) -> usize
+/// Where in a text in UTF-8 the sign of this number begins, counted from 0; its length where it has no more signs.
+pub fn start_of_sign(text: &[u8], sign: usize) -> usize
     ensures { result ≤ length text.now }
 {
     let mut seen: usize = 0;
@@ -103,8 +103,13 @@ fn start_of_sign(text: &[u8], sign: usize) -> usize
     text.len()
 }
 
-// Appends a title as a list of titles has it: of a long one the first signs.
-fn push_shown<A: Allocator>(text: &mut Vec<u8, A>, title: &[u8]) -> Result<(), AllocError> {
+/// Appends a title or a field between apostrophes, as a sentence quotes it: of one of more than 60 signs the first 57, with
+/// three points behind them.
+///
+/// # Errors
+///
+/// Memory ran out.
+pub fn push_shown<A: Allocator>(text: &mut Vec<u8, A>, title: &[u8]) -> Result<(), AllocError> {
     if start_of_sign(title, WHOLE_SIGNS) == title.len() {
         return push_quoted(text, title);
     }

@@ -1,0 +1,9 @@
+//! The chain from the bytes of an export, and what is asked of it, to the files of its tracks and what is said of them, or to
+//! the reason why it is refused: all of it in memory.
+#![tactic(auto)]
+
+mod chain;
+mod read;
+mod steps;
+
+pub use chain::{Split, Wish, split_export};

@@ -1,0 +1,124 @@
+// The steps from what records say to tracks, or their refusals.
+
+ghost use Rattle.std.specs.Prelude.{◌≡◌, IfOk, Ok, length, map};
+ghost use Rattle.split_chain.specs.Chain.{tracks_with};
+ghost use Rattle.split_counts.specs.Counts.{left_counts};
+ghost use Rattle.split_export.specs.Export.{bytes_of};
+ghost use Rattle.split_export.specs.Files.{entries_of_all};
+ghost use Rattle.split_fates.specs.Fates.{fates_of};
+ghost use Rattle.split_names.specs.Names.{file_names};
+ghost use Rattle.split_reading.specs.Words.{texts};
+
+use crate::read::shown;
+use range_plane::Scale;
+use split_counts::left_counts;
+use split_fates::{Choice, FatesFault, fates_of};
+use split_names::{NamesFault, file_names};
+use split_reading::{Ledger, Row, Told};
+use split_refusal::{Refusal, refused_names, refused_off_grid};
+use split_tracks::{Entry, Fate, tracks_of};
+use std::alloc::Global;
+
+// The refusal of a fix that is used and off the grid.
+fn off_grid(alloc: Global, rows: &[Row], record: u32, unit: Scale) -> Refusal {
+    let row = rows.get((record as usize).saturating_sub(1));
+    if let Some(
+        Row {
+            told: Told::Fix(fix),
+            ..
+        },
+    ) = row
+    {
+        if let Some((easting, northing)) = fix.metres {
+            return refused_off_grid(alloc, record, easting, northing, unit);
+        }
+    }
+    Refusal::out_of_memory(alloc)
+}
+
+/// What becomes of each record.
+///
+/// # Errors
+///
+/// Why the table is refused.
+pub(crate) fn fates_by(
+    alloc: Global,
+    choice: &Choice,
+    ledger: &Ledger,
+) -> Result<Vec<Fate>, Refusal>
+    ensures { IfOk result (λ fates. fates_of choice.now ledger.now.rows.items ≡ Ok fates.items) }
+{
+    match fates_of(alloc, choice, &ledger.rows) {
+        Ok(fates) => Ok(fates),
+        Err(FatesFault::OffGrid { record }) => {
+            Err(off_grid(alloc, &ledger.rows, record, choice.unit))
+        }
+        Err(_) => Err(Refusal::out_of_memory(alloc)),
+    }
+}
+
+// The refusal of names.
+fn names_refusal(alloc: Global, names: &[Vec<u8>], fault: NamesFault) -> Refusal {
+    match shown(alloc, names) {
+        Ok(names) => refused_names(alloc, fault, &names),
+        Err(_) => Refusal::out_of_memory(alloc),
+    }
+}
+
+/// The names of the files of the animals.
+///
+/// # Errors
+///
+/// Why the table is refused.
+pub(crate) fn names_by(alloc: Global, ledger: &Ledger) -> Result<Vec<Vec<u8>>, Refusal>
+    ensures { IfOk result (λ own. file_names (texts ledger.now.names) ≡ Ok (bytes_of own.items)) }
+{
+    let names = ledger.names.as_slice();
+    match file_names(alloc, names) {
+        Ok(own) => Ok(own),
+        Err(fault) => Err(names_refusal(alloc, names, fault)),
+    }
+}
+
+/// The tracks of so many animals as there are names.
+///
+/// # Errors
+///
+/// Memory ran out.
+pub(crate) fn tracks_by(
+    alloc: Global,
+    fates: &[Fate],
+    names: &[Vec<u8>],
+) -> Result<Vec<Vec<Entry>>, Refusal>
+    ensures tracks { IfOk result (λ tracks. entries_of_all tracks.items ≡ tracks_with (bytes_of names.now) fates.now) }
+    ensures count { IfOk result (λ tracks. length names.now ≡ length tracks.items) }
+{
+    let Ok(animals) = u32::try_from(names.len()) else {
+        return Err(Refusal::out_of_memory(alloc));
+    };
+    match tracks_of(alloc, fates, animals) {
+        Ok(tracks) => Ok(tracks),
+        Err(_) => Err(Refusal::out_of_memory(alloc)),
+    }
+}
+
+/// How many records are left out, by animal and reason, of as many animals as there are names.
+///
+/// # Errors
+///
+/// Memory ran out.
+pub(crate) fn counts_by(
+    alloc: Global,
+    fates: &[Fate],
+    names: &[Vec<u8>],
+) -> Result<Vec<usize>, Refusal>
+    ensures { IfOk result (λ counts. counts.items ≡ left_counts (length (bytes_of names.now)) fates.now) }
+{
+    let Ok(animals) = u32::try_from(names.len()) else {
+        return Err(Refusal::out_of_memory(alloc));
+    };
+    match left_counts(alloc, fates, animals) {
+        Ok(counts) => Ok(counts),
+        Err(_) => Err(Refusal::out_of_memory(alloc)),
+    }
+}

@@ -1,0 +1,11 @@
+//! The program `homerange-split`: from the words of the command line to a folder of tracks, or to one line that says why there
+//! is none.
+#![tactic(auto)]
+
+mod command_line;
+mod exit_status;
+mod folder;
+mod record;
+mod run;
+
+pub use exit_status::answer;

@@ -1,0 +1,81 @@
+-- The table of an export, read.
+use Rattle.std.specs.Prelude.{◌≡◌, ◌⊎◌, ⊤, ℕ, List, length, map, Some, None, Result, Ok, Err, Vec}
+use Rattle.std.specs.Global.{Global}
+use Rattle.split_reading.specs.Ledger.{AreTimely, IsLedger, IsLedgerFault}
+use Rattle.split_reading.specs.declared.fault.ReadingFault.{ReadingFault}
+use Rattle.split_reading.specs.declared.fault.ReadingFault.TheVariants as reading
+use Rattle.split_reading.specs.declared.rules.Rules.{Rules}
+use Rattle.split_table.specs.Table.{IsRefused, Titled, table_of}
+use Rattle.split_table.specs.TableLeft.{Record}
+use Rattle.split_table.specs.declared.table.TableFault.{TableFault}
+use Rattle.split_titles.specs.declared.columns.Columns.{Columns}
+use Rattle.split_export.specs.declared.asked.Asked.{Asked}
+use Rattle.split_export.specs.declared.export.Export.{Export}
+use Rattle.split_export.specs.declared.export.ExportFault.{ExportFault}
+use Rattle.split_export.specs.declared.export.ExportFault.TheVariants as faults
+use Rattle.split_export.specs.declared.rules.NotTaken.{NotTaken}
+use Rattle.split_export.specs.Rules.{rules_of}
+use Rattle.split_export.specs.Text.{text_fault}
+
+-- the bytes of texts
+abbrev pub bytes_of : {A : Type 0} → List (Vec ℕ A) → List (List ℕ)
+bytes_of texts = map (λ text. text.items) texts
+
+-- a table by its titles and its records
+abbrev pub with_titles : Record → List Record → Titled
+with_titles titles records = record { titles = titles; records = records }
+
+-- something holds of a table that is one
+abbrev pub IsTableWith : (Titled → Type 0) → Result Titled TableFault → Type 0
+IsTableWith P (Ok table) = P table
+IsTableWith P (Err fault) = ⊥
+
+-- a text that is a table has these titles
+abbrev pub HasTitles : {A : Type 0} → Result Titled TableFault → List (Vec ℕ A) → Type 0
+HasTitles all titles = IsTableWith (λ table. bytes_of titles ≡ table.titles) all
+
+-- an export is that of a table: it has its titles, and what its records say by the rules that its columns and what is asked
+-- come to
+pub record IsOfTable (asked : Asked) (table : Titled) (export : Export) : Type 0 where
+  pub titles : bytes_of export.titles.items ≡ table.titles
+  pub rules : Rules
+  pub are_rules : rules_of export.columns (length table.titles) asked ≡ Ok rules
+  pub is_ledger : IsLedger rules export.ledger table.records
+  pub timely : AreTimely export.ledger.rows.items
+
+-- an export is that of these bytes, which are the text of a table
+abbrev pub IsExport : Asked → List ℕ → Export → Type 0
+IsExport asked bytes export = (text_fault bytes ≡ None) × IsTableWith (λ table. IsOfTable asked table export) (table_of bytes)
+
+-- such columns are not read
+abbrev pub IsNotTaken : ℕ → Asked → NotTaken → Type 0
+IsNotTaken width asked fault = (columns : Columns Global) × (rules_of columns width asked ≡ Err fault)
+
+-- why there are no rules for so many titles: the titles have a fault, or their columns are not read
+abbrev pub IsRulesFault : ℕ → Asked → ExportFault → Type 0
+IsRulesFault width asked (faults.Text why) = ⊥
+IsRulesFault width asked (faults.Table why) = ⊥
+IsRulesFault width asked (faults.Titles why) = ⊤
+IsRulesFault width asked (faults.NotTaken why) = IsNotTaken width asked why
+IsRulesFault width asked (faults.Reading why) = ⊥
+
+-- the fault of records that are read by rules for so many titles
+abbrev pub IsRuledFault : ℕ → Asked → ReadingFault → List Record → Type 0
+IsRuledFault width asked fault records = (columns : Columns Global) × (rules : Rules) × (rules_of columns width asked ≡ Ok rules) × IsLedgerFault rules fault records
+
+-- why a table is not read: there are no rules for it, memory ran out, or its records have a fault by the rules
+abbrev pub IsTableFault : Asked → Titled → ExportFault → Type 0
+IsTableFault asked table (faults.Text why) = ⊥
+IsTableFault asked table (faults.Table why) = ⊥
+IsTableFault asked table (faults.Titles why) = ⊤
+IsTableFault asked table (faults.NotTaken why) = IsNotTaken (length table.titles) asked why
+IsTableFault asked table (faults.Reading why) = (why ≡ reading.OutOfMemory) ⊎ IsRuledFault (length table.titles) asked why table.records
+
+-- why bytes are not read: they are no text, or the text is no table, or the table is not read
+abbrev pub IsExportFault : Asked → List ℕ → ExportFault → Type 0
+IsExportFault asked bytes (faults.Text why) = text_fault bytes ≡ Some why
+IsExportFault asked bytes (faults.Table why) = (text_fault bytes ≡ None) × IsRefused (table_of bytes) why
+IsExportFault asked bytes (faults.Titles why) = (text_fault bytes ≡ None) × IsTableWith (λ table. ⊤) (table_of bytes)
+IsExportFault asked bytes (faults.NotTaken why) = (text_fault bytes ≡ None) × IsTableWith (λ table. IsNotTaken (length table.titles) asked why) (table_of bytes)
+IsExportFault asked bytes (faults.Reading why) =
+    (text_fault bytes ≡ None) × IsTableWith (λ table. IsTableFault asked table (faults.Reading why)) (table_of bytes)

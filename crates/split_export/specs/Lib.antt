@@ -1,0 +1,5 @@
+pub mod Export
+pub mod Files
+pub mod Laws
+pub mod Rules
+pub mod Text

@@ -1,0 +1,19 @@
+//! From the text of an export to the files of its tracks, in memory: what its records say, read by the rules that its
+//! titles and options come to, and of each animal the file of its fixes.
+#![tactic(auto)]
+
+mod asked;
+mod export;
+mod files;
+mod laws;
+mod look;
+mod rules;
+mod text;
+
+pub use asked::Asked;
+pub use export::{Export, ExportFault, read_export, titles_of};
+pub use files::{TrackFile, make_files};
+pub use laws::files_are_read_back;
+pub use look::{fields_of_record, most_moved, part_alike, unrounded};
+pub use rules::{NotTaken, rules_of};
+pub use text::TextFault;

@@ -1,0 +1,25 @@
+//! Why a table is refused: its kind, its record, and a sentence with the remedy.
+#![tactic(auto)]
+
+mod cells;
+mod digits;
+mod forms;
+mod grid;
+mod kind;
+mod names;
+mod push;
+mod refusal;
+mod said;
+mod tables;
+mod times;
+mod titles;
+mod zones;
+
+pub use cells::refused_cell;
+pub use grid::refused_off_grid;
+pub use kind::Kind;
+pub use names::refused_names;
+pub use refusal::Refusal;
+pub use tables::{refused_table, refused_text};
+pub use titles::refused_titles;
+pub use zones::refused_zone;

@@ -1,0 +1,67 @@
+// Refusals of a file: its text, and its quotes.
+
+use crate::kind::Kind;
+use crate::push::push;
+use crate::refusal::{Refusal, Sentence, refusal_of};
+use range_plane::OutOfMemory;
+use split_export::TextFault;
+use split_table::TableFault;
+use std::alloc::Global;
+
+// A path, and words about it.
+fn about(alloc: Global, kind: Kind, path: &[u8], words: &str) -> Result<Sentence, OutOfMemory> {
+    let mut text = Vec::from_slice(alloc, path)?;
+    push(&mut text, words)?;
+    Ok(Sentence { kind, text })
+}
+
+/// The refusal of a file that has no text.
+pub fn refused_text(alloc: Global, what: TextFault, path: &[u8]) -> Refusal {
+    let words = match what {
+        TextFault::ByteZero => " is no text: it has a byte 0",
+        TextFault::NotUtf8 => {
+            " is no text in UTF-8, and other codings are not read yet: write it anew in UTF-8"
+        }
+    };
+    refusal_of(alloc, None, about(alloc, Kind::Text, path, words))
+}
+
+// The number of a record that has a fault; none of the line of titles, and none past 2^32.
+fn number_of(record: u64) -> Option<u32> {
+    match u32::try_from(record) {
+        Ok(number) if number > 0 => Some(number),
+        _ => None,
+    }
+}
+
+// The refusal of a quote that stands where none may.
+fn refused_quote(alloc: Global, record: u64, path: &[u8]) -> Refusal {
+    let words =
+        "a quote stands inside a field, or something behind it: quotes stand around a whole field, and are \
+                 doubled inside it";
+    match number_of(record) {
+        Some(number) => Refusal::new(alloc, Kind::Text, Some(number), words.as_bytes()),
+        None => {
+            let words =
+                ": in the line of titles a quote stands inside a field, or something behind it: quotes stand \
+                         around a whole field, and are doubled inside it";
+            refusal_of(alloc, None, about(alloc, Kind::Text, path, words))
+        }
+    }
+}
+
+/// The refusal of a text that is no table.
+pub fn refused_table(alloc: Global, fault: TableFault, path: &[u8]) -> Refusal {
+    match fault {
+        TableFault::OutOfMemory => Refusal::out_of_memory(alloc),
+        TableFault::StrayQuote { record } => refused_quote(alloc, record, path),
+        TableFault::OpenQuote { .. } => {
+            let sentence = about(alloc, Kind::Text, path, ": a quote has no end");
+            refusal_of(alloc, None, sentence)
+        }
+        TableFault::NoTitles => {
+            let sentence = about(alloc, Kind::Empty, path, " has no line of titles");
+            refusal_of(alloc, None, sentence)
+        }
+    }
+}

@@ -1,0 +1,120 @@
+// The records of a table as a whole.
+
+use crate::animals::check_animals;
+use crate::rows::used_fix;
+use crate::said::Said;
+use crate::sensors::{check_classes, check_sensors};
+use crate::sheet::Sheet;
+use crate::stop::{Stop, nothing_left, refusal_of, refused};
+use crate::words::push;
+use range_plane::OutOfMemory;
+use split_reading::{Ledger, Row, Told};
+use split_refusal::{Kind, Refusal};
+use split_tracks::Reason;
+use std::alloc::{AllocError, Global};
+
+// That a table has no record.
+fn empty_text(alloc: Global) -> Result<Vec<u8>, AllocError> {
+    Vec::from_slice(alloc, b"there is no record below the titles")
+}
+
+// How many records are left out for a reason that their own cells are.
+fn left_count(rows: &[Row], reason: Reason) -> usize {
+    rows.iter()
+        .filter(|row| row.told == Told::LeftOut(reason))
+        .count()
+}
+
+// Says how many records are none of an animal at a place.
+fn tell_left(alloc: Global, said: &mut Said, rows: &[Row]) -> Result<(), OutOfMemory> {
+    let unnamed = left_count(rows, Reason::Animal);
+    said.say_counted(alloc, unnamed, b"records have no animal: left out")?;
+    let unplaced = left_count(rows, Reason::Coordinates);
+    said.say_counted(alloc, unplaced, b"records have no coordinates: left out")?;
+    let zeros = left_count(rows, Reason::Zero);
+    said.say_counted(
+        alloc,
+        zeros,
+        b"records have longitude and latitude 0: left out",
+    )
+}
+
+// Says which columns are not there.
+fn tell_no_columns(alloc: Global, said: &mut Said, sheet: &Sheet<'_>) -> Result<(), OutOfMemory> {
+    if sheet.columns.animal.is_empty() {
+        let mut text = Vec::new(alloc);
+        push(
+            &mut text,
+            "no column has a usual title for the animal: all fixes are of one, named ",
+        )?;
+        text.extend_from_slice(sheet.name)?;
+        said.say(alloc, &text)?;
+    }
+    if sheet.columns.time.is_empty() {
+        said.say(
+            alloc,
+            b"no column has a usual title for the time: fixes are in the order of rows, as seconds 0, 1, 2, ..",
+        )?;
+    }
+    Ok(())
+}
+
+// How many fixes are not used.
+fn outlier_count(rows: &[Row]) -> usize {
+    rows.iter()
+        .filter(|row| match row.told {
+            Told::Fix(fix) => !fix.is_used,
+            Told::LeftOut(_) => false,
+        })
+        .count()
+}
+
+// Says how many fixes are not used.
+fn tell_outliers(
+    alloc: Global,
+    said: &mut Said,
+    sheet: &Sheet<'_>,
+    rows: &[Row],
+) -> Result<(), OutOfMemory> {
+    let count = outlier_count(rows);
+    if sheet.keeps_marks {
+        said.say_counted(alloc, count, b"outliers: use 0")
+    } else {
+        said.say_counted(alloc, count, b"outliers: left out")
+    }
+}
+
+// Checks the records of a table.
+fn check(alloc: Global, said: &mut Said, sheet: &Sheet<'_>, ledger: &Ledger) -> Result<(), Stop> {
+    if ledger.rows.is_empty() {
+        return Err(refused(alloc, Kind::Empty, None, empty_text(alloc)));
+    }
+    check_animals(alloc, said, sheet, ledger)?;
+    tell_left(alloc, said, &ledger.rows)?;
+    tell_no_columns(alloc, said, sheet)?;
+    let is_argos = check_sensors(alloc, said, ledger)?;
+    tell_outliers(alloc, said, sheet, &ledger.rows)?;
+    if ledger.rows.iter().all(|row| used_fix(row).is_none()) {
+        return Err(nothing_left(alloc));
+    }
+    check_classes(alloc, sheet, is_argos)
+}
+
+/// Checks the records of a table as a whole, and says what is left out and what is odd: animals with one record each, names
+/// that are alike, records without an animal or a place, columns that are not there, the sensor and outliers.
+///
+/// # Errors
+///
+/// The table has no record, or no fix is used; each animal has one record; fixes are of several sensors, or of Argos; or
+/// memory ran out. That Argos classes are not read is one too.
+pub fn check_ledger(
+    alloc: Global,
+    said: &mut Said,
+    sheet: &Sheet<'_>,
+    ledger: &Ledger,
+) -> Result<(), Refusal> {
+    match check(alloc, said, sheet, ledger) {
+        Ok(()) => Ok(()),
+        Err(stop) => Err(refusal_of(alloc, stop)),
+    }
+}

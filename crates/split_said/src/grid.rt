@@ -1,0 +1,87 @@
+// The grid of a table's coordinates.
+
+use crate::degrees::check_degrees;
+use crate::said::Said;
+use crate::sheet::Sheet;
+use crate::shift::find_shift;
+use crate::stop::{Stop, refusal_of};
+use crate::utm::{not_projected, utm_zones};
+use crate::words::{push, push_zone};
+use crate::zeros::ask_zeros;
+use range_plane::OutOfMemory;
+use split_reading::{Ledger, Row, Zone};
+use split_refusal::Refusal;
+use std::alloc::Global;
+
+/// The grid on which tracks are made.
+#[derive(Clone, Copy, PartialEq, Eq, Debug)]
+pub struct Grid {
+    /// The zone, as it is told; none where it is not known.
+    pub zone: Option<Zone>,
+    /// The zone that records have to name whose fixes are taken; none where they need not name one.
+    pub of_zone: Option<Zone>,
+    /// By how many whole metres coordinates are shifted, east and north.
+    pub shift: (i64, i64),
+}
+
+// Says that coordinates are those of the table, and of which zone.
+fn tell_zone(alloc: Global, said: &mut Said, zone: Option<Zone>) -> Result<(), OutOfMemory> {
+    let mut text = Vec::new(alloc);
+    push(&mut text, "coordinates are those of the table; zone: ")?;
+    match zone {
+        Some(zone) => push_zone(&mut text, zone)?,
+        None => push(&mut text, "not known")?,
+    }
+    said.say(alloc, &text)
+}
+
+// The grid of the rows of a table.
+fn grid_of(
+    alloc: Global,
+    said: &mut Said,
+    sheet: &Sheet<'_>,
+    rows: &[Row],
+    unrounded: Option<(f64, f64)>,
+) -> Result<Grid, Stop> {
+    let Some(metres) = sheet.columns.metres else {
+        return Err(not_projected(alloc, sheet, rows));
+    };
+    ask_zeros(alloc, said, rows, sheet.unit)?;
+    check_degrees(alloc, said, sheet, metres, rows, unrounded)?;
+    if sheet.columns.is_utm {
+        let zones = utm_zones(alloc, said, sheet, rows)?;
+        return Ok(Grid {
+            zone: Some(zones.zone),
+            of_zone: zones.of_records,
+            shift: (0, 0),
+        });
+    }
+    tell_zone(alloc, said, sheet.zone)?;
+    let shift = find_shift(alloc, said, sheet.unit, rows)?;
+    Ok(Grid {
+        zone: sheet.zone,
+        of_zone: None,
+        shift,
+    })
+}
+
+/// The grid on which the fixes of a table are taken, which is said. `unrounded` are the easting and northing of the first fix
+/// that is used and has some, as the table writes them, where not all that are used are whole numbers of metres; none where
+/// all are.
+///
+/// # Errors
+///
+/// Coordinates are degrees, of no zone, of several or wider than a grid; fixes have none; or memory ran out. What would have to
+/// be projected is one too.
+pub fn find_grid(
+    alloc: Global,
+    said: &mut Said,
+    sheet: &Sheet<'_>,
+    ledger: &Ledger,
+    unrounded: Option<(f64, f64)>,
+) -> Result<Grid, Refusal> {
+    match grid_of(alloc, said, sheet, &ledger.rows, unrounded) {
+        Ok(grid) => Ok(grid),
+        Err(stop) => Err(refusal_of(alloc, stop)),
+    }
+}

@@ -1,0 +1,44 @@
+// The words that the program knows, and what `clap` finds in those that are given. Its help is written in `help.rt`.
+
+use crate::version::VERSION;
+use clap::{Arg, ArgAction, ArgMatches, Command, Error};
+use std::alloc::{AllocError, Global};
+
+// An option whose value is any text.
+fn text_option<'a>(alloc: Global, name: &'a str, value: &'a str) -> Arg<'a> {
+    Arg::new(alloc, name).long(name).value_name(value)
+}
+
+// An option without a value.
+fn flag<'a>(alloc: Global, name: &'a str) -> Arg<'a> {
+    Arg::new(alloc, name).long(name).action(ArgAction::SetTrue)
+}
+
+// The program with the options of columns.
+fn with_columns<'a>(alloc: Global, command: Command<'a>) -> Result<Command<'a>, AllocError> {
+    command
+        .arg(text_option(alloc, "animal", "COLUMN"))?
+        .arg(text_option(alloc, "name", "NAME"))?
+        .arg(text_option(alloc, "time", "COLUMN"))?
+        .arg(text_option(alloc, "easting", "COLUMN"))?
+        .arg(text_option(alloc, "northing", "COLUMN"))
+}
+
+// The program with its options and the export.
+fn whole_command<'a>(alloc: Global) -> Result<Command<'a>, AllocError> {
+    let command = Command::new(alloc, "homerange-split")
+        .version(VERSION)
+        .arg(text_option(alloc, "into", "FOLDER"))?
+        .arg(text_option(alloc, "unit", "UNIT"))?
+        .arg(text_option(alloc, "zone", "ZONE"))?;
+    with_columns(alloc, command)?
+        .arg(flag(alloc, "mark"))?
+        .arg(flag(alloc, "skip-unnamed"))?
+        .arg(Arg::new(alloc, "EXPORT").value_name("EXPORT"))
+}
+
+// What `clap` finds in the words, of which the first is the program's name.
+pub(crate) fn found<'a>(alloc: Global, words: &'a [String]) -> Result<ArgMatches<'a>, Error> {
+    let command = whole_command(alloc)?;
+    command.try_get_matches_from(words)
+}

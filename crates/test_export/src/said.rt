@@ -1,0 +1,748 @@
+// Tests of what is said of tables, and of why they are refused. What is expected was said by the package for Python, but for
+// what is not read yet.
+
+use range_plane::Scale;
+use split_fates::{Choice, fates_of};
+use split_names::file_names;
+use split_reading::{Ledger, Rules, Zone, read_records};
+use split_refusal::Refusal;
+use split_said::{Said, Sheet, check_ledger, find_grid, tell_tracks};
+use split_table::Table;
+use split_titles::{Columns, Named, Pair, find_columns};
+use split_tracks::tracks_of;
+use std::alloc::{AllocError, Global};
+use std::process::Abort;
+use std::test::Fail;
+
+// What is asked of a table, and what is known of its metres before they are rounded.
+#[derive(Clone, Copy)]
+struct Asked {
+    named: Named<'static>,
+    unit: Scale,
+    zone: Option<Zone>,
+    keeps_marks: bool,
+    skips_unnamed: bool,
+    unrounded: Option<(f64, f64)>,
+    moved: f64,
+}
+
+// Nothing is asked.
+const PLAIN: Asked = Asked {
+    named: Named {
+        animal: &[],
+        time: &[],
+        easting: None,
+        northing: None,
+        lon: None,
+        lat: None,
+        argos: None,
+        dop: None,
+        fix: None,
+        has_max_dop: false,
+        has_fix_type: false,
+    },
+    unit: Scale::Metre,
+    zone: None,
+    keeps_marks: false,
+    skips_unnamed: false,
+    unrounded: None,
+    moved: 0.0,
+};
+
+// The zone 33N.
+const ZONE: Zone = Zone {
+    number: 33,
+    is_south: false,
+};
+
+const IN_ZONE: Asked = Asked {
+    zone: Some(ZONE),
+    ..PLAIN
+};
+
+const MARKED: Asked = Asked {
+    keeps_marks: true,
+    ..PLAIN
+};
+
+const IN_DECIMETRES: Asked = Asked {
+    unit: Scale::Decimetre,
+    ..PLAIN
+};
+
+// The titles of Movebank.
+const UTM: &str = "individual-local-identifier,timestamp,utm-easting,utm-northing,utm-zone";
+
+// How the records of a table are read.
+fn rules_of(columns: &Columns<Global>, width: usize, asked: &Asked) -> Rules<'static> {
+    Rules {
+        width,
+        animal: columns.animal.first().copied(),
+        name: b"animal",
+        time: columns.time.first().copied(),
+        is_second: columns.is_second,
+        metres: columns.metres.unwrap_or(Pair {
+            first: 0,
+            second: 0,
+        }),
+        degrees: columns.degrees,
+        zone: columns.zone,
+        marks: columns.marks,
+        sensor: columns.sensor,
+        unit: asked.unit,
+        skips_unnamed: asked.skips_unnamed,
+    }
+}
+
+// So many metres in units.
+fn in_units(unit: Scale, metres: i64) -> i64 {
+    match unit {
+        Scale::Metre => metres,
+        Scale::Decimetre => metres.saturating_mul(10),
+    }
+}
+
+// Says what there is to say of a table, or answers why it is refused.
+fn tell(
+    alloc: Global,
+    said: &mut Said,
+    sheet: &Sheet<'_>,
+    ledger: &Ledger,
+    asked: &Asked,
+) -> Result<Result<(), Refusal>, Fail> {
+    if let Err(refusal) = check_ledger(alloc, said, sheet, ledger) {
+        return Ok(Err(refusal));
+    }
+    let grid = match find_grid(alloc, said, sheet, ledger, asked.unrounded) {
+        Ok(grid) => grid,
+        Err(refusal) => return Ok(Err(refusal)),
+    };
+    let (east, north) = grid.shift;
+    let choice = Choice {
+        keeps_marks: asked.keeps_marks,
+        zone: grid.of_zone,
+        unit: asked.unit,
+        shift: (in_units(asked.unit, east), in_units(asked.unit, north)),
+    };
+    let fates = fates_of(alloc, &choice, &ledger.rows)?;
+    let animals = u32::try_from(ledger.names.len()).unwrap_or(0);
+    let tracks = tracks_of(alloc, &fates, animals)?;
+    let names = file_names(alloc, ledger.names.as_slice())?;
+    let moved = asked.moved;
+    let told = tell_tracks(
+        alloc, said, sheet, ledger, &grid, &fates, &tracks, &names, moved,
+    );
+    Ok(told)
+}
+
+// The lines that were said.
+fn push_lines(text: &mut Vec<u8>, said: &Said) -> Result<(), AllocError> {
+    for line in said.lines.iter() {
+        text.extend_from_slice(line)?;
+        text.extend_from_slice(b"\n")?;
+    }
+    Ok(())
+}
+
+// A refusal behind its kind.
+fn push_refusal(alloc: Global, text: &mut Vec<u8>, refusal: &Refusal) -> Result<(), Fail> {
+    text.extend_from_slice(b"! ")?;
+    text.extend_from_slice(refusal.kind.word().as_bytes())?;
+    text.extend_from_slice(b": ")?;
+    text.extend_from_slice(&refusal.line(alloc)?)?;
+    text.extend_from_slice(b"\n")?;
+    Ok(())
+}
+
+// What is said of a table.
+fn told_of(alloc: Global, text: &str, asked: &Asked) -> Result<Vec<u8>, Fail> {
+    let mut table = Table::new(alloc, text.as_bytes())?;
+    let mut titles = Vec::new(alloc);
+    for place in 0..table.titles().len() {
+        titles.push(Vec::from_slice(alloc, table.titles().get(place).unwrap_or(b""))?)?;
+    }
+    let mut shown: Vec<&[u8]> = Vec::new(alloc);
+    for title in titles.iter() {
+        shown.push(title.as_slice())?;
+    }
+    let columns = find_columns(alloc, &shown, &asked.named)?;
+    let rules = rules_of(&columns, shown.len(), asked);
+    let ledger = read_records(alloc, &mut table, &rules)?;
+    let sheet = Sheet {
+        titles: &shown,
+        columns: &columns,
+        unit: asked.unit,
+        zone: asked.zone,
+        name: b"animal",
+        keeps_marks: asked.keeps_marks,
+    };
+    let mut said = Said::new(alloc);
+    let end = tell(alloc, &mut said, &sheet, &ledger, asked)?;
+    let mut lines = Vec::new(alloc);
+    push_lines(&mut lines, &said)?;
+    if let Err(refusal) = end {
+        push_refusal(alloc, &mut lines, &refusal)?;
+    }
+    Ok(lines)
+}
+
+// Checks what is said of a table.
+fn expect(
+    rt: &impl Abort,
+    alloc: Global,
+    text: &str,
+    asked: &Asked,
+    expected: &str,
+) -> Result<(), Fail> {
+    let lines = told_of(alloc, text, asked)?;
+    assert!(rt; lines.as_slice() == expected.as_bytes(), "{text}");
+    Ok(())
+}
+
+// The same of a table of Movebank with these titles and records behind the usual ones.
+fn expect_utm(
+    rt: &impl Abort,
+    alloc: Global,
+    rest: &str,
+    asked: &Asked,
+    expected: &str,
+) -> Result<(), Fail> {
+    let text = format!(in alloc; "{UTM}{rest}")?;
+    expect(rt, alloc, text.as_str(), asked, expected)
+}
+
+#[test]
+fn a_plain_table_has_two_lines(rt: HostRuntime) -> Result<(), Fail> {
+    expect(
+        &rt,
+        rt.alloc(),
+        "animal,second,easting,northing\na,0,562000,5134000\na,60,562100,5134200\nb,5,563000,5133999\nb,9,563000,5133999\n",
+        &PLAIN,
+        "coordinates are those of the table; zone: not known\n\
+         columns: animal, second, easting, northing; 2 animals, box 1.000 by 0.201 km\n",
+    )
+}
+
+// Records without a place, at longitude and latitude 0, and not used.
+const LEFT_OUT: &str = ",location-long,location-lat,visible\n\
+    a,2024-05-01 00:00:00,562000,5134000,33N,15,46,true\n\
+    a,2024-05-01 00:10:00,562001,5134000,33N,15,46,false\n\
+    a,2024-05-01 00:20:00,,,33N,,,true\n\
+    a,2024-05-01 00:30:00,0,0,33N,0,0,true\n\
+    b,2024-05-01 00:40:00,562003,5134001,33N,15,46,true\n\
+    b,2024-05-01 00:50:00,562004,5134001,33N,15,46,true\n";
+
+#[test]
+fn records_that_are_left_out_are_counted(rt: HostRuntime) -> Result<(), Fail> {
+    let alloc = rt.alloc();
+    expect_utm(
+        &rt,
+        alloc,
+        LEFT_OUT,
+        &PLAIN,
+        "1 records have no coordinates: left out\n\
+         1 records have longitude and latitude 0: left out\n\
+         1 outliers: left out\n\
+         UTM coordinates are those of the export; zone: 33N 3\n\
+         columns: individual-local-identifier, timestamp, utm-easting, utm-northing, location-long, location-lat; 2 animals, \
+         box 0.004 by 0.001 km\n",
+    )?;
+    expect_utm(
+        &rt,
+        alloc,
+        LEFT_OUT,
+        &MARKED,
+        "1 records have no coordinates: left out\n\
+         1 records have longitude and latitude 0: left out\n\
+         1 outliers: use 0\n\
+         UTM coordinates are those of the export; zone: 33N 3\n\
+         columns: individual-local-identifier, timestamp, utm-easting, utm-northing, location-long, location-lat; 2 animals, \
+         box 0.004 by 0.001 km\n",
+    )?;
+    let unnamed = Asked {
+        skips_unnamed: true,
+        ..PLAIN
+    };
+    expect(
+        &rt,
+        alloc,
+        "animal,second,easting,northing\na,0,562000,5134000\n,1,562000,5134000\na,2,562000,5134000\n",
+        &unnamed,
+        "1 records have no animal: left out\n\
+         coordinates are those of the table; zone: not known\n\
+         columns: animal, second, easting, northing; 1 animals, box 0.000 by 0.000 km\n",
+    )
+}
+
+#[test]
+fn columns_that_are_not_there_are_said(rt: HostRuntime) -> Result<(), Fail> {
+    expect(
+        &rt,
+        rt.alloc(),
+        "x,y\n562000,5134000\n562001,5134000\n",
+        &IN_ZONE,
+        "no column has a usual title for the animal: all fixes are of one, named animal\n\
+         no column has a usual title for the time: fixes are in the order of rows, as seconds 0, 1, 2, ..\n\
+         coordinates are those of the table; zone: 33N\n\
+         columns: x, y; 1 animals, box 0.001 by 0.000 km\n",
+    )
+}
+
+#[test]
+fn animals_with_one_record_are_odd(rt: HostRuntime) -> Result<(), Fail> {
+    let alloc = rt.alloc();
+    expect(
+        &rt,
+        alloc,
+        "animal,second,easting,northing\na,0,562000,5134000\nb,1,562000,5134000\n",
+        &PLAIN,
+        "! onefix: every one of 2 animals has one record: is animal the animal? Name its column, as by --animal COLUMN\n",
+    )?;
+    expect(
+        &rt,
+        alloc,
+        "animal,second,easting,northing\na,0,562000,5134000\nb,1,562000,5134000\nc,1,562000,5134000\nc,2,562000,5134000\n",
+        &PLAIN,
+        "2 of 3 animals have one record: is animal the animal?\n\
+         coordinates are those of the table; zone: not known\n\
+         columns: animal, second, easting, northing; 3 animals, box 0.000 by 0.000 km\n",
+    )
+}
+
+#[test]
+fn names_that_are_alike_are_asked_about(rt: HostRuntime) -> Result<(), Fail> {
+    expect(
+        &rt,
+        rt.alloc(),
+        "animal,second,easting,northing\nfox,0,562000,5134000\nFox ,1,562000,5134000\nFOX,1,562000,5134000\n\
+         fox,2,562000,5134000\nFox ,3,562000,5134000\nFOX,5,562000,5134000\n\u{a0}j\u{c4}ger,1,562000,5134000\n\
+         J\u{e4}ger,1,562000,5134000\nJ\u{e4}ger,2,562000,5134000\n",
+        &PLAIN,
+        "animals 'fox' and 'Fox ' differ in blanks or capitals alone: are they one?\n\
+         animals 'fox' and 'FOX' differ in blanks or capitals alone: are they one?\n\
+         animals '\u{a0}j\u{c4}ger' and 'J\u{e4}ger' differ in blanks or capitals alone: are they one?\n\
+         coordinates are those of the table; zone: not known\n\
+         columns: animal, second, easting, northing; 5 animals, box 0.000 by 0.000 km\n\
+         animal 'Fox ' is named Fox_\n\
+         animal 'FOX' is named FOX_2\n",
+    )
+}
+
+#[test]
+fn tables_without_fixes_are_refused(rt: HostRuntime) -> Result<(), Fail> {
+    let alloc = rt.alloc();
+    expect(
+        &rt,
+        alloc,
+        "animal,second,easting,northing\n",
+        &PLAIN,
+        "! empty: there is no record below the titles\n",
+    )?;
+    expect_utm(
+        &rt,
+        alloc,
+        ",visible,argos-lc\n\
+         a,2024-05-01 00:00:00,562000,5134000,33N,false,3\n\
+         a,2024-05-01 00:10:00,562000,5134000,33N,false,3\n",
+        &PLAIN,
+        "2 outliers: left out\n! empty: no fix is left\n",
+    )
+}
+
+#[test]
+fn sensors_are_told_by_their_names(rt: HostRuntime) -> Result<(), Fail> {
+    let alloc = rt.alloc();
+    expect_utm(
+        &rt,
+        alloc,
+        ",sensor-type-id\n\
+         a,2024-05-01 00:00:00,562000,5134000,33N,653\n\
+         a,2024-05-01 00:10:00,562000,5134000,33N,\n\
+         a,2024-05-01 00:20:00,562000,5134000,33N,673\n\
+         a,2024-05-01 00:30:00,562000,5134000,33N,673\n",
+        &PLAIN,
+        "! sensor: fixes are of several sensors (radio-transmitter 2, none 1, gps 1): name those to take, such as \
+         --sensor radio-transmitter\n",
+    )?;
+    expect_utm(
+        &rt,
+        alloc,
+        ",sensor-type-id\n\
+         a,2024-05-01 00:00:00,562000,5134000,33N,673\n\
+         a,2024-05-01 00:10:00,562000,5134000,33N,673\n",
+        &PLAIN,
+        "all fixes are of the sensor radio-transmitter\n\
+         UTM coordinates are those of the export; zone: 33N 2\n\
+         columns: individual-local-identifier, timestamp, utm-easting, utm-northing; 1 animals, box 0.000 by 0.000 km\n",
+    )
+}
+
+#[test]
+fn fixes_of_argos_are_refused(rt: HostRuntime) -> Result<(), Fail> {
+    let alloc = rt.alloc();
+    expect_utm(
+        &rt,
+        alloc,
+        ",sensor-type\n\
+         a,2024-05-01 00:00:00,562000,5134000,33N,argos-doppler-shift\n\
+         a,2024-05-01 00:10:00,562000,5134000,33N,82798\n",
+        &PLAIN,
+        "all fixes are of the sensor argos-doppler-shift\n\
+         ! argos: fixes are of Argos, most of whose classes are off by kilometres: name the classes to take, such as \
+         --argos-class 3,2,1 (none is a fix without a class)\n",
+    )?;
+    expect_utm(
+        &rt,
+        alloc,
+        ",argos-lc\n\
+         a,2024-05-01 00:00:00,562000,5134000,33N,\n\
+         a,2024-05-01 00:10:00,562000,5134000,33N,\n",
+        &PLAIN,
+        "! unread: Argos classes are not read yet: use tools/split.py, or remove column 6 'argos-lc' if it has none\n",
+    )
+}
+
+#[test]
+fn zeros_far_from_all_others_are_asked_about(rt: HostRuntime) -> Result<(), Fail> {
+    expect(
+        &rt,
+        rt.alloc(),
+        "animal,second,x,y\na,0,562000,5134000\na,1,0,0\na,2,562000,5134000\n",
+        &PLAIN,
+        "1 fixes lie at easting 0 and northing 0: are they fixes that failed?\n\
+         coordinates are those of the table; zone: not known\n\
+         columns: animal, second, x, y; 1 animals, box 562.000 by 5134.000 km\n",
+    )
+}
+
+#[test]
+fn degrees_in_columns_of_metres_are_refused(rt: HostRuntime) -> Result<(), Fail> {
+    let alloc = rt.alloc();
+    let south = Asked {
+        unrounded: Some((-71.6, -33.2)),
+        ..PLAIN
+    };
+    expect(
+        &rt,
+        alloc,
+        "id,date,x,y\na,2024-05-01,-71.6,-33.2\na,2024-05-02,-71.7,-33.3\n",
+        &south,
+        "! degrees: all of x and y lie within 180 by 90, as longitude and latitude do: say so by --lon x --lat y --zone 19S; \
+         or, if they are metres, add 1000 to all\n",
+    )?;
+    let north = Asked {
+        unrounded: Some((15.8, 46.2)),
+        ..IN_DECIMETRES
+    };
+    let named = Asked {
+        named: Named {
+            easting: Some(b"my x"),
+            northing: Some(b"my y"),
+            ..PLAIN.named
+        },
+        ..north
+    };
+    expect(
+        &rt,
+        alloc,
+        "id,date,my x,my y\na,2024-05-01,15.8,46.2\na,2024-05-02,15.9,46.3\n",
+        &named,
+        "! degrees: all of my x and my y lie within 180 by 90, as longitude and latitude do: say so by --lon 'my x' \
+         --lat 'my y' --zone 33N; or, if they are metres, add 1000 to all\n",
+    )?;
+    let own = Asked {
+        unrounded: Some((15.8, 46.25)),
+        moved: 0.3640054945,
+        ..PLAIN
+    };
+    expect(
+        &rt,
+        alloc,
+        "animal,second,easting,northing\na,0,15.8,46.25\na,1,15.9,46.35\n",
+        &own,
+        "all fixes lie within 180 m by 90 m of the grid's corner: are they longitude and latitude?\n\
+         coordinates are those of the table; zone: not known\n\
+         coordinates are rounded to whole metres, which moves a fix by at most 0.36 m\n\
+         columns: animal, second, easting, northing; 1 animals, box 0.000 by 0.000 km\n",
+    )
+}
+
+#[test]
+fn shifts_are_said_and_wide_tables_refused(rt: HostRuntime) -> Result<(), Fail> {
+    let alloc = rt.alloc();
+    expect(
+        &rt,
+        alloc,
+        "animal,second,easting,northing\na,0,-5,20000000\na,1,20,20134000\n",
+        &PLAIN,
+        "coordinates are those of the table; zone: not known\n\
+         coordinates are shifted by 1000000 m east and -20000000 m north\n\
+         columns: animal, second, easting, northing; 1 animals, box 0.025 by 134.000 km\n",
+    )?;
+    expect(
+        &rt,
+        alloc,
+        "animal,second,easting,northing\na,0,-5.5,134000\na,1,20134000,134000\n",
+        &IN_DECIMETRES,
+        "coordinates are those of the table; zone: not known\n\
+         ! grid: eastings go from -5.50 to 20134000.00, which is wider than a grid of 13421772 metres: is one of them \
+         wrong?\n",
+    )?;
+    expect(
+        &rt,
+        alloc,
+        "animal,second,easting,northing\na,0,0,-7000000\na,1,20,17000000\n",
+        &PLAIN,
+        "coordinates are those of the table; zone: not known\n\
+         ! grid: northings go from -7000000.00 to 17000000.00, which is wider than a grid of 16777216 metres: is one of \
+         them wrong?\n",
+    )
+}
+
+// Records of several zones.
+const SEVERAL_ZONES: &str = "\n\
+    a,2024-05-01 00:00:00,562000,5134000,33N\n\
+    a,2024-05-01 00:10:00,562000,5134000,34N\n\
+    a,2024-05-01 00:20:00,562000,5134000,4S\n";
+
+// Records of which one names no zone.
+const NO_ZONE: &str = "\n\
+    a,2024-05-01 00:00:00,562000,5134000,33N\n\
+    a,2024-05-01 00:10:00,562000,5134000,\n";
+
+#[test]
+fn fixes_of_no_zone_or_of_several_are_refused(rt: HostRuntime) -> Result<(), Fail> {
+    let alloc = rt.alloc();
+    expect_utm(
+        &rt,
+        alloc,
+        SEVERAL_ZONES,
+        &PLAIN,
+        "! zone: fixes lie in several zones (33N 1, 34N 1, 4S 1): name the zone of all, such as --zone 33N\n",
+    )?;
+    expect_utm(
+        &rt,
+        alloc,
+        SEVERAL_ZONES,
+        &IN_ZONE,
+        "! zone: record 1: there is no longitude and latitude to project\n",
+    )?;
+    expect_utm(
+        &rt,
+        alloc,
+        NO_ZONE,
+        &PLAIN,
+        "! zone: record 2: there is no utm-zone: name that of its coordinates, such as --zone 33N\n",
+    )?;
+    expect_utm(
+        &rt,
+        alloc,
+        NO_ZONE,
+        &IN_ZONE,
+        "UTM coordinates are those of the export; zone: 33N 2\n\
+         columns: individual-local-identifier, timestamp, utm-easting, utm-northing; 1 animals, box 0.000 by 0.000 km\n",
+    )?;
+    expect_utm(
+        &rt,
+        alloc,
+        ",location-long,location-lat\n\
+         a,2024-05-01 00:00:00,562000,5134000,33N,15,46\n\
+         a,2024-05-01 00:10:00,,,33N,15,46\n",
+        &PLAIN,
+        "! zone: record 2: there are no UTM coordinates: name the zone of all, such as --zone 33N\n",
+    )
+}
+
+#[test]
+fn what_has_to_be_projected_is_not_read(rt: HostRuntime) -> Result<(), Fail> {
+    let alloc = rt.alloc();
+    let projected =
+        "! unread: longitude and latitude are not projected yet: export UTM coordinates of one zone with their \
+        utm-zone, or use tools/split.py\n";
+    for (records, asked) in [
+        (
+            "a,2024-05-01 00:00:00,562000,5134000,33N,15,46\na,2024-05-01 00:10:00,562000,5134000,34N,15,46\n",
+            IN_ZONE,
+        ),
+        (
+            "a,2024-05-01 00:00:00,562000,5134000,33N,15,46\na,2024-05-01 00:10:00,,,33N,15,46\n",
+            IN_ZONE,
+        ),
+        (
+            "a,2024-05-01 00:00:00,562000,5134000,34N,15,46\na,2024-05-01 00:10:00,562000,5134000,34N,15,46\n",
+            IN_ZONE,
+        ),
+        (
+            "a,2024-05-01 00:00:00,,,33N,15,46\na,2024-05-01 00:10:00,,,33N,15,46\n",
+            PLAIN,
+        ),
+    ] {
+        let rest = format!(in alloc; ",location-long,location-lat\n{records}")?;
+        expect_utm(&rt, alloc, rest.as_str(), &asked, projected)?;
+    }
+    expect_utm(
+        &rt,
+        alloc,
+        ",location-long,location-lat\n\
+         a,2024-05-01 00:00:00,562000,5134000,33N,15,46\n\
+         a,2024-05-01 00:10:00,562000,5134000,,15,46\n",
+        &IN_ZONE,
+        "! unread: record 2: the zone of UTM coordinates is not taken from their longitude yet: name it in utm-zone, or use \
+         tools/split.py\n",
+    )?;
+    expect_utm(
+        &rt,
+        alloc,
+        ",visible\n\
+         a,2024-05-01 00:00:00,562000,5134000,33N,true\n\
+         a,2024-05-01 00:10:00,562000,5134000,,true\n\
+         a,2024-05-01 00:20:00,562000,5134000,34N,false\n",
+        &Asked {
+            keeps_marks: true,
+            ..IN_ZONE
+        },
+        "1 outliers: use 0\n\
+         ! unread: fixes that name no zone beside fixes of other zones are not read yet: name the zone of each in utm-zone, \
+         or use tools/split.py\n",
+    )
+}
+
+#[test]
+fn it_is_said_how_far_rounding_moves_fixes(rt: HostRuntime) -> Result<(), Fail> {
+    let alloc = rt.alloc();
+    let table = "animal,second,easting,northing\na,0,562000.5,5134000\na,60,562100,5134200.25\n";
+    for (moved, figures) in [
+        (0.5, "0.5"),
+        (0.70710678, "0.71"),
+        (0.0625, "0.062"),
+        (0.00999, "0.01"),
+        (0.000123, "0.00012"),
+        (0.0000125, "1.3e-05"),
+        (0.0000020001, "2e-06"),
+        (0.999, "1"),
+    ] {
+        let asked = Asked { moved, ..PLAIN };
+        let expected = format!(in alloc;
+            "coordinates are those of the table; zone: not known\n\
+             coordinates are rounded to whole metres, which moves a fix by at most {figures} m\n\
+             columns: animal, second, easting, northing; 1 animals, box 0.099 by 0.200 km\n"
+        )?;
+        expect(&rt, alloc, table, &asked, expected.as_str())?;
+    }
+    let asked = Asked {
+        moved: 0.05,
+        ..IN_DECIMETRES
+    };
+    expect(
+        &rt,
+        alloc,
+        "animal,second,easting,northing\na,0,562000,5134000\na,60,562000.5,5134200.25\n",
+        &asked,
+        "coordinates are those of the table; zone: not known\n\
+         coordinates are rounded to whole decimetres, which moves a fix by at most 0.05 m\n\
+         columns: animal, second, easting, northing; 1 animals, box 0.001 by 0.200 km\n",
+    )
+}
+
+#[test]
+fn areas_that_are_wrong_are_said_or_refused(rt: HostRuntime) -> Result<(), Fail> {
+    let alloc = rt.alloc();
+    expect_utm(
+        &rt,
+        alloc,
+        "\n\
+         a,2024-05-01 00:00:00,800000,5134000,33N\n\
+         a,2024-05-01 00:10:00,800000,5134000,33N\n\
+         b,2024-05-01 00:10:00,900000,5134000,33N\n\
+         b,2024-05-01 00:11:00,700000,5134000,33N\n",
+        &PLAIN,
+        "UTM coordinates are those of the export; zone: 33N 4\n\
+         areas of a are 0.14 % too great on this grid\n\
+         columns: individual-local-identifier, timestamp, utm-easting, utm-northing; 2 animals, box 200.000 by 0.000 km\n",
+    )?;
+    expect_utm(
+        &rt,
+        alloc,
+        "\n\
+         a,2024-05-01 00:00:00,500000,5134000,33N\n\
+         a,2024-05-01 00:10:00,500000,5134000,33N\n\
+         b/c,2024-05-01 00:10:00,1200000,5134000,33N\n\
+         b/c,2024-05-01 00:11:00,1200000,5134000,33N\n",
+        &PLAIN,
+        "UTM coordinates are those of the export; zone: 33N 4\n\
+         ! scale: areas of b_c are 1.13 % too great on this grid: take a zone or a reference system of the place\n",
+    )
+}
+
+#[test]
+fn the_order_of_time_is_said(rt: HostRuntime) -> Result<(), Fail> {
+    expect(
+        &rt,
+        rt.alloc(),
+        "animal,second,easting,northing\nb,5,562000,5134000\na,9,562000,5134000\na,1,562000,5134000\na,9,562000,5134000\n\
+         a,9,562001,5134000\na,4,562001,5134000\nb,5,562000,5134000\nb,5,562000,5134009\n",
+        &PLAIN,
+        "coordinates are those of the table; zone: not known\n\
+         2 records of b have the second of the one before, and 1 its place: kept\n\
+         2 records of a come before an earlier one: sorted by time\n\
+         2 records of a have the second of the one before, and 1 its place: kept\n\
+         columns: animal, second, easting, northing; 2 animals, box 0.001 by 0.009 km\n",
+    )
+}
+
+#[test]
+fn animals_without_fixes_are_said(rt: HostRuntime) -> Result<(), Fail> {
+    let alloc = rt.alloc();
+    expect_utm(
+        &rt,
+        alloc,
+        ",visible\n\
+         wolf,2024-05-01 00:00:00,562000,5134000,33N,false\n\
+         bear,2024-05-01 00:00:00,,,33N,true\n\
+         a/b,2024-05-01 00:10:00,562000,5134000,33N,true\n\
+         a/b,2024-05-01 00:20:00,562000,5134000,33N,true\n",
+        &PLAIN,
+        "2 of 3 animals have one record: is individual-local-identifier the animal?\n\
+         1 records have no coordinates: left out\n\
+         1 outliers: left out\n\
+         UTM coordinates are those of the export; zone: 33N 2\n\
+         no fix of 'bear' is left: no file\n\
+         no fix of 'wolf' is left: no file\n\
+         columns: individual-local-identifier, timestamp, utm-easting, utm-northing; 1 animals, box 0.000 by 0.000 km\n\
+         animal 'a/b' is named a_b\n",
+    )?;
+    expect_utm(
+        &rt,
+        alloc,
+        ",visible\n\
+         a,2024-05-01 00:00:00,562000,5134000,33N,false\n\
+         b,2024-05-01 00:00:00,562000,5134000,33N,true\n\
+         b,2024-05-01 00:10:00,562000,5134000,34N,false\n\
+         a,2024-05-01 00:20:00,562000,5134000,33N,false\n",
+        &MARKED,
+        "3 outliers: use 0\n\
+         UTM coordinates are those of the export; zone: 33N 1\n\
+         1 outliers off the grid: left out\n\
+         no fix of a is used, which homerange refuses\n\
+         columns: individual-local-identifier, timestamp, utm-easting, utm-northing; 2 animals, box 0.000 by 0.000 km\n",
+    )
+}
+
+#[test]
+fn what_is_said_is_one_line(rt: HostRuntime) -> Result<(), Fail> {
+    let asked = Asked {
+        named: Named {
+            animal: &[b"a\x1Bnimal"],
+            ..PLAIN.named
+        },
+        ..PLAIN
+    };
+    expect(
+        &rt,
+        rt.alloc(),
+        "a\x1Bnimal,second,easting,northing\nfox,0,562000,5134000\nfox,1,562000,5134000\n",
+        &asked,
+        "coordinates are those of the table; zone: not known\n\
+         columns: a\\x1bnimal, second, easting, northing; 1 animals, box 0.000 by 0.000 km\n",
+    )
+}
