@@ -404,7 +404,7 @@ fn files_are_refused(rt: HostRuntime) -> Result<(), Fail> {
         (
             refused_text(alloc, TextFault::NotUtf8, path),
             Kind::Text,
-            "t.csv is no text in UTF-8: name its coding, such as --encoding latin-1",
+            "t.csv is no text in UTF-8, and other codings are not read yet: write it anew in UTF-8",
         ),
         (
             refused_table(alloc, TableFault::NoTitles, path),
