@@ -41,8 +41,8 @@ Options:
   -V, --version            Print version
 
 Table:
-  Fields stand between commas, semicolons or tabs. Columns that are not named
-  are found by their usual titles, such as those of Movebank:
+  Fields stand between commas or tabs. Columns that are not named are found by
+  their usual titles, such as those of Movebank:
     individual-local-identifier   the animal
     timestamp                     the time in UTC, such as 2024-05-01 00:30:04
     utm-easting, utm-northing     where it was, in metres
