@@ -107,6 +107,17 @@ fn bad_name(alloc: Global, path: &str) -> Refusal {
     }
 }
 
+// A refusal that also says that something is left.
+fn with_rest(alloc: Global, refusal: &Refusal) -> Refusal {
+    let Ok(mut text) = Vec::from_slice(alloc, &refusal.text) else {
+        return Refusal::out_of_memory(alloc);
+    };
+    match text.extend_from_slice(b"; and what was made of it could not be removed") {
+        Ok(()) => Refusal::new(alloc, refusal.kind, None, &text),
+        Err(_) => Refusal::out_of_memory(alloc),
+    }
+}
+
 // Why a folder is not written.
 fn refused_folder(
     alloc: Global,
@@ -114,9 +125,13 @@ fn refused_folder(
     files: &[NewFile<'_>],
     fault: &FolderFault,
 ) -> Refusal {
-    match fault {
-        FolderFault::BadName { .. } | FolderFault::SameName { .. } => bad_name(alloc, path),
-        FolderFault::Failed { step, error, .. } => failed_step(alloc, path, files, *step, error),
+    let FolderFault::Failed { step, error, left } = fault else {
+        return bad_name(alloc, path);
+    };
+    let refusal = failed_step(alloc, path, files, *step, error);
+    match left {
+        Some(_) => with_rest(alloc, &refusal),
+        None => refusal,
     }
 }
 
