@@ -26,23 +26,21 @@ swept, with ', 1 skipped' where TEST_ALLOCATIONS is left out. Needs `cc`.
 import argparse
 import collections
 import concurrent.futures
-import itertools
 import operator
 import os
 import pathlib
 import re
-import struct
-import subprocess
 import sys
 import tempfile
 import typing
 
+import refusing
 import tracks
+from refusing import Wrong, sampled
 
 HERE = pathlib.Path(__file__).resolve().parent
 SIZES = (5, 3)
 BLOCK = 2
-SECONDS = 60
 SAMPLED = 120
 MEMORY = ("homerange: out of memory\n", "homerange: out of memory, or a thread could not be started\n")
 LINE = re.compile("homerange: [ -~]+\n")
@@ -81,10 +79,6 @@ OPTIONS = "--percent --unit --block --depth --workers --help --version"
 FAILING = {"alone": {}, "for good": {"REFUSE_ON": "1"}}
 
 
-class Wrong(Exception):
-    """An answer that no run with these failures may give."""
-
-
 class Case(typing.NamedTuple):
     """Words of `homerange`, what fails beside its allocations, and what it comes to with ample memory."""
 
@@ -111,34 +105,6 @@ def has_words(output, words):
     return all(word in output for word in words.split())
 
 
-class Runs:
-    """Runs of a program in a folder in which calls fail."""
-
-    def __init__(self, program, folder):
-        self.program, self.folder, self.numbers = str(program.resolve()), folder, itertools.count()
-
-    def run(self, words, failing):
-        """Status, output and standard error of a run in which these fail, and the numbers of its calls, reads and
-        writes."""
-        count = self.folder / f"count-{next(self.numbers)}"
-        environment = {"LD_PRELOAD": f"{self.folder}/refuse.so", "REFUSE_COUNT": str(count), **failing}
-        try:
-            done = subprocess.run(
-                [self.program, *words.split()],
-                cwd=self.folder,
-                env=environment,
-                stdin=subprocess.DEVNULL,
-                capture_output=True,
-                text=True,
-                timeout=SECONDS,
-            )
-        except subprocess.TimeoutExpired:
-            raise Wrong(f"{failing} failed: no end within {SECONDS} seconds") from None
-        counts = struct.unpack("<3q", count.read_bytes())
-        count.unlink()
-        return (done.returncode, done.stdout, done.stderr), counts
-
-
 def shown(found):
     """What a run came to, cut short."""
     return tuple(text if len(str(text)) < 200 else f"{text[:60]}.. of {len(text)} bytes" for text in found)
@@ -146,7 +112,7 @@ def shown(found):
 
 def ample_run(runs, case):
     """The numbers of calls, reads and writes of a run with ample memory, which has to be as the case says."""
-    found, counts = runs.run(case.words, case.beside)
+    found, counts = runs.run(case.words.split(), case.beside)
     if not case.is_met(*found):
         raise Wrong(f"with ample memory it is {shown(found)}")
     return counts
@@ -164,27 +130,20 @@ def homerange_answer(case, found):
     return None
 
 
-def sampled(count, most):
-    """The numbers from 1 to this one, or so many of them, as far apart."""
-    if count <= most:
-        return range(1, count + 1)
-    return [1 + i * (count - 1) // (most - 1) for i in range(most)]
-
-
 def sweep_homerange(runs, case, most):
     """How often each answer came while calls failed in turn, alone and for good, and how many failed."""
-    calls = ample_run(runs, case)[0]
+    calls = ample_run(runs, case)["REFUSE"]
     answers, swept = collections.Counter(), 0
     for way, more in FAILING.items():
         failures = [{**case.beside, **more, "REFUSE_AT": str(call)} for call in sampled(calls, most)]
         with concurrent.futures.ThreadPoolExecutor(os.cpu_count()) as workers:
-            found = list(workers.map(lambda failing: runs.run(case.words, failing), failures))
+            found = list(workers.map(lambda failing: runs.run(case.words.split(), failing), failures))
         for failing, (came, counts) in zip(failures, found):
             answer = homerange_answer(case, came)
             if answer is None:
                 raise Wrong(f"call {failing['REFUSE_AT']} failed {way}: {shown(came)}")
             answers[answer] += 1
-            swept += counts[0] >= int(failing["REFUSE_AT"])
+            swept += counts["REFUSE"] >= int(failing["REFUSE_AT"])
     if not answers[WANTED]:
         raise Wrong("it never ran out of memory")
     return answers, swept
@@ -192,12 +151,12 @@ def sweep_homerange(runs, case, most):
 
 def sweep(runs, answer_of):
     """How often each answer came while each call failed in turn, and how many calls that were."""
-    ample, _ = runs.run("", {})
+    ample, _ = runs.run([], {})
     answers, failing = collections.Counter(), 0
     while True:
         failing += 1
-        found, counts = runs.run("", {"REFUSE_AT": str(failing)})
-        if counts[0] < failing:
+        found, counts = runs.run([], {"REFUSE_AT": str(failing)})
+        if counts["REFUSE"] < failing:
             return answers, failing - 1
         answer = answer_of(found, ample)
         if answer is None:
@@ -278,7 +237,8 @@ def other_cases():
 
 def failing_cases(runs, case):
     """A run with a report, with a read or a write that fails: the first of them, the middle and the last."""
-    _, reads, writes = ample_run(runs, case)
+    counts = ample_run(runs, case)
+    reads, writes = counts["READ"], counts["WRITE"]
     for read in sorted({1, (reads + 1) // 2, reads}):
         told = r"homerange: \w+\.csv: Input/output error\n"
         yield case._replace(beside={"READ_AT": str(read)}, status=1, output="", told=told)
@@ -318,10 +278,9 @@ def main():
         folder = pathlib.Path(room)
         tracks.write(folder)
         (folder / "bad.csv").write_text(tracks.FILE_A + "A,300,x,5\n")
-        subprocess.run(["cc", "-O2", "-shared", "-fPIC", HERE / "refuse.c", "-o", folder / "refuse.so"], check=True)
-        found = [is_well(*given) for given in homerange_sweeps(Runs(options.homerange, folder))]
+        found = [is_well(*given) for given in homerange_sweeps(refusing.Runs(options.homerange, folder))]
         if options.test_allocations:
-            runs = Runs(options.test_allocations, folder)
+            runs = refusing.Runs(options.test_allocations, folder)
             found.append(is_well(f"test_allocations, {options.sweeps} sweeps", sweep_calls, runs, options.sweeps))
     skipped = "" if options.test_allocations else ", 1 skipped"
     print(f"{found.count(True)} passed, {found.count(False)} failed{skipped}")

@@ -16,6 +16,9 @@ printf '#!/bin/sh\n[ "$#" -eq 0 ] || { cat missing; exit; }\necho it is installe
 printf '#!/bin/sh\necho release.sh: the same\n' >tools/release.sh
 echo 'print("2 passed, 0 failed")' >hostile/allocations.py
 echo 'print("8 passed, 0 failed")' >tools/tests/tables/run_program.py
+echo 'print("5 passed, 0 failed")' >tools/tests/tables/random_tables.py
+echo 'print("6 passed, 0 failed")' >hostile/split_faults.py
+echo 'print("7 passed, 0 failed")' >hostile/split_files.py
 printf '#!/bin/sh\necho "9 passed, 0 failed"\n' >with/rt
 chmod +x tools/*.sh with/rt
 echo '4 passed, 0 failed' >tools/says
@@ -37,12 +40,12 @@ ends() {
 }
 
 holds 'all parts' says
-holds 'the quick ones come first' ran 'release tools gate built split allocations'
-holds 'all are counted' ends '25 passed, 0 failed'
+holds 'the quick ones come first' ran 'release tools gate built split random faults files allocations'
+holds 'all are counted' ends '43 passed, 0 failed'
 holds 'the program of the gate is kept' grep -q '9 passed' kept
 touch anew
 holds 'without a program of these sources' says
-holds 'the gate comes first' ran 'release gate tools built split allocations'
+holds 'the gate comes first' ran 'release gate tools built split random faults files allocations'
 rm anew
 holds 'the quick parts alone' says --quick
 holds 'they are these' ran 'release tools allocations'
@@ -54,11 +57,11 @@ if [ ! -x /usr/bin/rt ] && [ ! -x /bin/rt ]; then
 fi
 echo '3 passed, 1 failed, 2 skipped' >tools/says
 holds 'a part that fails' is_refused says
-holds 'it is counted' ends '24 passed, 1 failed, 2 skipped'
+holds 'it is counted' ends '42 passed, 1 failed, 2 skipped'
 echo nothing >tools/says
 printf '#!/bin/sh\nexit 3\n' >tools/test.sh
 holds 'a part that is ended' is_refused says
-holds 'it is counted as one' ends '21 passed, 1 failed'
+holds 'it is counted as one' ends '39 passed, 1 failed'
 printf '#!/bin/sh\ncat tools/says\n' >tools/test.sh
 echo changed >release/homerange
 echo '4 passed, 0 failed' >tools/says

@@ -5,7 +5,8 @@ use split_command::answer;
 use std::process::ExitCode;
 
 fn main(rt: HostRuntime) -> ExitCode {
+    let mut input = rt.reader();
     let mut out = rt.stdout();
     let mut errors = rt.stderr();
-    ExitCode::from(answer(&rt, &rt, &mut out, &mut errors))
+    ExitCode::from(answer(&rt, &rt, &mut input, &mut out, &mut errors))
 }

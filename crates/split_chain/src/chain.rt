@@ -1,29 +1,30 @@
 // From the bytes of an export to the files of its tracks.
 
 ghost use Rattle.std.specs.Prelude.{◌≡◌, IfOk, length, map};
-ghost use Rattle.split_chain.specs.Chain.{AreFilesBy, AreFilesOf, IsSplit};
+ghost use Rattle.split_chain.specs.Chain.{AreFilesAt, AreFilesBy, AreFilesOf, AreMade, IsSplit, tracks_with};
+ghost use Rattle.split_counts.specs.Counts.{left_counts};
 ghost use Rattle.split_export.specs.Export.{bytes_of};
 ghost use Rattle.split_export.specs.Files.{entries_of_all, filed, files_of};
+ghost use Rattle.split_reading.specs.Words.{texts};
 
-use crate::read::{has_semicolons, read, refuse_other_animals, refused_semicolons, shown};
-use crate::steps::{counts_by, fates_by, names_by, tracks_by};
-use range_plane::Scale;
-use split_export::{Asked, Export, TrackFile, make_files, most_moved, rules_of, unrounded};
+use crate::placed::{choice_of, grid_of, moved_by, place};
+use crate::read::{read, refuse_maker, refuse_other_animals, shown};
+use crate::steps::{counts_by, fates_by, leave_out_by, names_by, tracks_by};
+use crate::times::form_of_times;
+use crate::wish::Wish;
+use range_plane::OutOfMemory;
+use split_counts::count_of;
+use split_export::{Asked, Export, TrackFile, make_files};
 use split_fates::Choice;
-use split_reading::{Ledger, Rules, Zone};
+use split_reading::{Ledger, Row};
 use split_refusal::Refusal;
-use split_said::{Grid, Said, Sheet, animals_in_order, check_ledger, find_grid, tell_tracks};
-use split_tracks::{Entry, Fate};
+use split_said::{
+    Grid, Said, Sheet, TimesRead, Wanted, animals_in_order, check_halves, check_ledger, tell_every,
+    tell_files, tell_speed, tell_tracks,
+};
+use split_titles::Columns;
+use split_tracks::{Entry, Fate, Reason};
 use std::alloc::Global;
-
-/// What is wished of tracks.
-#[derive(Clone, Copy)]
-pub struct Wish {
-    /// The zone of all coordinates.
-    pub zone: Option<Zone>,
-    /// Whether fixes that are not used stand in tracks, with a mark; else they are left out.
-    pub keeps_marks: bool,
-}
 
 /// What an export comes to.
 #[derive(Drop)]
@@ -46,68 +47,89 @@ struct Made {
     counts: Vec<usize>,
 }
 
-// A table that was read, and how it was read.
+// A table that was read, whose rows are placed on a grid.
 #[derive(Clone, Copy)]
 struct Look<'a> {
     bytes: &'a [u8],
     sheet: &'a Sheet<'a>,
-    rules: &'a Rules<'a>,
+    wish: &'a Wish<'a>,
     ledger: &'a Ledger,
+    grid: &'a Grid,
+    // By how many metres rounding moves a fix at most, of fixes that are projected.
+    projected: Option<f64>,
 }
 
-// So many metres in units.
-fn in_units(unit: Scale, metres: i64) -> i64 {
-    match unit {
-        Scale::Metre => metres,
-        Scale::Decimetre => metres.saturating_mul(10),
+// The fates of records, and the names of animals.
+#[derive(Drop)]
+struct Fated {
+    fates: Vec<Fate>,
+    names: Vec<Vec<u8>>,
+}
+
+// The tracks of records, the animals that have a record in theirs, and how many records are left out.
+#[derive(Drop)]
+struct Filtered {
+    tracks: Vec<Vec<Entry>>,
+    order: Vec<u32>,
+    counts: Vec<usize>,
+}
+
+// Says what there is to say of tracks before filters look at them.
+fn tell(alloc: Global, said: &mut Said, look: &Look<'_>, fated: &Fated) -> Result<(), Refusal> {
+    let tracks = tracks_by(alloc, &fated.fates, &fated.names)?;
+    let moved = moved_by(alloc, look.bytes, look.sheet, &fated.fates, look.projected)?;
+    tell_tracks(
+        alloc,
+        said,
+        look.sheet,
+        look.grid,
+        &fated.fates,
+        &tracks,
+        &fated.names,
+        moved,
+    )
+}
+
+// How many records are left out for a reason, of all animals.
+fn count_left(counts: &[usize], animals: usize, reason: Reason) -> usize {
+    let many = u32::try_from(animals).unwrap_or(u32::MAX);
+    let mut count: usize = 0;
+    for animal in 0..many {
+        count = count.saturating_add(count_of(counts, many, Some(animal), reason));
     }
+    count
 }
 
-// Which fixes are taken, and on which grid.
-fn choice_of(grid: &Grid, unit: Scale, keeps_marks: bool) -> Choice
-    ensures unit { result.unit ≡ unit }
-    ensures marks { result.keeps_marks ≡ keeps_marks }
-{
-    let (east, north) = grid.shift;
-    Choice {
-        keeps_marks,
-        zone: grid.of_zone,
-        unit,
-        shift: (in_units(unit, east), in_units(unit, north)),
+// Says how many fixes the filters left out that look at more than one.
+fn tell_left(
+    alloc: Global,
+    said: &mut Said,
+    wish: &Wish<'_>,
+    counts: &[usize],
+    animals: usize,
+) -> Result<(), OutOfMemory> {
+    if let Some(speed) = wish.speed {
+        let left = count_left(counts, animals, Reason::Speed);
+        tell_speed(alloc, said, speed.millionths, left)?;
     }
-}
-
-// Checks the records of a table as a whole, and finds the grid of its tracks.
-fn check(alloc: Global, said: &mut Said, look: &Look<'_>) -> Result<Grid, Refusal> {
-    check_ledger(alloc, said, look.sheet, look.ledger)?;
-    match unrounded(alloc, look.bytes, look.rules, &look.ledger.rows) {
-        Ok(unrounded) => find_grid(alloc, said, look.sheet, look.ledger, unrounded),
-        Err(_) => Err(Refusal::out_of_memory(alloc)),
+    if let Some(length) = wish.every {
+        let left = count_left(counts, animals, Reason::Every);
+        tell_every(alloc, said, length, left)?;
     }
+    Ok(())
 }
 
-// Says what there is to say of tracks.
-fn tell(
+// Checks what filters left out, and says it.
+fn check_left(
     alloc: Global,
     said: &mut Said,
     look: &Look<'_>,
-    grid: &Grid,
-    fates: &[Fate],
-    tracks: &[Vec<Entry>],
     names: &[Vec<u8>],
+    counts: &[usize],
 ) -> Result<(), Refusal> {
-    match most_moved(alloc, look.bytes, look.rules, fates) {
-        Ok(moved) => tell_tracks(
-            alloc,
-            said,
-            look.sheet,
-            look.ledger,
-            grid,
-            fates,
-            tracks,
-            names,
-            moved,
-        ),
+    check_halves(alloc, names, &look.ledger.rows, counts)?;
+    match tell_left(alloc, said, look.wish, counts, names.len()) {
+        Ok(()) => Ok(()),
         Err(_) => Err(Refusal::out_of_memory(alloc)),
     }
 }
@@ -137,22 +159,59 @@ fn order_by(alloc: Global, fates: &[Fate], animals: usize) -> Result<Vec<u32>, R
     }
 }
 
-// The files of the tracks of a table, and the animals that have a record in theirs.
-fn make(
+// The tracks of records with these fates, once filters left some out, and what there is to say of them.
+fn filtered_tracks(
     alloc: Global,
     said: &mut Said,
     look: &Look<'_>,
-    grid: &Grid,
-    choice: &Choice,
-) -> Result<Made, Refusal>
-    ensures { IfOk result (λ made. AreFilesBy choice.now look.now.ledger.now (map filed made.files.items) made.counts.items) }
+    fated: &Fated,
+) -> Result<Filtered, Refusal>
+    ensures tracks { IfOk result (λ filtered. entries_of_all filtered.tracks.items
+        ≡ tracks_with (bytes_of fated.now.names.items) fated.now.fates.items) }
+    ensures count { IfOk result (λ filtered. length fated.now.names.items ≡ length filtered.tracks.items) }
+    ensures counts { IfOk result (λ filtered. filtered.counts.items
+        ≡ left_counts (length (bytes_of fated.now.names.items)) fated.now.fates.items) }
 {
-    let fates = fates_by(alloc, choice, look.ledger)?;
-    let names = names_by(alloc, look.ledger)?;
-    let tracks = tracks_by(alloc, &fates, &names)?;
-    tell(alloc, said, look, grid, &fates, &tracks, &names)?;
-    let order = order_by(alloc, &fates, tracks.len())?;
-    let counts = counts_by(alloc, &fates, &names)?;
+    let tracks = tracks_by(alloc, &fated.fates, &fated.names)?;
+    let counts = counts_by(alloc, &fated.fates, &fated.names)?;
+    check_left(alloc, said, look, &fated.names, &counts)?;
+    tell_files(
+        alloc,
+        said,
+        look.sheet,
+        look.grid,
+        look.ledger,
+        &fated.fates,
+        &tracks,
+        &fated.names,
+    )?;
+    let order = order_by(alloc, &fated.fates, tracks.len())?;
+    Ok(Filtered {
+        tracks,
+        order,
+        counts,
+    })
+}
+
+// The files of the tracks of records with these fates, once filters left some out. The fates go before the files are made: both
+// take as much memory as half of an export.
+fn make_filtered(
+    alloc: Global,
+    said: &mut Said,
+    look: &Look<'_>,
+    choice: &Choice,
+    fated: Fated,
+) -> Result<Made, Refusal>
+    ensures { IfOk result (λ made. AreMade choice.now (bytes_of fated.names.items) fated.fates.items
+        (map filed made.files.items) made.counts.items) }
+{
+    let Filtered {
+        tracks,
+        order,
+        counts,
+    } = filtered_tracks(alloc, said, look, &fated)?;
+    let Fated { fates, names } = fated;
+    drop(fates);
     let files = files_by(alloc, choice, &names, &tracks)?;
     Ok(Made {
         files,
@@ -161,30 +220,104 @@ fn make(
     })
 }
 
-// The split of a table that was read.
-fn split_look(
-    alloc: Global,
-    look: &Look<'_>,
-    unit: Scale,
-    keeps_marks: bool,
-) -> Result<Split, Refusal>
-    ensures { IfOk result (λ split. AreFilesOf unit keeps_marks look.now.ledger.now (map filed split.files.items) split.counts.items) }
+// The files of the tracks of a table, and the animals that have a record in theirs.
+fn make(alloc: Global, said: &mut Said, look: &Look<'_>, choice: &Choice) -> Result<Made, Refusal>
+    ensures { IfOk result (λ made. AreFilesBy look.now.wish.now choice.now (texts look.now.ledger.now.names)
+        look.now.ledger.now.rows.items (map filed made.files.items) made.counts.items) }
 {
-    let mut said = Said::new(alloc);
-    let grid = check(alloc, &mut said, look)?;
-    let choice = choice_of(&grid, unit, keeps_marks);
+    let fates = fates_by(alloc, choice, &look.ledger.rows)?;
+    let names = names_by(alloc, look.ledger)?;
+    let mut fated = Fated { fates, names };
+    tell(alloc, said, look, &fated)?;
+    leave_out_by(
+        alloc,
+        &mut fated.fates,
+        &fated.names,
+        look.wish.speed_filter(choice.unit),
+    )?;
+    leave_out_by(
+        alloc,
+        &mut fated.fates,
+        &fated.names,
+        look.wish.every_filter(),
+    )?;
+    make_filtered(alloc, said, look, choice, fated)
+}
+
+// Checks the records of a table as a whole, and finds their grid.
+fn check(
+    alloc: Global,
+    said: &mut Said,
+    bytes: &[u8],
+    sheet: &Sheet<'_>,
+    ledger: &Ledger,
+) -> Result<Grid, Refusal> {
+    check_ledger(alloc, said, sheet, ledger)?;
+    grid_of(alloc, said, bytes, sheet, ledger)
+}
+
+// The split of a table whose rows are placed.
+fn split_placed(
+    alloc: Global,
+    said: Said,
+    look: &Look<'_>,
+    columns: &Columns<Global>,
+) -> Result<Split, Refusal>
+    ensures { IfOk result (λ split. AreFilesAt look.now.wish.now look.now.sheet.now.unit columns.now (texts look.now.ledger.now.names)
+        look.now.ledger.now.rows.items (map filed split.files.items) split.counts.items) }
+{
+    let mut said = said;
+    let choice = choice_of(
+        columns,
+        &look.ledger.rows,
+        look.grid,
+        look.sheet.unit,
+        look.wish,
+    );
     let Made {
         files,
         order,
         counts,
-    } = make(alloc, &mut said, look, &grid, &choice)?;
+    } = make(alloc, &mut said, look, &choice)?;
     Ok(Split {
         files,
         order,
         counts,
         said,
-        grid,
+        grid: *look.grid,
     })
+}
+
+// The split of a table.
+fn split_sheet(
+    alloc: Global,
+    bytes: &[u8],
+    sheet: &Sheet<'_>,
+    wish: &Wish<'_>,
+    columns: &Columns<Global>,
+    ledger: &mut Ledger,
+) -> Result<Split, Refusal>
+    ensures { IfOk result (λ split. AreFilesOf wish.now sheet.now.unit columns.now ledger.old
+        (map filed split.files.items) split.counts.items) }
+{
+    let mut said = Said::new(alloc);
+    let grid = check(alloc, &mut said, bytes, sheet, ledger)?;
+    let projected = place(
+        &mut ledger.rows,
+        columns,
+        &grid,
+        sheet.unit,
+        wish.keeps_marks,
+    );
+    let look = Look {
+        bytes,
+        sheet,
+        wish,
+        ledger,
+        grid: &grid,
+        projected,
+    };
+    split_placed(alloc, said, &look, columns)
 }
 
 // The split of an export.
@@ -192,15 +325,14 @@ fn split_read(
     alloc: Global,
     bytes: &[u8],
     asked: &Asked<'_>,
-    wish: &Wish,
-    export: &Export,
+    wish: &Wish<'_>,
+    form: &[u8],
+    export: &mut Export,
 ) -> Result<Split, Refusal>
-    ensures { IfOk result (λ split. AreFilesOf asked.now.unit wish.now.keeps_marks export.now.ledger (map filed split.files.items) split.counts.items) }
+    ensures { IfOk result (λ split. AreFilesOf wish.now asked.now.unit export.old.columns export.old.ledger
+        (map filed split.files.items) split.counts.items) }
 {
-    let (Ok(titles), Ok(rules)) = (
-        shown(alloc, &export.titles),
-        rules_of(&export.columns, export.titles.len(), asked),
-    ) else {
+    let Ok(titles) = shown(alloc, &export.titles) else {
         return Err(Refusal::out_of_memory(alloc));
     };
     let sheet = Sheet {
@@ -209,15 +341,27 @@ fn split_read(
         unit: asked.unit,
         zone: wish.zone,
         name: asked.name,
+        times: TimesRead {
+            form,
+            clock: wish.clock_name.as_bytes(),
+        },
+        filters: asked.filters,
+        wanted: Wanted {
+            classes: wish.classes,
+            types: wish.types,
+            since: wish.since,
+            until: wish.until,
+        },
         keeps_marks: wish.keeps_marks,
     };
-    let look = Look {
+    split_sheet(
+        alloc,
         bytes,
-        sheet: &sheet,
-        rules: &rules,
-        ledger: &export.ledger,
-    };
-    split_look(alloc, &look, asked.unit, wish.keeps_marks)
+        &sheet,
+        wish,
+        &export.columns,
+        &mut export.ledger,
+    )
 }
 
 /// Splits the bytes of an export at this path into the files of its tracks, and says what was guessed, left out, sorted, shifted
@@ -231,14 +375,13 @@ pub fn split_export(
     bytes: &[u8],
     path: &[u8],
     asked: &Asked<'_>,
-    wish: &Wish,
+    wish: &Wish<'_>,
 ) -> Result<Split, Refusal>
     ensures { IfOk result (λ split. IsSplit wish.now asked.now bytes.now split.files.items split.counts.items) }
 {
-    if has_semicolons(bytes) {
-        return Err(refused_semicolons(alloc));
-    }
-    let export = read(alloc, bytes, path, asked)?;
+    let mut export = read(alloc, bytes, path, asked, wish.needs_time, wish.clock_name)?;
+    refuse_maker(alloc, asked, &export)?;
     refuse_other_animals(alloc, bytes, path, &export)?;
-    split_read(alloc, bytes, asked, wish, &export)
+    let form = form_of_times(alloc, bytes, asked, wish, &export)?;
+    split_read(alloc, bytes, asked, wish, &form, &mut export)
 }

@@ -3,7 +3,11 @@
 #![tactic(auto)]
 
 mod chain;
+mod placed;
 mod read;
 mod steps;
+mod times;
+mod wish;
 
-pub use chain::{Split, Wish, split_export};
+pub use chain::{Split, split_export};
+pub use wish::Wish;

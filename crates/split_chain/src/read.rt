@@ -8,8 +8,11 @@ use split_export::{
     Asked, Export, ExportFault, NotTaken, fields_of_record, part_alike, read_export, titles_of,
 };
 use split_reading::{CellFault, ReadingFault};
-use split_refusal::{Kind, Refusal, refused_cell, refused_table, refused_text, refused_titles};
-use split_titles::{Role, TitleFault};
+use split_refusal::{
+    Kind, RecordShown, Refusal, refused_cell, refused_day, refused_grouped, refused_table,
+    refused_text, refused_titles,
+};
+use split_titles::{Columns, Role, TitleFault, maker_of, trimmed};
 use std::alloc::Global;
 
 // Texts, as they are shown.
@@ -32,13 +35,52 @@ fn title_refusal(alloc: Global, bytes: &[u8], path: &[u8], fault: TitleFault<'_>
     }
 }
 
-// The refusal of a record.
-fn cell_refusal(
+// Why a record is refused.
+#[derive(Clone, Copy)]
+enum RecordFault {
+    Cell(CellFault),
+    // All times of its column may be days with hours.
+    Day,
+}
+
+// The refusal of a record, of which this is shown.
+fn shown_refusal(alloc: Global, fault: RecordFault, shown: &RecordShown<'_>) -> Refusal {
+    match fault {
+        RecordFault::Cell(fault) => refused_cell(alloc, fault, shown),
+        RecordFault::Day => refused_day(alloc, shown),
+    }
+}
+
+// The refusal of a record with these titles and fields.
+fn fields_refusal<'a>(
+    alloc: Global,
+    fault: RecordFault,
+    number: u32,
+    titles: &'a [&'a [u8]],
+    fields: &'a [&'a [u8]],
+    animal: &'a [usize],
+    time: &'a [usize],
+    clock: &'a str,
+) -> Refusal {
+    let shown = RecordShown {
+        number,
+        titles,
+        fields,
+        animal,
+        time,
+        clock,
+    };
+    shown_refusal(alloc, fault, &shown)
+}
+
+// The refusal of a record of a table with such columns.
+fn record_refusal(
     alloc: Global,
     bytes: &[u8],
     record: u32,
-    fault: CellFault,
-    animal: Option<usize>,
+    fault: RecordFault,
+    columns: &Columns<Global>,
+    clock: &str,
 ) -> Refusal {
     let (Ok(titles), Ok(fields)) = (
         titles_of(alloc, bytes),
@@ -47,9 +89,50 @@ fn cell_refusal(
         return Refusal::out_of_memory(alloc);
     };
     match (shown(alloc, &titles), shown(alloc, &fields)) {
-        (Ok(titles), Ok(fields)) => refused_cell(alloc, fault, record, &titles, &fields, animal),
+        (Ok(titles), Ok(fields)) => fields_refusal(
+            alloc,
+            fault,
+            record,
+            &titles,
+            &fields,
+            &columns.animal,
+            &columns.time,
+            clock,
+        ),
         _ => Refusal::out_of_memory(alloc),
     }
+}
+
+/// The refusal of a record whose time may be a day with hours, as all of its column.
+pub(crate) fn day_refusal(
+    alloc: Global,
+    bytes: &[u8],
+    record: u32,
+    columns: &Columns<Global>,
+) -> Refusal {
+    record_refusal(alloc, bytes, record, RecordFault::Day, columns, "UTC")
+}
+
+/// The refusal of a table without a column of the time, of which one with another title has times.
+pub(crate) fn untimed_refusal(alloc: Global, titles: &[Vec<u8>], column: usize) -> Refusal {
+    let title = match titles.get(column) {
+        Some(title) => trimmed(title),
+        None => b"",
+    };
+    let title = str::from_utf8(title).unwrap_or("");
+    match format!(in alloc;
+        "no column has a usual title for the time, and {title} has times: name it, as by --time '{title}', or leave it out"
+    ) {
+        Ok(text) => Refusal::new(alloc, Kind::Columns, None, text.as_bytes()),
+        Err(_) => Refusal::out_of_memory(alloc),
+    }
+}
+
+// The columns of a table, once more.
+fn columns_again(alloc: Global, bytes: &[u8], asked: &Asked<'_>) -> Option<Columns<Global>> {
+    let titles = titles_of(alloc, bytes).ok()?;
+    let shown = shown(alloc, &titles).ok()?;
+    split_titles::find_columns(alloc, &shown, &asked.named).ok()
 }
 
 // The refusal of records.
@@ -57,7 +140,8 @@ fn reading_refusal(
     alloc: Global,
     bytes: &[u8],
     fault: ReadingFault,
-    animal: Option<usize>,
+    asked: &Asked<'_>,
+    clock: &str,
 ) -> Refusal {
     match fault {
         ReadingFault::OutOfMemory => Refusal::out_of_memory(alloc),
@@ -67,22 +151,28 @@ fn reading_refusal(
             None,
             b"the table has 4,294,967,296 records or more, which are not read: split it",
         ),
-        ReadingFault::Record { record, fault } => cell_refusal(alloc, bytes, record, fault, animal),
+        ReadingFault::Record { record, fault } => match columns_again(alloc, bytes, asked) {
+            Some(columns) => record_refusal(
+                alloc,
+                bytes,
+                record,
+                RecordFault::Cell(fault),
+                &columns,
+                clock,
+            ),
+            None => Refusal::out_of_memory(alloc),
+        },
     }
 }
 
-// The refusal of columns for which there is no rule.
-fn refused_columns(alloc: Global, fault: NotTaken) -> Refusal {
-    let text = match fault {
-        NotTaken::Degrees => {
-            "longitude and latitude are not projected yet: name columns of metres, as by --easting X and --northing Y"
-        }
-        NotTaken::Animals =>
-            "an animal whose name stands in several columns is not read yet: name one by --animal",
-        NotTaken::Times =>
-            "a time that stands in several columns is not read yet: name one by --time",
-    };
-    Refusal::new(alloc, Kind::Unread, None, text.as_bytes())
+// That an option needs a time, and no column has it.
+fn refused_no_time(alloc: Global, option: &str) -> Refusal {
+    match format!(in alloc;
+        "{option}: no column has a usual title for the time: name it, as by --time COLUMN"
+    ) {
+        Ok(text) => Refusal::new(alloc, Kind::Option, None, text.as_bytes()),
+        Err(_) => Refusal::out_of_memory(alloc),
+    }
 }
 
 // The refusal of an export.
@@ -91,45 +181,66 @@ fn export_refusal(
     bytes: &[u8],
     path: &[u8],
     asked: &Asked<'_>,
+    option: &str,
+    clock: &str,
     fault: ExportFault<'_>,
 ) -> Refusal {
     match fault {
         ExportFault::Text(fault) => refused_text(alloc, fault, path),
         ExportFault::Table(fault) => refused_table(alloc, fault, path),
         ExportFault::Titles(fault) => title_refusal(alloc, bytes, path, fault),
-        ExportFault::NotTaken(fault) => refused_columns(alloc, fault),
-        ExportFault::Reading(fault) => reading_refusal(
-            alloc,
-            bytes,
-            fault,
-            animal_column(alloc, bytes, asked),
-        ),
+        ExportFault::NotTaken(NotTaken::NoTime) => refused_no_time(alloc, option),
+        ExportFault::Reading(fault) => reading_refusal(alloc, bytes, fault, asked, clock),
     }
 }
 
-/// Whether semicolons part the fields of a table: one stands before the first comma of its first line that is not blank.
-pub(crate) fn has_semicolons(bytes: &[u8]) -> bool {
-    for byte in bytes
-        .iter()
-        .skip_while(|byte| **byte == b'\n' || **byte == b'\r')
-    {
-        match *byte {
-            b';' => return true,
-            b',' | b'\n' | b'\r' => return false,
-            _ => {}
-        }
+/// The refusal of a number whose sign may stand before thousands, in a record and a column.
+pub(crate) fn grouped_refusal(alloc: Global, bytes: &[u8], record: u32, column: usize) -> Refusal {
+    let (Ok(titles), Ok(fields)) = (
+        titles_of(alloc, bytes),
+        fields_of_record(alloc, bytes, record),
+    ) else {
+        return Refusal::out_of_memory(alloc);
+    };
+    match (shown(alloc, &titles), shown(alloc, &fields)) {
+        (Ok(titles), Ok(fields)) => refused_grouped(alloc, record, &titles, &fields, column),
+        _ => Refusal::out_of_memory(alloc),
     }
-    false
 }
 
-// The refusal of a table whose fields semicolons part.
-pub(crate) fn refused_semicolons(alloc: Global) -> Refusal {
-    let text =
-        "semicolons between fields are not read yet: write the table with commas, and decimals behind points";
-    Refusal::new(alloc, Kind::Unread, None, text.as_bytes())
+// That the columns are those of a maker.
+fn refused_maker(alloc: Global, maker: &str) -> Refusal {
+    match format!(in alloc; "the columns are those of {maker}: read them by --from {maker}") {
+        Ok(text) => Refusal::new(alloc, Kind::Columns, None, text.as_bytes()),
+        Err(_) => Refusal::out_of_memory(alloc),
+    }
 }
 
-/// Reads the table of an export.
+/// Refuses the table of a maker none of whose columns is named, and no title of the time is a usual one.
+///
+/// # Errors
+///
+/// It is one, or memory ran out.
+pub(crate) fn refuse_maker(
+    alloc: Global,
+    asked: &Asked<'_>,
+    export: &Export,
+) -> Result<(), Refusal> {
+    let named = &asked.named;
+    if !export.columns.time.is_empty() || named.lon.is_some() || named.easting.is_some() {
+        return Ok(());
+    }
+    let Ok(titles) = shown(alloc, &export.titles) else {
+        return Err(Refusal::out_of_memory(alloc));
+    };
+    match maker_of(&titles) {
+        Some(maker) => Err(refused_maker(alloc, maker)),
+        None => Ok(()),
+    }
+}
+
+/// Reads the table of an export. `option` is the one that needs a time, if one does, and `clock` the name of the zone by whose clock
+/// times are read.
 ///
 /// # Errors
 ///
@@ -139,21 +250,15 @@ pub(crate) fn read(
     bytes: &[u8],
     path: &[u8],
     asked: &Asked<'_>,
+    option: &str,
+    clock: &str,
 ) -> Result<Export, Refusal>
     ensures { IfOk result (IsExport asked.now bytes.now) }
 {
     match read_export(alloc, bytes, asked) {
         Ok(export) => Ok(export),
-        Err(fault) => Err(export_refusal(alloc, bytes, path, asked, fault)),
+        Err(fault) => Err(export_refusal(alloc, bytes, path, asked, option, clock, fault)),
     }
-}
-
-// The column of the animal, for the sentence of a record that names none.
-fn animal_column(alloc: Global, bytes: &[u8], asked: &Asked<'_>) -> Option<usize> {
-    let titles = titles_of(alloc, bytes).ok()?;
-    let shown = shown(alloc, &titles).ok()?;
-    let columns = split_titles::find_columns(alloc, &shown, &asked.named).ok()?;
-    columns.animal.first().copied()
 }
 
 /// Refuses two columns of animals that part the records otherwise than each other.

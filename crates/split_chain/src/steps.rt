@@ -1,7 +1,7 @@
 // The steps from what records say to tracks, or their refusals.
 
-ghost use Rattle.std.specs.Prelude.{◌≡◌, IfOk, Ok, length, map};
-ghost use Rattle.split_chain.specs.Chain.{tracks_with};
+ghost use Rattle.std.specs.Prelude.{◌≡◌, IfOk, Ok, OnOk, length, map};
+ghost use Rattle.split_chain.specs.Chain.{filtered_by, tracks_with};
 ghost use Rattle.split_counts.specs.Counts.{left_counts};
 ghost use Rattle.split_export.specs.Export.{bytes_of};
 ghost use Rattle.split_export.specs.Files.{entries_of_all};
@@ -14,8 +14,9 @@ use range_plane::Scale;
 use split_counts::left_counts;
 use split_fates::{Choice, FatesFault, fates_of};
 use split_names::{NamesFault, file_names};
+use split_pace::{Filter, leave_out};
 use split_reading::{Ledger, Row, Told};
-use split_refusal::{Refusal, refused_names, refused_off_grid};
+use split_refusal::{Refusal, refused_names, refused_no_place, refused_off_grid};
 use split_tracks::{Entry, Fate, tracks_of};
 use std::alloc::Global;
 
@@ -29,9 +30,10 @@ fn off_grid(alloc: Global, rows: &[Row], record: u32, unit: Scale) -> Refusal {
         },
     ) = row
     {
-        if let Some((easting, northing)) = fix.metres {
-            return refused_off_grid(alloc, record, easting, northing, unit);
-        }
+        return match fix.metres {
+            Some((easting, northing)) => refused_off_grid(alloc, record, easting, northing, unit),
+            None => refused_no_place(alloc, record),
+        };
     }
     Refusal::out_of_memory(alloc)
 }
@@ -41,18 +43,12 @@ fn off_grid(alloc: Global, rows: &[Row], record: u32, unit: Scale) -> Refusal {
 /// # Errors
 ///
 /// Why the table is refused.
-pub(crate) fn fates_by(
-    alloc: Global,
-    choice: &Choice,
-    ledger: &Ledger,
-) -> Result<Vec<Fate>, Refusal>
-    ensures { IfOk result (λ fates. fates_of choice.now ledger.now.rows.items ≡ Ok fates.items) }
+pub(crate) fn fates_by(alloc: Global, choice: &Choice, rows: &[Row]) -> Result<Vec<Fate>, Refusal>
+    ensures { IfOk result (λ fates. fates_of choice.now rows.now ≡ Ok fates.items) }
 {
-    match fates_of(alloc, choice, &ledger.rows) {
+    match fates_of(alloc, choice, rows) {
         Ok(fates) => Ok(fates),
-        Err(FatesFault::OffGrid { record }) => {
-            Err(off_grid(alloc, &ledger.rows, record, choice.unit))
-        }
+        Err(FatesFault::OffGrid { record }) => Err(off_grid(alloc, rows, record, choice.unit)),
         Err(_) => Err(Refusal::out_of_memory(alloc)),
     }
 }
@@ -98,6 +94,31 @@ pub(crate) fn tracks_by(
     };
     match tracks_of(alloc, fates, animals) {
         Ok(tracks) => Ok(tracks),
+        Err(_) => Err(Refusal::out_of_memory(alloc)),
+    }
+}
+
+/// Leaves out the records that a filter leaves out of the tracks of as many animals as there are names, if there is a filter.
+///
+/// # Errors
+///
+/// Memory ran out.
+pub(crate) fn leave_out_by(
+    alloc: Global,
+    fates: &mut Vec<Fate>,
+    names: &[Vec<u8>],
+    filter: Option<Filter<'_>>,
+) -> Result<(), Refusal>
+    ensures { OnOk result (fates.new.items ≡ filtered_by filter.entry (length (bytes_of names.now)) fates.old.items) }
+{
+    let Some(filter) = filter else {
+        return Ok(());
+    };
+    let Ok(animals) = u32::try_from(names.len()) else {
+        return Err(Refusal::out_of_memory(alloc));
+    };
+    match leave_out(alloc, fates, animals, filter) {
+        Ok(()) => Ok(()),
         Err(_) => Err(Refusal::out_of_memory(alloc)),
     }
 }

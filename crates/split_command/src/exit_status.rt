@@ -1,48 +1,47 @@
 // From the words of the command line to the status with which the program ends.
 
+use crate::clock::clock_of;
 use crate::command_line::command_words;
+use crate::machine::{MACHINE, machine_record};
 use crate::run::run;
-use range_plane::OutOfMemory;
+use crate::stop::{Stop, say, tell};
+use split_clock::Clock;
 use split_refusal::{Kind, Refusal};
-use split_words::{WordFault, read_words};
+use split_words::{WordFault, Words, read_words};
 use std::alloc::Global;
 use std::env::Env;
-use std::io::Write;
+use std::io::{Read, Write};
 use std::rt::Files;
 
-// What stands before each line on standard error.
-const PROGRAM: &[u8] = b"split: ";
-
-// A line as it is written.
-fn whole_line(alloc: Global, line: &[u8]) -> Result<Vec<u8>, OutOfMemory> {
-    let mut text = Vec::new(alloc);
-    text.extend_from_slice(PROGRAM)?;
-    text.extend_from_slice(line)?;
-    text.extend_from_slice(b"\n")?;
-    Ok(text)
+// Says why there is no folder of an export at this path as a record of CSV, and gives the status of the program.
+fn tell_record<X: Write>(alloc: Global, stop: &Stop, export: &str, errors: &mut X) -> u8 {
+    let record = machine_record(alloc, stop, export);
+    let _ = match &record {
+        Some(record) => errors.write_all(record),
+        None => errors.write_all(b"memory,,,not enough memory\n"),
+    };
+    stop.refusal.kind.status()
 }
 
-// Says a line. Who does not take it cannot be told so.
-fn say<X: Write>(alloc: Global, line: &[u8], errors: &mut X) {
-    match whole_line(alloc, line) {
-        Ok(text) => {
-            let _ = errors.write_all(&text);
+// Whether the words ask for a record of CSV, be they right or not.
+fn asks_for_record(words: &[String]) -> bool {
+    for word in words {
+        if word.as_str() == "--" {
+            return false;
         }
-        Err(_) => {
-            let _ = errors.write_all(b"split: not enough memory\n");
+        if word.as_str() == MACHINE {
+            return true;
         }
     }
+    false
 }
 
-// Says why the program ends, and gives its status.
-fn tell<X: Write>(alloc: Global, refusal: &Refusal, errors: &mut X) -> u8 {
-    match refusal.line(alloc) {
-        Ok(line) => say(alloc, &line, errors),
-        Err(_) => {
-            let _ = errors.write_all(b"split: not enough memory\n");
-        }
+// The export that words name which were read.
+fn export_of<'a>(read: &Result<(Words<'a>, Clock), WordFault>) -> &'a str {
+    match read {
+        Ok((words, _clock)) => words.export,
+        Err(_) => "",
     }
-    refusal.kind.status()
 }
 
 // The first line of what `clap` says of words, without the word `error` before it.
@@ -68,47 +67,81 @@ fn bad_words(alloc: Global, text: &str) -> Refusal {
     Refusal::new(alloc, Kind::Option, None, first_line(text).as_bytes())
 }
 
+// A refusal once more.
+fn copy_of(alloc: Global, refusal: &Refusal) -> Refusal {
+    Refusal::new(alloc, refusal.kind, refusal.record, &refusal.text)
+}
+
+// Does what words ask for that were read, and answers what is said of it.
+fn done<R: Files + AllocGlobal, I: Read, W: Write>(
+    rt: &R,
+    read: &Result<(Words<'_>, Clock), WordFault>,
+    input: &mut I,
+    out: &mut W,
+) -> Result<Vec<Vec<u8>>, Stop> {
+    let alloc = rt.alloc();
+    match read {
+        Ok((words, clock)) => run(rt, words, clock, input),
+        Err(WordFault::Help(text) | WordFault::Version(text)) => {
+            reply(alloc, text.as_str(), out)?;
+            Ok(Vec::new(alloc))
+        }
+        Err(WordFault::BadWords(text)) => Err(Stop::from(bad_words(alloc, text.as_str()))),
+        Err(WordFault::OutOfMemory) => Err(Stop::from(Refusal::out_of_memory(alloc))),
+        Err(WordFault::Refused(refusal)) => Err(Stop::from(copy_of(alloc, refusal))),
+    }
+}
+
+// What the words say, and the clock by which they have times.
+fn read_all<'a, R: Files + AllocGlobal>(
+    rt: &R,
+    words: &'a [String],
+) -> Result<(Words<'a>, Clock), WordFault> {
+    let mut read = read_words(rt.alloc(), words)?;
+    let clock = match clock_of(rt, read.clock_name()) {
+        Ok(clock) => clock,
+        Err(refusal) => return Err(WordFault::Refused(refusal)),
+    };
+    read.read_bounds(rt.alloc(), &clock)?;
+    Ok((read, clock))
+}
+
 // Does what the words ask for, and says what is said of it.
-fn obey<R: Files + AllocGlobal, W: Write, X: Write>(
+fn obey<R: Files + AllocGlobal, I: Read, W: Write, X: Write>(
     rt: &R,
     words: &[String],
+    input: &mut I,
     out: &mut W,
     errors: &mut X,
 ) -> u8 {
     let alloc = rt.alloc();
-    let read = read_words(alloc, words);
-    let done = match &read {
-        Ok(words) => run(rt, words),
-        Err(WordFault::Help(text)) => reply(alloc, text.as_str(), out).map(|_done| Vec::new(alloc)),
-        Err(WordFault::Version(text)) => reply(alloc, text.as_str(), out).map(|_done| Vec::new(
-            alloc,
-        )),
-        Err(WordFault::BadWords(text)) => Err(bad_words(alloc, text.as_str())),
-        Err(WordFault::OutOfMemory) => Err(Refusal::out_of_memory(alloc)),
-        Err(WordFault::Refused(refusal)) => return tell(alloc, refusal, errors),
-    };
-    match done {
+    let read = read_all(rt, words);
+    match done(rt, &read, input, out) {
         Ok(lines) => {
             for line in lines.iter() {
                 say(alloc, line, errors);
             }
             0
         }
-        Err(refusal) => tell(alloc, &refusal, errors),
+        Err(stop) if asks_for_record(words) => {
+            tell_record(alloc, &stop, export_of(&read), errors)
+        }
+        Err(stop) => tell(alloc, &stop, errors),
     }
 }
 
-/// Does what the words of the environment's command line ask for, and gives the status with which the program ends: 0 where
-/// tracks, the help or the version were written, and else that of the refusal, of which one line on `errors` says why.
-pub fn answer<R: Files + AllocGlobal, E: Env, W: Write, X: Write>(
+/// Does what the words of the environment's command line ask for, where `-` is an export that is read from `input`, and gives the status with which the program ends: 0 where
+/// tracks, the help or the version were written, and else that of the refusal, of which one line on `errors` says why, or with `--machine` one record of CSV.
+pub fn answer<R: Files + AllocGlobal, E: Env, I: Read, W: Write, X: Write>(
     rt: &R,
     environment: &E,
+    input: &mut I,
     out: &mut W,
     errors: &mut X,
 ) -> u8 {
     let alloc = rt.alloc();
     match command_words(environment, alloc) {
-        Ok(words) => obey(rt, words.as_slice(), out, errors),
-        Err(refusal) => tell(alloc, &refusal, errors),
+        Ok(words) => obey(rt, words.as_slice(), input, out, errors),
+        Err(refusal) => tell(alloc, &Stop::from(refusal), errors),
     }
 }

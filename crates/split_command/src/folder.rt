@@ -1,5 +1,6 @@
 // The folder of tracks.
 
+use crate::stop::Stop;
 use range_plane::OutOfMemory;
 use split_chain::Split;
 use split_folder::{FolderFault, NewFile, Step, SystemFolder, write_folder};
@@ -19,8 +20,11 @@ fn reason_of(alloc: Global, error: &io::Error) -> Result<String, AllocError> {
     Ok(text)
 }
 
-/// The refusal that a path cannot be used, for the system's reason.
+/// The refusal that a path cannot be used, for the system's reason. Where memory ran out it is that.
 pub(crate) fn refused_path(alloc: Global, kind: Kind, path: &str, error: &io::Error) -> Refusal {
+    if error.kind() == ErrorKind::OutOfMemory {
+        return Refusal::out_of_memory(alloc);
+    }
     let Ok(reason) = reason_of(alloc, error) else {
         return Refusal::out_of_memory(alloc);
     };
@@ -107,17 +111,6 @@ fn bad_name(alloc: Global, path: &str) -> Refusal {
     }
 }
 
-// A refusal that also says that something is left.
-fn with_rest(alloc: Global, refusal: &Refusal) -> Refusal {
-    let Ok(mut text) = Vec::from_slice(alloc, &refusal.text) else {
-        return Refusal::out_of_memory(alloc);
-    };
-    match text.extend_from_slice(b"; and what was made of it could not be removed") {
-        Ok(()) => Refusal::new(alloc, refusal.kind, None, &text),
-        Err(_) => Refusal::out_of_memory(alloc),
-    }
-}
-
 // Why a folder is not written.
 fn refused_folder(
     alloc: Global,
@@ -125,13 +118,17 @@ fn refused_folder(
     files: &[NewFile<'_>],
     fault: &FolderFault,
 ) -> Refusal {
-    let FolderFault::Failed { step, error, left } = fault else {
+    let FolderFault::Failed { step, error, .. } = fault else {
         return bad_name(alloc, path);
     };
-    let refusal = failed_step(alloc, path, files, *step, error);
-    match left {
-        Some(_) => with_rest(alloc, &refusal),
-        None => refusal,
+    failed_step(alloc, path, files, *step, error)
+}
+
+// Whether something is left of a folder.
+fn is_left(fault: &FolderFault) -> bool {
+    match fault {
+        FolderFault::Failed { left, .. } => left.is_some(),
+        _ => false,
     }
 }
 
@@ -174,23 +171,30 @@ fn files_of<'a>(
 ///
 /// # Errors
 ///
-/// Why it is not written. Then nothing is left of it.
+/// Why it is not written. Then nothing is left of it, or it says what is.
 pub(crate) fn write_tracks<R: Files + AllocGlobal>(
     rt: &R,
     path: &str,
     split: &Split,
     record: &[u8],
-) -> Result<(), Refusal> {
+) -> Result<(), Stop> {
     let alloc = rt.alloc();
     let Ok(names) = names_of(alloc, split) else {
-        return Err(Refusal::out_of_memory(alloc));
+        return Err(Stop::from(Refusal::out_of_memory(alloc)));
     };
     let Ok(files) = files_of(alloc, split, &names, record) else {
-        return Err(Refusal::out_of_memory(alloc));
+        return Err(Stop::from(Refusal::out_of_memory(alloc)));
     };
     let mut folder = SystemFolder::new(rt, path);
     match write_folder(&mut folder, &files) {
         Ok(()) => Ok(()),
-        Err(fault) => Err(refused_folder(alloc, path, &files, &fault)),
+        Err(fault) => Err(Stop {
+            refusal: refused_folder(alloc, path, &files, &fault),
+            left: if is_left(&fault) {
+                folder.into_left()
+            } else {
+                None
+            },
+        }),
     }
 }

@@ -2,10 +2,14 @@
 //! is none.
 #![tactic(auto)]
 
+mod clock;
 mod command_line;
 mod exit_status;
 mod folder;
+mod machine;
 mod record;
 mod run;
+mod stop;
+mod text;
 
 pub use exit_status::answer;

@@ -1,13 +1,11 @@
 -- What holds of a table that was opened holds of that of its text.
-use Rattle.std.proofs.Common.{◌≡◌, ◌∙◌, ℕ, List, Option, Some, None, Result, Ok, Err, IfSome, Vec, Global, length, ap, inr, subst, sym}
+use Rattle.std.proofs.Common.{◌≡◌, ◌∙◌, ℕ, Bool, List, Option, Some, None, Result, Ok, Err, IfSome, Vec, Global, length, ap, inr, subst, sym}
 use Rattle.std.specs.Bool.{⊤}
 use Rattle.std.proofs.lemmas.List.{length-map}
-use Rattle.split_reading.specs.Ledger.{AreTimely, IsLedger, IsLedgerFault}
-use Rattle.split_reading.specs.declared.fault.ReadingFault.{ReadingFault}
+use Rattle.split_reading.specs.Ledger.{AreTimely}
 use Rattle.split_reading.specs.declared.ledger.Ledger.{Ledger}
-use Rattle.split_reading.specs.declared.rules.Rules.{Rules}
-use Rattle.split_export.specs.Export.{IsExportFault, IsOfTable, IsRulesFault, IsTableFault, IsTableWith, bytes_of, with_titles}
-use Rattle.split_export.specs.Rules.{rules_of}
+use Rattle.split_export.specs.Export.{IsColumnsFault, IsExportFault, IsFaultBy, IsLedgerBy, IsOfTable, IsTableFault, IsTableWith, bytes_of, has_commas, with_titles}
+use Rattle.split_export.specs.Rules.{AreRules}
 use Rattle.split_export.specs.Text.{text_fault}
 use Rattle.split_export.specs.declared.asked.Asked.{Asked}
 use Rattle.split_export.specs.declared.export.ExportFault.{ExportFault}
@@ -32,37 +30,30 @@ of_table P all table is holds = by table.left is holds
 as_many : (own : List (Vec ℕ Global)) (titles : Record) → bytes_of own ≡ titles → length own ≡ length titles
 as_many own titles is = sym (length-map own (λ text. text.items)) ∙ ap length is
 
--- a table is read whose records have a ledger
-pub exported : (asked : Asked) (titles : Record) (left : Option (List Record)) (own : Vec (Vec ℕ Global) Global) (columns : Columns Global) (rules : Rules) (ledger : Ledger)
-    → bytes_of own.items ≡ titles → rules_of columns (length own.items) asked ≡ Ok rules → IfSome left (IsLedger rules ledger) → AreTimely ledger.rows.items
-    → IfSome left (λ records. IsOfTable asked (with_titles titles records) (record { titles = own; columns = columns; ledger = ledger }))
-exported asked titles None own columns rules ledger is are_rules is_ledger timely = tt
-exported asked titles (Some records) own columns rules ledger is are_rules is_ledger timely = record {
+-- a table is read whose records have a ledger by its columns
+pub exported : (asked : Asked) (commas : Bool) (titles : Record) (left : Option (List Record)) (own : Vec (Vec ℕ Global) Global) (columns : Columns Global) (ledger : Ledger)
+    → bytes_of own.items ≡ titles → IfSome left (IsLedgerBy columns (length own.items) commas asked ledger) → AreTimely ledger.rows.items
+    → IfSome left (λ records. IsOfTable asked commas (with_titles titles records) (record { titles = own; columns = columns; ledger = ledger }))
+exported asked commas titles None own columns ledger is is_ledger timely = tt
+exported asked commas titles (Some records) own columns ledger is (rules, are_rules, is_ledger) timely = record {
   titles = is;
   rules = rules;
-  are_rules = subst (λ (width : ℕ). rules_of columns width asked ≡ Ok rules) (as_many own.items titles is) are_rules;
+  are_rules = subst (λ (width : ℕ). AreRules columns width commas asked rules) (as_many own.items titles is) are_rules;
   is_ledger = is_ledger;
   timely = timely;
 }
 
--- the fault of titles is that of the table
-pub unruled : (asked : Asked) (titles : Record) (left : Option (List Record)) (own : List (Vec ℕ Global)) (fault : ExportFault)
-    → bytes_of own ≡ titles → IsRulesFault (length own) asked fault → IfSome left (λ records. IsTableFault asked (with_titles titles records) fault)
-unruled asked titles None own fault is of_rules = tt
-unruled asked titles (Some records) own (faults.Text why) is of_rules = of_rules
-unruled asked titles (Some records) own (faults.Table why) is of_rules = of_rules
-unruled asked titles (Some records) own (faults.Titles why) is of_rules = tt
-unruled asked titles (Some records) own (faults.NotTaken why) is of_rules =
-    (of_rules.0, subst (λ (width : ℕ). rules_of of_rules.0 width asked ≡ Err why) (as_many own titles is) of_rules.1)
-unruled asked titles (Some records) own (faults.Reading why) is of_rules = absurd of_rules
-
--- so is that of records
-pub unread : (asked : Asked) (titles : Record) (left : Option (List Record)) (own : List (Vec ℕ Global)) (columns : Columns Global) (rules : Rules) (why : ReadingFault)
-    → bytes_of own ≡ titles → rules_of columns (length own) asked ≡ Ok rules → IfSome left (IsLedgerFault rules why)
-    → IfSome left (λ records. IsTableFault asked (with_titles titles records) (faults.Reading why))
-unread asked titles None own columns rules why is are_rules of_records = tt
-unread asked titles (Some records) own columns rules why is are_rules of_records =
-    inr (columns, rules, subst (λ (width : ℕ). rules_of columns width asked ≡ Ok rules) (as_many own titles is) are_rules, of_records)
+-- why records are not read by columns is why their table is not read
+pub unread : (asked : Asked) (commas : Bool) (titles : Record) (left : Option (List Record)) (own : List (Vec ℕ Global)) (columns : Columns Global) (fault : ExportFault)
+    → bytes_of own ≡ titles → IfSome left (IsColumnsFault columns (length own) commas asked fault)
+    → IfSome left (λ records. IsTableFault asked commas (with_titles titles records) fault)
+unread asked commas titles None own columns fault is of_columns = tt
+unread asked commas titles (Some records) own columns (faults.Text why) is of_columns = of_columns
+unread asked commas titles (Some records) own columns (faults.Table why) is of_columns = of_columns
+unread asked commas titles (Some records) own columns (faults.Titles why) is of_columns = tt
+unread asked commas titles (Some records) own columns (faults.NotTaken why) is of_columns = (columns, of_columns)
+unread asked commas titles (Some records) own columns (faults.Reading why) is of_columns =
+    inr (columns, subst (λ (width : ℕ). IsFaultBy columns width commas asked why records) (as_many own titles is) of_columns)
 
 -- nothing is a table of which nothing can hold
 no_table : (all : Result Titled TableFault) → IsTableWith (λ table. ⊥) all → ⊥
@@ -71,9 +62,9 @@ no_table (Err fault) holds = holds
 
 -- the fault of a table is that of its bytes
 pub of_bytes : (asked : Asked) (bytes : List ℕ) (table : TableLeft) (fault : ExportFault) → text_fault bytes ≡ None → IsTable (table_of bytes) table
-    → IfSome table.left (λ records. IsTableFault asked (with_titles table.titles records) fault) → IsExportFault asked bytes fault
+    → IfSome table.left (λ records. IsTableFault asked (has_commas bytes) (with_titles table.titles records) fault) → IsExportFault asked bytes fault
 of_bytes asked bytes table (faults.Text why) none is h = absurd (no_table (table_of bytes) (of_table (λ t. ⊥) (table_of bytes) table is h))
 of_bytes asked bytes table (faults.Table why) none is h = absurd (no_table (table_of bytes) (of_table (λ t. ⊥) (table_of bytes) table is h))
 of_bytes asked bytes table (faults.Titles why) none is h = (none, of_table (λ t. ⊤) (table_of bytes) table is h)
-of_bytes asked bytes table (faults.NotTaken why) none is h = (none, of_table (λ t. IsTableFault asked t (faults.NotTaken why)) (table_of bytes) table is h)
-of_bytes asked bytes table (faults.Reading why) none is h = (none, of_table (λ t. IsTableFault asked t (faults.Reading why)) (table_of bytes) table is h)
+of_bytes asked bytes table (faults.NotTaken why) none is h = (none, of_table (λ t. IsTableFault asked (has_commas bytes) t (faults.NotTaken why)) (table_of bytes) table is h)
+of_bytes asked bytes table (faults.Reading why) none is h = (none, of_table (λ t. IsTableFault asked (has_commas bytes) t (faults.Reading why)) (table_of bytes) table is h)

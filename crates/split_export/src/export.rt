@@ -2,18 +2,18 @@
 
 ghost use Rattle.std.specs.Prelude.{◌≡◌, IfErr, IfOk, IfSome, Ok, length};
 ghost use Rattle.csv.specs.Records.{fields_of};
-ghost use Rattle.split_reading.specs.Cells.{cell};
+ghost use Rattle.split_reading.specs.Cells.{field};
 ghost use Rattle.split_table.specs.Table.{IsRefused, table_of};
-ghost use Rattle.split_export.specs.Export.{HasTitles, IsExport, IsExportFault, IsOfTable, IsRulesFault, IsTableFault, bytes_of, with_titles};
-ghost use Rattle.split_export.specs.Rules.{rules_of};
+ghost use Rattle.split_reading.specs.Ledger.{AreTimely};
+ghost use Rattle.split_export.specs.Export.{HasTitles, IsColumnsFault, IsExport, IsExportFault, IsLedgerBy, IsOfTable, IsTableFault, bytes_of, has_commas, with_titles};
 
 use crate::asked::Asked;
 use crate::rules::{NotTaken, rules_of};
 use crate::text::{TextFault, text_fault};
 use csv::ByteRecord;
 use range_plane::OutOfMemory;
-use split_reading::{Ledger, ReadingFault, Rules, read_records};
-use split_table::{Table, TableFault};
+use split_reading::{Ledger, ReadingFault, read_records};
+use split_table::{Table, TableFault, separator_of, without_mark};
 use split_titles::{Columns, TitleFault, find_columns};
 use std::alloc::Global;
 
@@ -37,7 +37,7 @@ pub struct Export {
 
 // The field of a record at a place; one that is not there is empty.
 fn field_at(fields: &ByteRecord, place: usize) -> &[u8]
-    ensures { result.now ≡ cell (fields_of «fields».now) place }
+    ensures { result.now ≡ field (fields_of «fields».now) place }
 {
     fields.get(place).unwrap_or(b"")
 }
@@ -93,51 +93,63 @@ fn columns_of<'a>(
     find_columns(alloc, &shown, &asked.named)
 }
 
-// The columns of a table with these titles, and the rules that they come to.
-fn rules_for<'a>(
+// The ledger of the records of a table with these titles, by these columns.
+fn ledger_by<'b>(
     alloc: Global,
+    table: &mut Table<'_>,
+    columns: &Columns<Global>,
     titles: &[Vec<u8>],
-    asked: &Asked<'a>,
-) -> Result<(Columns<Global>, Rules<'a>), ExportFault<'a>>
-    ensures rules { IfOk result (λ found. rules_of found.0 (length titles.now) asked.now ≡ Ok found.1) }
-    ensures fault { IfErr result (IsRulesFault (length titles.now) asked.now) }
+    has_commas: bool,
+    asked: &Asked<'_>,
+) -> Result<Ledger, ExportFault<'b>>
+    ensures ledger { IfOk result (λ ledger. IfSome table.old.left (IsLedgerBy columns.now (length titles.now) has_commas asked.now ledger)) }
+    ensures timely { IfOk result (λ ledger. AreTimely ledger.rows.items) }
+    ensures fault { IfErr result (λ fault. IfSome table.old.left (IsColumnsFault columns.now (length titles.now) has_commas asked.now fault)) }
 {
-    let columns = match columns_of(alloc, titles, asked) {
-        Ok(columns) => columns,
-        Err(fault) => return Err(ExportFault::Titles(fault)),
+    let rules = match rules_of(columns, titles.len(), has_commas, asked) {
+        Ok(rules) => rules,
+        Err(fault) => return Err(ExportFault::NotTaken(fault)),
     };
-    match rules_of(&columns, titles.len(), asked) {
-        Ok(rules) => Ok((columns, rules)),
-        Err(fault) => Err(ExportFault::NotTaken(fault)),
+    match read_records(alloc, table, &rules) {
+        Ok(ledger) => Ok(ledger),
+        Err(fault) => Err(ExportFault::Reading(fault)),
     }
 }
 
-// Reads a table of which no record was read.
+// Whether commas may stand before decimals in a table: they do not part its fields.
+fn has_commas(text: &[u8]) -> bool
+    ensures { result ≡ has_commas text.now }
+{
+    separator_of(without_mark(text)) != b','
+}
+
+// Reads the table of a text of which no record was read.
 fn read_table<'a>(
     alloc: Global,
+    text: &[u8],
     table: &mut Table<'_>,
     asked: &Asked<'a>,
 ) -> Result<Export, ExportFault<'a>>
     ensures export { IfOk result (λ export. IfSome table.old.left
-        (λ records. IsOfTable asked.now (with_titles table.old.titles records) export)) }
+        (λ records. IsOfTable asked.now (has_commas text.now) (with_titles table.old.titles records) export)) }
     ensures fault { IfErr result (λ fault. IfSome table.old.left
-        (λ records. IsTableFault asked.now (with_titles table.old.titles records) fault)) }
+        (λ records. IsTableFault asked.now (has_commas text.now) (with_titles table.old.titles records) fault)) }
 {
     let titles = match own_fields(alloc, table.titles()) {
         Ok(titles) => titles,
         Err(_) => return Err(ExportFault::Reading(ReadingFault::OutOfMemory)),
     };
-    let (columns, rules) = match rules_for(alloc, &titles, asked) {
-        Ok(found) => found,
-        Err(fault) => return Err(fault),
+    let columns = match columns_of(alloc, &titles, asked) {
+        Ok(columns) => columns,
+        Err(fault) => return Err(ExportFault::Titles(fault)),
     };
-    match read_records(alloc, table, &rules) {
+    match ledger_by(alloc, table, &columns, &titles, has_commas(text), asked) {
         Ok(ledger) => Ok(Export {
             titles,
             columns,
             ledger,
         }),
-        Err(fault) => Err(ExportFault::Reading(fault)),
+        Err(fault) => Err(fault),
     }
 }
 
@@ -161,5 +173,5 @@ pub fn read_export<'a>(
         Ok(table) => table,
         Err(fault) => return Err(ExportFault::Table(fault)),
     };
-    read_table(alloc, &mut table, asked)
+    read_table(alloc, text, &mut table, asked)
 }

@@ -9,11 +9,15 @@ mod laws;
 mod look;
 mod rules;
 mod text;
+mod times_look;
+mod unread_times;
 
 pub use asked::Asked;
 pub use export::{Export, ExportFault, read_export, titles_of};
 pub use files::{TrackFile, make_files};
 pub use laws::files_are_read_back;
-pub use look::{fields_of_record, most_moved, part_alike, unrounded};
+pub use look::{Look, fields_of_record, look_at_metres, most_moved, part_alike};
 pub use rules::{NotTaken, rules_of};
 pub use text::TextFault;
+pub use times_look::{TimesLook, look_at_times};
+pub use unread_times::column_of_times;

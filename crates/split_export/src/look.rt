@@ -3,76 +3,231 @@
 use csv::ByteRecord;
 use indexmap::IndexSet;
 use range_plane::{OutOfMemory, Scale};
-use split_reading::{Row, Rules, Told};
+use split_reading::{Row, Told};
 use split_table::{Table, TableFault};
+use split_titles::Pair;
 use split_tracks::Fate;
 use std::alloc::Global;
 use std::num::nearest_i64_to_f64;
+
+// How many bytes of a number with a comma are read as metres: more digits than they have tell no two apart.
+const NUMBER_BYTES: usize = 40;
 
 // The field of a record in a column; one that is not there is empty.
 fn cell(fields: &ByteRecord, column: usize) -> &[u8] {
     fields.get(column).unwrap_or(b"")
 }
 
+// Whether a byte may stand before decimals.
+fn is_point(byte: u8) -> bool {
+    byte == b'.' || byte == b','
+}
+
+// Where the first point of a number stands, or the comma in its place.
+fn point_in(number: &[u8]) -> Option<usize> {
+    number.iter().position(|byte| is_point(*byte))
+}
+
 // Whether a number has no decimals, or zeros alone.
 fn is_whole(text: &[u8]) -> bool {
-    match text.iter().position(|byte| *byte == b'.') {
+    match point_in(text) {
         Some(point) => text
             .iter()
             .skip(point)
-            .all(|byte| *byte == b'.' || *byte == b'0'),
+            .all(|byte| is_point(*byte) || *byte == b'0'),
         None => true,
     }
 }
 
-// Whether a record tells of a fix that is used and has metres.
-fn is_used(row: &Row) -> bool {
-    match row.told {
-        Told::Fix(fix) => fix.is_used && fix.metres.is_some(),
-        Told::LeftOut(_) => false,
+// The number of a text with a comma before its decimals.
+fn number_with_comma(text: &[u8]) -> f64 {
+    let mut bytes = [b'0'; NUMBER_BYTES];
+    for (own, byte) in bytes.iter_mut().zip(text) {
+        *own = if *byte == b',' { b'.' } else { *byte };
     }
+    let number = str::from_utf8(&bytes[..text.len().min(NUMBER_BYTES)]).unwrap_or("");
+    number.parse::<f64>().unwrap_or(0.0)
 }
 
 // The metres that a text writes; 0 where it writes none.
 fn metres_in(text: &[u8]) -> f64 {
-    let Ok(number) = str::from_utf8(text) else {
-        return 0.0;
-    };
+    if text.contains(&b',') {
+        return number_with_comma(text);
+    }
+    let number = str::from_utf8(text).unwrap_or("");
     number.parse::<f64>().unwrap_or(0.0)
 }
 
-/// The first easting and northing of a fix that is used, as the text has them in metres; none where those of all such fixes are
-/// whole, in a text whose records say this by the rules.
+// What the form of a number says of the signs of its column.
+#[derive(Clone, Copy, PartialEq, Eq)]
+enum Form {
+    // Its only sign stands before three digits, and behind no more: it may be that of thousands.
+    Grouped,
+    // It has at most three digits, and no sign.
+    Short,
+    // Its signs stand before decimals, or it has none where thousands would have one.
+    Plain,
+}
+
+// The form of a number.
+fn form_of(text: &[u8]) -> Form {
+    let number = text.strip_prefix(b"-").unwrap_or(text);
+    match point_in(number) {
+        Some(point) if 1 <= point && point <= 3 && number.len() == point + 4 => Form::Grouped,
+        None if number.len() <= 3 => Form::Short,
+        _ => Form::Plain,
+    }
+}
+
+// What the numbers of a column so far say of its signs.
+#[derive(Clone, Copy)]
+struct Signs {
+    // The first record with a sign that may be one of thousands.
+    grouped: Option<u32>,
+    // Whether a number shows that signs stand before decimals.
+    are_plain: bool,
+}
+
+impl Signs {
+    // Those of no numbers.
+    fn new() -> Signs {
+        Signs {
+            grouped: None,
+            are_plain: false,
+        }
+    }
+
+    // The signs with those of the number of a record.
+    fn with(self, record: u32, text: &[u8]) -> Signs {
+        match form_of(text) {
+            Form::Grouped => Signs {
+                grouped: self.grouped.or(Some(record)),
+                are_plain: self.are_plain,
+            },
+            Form::Short => self,
+            Form::Plain => Signs {
+                grouped: self.grouped,
+                are_plain: true,
+            },
+        }
+    }
+
+    // The first record with a sign that may be one of thousands, where all of the column may be.
+    fn first(self) -> Option<u32> {
+        if self.are_plain { None } else { self.grouped }
+    }
+}
+
+/// What a second look at the metres of a table finds.
+#[derive(Clone, Copy)]
+pub struct Look {
+    /// The easting and the northing, in metres, of the first fix that is taken, where not all that are taken are whole.
+    pub unrounded: Option<(f64, f64)>,
+    /// The first record and the column of a number whose sign may stand before thousands, where all of the column may be such.
+    pub grouped: Option<(u32, usize)>,
+}
+
+// What is seen of the records so far.
+#[derive(Clone, Copy)]
+struct Seen {
+    first: Option<(f64, f64)>,
+    is_rounded: bool,
+    easting: Signs,
+    northing: Signs,
+}
+
+impl Seen {
+    // What is seen of no record.
+    fn new() -> Seen {
+        Seen {
+            first: None,
+            is_rounded: true,
+            easting: Signs::new(),
+            northing: Signs::new(),
+        }
+    }
+
+    // The same with the metres of a record that is taken or not.
+    fn with(self, record: u32, easting: &[u8], northing: &[u8], is_taken: bool) -> Seen {
+        let signs = Seen {
+            easting: self.easting.with(record, easting),
+            northing: self.northing.with(record, northing),
+            ..self
+        };
+        if !is_taken {
+            return signs;
+        }
+        Seen {
+            first: self
+                .first
+                .or(Some((metres_in(easting), metres_in(northing)))),
+            is_rounded: self.is_rounded && is_whole(easting) && is_whole(northing),
+            ..signs
+        }
+    }
+
+    // Whether no record can change what is found.
+    fn is_whole_look(self) -> bool {
+        !self.is_rounded && self.easting.are_plain && self.northing.are_plain
+    }
+
+    // What is found.
+    fn look(self, metres: Pair) -> Look {
+        let grouped = match (self.easting.first(), self.northing.first()) {
+            (Some(record), _) => Some((record, metres.first)),
+            (None, Some(record)) => Some((record, metres.second)),
+            (None, None) => None,
+        };
+        Look {
+            unrounded: if self.is_rounded { None } else { self.first },
+            grouped,
+        }
+    }
+}
+
+// What is seen with the next record of a table, which says this and has this number.
+fn with_next(
+    table: &mut Table<'_>,
+    metres: Pair,
+    seen: Seen,
+    record: u32,
+    row: &Row,
+) -> Result<Seen, TableFault> {
+    if !table.advance()? {
+        return Ok(seen);
+    }
+    match row.told {
+        Told::Fix(fix) if fix.metres.is_some() => {
+            let fields = table.current();
+            let easting = cell(fields, metres.first);
+            let northing = cell(fields, metres.second);
+            Ok(seen.with(record, easting, northing, fix.is_taken()))
+        }
+        _ => Ok(seen),
+    }
+}
+
+/// Looks at the metres of a text whose records say this by the rules.
 ///
 /// # Errors
 ///
 /// Memory ran out.
-pub fn unrounded(
+pub fn look_at_metres(
     alloc: Global,
     text: &[u8],
-    rules: &Rules<'_>,
+    metres: Pair,
     rows: &[Row],
-) -> Result<Option<(f64, f64)>, TableFault> {
-    let mut first: Option<(f64, f64)> = None;
+) -> Result<Look, TableFault> {
+    let mut seen = Seen::new();
     let mut table = Table::new(alloc, text)?;
-    for row in rows {
-        if !table.advance()? {
-            return Ok(None);
-        }
-        if is_used(row) {
-            let fields = table.current();
-            let (easting, northing) = (
-                cell(fields, rules.metres.first),
-                cell(fields, rules.metres.second),
-            );
-            let (east, north) = first.unwrap_or((metres_in(easting), metres_in(northing)));
-            if !(is_whole(easting) && is_whole(northing)) {
-                return Ok(Some((east, north)));
-            }
-            first = Some((east, north));
+    for (index, row) in rows.iter().enumerate() {
+        let record = u32::try_from(index).unwrap_or(u32::MAX).saturating_add(1);
+        seen = with_next(&mut table, metres, seen, record, row)?;
+        if seen.is_whole_look() {
+            return Ok(seen.look(metres));
         }
     }
-    Ok(None)
+    Ok(seen.look(metres))
 }
 
 // How far rounding to whole units moves a coordinate, in metres.
@@ -85,22 +240,18 @@ fn moved(text: &[u8], unit: Scale, units: i64) -> f64 {
 }
 
 // How far a record moves that becomes this.
-fn moved_record(fields: &ByteRecord, rules: &Rules<'_>, fate: &Fate) -> f64 {
+fn moved_record(fields: &ByteRecord, metres: Pair, unit: Scale, fate: &Fate) -> f64 {
     match *fate {
         Fate::InTrack { entry, .. } => {
-            let east = moved(cell(fields, rules.metres.first), rules.unit, entry.easting);
-            let north = moved(
-                cell(fields, rules.metres.second),
-                rules.unit,
-                entry.northing,
-            );
+            let east = moved(cell(fields, metres.first), unit, entry.easting);
+            let north = moved(cell(fields, metres.second), unit, entry.northing);
             east.hypot(north)
         }
         Fate::LeftOut { .. } => 0.0,
     }
 }
 
-/// By how many metres rounding moves a fix at most, of a text whose records become this by the rules.
+/// By how many metres rounding to whole units moves a fix at most, of a text whose records become this.
 ///
 /// # Errors
 ///
@@ -108,7 +259,8 @@ fn moved_record(fields: &ByteRecord, rules: &Rules<'_>, fate: &Fate) -> f64 {
 pub fn most_moved(
     alloc: Global,
     text: &[u8],
-    rules: &Rules<'_>,
+    metres: Pair,
+    unit: Scale,
     fates: &[Fate],
 ) -> Result<f64, TableFault> {
     let mut most = 0.0;
@@ -117,7 +269,7 @@ pub fn most_moved(
         if !table.advance()? {
             return Ok(most);
         }
-        let own = moved_record(table.current(), rules, fate);
+        let own = moved_record(table.current(), metres, unit, fate);
         if own > most {
             most = own;
         }

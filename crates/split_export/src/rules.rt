@@ -1,63 +1,57 @@
 // How records are read, by the columns of a table and by what is asked.
 
-ghost use Rattle.std.specs.Prelude.{◌≡◌};
-ghost use Rattle.split_export.specs.Rules.{only_column, rules_of};
+ghost use Rattle.std.specs.Prelude.{IfErr, IfOk};
+ghost use Rattle.split_export.specs.Rules.{AreRules, HasNoRules};
 
 use crate::asked::Asked;
 use split_reading::Rules;
 use split_titles::Columns;
 use std::alloc::Allocator;
 
-/// What is not read: columns that tables may have, and this crate has no rule for.
+/// Why there are no rules for the columns of a table.
 #[derive(Clone, Copy, PartialEq, Eq, Debug)]
 pub enum NotTaken {
-    /// Longitude and latitude without metres.
-    Degrees,
-    /// The name of the animal stands in several columns.
-    Animals,
-    /// The time stands in several columns.
-    Times,
+    /// There is no column of the time, and there has to be one.
+    NoTime,
 }
 
-// The only one of some columns, if there is one; several are not read.
-fn only_column(columns: &[usize], several: NotTaken) -> Result<Option<usize>, NotTaken>
-    ensures { result ≡ only_column several columns.now }
-{
-    match columns {
-        [] => Ok(None),
-        [column] => Ok(Some(*column)),
-        _ => Err(several),
-    }
-}
-
-/// How the records of a table with so many titles are read.
+/// How the records of a table with so many titles are read, where commas may stand before decimals or not.
 ///
 /// # Errors
 ///
-/// What is not read, the first of it by the order of [`NotTaken`].
-pub fn rules_of<'a, A: Allocator>(
-    columns: &Columns<A>,
+/// There is no column of the time, and there has to be one.
+pub fn rules_of<'a, 'b, A: Allocator>(
+    columns: &'b Columns<A>,
     width: usize,
+    has_commas: bool,
     asked: &Asked<'a>,
-) -> Result<Rules<'a>, NotTaken>
-    ensures { result ≡ rules_of columns.now width asked.now }
+) -> Result<Rules<'a, 'b>, NotTaken>
+    ensures rules { IfOk result (AreRules columns.now width has_commas asked.now) }
+    ensures fault { IfErr result (HasNoRules columns.now asked.now) }
 {
-    let Some(metres) = columns.metres else {
-        return Err(NotTaken::Degrees);
-    };
-    let animal = only_column(&columns.animal, NotTaken::Animals)?;
-    let time = only_column(&columns.time, NotTaken::Times)?;
+    let time = columns.time.as_slice();
+    if asked.needs_time && time.is_empty() {
+        return Err(NotTaken::NoTime);
+    }
     Ok(Rules {
         width,
-        animal,
+        missing: asked.missing,
+        has_commas,
+        animal: columns.animal.as_slice(),
         name: asked.name,
         time,
         is_second: columns.is_second,
-        metres,
+        forms: asked.forms,
+        clock: asked.clock,
+        metres: columns.metres,
         degrees: columns.degrees,
         zone: columns.zone,
         marks: columns.marks,
         sensor: columns.sensor,
+        class: columns.argos,
+        dop: columns.dop,
+        fix_type: columns.fix_type,
+        filters: asked.filters,
         unit: asked.unit,
         skips_unnamed: asked.skips_unnamed,
     })

@@ -20,7 +20,7 @@ use Rattle.split_tracks.specs.declared.fate.Reason.{Reason}
 use Rattle.split_tracks.specs.declared.fate.Reason.TheVariants as reason
 use Rattle.split_fates.specs.declared.choice.Choice.{Choice}
 use Rattle.split_fates.specs.declared.fates.FatesFault.{FatesFault}
-use Rattle.split_fates.specs.Fates.{entry_at, fate_of, fates_from, fix_fate, is_of_zone, is_on_grid, is_placed, metres_fate, placed_fate, then_fates, told_fate, without_place}
+use Rattle.split_fates.specs.Fates.{entry_at, fate_by, fate_of, fates_from, fix_fate, is_of_zone, is_on_grid, is_placed, metres_fate, placed_fate, reason_of, then_fates, told_fate, without_place}
 use Rattle.split_fates.specs.Laws.{TracksMayBeWritten}
 use Rattle.split_fates.specs.Marked.{fix_at}
 
@@ -130,18 +130,21 @@ with_metres : (choice : Choice) (animal number : ℕ) (fix : ToldFix) (metres : 
 with_metres choice animal number fix None fate timely used e = placeless choice animal number fix.is_used fate e
 with_metres choice animal number fix (Some metres) fate timely used e = placed choice animal number fix metres fate timely used e
 
--- a fix that is not left out as unused is used, or such ones are kept
-is_taken : (used keeps : Bool) → (not used && not keeps) ≡ false → keeps ≡ false → used ≡ true
-is_taken true keeps h k = refl
-is_taken false true h k = cc k
-is_taken false false h k = cc h
+-- a fix that is not left out is used, or such ones are kept
+is_used : (sensor used keeps : Bool) (other : Option Reason) → cond (not sensor) (Some reason.Sensor) (cond (not used && not keeps) (Some reason.Outlier) other) ≡ None → keeps ≡ false → used ≡ true
+is_used false used keeps other e k = cc e
+is_used true true keeps other e k = refl
+is_used true false true other e k = cc k
+is_used true false false other e k = cc e
+
+of_reason : (choice : Choice) (animal number : ℕ) (fix : ToldFix) (why : Option Reason) (fate : Fate) → IsTimely (told.Fix fix) → (why ≡ None → choice.keeps_marks ≡ false → fix.is_used ≡ true)
+    → fate_by choice animal number fix why ≡ Ok fate → IsFitFate choice fate
+of_reason choice animal number fix (Some why) fate timely used e = left choice _ _ fate e
+of_reason choice animal number fix None fate timely used e = with_metres choice animal number fix fix.metres fate timely (used refl) e
 
 of_fix : (choice : Choice) (animal number : ℕ) (fix : ToldFix) (fate : Fate) → IsTimely (told.Fix fix) → fix_fate choice animal number fix ≡ Ok fate → IsFitFate choice fate
-of_fix choice animal number fix fate timely e = by (not fix.is_used && not choice.keeps_marks) refl e
-  where
-    by : (b : Bool) → (not fix.is_used && not choice.keeps_marks) ≡ b → cond b (Ok (LeftOut (Some animal) reason.Outlier)) (metres_fate choice animal number fix fix.metres) ≡ Ok fate → IsFitFate choice fate
-    by true h e = left choice _ _ fate e
-    by false h e = with_metres choice animal number fix fix.metres fate timely (is_taken fix.is_used choice.keeps_marks h) e
+of_fix choice animal number fix fate timely e =
+    of_reason choice animal number fix (reason_of choice.keeps_marks fix) fate timely (is_used fix.is_of_sensor fix.is_used choice.keeps_marks fix.left_for) e
 
 of_row : (choice : Choice) (number : ℕ) (animal : Option ℕ) (what : Told) (fate : Fate) → IsTimely what → told_fate choice number animal what ≡ Ok fate → IsFitFate choice fate
 of_row choice number animal (told.LeftOut why) fate timely e = left choice _ _ fate e

@@ -10,6 +10,7 @@ use Rattle.split_reading.specs.declared.zone.Zone.{Zone}
 use Rattle.split_tracks.specs.declared.fate.Entry.{Entry}
 use Rattle.split_tracks.specs.declared.fate.Fate.{Fate}
 use Rattle.split_tracks.specs.declared.fate.Fate.TheVariants.{InTrack, LeftOut}
+use Rattle.split_tracks.specs.declared.fate.Reason.{Reason}
 use Rattle.split_tracks.specs.declared.fate.Reason.TheVariants as reason
 use Rattle.split_fates.specs.declared.choice.Choice.{Choice}
 use Rattle.split_fates.specs.declared.fates.FatesFault.{FatesFault}
@@ -23,11 +24,11 @@ is_same_half false own = not own
 abbrev pub is_same_zone : Zone → Zone → Bool
 is_same_zone zone own = zone.number == own.number && is_same_half zone.is_south own.is_south
 
--- whether a fix is of the zone that is taken, if one is
+-- whether a fix is of the zone that is taken, if one is; one that is of no zone is
 abbrev pub is_of_zone : Option Zone → Option Zone → Bool
 is_of_zone None own = true
 is_of_zone (Some zone) (Some own) = is_same_zone zone own
-is_of_zone (Some zone) None = false
+is_of_zone (Some zone) None = true
 
 -- whether a coordinate is on the grid once it is shifted
 abbrev pub is_on_grid : Scale → ℤ → ℤ → Bool
@@ -56,10 +57,27 @@ abbrev pub metres_fate : Choice → ℕ → ℕ → ToldFix → Option (ℤ × �
 metres_fate choice animal number fix None = without_place animal number fix.is_used
 metres_fate choice animal number fix (Some metres) = placed_fate choice animal (entry_at number fix metres) fix.zone
 
--- what becomes of the fix of a record: one that is not used is left out, unless such ones are kept
+-- why the fix of a record is left out: it is of another sensor; it is not used, unless such ones are kept; or filters leave it out
+abbrev pub reason_of : Bool → ToldFix → Option Reason
+reason_of keeps_marks fix =
+    if not fix.is_of_sensor then Some reason.Sensor else if not fix.is_used && not keeps_marks then Some reason.Outlier else fix.left_for
+
+-- why a record is left out before it is known on which grid fixes are
+abbrev pub told_reason : Bool → Told → Option Reason
+told_reason keeps_marks (told.LeftOut why) = Some why
+told_reason keeps_marks (told.Fix fix) = reason_of keeps_marks fix
+
+abbrev pub row_reason : Bool → Row → Option Reason
+row_reason keeps_marks row = told_reason keeps_marks row.told
+
+-- what becomes of a fix by the reason for which it is left out, if it is
+abbrev pub fate_by : Choice → ℕ → ℕ → ToldFix → Option Reason → Result Fate FatesFault
+fate_by choice animal number fix (Some why) = Ok (LeftOut (Some animal) why)
+fate_by choice animal number fix None = metres_fate choice animal number fix fix.metres
+
+-- what becomes of the fix of a record
 abbrev pub fix_fate : Choice → ℕ → ℕ → ToldFix → Result Fate FatesFault
-fix_fate choice animal number fix =
-    if not fix.is_used && not choice.keeps_marks then Ok (LeftOut (Some animal) reason.Outlier) else metres_fate choice animal number fix fix.metres
+fix_fate choice animal number fix = fate_by choice animal number fix (reason_of choice.keeps_marks fix)
 
 -- the same by its animal, without which a fix is left out
 abbrev pub animal_fate : Choice → ℕ → ToldFix → Option ℕ → Result Fate FatesFault

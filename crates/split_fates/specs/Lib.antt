@@ -1,4 +1,5 @@
 pub mod Fates
 pub mod Laws
 pub mod Marked
+pub mod Projected
 pub mod Shift

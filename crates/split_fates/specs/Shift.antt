@@ -7,15 +7,16 @@ use Rattle.split_numbers.specs.Decimal.{units_per_metre}
 use Rattle.split_reading.specs.declared.ledger.Row.{Row}
 use Rattle.split_reading.specs.declared.told.Told.{Told}
 use Rattle.split_reading.specs.declared.told.Told.TheVariants as told
+use Rattle.split_reading.specs.Told.{is_taken}
 use Rattle.split_fates.specs.declared.shift.Extent.{Extent}
 use Rattle.split_fates.specs.Fates.{is_on_grid}
 
--- where a fix is, if it is used
+-- where a fix is, if it is used and no filter leaves it out
 abbrev pub told_metres : Told → Option (ℤ × ℤ)
 told_metres (told.LeftOut why) = None
-told_metres (told.Fix fix) = if fix.is_used then fix.metres else None
+told_metres (told.Fix fix) = if is_taken fix then fix.metres else None
 
--- where the fix of a record is, if it is used and has metres
+-- where the fix of a record is, if it is one of these and has metres
 abbrev pub used_metres : Row → Option (ℤ × ℤ)
 used_metres row = told_metres row.told
 
@@ -31,7 +32,7 @@ abbrev pub widened : Option Extent → ℤ × ℤ → Option Extent
 widened None at = Some (record { least = at; most = at })
 widened (Some extent) at = Some (record { least = least_of extent.least at; most = most_of extent.most at })
 
--- the extent of the fixes that are used and have metres
+-- the extent of these fixes
 abbrev pub extent_of : List Row → Option Extent
 extent_of rows = fold widened None (filter_map used_metres rows)
 
@@ -66,3 +67,19 @@ IsNearShift shift = (neg_ℤ (pos 100_000_001_000_000) ≤ℤ shift) × (shift �
 abbrev pub shift_of : Scale → ℤ → ℤ → Option ℤ
 shift_of unit least most =
     if fits unit least most (pos 0) then Some (pos 0) else if is_near least then moved_shift unit least most else None
+
+-- by how many units the coordinates of one axis are shifted; by none where they are wider than the grid
+abbrev pub shifted_units : Scale → Option ℤ → ℤ
+shifted_units unit None = pos 0
+shifted_units unit (Some metres) = in_units unit metres
+
+unfoldable pub axis_shift : Scale → ℤ → ℤ → ℤ
+axis_shift unit least most = shifted_units unit (shift_of unit least most)
+
+-- by how many units the coordinates of a local grid are shifted, east and north
+abbrev pub shift_by : Scale → Option Extent → ℤ × ℤ
+shift_by unit None = (pos 0, pos 0)
+shift_by unit (Some extent) = (axis_shift unit extent.least.0 extent.most.0, axis_shift unit extent.least.1 extent.most.1)
+
+abbrev pub own_shift : Scale → List Row → ℤ × ℤ
+own_shift unit rows = shift_by unit (extent_of rows)

@@ -8,7 +8,7 @@ use split_reading::Zone;
 pub struct Choice {
     /// Whether fixes that are not used stand in tracks, with a mark; else they are left out.
     pub keeps_marks: bool,
-    /// The zone of UTM coordinates; none where coordinates are those of another grid, of which all fixes are.
+    /// The zone of UTM coordinates, of which fixes are that are of no other; none where all fixes are of one grid.
     pub zone: Option<Zone>,
     pub unit: Scale,
     /// By how many units coordinates are shifted, east and north.

@@ -1,7 +1,7 @@
 // What becomes of each record.
 
 ghost use Rattle.std.specs.Prelude.{◌≡◌, ◌++◌, ◌∷◌, [], IfErr, IfOk, OnOk};
-ghost use Rattle.split_fates.specs.Fates.{IsFatesFault, fate_of, fates_of, fix_fate, is_of_zone, is_on_grid, placed_fate};
+ghost use Rattle.split_fates.specs.Fates.{IsFatesFault, fate_of, fates_of, fix_fate, is_of_zone, is_on_grid, metres_fate, placed_fate, reason_of, row_reason};
 
 use crate::choice::Choice;
 use range_plane::{OutOfMemory, Scale};
@@ -29,14 +29,13 @@ impl From<OutOfMemory> for FatesFault {
     }
 }
 
-// Whether a fix is of the zone that is taken, if one is.
+// Whether a fix is of the zone that is taken, if one is. One that is of no zone is.
 fn is_of_zone(zone: Option<Zone>, own: Option<Zone>) -> bool
     ensures { result ≡ is_of_zone zone own }
 {
     match (zone, own) {
-        (None, _) => true,
         (Some(zone), Some(own)) => zone.number == own.number && zone.is_south == own.is_south,
-        (Some(_), None) => false,
+        _ => true,
     }
 }
 
@@ -76,16 +75,34 @@ fn placed_fate(
     }
 }
 
-// What becomes of the fix of a record.
-fn fix_fate(choice: &Choice, animal: u32, number: u32, fix: ToldFix) -> Result<Fate, FatesFault>
-    ensures { result ≡ fix_fate choice.now animal number fix }
+// Why the fix of a record is left out, if it is: it is of another sensor, it is not used, or filters leave it out.
+pub(crate) fn reason_of(keeps_marks: bool, fix: ToldFix) -> Option<Reason>
+    ensures { result ≡ reason_of keeps_marks fix }
 {
-    if !fix.is_used && !choice.keeps_marks {
-        return Ok(Fate::LeftOut {
-            animal: Some(animal),
-            reason: Reason::Outlier,
-        });
+    if !fix.is_of_sensor {
+        Some(Reason::Sensor)
+    } else if !fix.is_used && !keeps_marks {
+        Some(Reason::Outlier)
+    } else {
+        fix.left_for
     }
+}
+
+/// Why a record is left out, if it is, before it is known on which grid fixes are: without coordinates or an animal, or its fix
+/// is of another sensor, is not used, where such ones are not kept, or is left out by a filter.
+pub fn row_reason(row: &Row, keeps_marks: bool) -> Option<Reason>
+    ensures { result ≡ row_reason keeps_marks row.now }
+{
+    match row.told {
+        Told::LeftOut(reason) => Some(reason),
+        Told::Fix(fix) => reason_of(keeps_marks, fix),
+    }
+}
+
+// What becomes of a fix that is not left out, by its metres.
+fn metres_fate(choice: &Choice, animal: u32, number: u32, fix: ToldFix) -> Result<Fate, FatesFault>
+    ensures { result ≡ metres_fate choice.now animal number fix fix.metres }
+{
     match fix.metres {
         Some((easting, northing)) => {
             let entry = Entry {
@@ -102,6 +119,19 @@ fn fix_fate(choice: &Choice, animal: u32, number: u32, fix: ToldFix) -> Result<F
             animal: Some(animal),
             reason: Reason::Grid,
         }),
+    }
+}
+
+// What becomes of the fix of a record.
+fn fix_fate(choice: &Choice, animal: u32, number: u32, fix: ToldFix) -> Result<Fate, FatesFault>
+    ensures { result ≡ fix_fate choice.now animal number fix }
+{
+    match reason_of(choice.keeps_marks, fix) {
+        Some(reason) => Ok(Fate::LeftOut {
+            animal: Some(animal),
+            reason,
+        }),
+        None => metres_fate(choice, animal, number, fix),
     }
 }
 

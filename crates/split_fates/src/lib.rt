@@ -5,10 +5,12 @@ mod choice;
 mod fates;
 mod laws;
 mod marked;
+mod projected;
 mod shift;
 
 pub use choice::Choice;
-pub use fates::{FatesFault, fates_of};
+pub use fates::{FatesFault, fates_of, row_reason};
 pub use laws::tracks_may_be_written;
 pub use marked::{MarkedFault, marked_fixes};
-pub use shift::{Extent, extent_of, shift_of};
+pub use projected::project_rows;
+pub use shift::{Extent, extent_of, own_shift, shift_of, widened};

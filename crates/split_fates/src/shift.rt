@@ -1,8 +1,8 @@
 // By how much coordinates of a local grid are shifted.
 
-ghost use Rattle.std.specs.Prelude.{◌≡◌, true};
+ghost use Rattle.std.specs.Prelude.{◌≡◌, IfSome, true};
 ghost use Rattle.std.specs.Int.{int_max, int_min};
-ghost use Rattle.split_fates.specs.Shift.{IsNear, IsNearShift, extent_of, fits, in_units, is_near, least_of, most_of, moved_shift, shift_of, used_metres, whole_shift, widened};
+ghost use Rattle.split_fates.specs.Shift.{IsNear, IsNearShift, axis_shift, extent_of, fits, in_units, is_near, least_of, most_of, moved_shift, own_shift, shift_by, shift_of, used_metres, whole_shift, widened};
 
 use crate::fates::is_on_grid;
 use range_plane::Scale;
@@ -21,13 +21,13 @@ pub struct Extent {
     pub most: (i64, i64),
 }
 
-// Where the fix of a record is, if it is used and has metres.
+// Where the fix of a record is, if it is taken and has metres.
 fn used_metres(row: &Row) -> Option<(i64, i64)>
     ensures { result ≡ used_metres row.now }
 {
     match row.told {
-        Told::Fix(fix) if fix.is_used => fix.metres,
-        _ => None,
+        Told::Fix(fix) => { if fix.is_taken() { fix.metres } else { None } }
+        Told::LeftOut(_) => None,
     }
 }
 
@@ -59,8 +59,8 @@ fn most_of(a: (i64, i64), b: (i64, i64)) -> (i64, i64)
     (more_of(a.0, b.0), more_of(a.1, b.1))
 }
 
-// The extent of fixes and of one more.
-fn widened(extent: Option<Extent>, at: (i64, i64)) -> Option<Extent>
+/// The extent of fixes and of one more, which is there.
+pub fn widened(extent: Option<Extent>, at: (i64, i64)) -> Option<Extent>
     ensures { result ≡ widened extent at }
 {
     let (least, most) = match extent {
@@ -70,7 +70,7 @@ fn widened(extent: Option<Extent>, at: (i64, i64)) -> Option<Extent>
     Some(Extent { least, most })
 }
 
-/// The extent of the fixes that are used and have metres; none where there is no such one.
+/// The extent of the fixes that are used, no filter leaves out and have metres; none where there is no such one.
 pub fn extent_of(rows: &[Row]) -> Option<Extent>
     ensures { result ≡ extent_of rows.now }
 {
@@ -124,7 +124,8 @@ fn is_near(coordinate: i64) -> bool
 // That shift, if all are then on the grid.
 fn moved_shift(unit: Scale, least: i64, most: i64) -> Option<i64>
     requires { IsNear least }
-    ensures { result ≡ moved_shift unit least most }
+    ensures value { result ≡ moved_shift unit least most }
+    ensures near { IfSome result IsNearShift }
 {
     let shift = whole_shift(unit, least);
     if fits(unit, least, most, in_units(unit, shift)) {
@@ -138,7 +139,8 @@ fn moved_shift(unit: Scale, least: i64, most: i64) -> Option<i64>
 /// are on the grid; else by the multiple of 1,000,000 m that brings the least to 0 or above and below 1,000,000 m. `None`
 /// where they are wider than the grid, or the least is farther from 0 than twelve digits go.
 pub fn shift_of(unit: Scale, least: i64, most: i64) -> Option<i64>
-    ensures { result ≡ shift_of unit least most }
+    ensures value { result ≡ shift_of unit least most }
+    ensures near { IfSome result IsNearShift }
 {
     if fits(unit, least, most, 0) {
         Some(0)
@@ -147,4 +149,36 @@ pub fn shift_of(unit: Scale, least: i64, most: i64) -> Option<i64>
     } else {
         None
     }
+}
+
+// By how many units the coordinates of one axis are shifted; by none where they are wider than the grid.
+#[tactic(auto, unfolding(crate::specs::Shift::axis_shift))]
+fn axis_shift(unit: Scale, least: i64, most: i64) -> i64
+    ensures { result ≡ axis_shift unit least most }
+{
+    match shift_of(unit, least, most) {
+        Some(metres) => in_units(unit, metres),
+        None => 0,
+    }
+}
+
+// By how many units the coordinates of fixes of this extent are shifted.
+fn shift_by(unit: Scale, extent: Option<Extent>) -> (i64, i64)
+    ensures { result ≡ shift_by unit extent }
+{
+    match extent {
+        Some(extent) => (
+            axis_shift(unit, extent.least.0, extent.most.0),
+            axis_shift(unit, extent.least.1, extent.most.1),
+        ),
+        None => (0, 0),
+    }
+}
+
+/// By how many units the coordinates of a local grid are shifted, east and north: each axis as [`shift_of`] has it of the fixes
+/// that are used, no filter leaves out and have metres.
+pub fn own_shift(unit: Scale, rows: &[Row]) -> (i64, i64)
+    ensures { result ≡ own_shift unit rows.now }
+{
+    shift_by(unit, extent_of(rows))
 }

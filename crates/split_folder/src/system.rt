@@ -35,8 +35,8 @@ pub struct SystemFolder<'a, R> {
     path: &'a str,
     // The path of the folder in the making.
     part: Option<String>,
-    // The lengths of the paths of the parents that were made, in this order.
-    parents: Vec<usize>,
+    // The paths of the parents that were made, in this order.
+    parents: Vec<String>,
 }
 
 impl<'a, R: Files + AllocGlobal> SystemFolder<'a, R> {
@@ -60,6 +60,20 @@ impl<'a, R: Files + AllocGlobal> SystemFolder<'a, R> {
             Ok(_) => Ok(true),
             Err(error) if error.kind() == ErrorKind::NotFound => Ok(false),
             Err(error) => Err(error),
+        }
+    }
+
+    /// The path of what is left of the folder: the folder in the making, or else the last parent that was made; none where nothing
+    /// is left. A folder that was put in its place is not left.
+    pub fn into_left(self) -> Option<String> {
+        let SystemFolder {
+            part,
+            mut parents,
+            ..
+        } = self;
+        match part {
+            Some(part) => Some(part),
+            None => parents.pop(),
         }
     }
 
@@ -88,7 +102,8 @@ impl<'a, R: Files + AllocGlobal> SystemFolder<'a, R> {
         if is_folder(self.runtime, parent) {
             return Ok(());
         }
-        self.parents.push(parent.len())?;
+        let own = String::from_str(self.runtime.alloc(), parent)?;
+        self.parents.push(own)?;
         match fs::create_dir(self.runtime, parent) {
             Ok(()) => Ok(()),
             Err(error) => {
@@ -135,11 +150,10 @@ impl<'a, R: Files + AllocGlobal> SystemFolder<'a, R> {
     // Removes the parents that were made, the last first, unless others have put something there.
     fn remove_parents(&mut self) -> io::Result<()> {
         for _ in 0..self.parents.len() {
-            if let Some(length) = self.parents.pop() {
-                if let Some(parent) = self.path.get(..length) {
-                    remove_empty(self.runtime, parent)?;
-                }
+            if let Some(parent) = self.parents.last() {
+                remove_empty(self.runtime, parent.as_str())?;
             }
+            self.parents.pop();
         }
         Ok(())
     }

@@ -14,7 +14,8 @@ use Rattle.std.proofs.lemmas.Str.{digit_value_digit}
 use Rattle.range_plane.specs.declared.scale.Scale.{Scale}
 use Rattle.range_plane.specs.declared.scale.Scale.TheVariants.{Metre, Decimetre}
 use Rattle.range_numbers.specs.Number.{is_number}
-use Rattle.split_numbers.specs.Decimal.{cut, units_in_parts, units_of}
+use Rattle.split_numbers.specs.Decimal.{cut, measured_in_parts, measured_of, twelve_of, units_of}
+use Rattle.split_numbers.specs.declared.decimal.Measure.{Measure}
 use Rattle.split_numbers.specs.Digits.{against_half, half_at, units_with}
 use Rattle.split_numbers.proofs.Rounding.{above, below, nearest, rounded_is, half_less, half_equal, half_greater}
 use Rattle.split_numbers.proofs.Values.{value_less, value_of_first, value-append}
@@ -73,9 +74,9 @@ unfolding units_with
 units_of_both unit negative before behind = rw (value-append before behind) refl
 
 -- a point with nothing behind it
-pub no_decimals : (unit : Scale) (negative : Bool) (number behind : List ℕ) (i : ℕ) → behind ≡ drop (i + 1) number → (length behind == 0) ≡ true
-    → ◌≡◌ {A = Option ℤ} None (units_in_parts unit (cut negative number (Some i)))
-no_decimals unit negative number behind i e empty =
+pub no_decimals : (measure : Measure) (negative : Bool) (number behind : List ℕ) (i : ℕ) → behind ≡ drop (i + 1) number → (length behind == 0) ≡ true
+    → ◌≡◌ {A = Option ℤ} None (measured_in_parts measure (cut negative number (Some i)))
+no_decimals measure negative number behind i e empty =
     let none : length behind ≤ 0 = search (rules, tests) in
     let test : nat_lt 0 (length behind) ≡ false = search (rules, tests) in
     let test_too : nat_lt 0 (length (drop (i + 1) number)) ≡ false = rw e at test in
@@ -83,10 +84,10 @@ no_decimals unit negative number behind i e empty =
     rw (test_too, and_right (is_number before && nat_lt (digits_value 10 before) (10 ^ 12)) false refl) refl
 
 -- a point with something behind it
-pub some_decimals : (unit : Scale) (negative : Bool) (number behind : List ℕ) (i : ℕ) → behind ≡ drop (i + 1) number → (length behind == 0) ≡ false
+pub some_decimals : (measure : Measure) (negative : Bool) (number behind : List ℕ) (i : ℕ) → behind ≡ drop (i + 1) number → (length behind == 0) ≡ false
     → ◌≡◌ {A = Option ℤ} (if is_number (take i number) && nat_lt (digits_value 10 (take i number)) (10 ^ 12) && list_all is_ascii_digit behind
-    then Some (units_of unit negative (take i number) behind) else None) (units_in_parts unit (cut negative number (Some i)))
-some_decimals unit negative number behind i e some =
+    then Some (measured_of measure negative (take i number) behind) else None) (measured_in_parts measure (cut negative number (Some i)))
+some_decimals measure negative number behind i e some =
     let many : 0 < length behind = search (rules, tests) in
     let test : nat_lt 0 (length behind) ≡ true = search (rules, tests) in
     let test_too : nat_lt 0 (length (drop (i + 1) number)) ≡ true = rw e at test in

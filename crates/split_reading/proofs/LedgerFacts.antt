@@ -9,8 +9,8 @@ use Rattle.split_reading.specs.declared.fault.ReadingFault.TheVariants as faults
 use Rattle.split_reading.specs.declared.ledger.Row.{Row}
 use Rattle.split_reading.specs.declared.rules.Rules.{Rules}
 use Rattle.split_reading.specs.Cells.{Record}
-use Rattle.split_reading.specs.Ledger.{AreTimely, GoesOn, IsFaultAt, IsRowFault, IsWithin, Written, Writes, finished, ledger_from, ledger_of, names_with, row_by, sensor_in, sensors_with, with_name, with_row, with_rows}
-use Rattle.split_reading.specs.Told.{IsTimely, name_in, told_in}
+use Rattle.split_reading.specs.Ledger.{AreTimely, GoesOn, IsFaultAt, IsRowFault, IsWithin, Written, Writes, animal_in, finished, lasts_with, ledger_from, ledger_of, names_with, row_by, sensors_with, told_behind, with_name, with_row, with_rows}
+use Rattle.split_reading.specs.Told.{IsTimely, name_in, sensor_in}
 use Rattle.split_table.specs.Table.{TakesRecord}
 use Rattle.split_reading.specs.Words.{with_word}
 
@@ -35,10 +35,11 @@ pub finished_more : (rules : Rules) (count : ℕ) (old new : Written) (fields : 
     → finished rules count old (fields ∷ more) ≡ finished rules (count + 1) new more
 unfolding ledger_from
 finished_more rules count old new fields more w =
-    rw (w.tells, w.names, w.sensors, w.rows) (rows_assoc old.rows (row_by rules old.names old.sensors fields w.told) (ledger_from rules (count + 1) (names_with rules old.names fields) (sensors_with rules old.sensors fields) more))
+    rw (w.tells, w.names, w.sensors, w.lasts, w.rows) (rows_assoc old.rows (row_by rules old.names old.sensors fields w.told)
+    (ledger_from rules (count + 1) (names_with rules old.names fields) (sensors_with rules old.sensors fields) (lasts_with old.lasts (animal_in rules old.names fields) w.told) more))
 
 -- and to a fault where it has one
-pub finished_fault : (rules : Rules) (count : ℕ) (old : Written) (fields : Record) (more : List Record) (own : CellFault) → told_in rules (count + 1) fields ≡ Err own
+pub finished_fault : (rules : Rules) (count : ℕ) (old : Written) (fields : Record) (more : List Record) (own : CellFault) → told_behind rules (count + 1) old.names old.lasts fields ≡ Err own
     → finished rules count old (fields ∷ more) ≡ Err (faults.Record (count + 1) own)
 unfolding ledger_from
 finished_fault rules count old fields more own h = rw h refl
@@ -55,8 +56,8 @@ stops rules count old (Some records) after fields t = rw t (finished_none rules 
 
 within_more : (rules : Rules) (count : ℕ) (old new : Written) (fields : Record) → Writes rules (count + 1) old fields new → IsWithin count old → IsWithin (count + 1) new
 within_more rules count old new fields w within =
-    let name = one_name_more old.names (name_in rules.animal rules.name.now fields) in
-    let sensor = one_more old.sensors (sensor_in rules.sensor fields) in
+    let name = one_name_more old.names (name_in rules rules.animal.now fields) in
+    let sensor = one_more old.sensors (sensor_in rules fields) in
     rw (w.names, w.sensors) (omega (arith, name, within.0), omega (arith, sensor, within.1))
 
 -- rows stay timely with that of one record more
@@ -71,7 +72,7 @@ goes_on rules count old new (Some records) after fields (more, is, then) none w 
     (more, then, rw is (omega arith), few, within_more rules count old new fields w within, rw is (finished_more rules count old new fields more w))
 
 pub row_fault : (rules : Rules) (count : ℕ) (old : Written) (left after : Option (List Record)) (fields : Record) (fault : ReadingFault) → TakesRecord left true fields after
-    → IsRowFault rules (count + 1) fields fault → IfSome left (IsFaultAt rules count old fault)
+    → IsRowFault rules (count + 1) old fields fault → IfSome left (IsFaultAt rules count old fault)
 row_fault rules count old None after fields fault t f = tt
 row_fault rules count old (Some records) after fields fault (more, is, then) f = elim f [
   | inl memory ↦ inl memory
@@ -83,9 +84,9 @@ no_rows (Err fault) = refl
 no_rows (Ok ledger) = refl
 
 -- an empty ledger comes to that of all records
-pub begins : (rules : Rules) (empty : Written) (records : List Record) → empty.names ≡ [] → empty.sensors ≡ [] → empty.rows ≡ []
+pub begins : (rules : Rules) (empty : Written) (records : List Record) → empty.names ≡ [] → empty.sensors ≡ [] → empty.lasts ≡ [] → empty.rows ≡ []
     → ledger_of rules records ≡ finished rules 0 empty records
-begins rules empty records names sensors rows = rw (names, sensors, rows) (sym (no_rows (ledger_of rules records)))
+begins rules empty records names sensors lasts rows = rw (names, sensors, lasts, rows) (sym (no_rows (ledger_of rules records)))
 
 -- the ledger so far, where the records are known
 abbrev pub SoFar : Rules → Option (List Record) → ℕ → Written → Option (List Record) → Type 0

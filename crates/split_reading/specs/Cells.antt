@@ -4,8 +4,9 @@ use Rattle.std.specs.List.{list_all}
 use Rattle.std.specs.Option.{unwrap_or}
 use Rattle.std.specs.Str.{bytes_eq}
 use Rattle.csv.specs.Records.{field_at}
-use Rattle.range_plane.specs.declared.scale.Scale.{Scale}
-use Rattle.split_numbers.specs.Decimal.{units_in}
+use Rattle.split_filters.specs.Words.{is_among}
+use Rattle.split_numbers.specs.Decimal as decimal
+use Rattle.split_reading.specs.declared.rules.Rules.{Rules}
 use Rattle.split_reading.specs.declared.fault.CellFault.{CellFault}
 use Rattle.split_reading.specs.declared.fault.CellFault.TheVariants.{NotNumber, NotTruth}
 
@@ -19,9 +20,17 @@ abbrev pub ◌>>=◌ : {A B : Type 0} → Result A CellFault → (A → Result B
 (Ok x) >>= f = f x
 (Err e) >>= f = Err e
 
+-- the field of a record at a place; one that is not there is empty
+abbrev pub field : Record → ℕ → List ℕ
+field fields place = unwrap_or (field_at fields place) []
+
+-- the text of a field, which is empty where it is a word for what is missing
+abbrev pub known : Rules → List ℕ → List ℕ
+known rules text = if is_among rules.missing.now text then [] else text
+
 -- the field of a record in a column
-abbrev pub cell : Record → ℕ → List ℕ
-cell fields column = unwrap_or (field_at fields column) []
+abbrev pub cell : Rules → Record → ℕ → List ℕ
+cell rules fields column = known rules (field fields column)
 
 -- whether a field is missing
 abbrev pub is_missing : List ℕ → Bool
@@ -33,12 +42,25 @@ found_number column (Some units) = Ok (Some units)
 found_number column None = Err (NotNumber column)
 
 -- the units of a coordinate in metres, or none where it is missing
-abbrev pub number_in : Scale → ℕ → List ℕ → Result (Option ℤ) CellFault
-number_in unit column text = if is_missing text then Ok None else found_number column (units_in unit text)
+abbrev pub number_in : Rules → ℕ → List ℕ → Result (Option ℤ) CellFault
+number_in rules column text = if is_missing text then Ok None else found_number column (decimal.units_in rules.unit rules.has_commas text)
 
--- whether a number is 0, of whose text digits, a minus and a point are all
+-- the trillionths of a number, or none where it is missing
+abbrev pub trillionths_in : Rules → ℕ → List ℕ → Result (Option ℤ) CellFault
+trillionths_in rules column text = if is_missing text then Ok None else found_number column (decimal.trillionths_in rules.has_commas text)
+
+-- a word, which is empty where it is missing
+abbrev pub known_word : List ℕ → List ℕ
+known_word text = if is_missing text then [] else text
+
+-- the word of a record in a column
+abbrev pub word_in : Rules → Option ℕ → Record → List ℕ
+word_in rules None fields = []
+word_in rules (Some column) fields = known_word (cell rules fields column)
+
+-- whether a number is 0, of whose text digits, a minus and a point, or a comma in its place, are all
 abbrev pub is_zero : List ℕ → Bool
-is_zero text = not (is_missing text) && list_all (λ b. b == 48 || b == 45 || b == 46) text
+is_zero text = not (is_missing text) && list_all (λ b. b == 48 || b == 45 || b == 46 || b == 44) text
 
 -- the truth that a text writes
 abbrev pub truth_of : List ℕ → Option Bool

@@ -2,18 +2,24 @@
 
 ghost use Rattle.std.specs.Prelude.{◌≡◌};
 ghost use Rattle.csv.specs.Records.{fields_of};
-ghost use Rattle.split_reading.specs.Cells.{cell, is_missing, is_zero, number_in, truth_in, truth_of};
+ghost use Rattle.split_reading.specs.Cells.{cell, is_missing, is_zero, number_in, trillionths_in, truth_in, truth_of, word_in};
 
 use crate::fault::CellFault;
+use crate::rules::Rules;
 use csv::ByteRecord;
-use range_plane::Scale;
-use split_numbers::whole_units;
+use split_filters::is_among;
+use split_numbers::{trillionths, whole_units};
 
-// The field of a record in a column; one that is not there is empty.
-pub(crate) fn cell(fields: &ByteRecord, column: usize) -> &[u8]
-    ensures { result.now ≡ cell (fields_of «fields».now) column }
+// The field of a record in a column; empty where it is not there, or is a word for what is missing.
+pub(crate) fn cell<'a>(fields: &'a ByteRecord, column: usize, rules: &Rules<'_, '_>) -> &'a [u8]
+    ensures { result.now ≡ cell rules.now (fields_of «fields».entry.now) column }
 {
-    fields.get(column).unwrap_or(b"")
+    let text = fields.get(column).unwrap_or(b"");
+    if is_among(rules.missing, text) {
+        b""
+    } else {
+        text
+    }
 }
 
 // Whether a field is missing.
@@ -24,16 +30,52 @@ pub(crate) fn is_missing(text: &[u8]) -> bool
 }
 
 // The units of a coordinate in metres, or none where it is missing.
-pub(crate) fn number_in(text: &[u8], column: usize, unit: Scale) -> Result<Option<i64>, CellFault>
-    ensures { result ≡ number_in unit column text.now }
+pub(crate) fn number_in(
+    text: &[u8],
+    column: usize,
+    rules: &Rules<'_, '_>,
+) -> Result<Option<i64>, CellFault>
+    ensures { result ≡ number_in rules.now column text.now }
 {
     if is_missing(text) {
         return Ok(None);
     }
-    match whole_units(text, unit) {
+    match whole_units(text, rules.unit, rules.has_commas) {
         Some(units) => Ok(Some(units)),
         None => Err(CellFault::NotNumber { column }),
     }
+}
+
+// The trillionths of a number, or none where it is missing.
+pub(crate) fn trillionths_in(
+    text: &[u8],
+    column: usize,
+    rules: &Rules<'_, '_>,
+) -> Result<Option<i64>, CellFault>
+    ensures { result ≡ trillionths_in rules.now column text.now }
+{
+    if is_missing(text) {
+        return Ok(None);
+    }
+    match trillionths(text, rules.has_commas) {
+        Some(count) => Ok(Some(count)),
+        None => Err(CellFault::NotNumber { column }),
+    }
+}
+
+// The word of a record in a column; empty where it is missing, or there is no such column.
+pub(crate) fn word_in<'a>(
+    fields: &'a ByteRecord,
+    column: Option<usize>,
+    rules: &Rules<'_, '_>,
+) -> &'a [u8]
+    ensures { result.now ≡ word_in rules.now column (fields_of «fields».entry.now) }
+{
+    let Some(column) = column else {
+        return b"";
+    };
+    let text = cell(fields, column, rules);
+    if is_missing(text) { b"" } else { text }
 }
 
 // Whether a number is 0.
@@ -41,9 +83,7 @@ pub(crate) fn is_zero(text: &[u8]) -> bool
     ensures { result ≡ is_zero text.now }
 {
     !is_missing(text)
-        && text
-            .iter()
-            .all(|byte| *byte == b'0' || *byte == b'-' || *byte == b'.')
+        && text.iter().all(|byte| *byte == b'0' || *byte == b'-' || *byte == b'.' || *byte == b',')
 }
 
 // The truth that a text writes, if it writes one.

@@ -3,8 +3,9 @@
 ghost use Rattle.std.specs.Prelude.{◌≡◌};
 
 use range_plane::OutOfMemory;
+use split_clock::NoMoment;
 use split_table::TableFault;
-use split_times::TimeFault;
+use split_times::{NumberFault, TimeFault};
 
 /// What is wrong with a record. Columns are counted from 0.
 #[derive(Clone, Copy, PartialEq, Eq, Debug)]
@@ -20,11 +21,15 @@ pub enum CellFault {
     /// Whether the fix is used is missing.
     NoTruth { column: usize },
     /// The time is missing.
-    NoTime { column: usize },
-    /// The time is no ISO text, or none since 1970.
-    Time { column: usize, fault: TimeFault },
-    /// The second is no whole number of at most 2^40.
-    NotSecond { column: usize },
+    NoTime,
+    /// The time has none of the forms, or is no ISO text, or none since 1970.
+    Time { fault: TimeFault },
+    /// The time is a number that is no second since 1970.
+    Number { fault: NumberFault },
+    /// The clock has no such time, or it was before 1970.
+    Clock { fault: NoMoment },
+    /// The second is no number of at most 2^40.
+    NotSecond,
     /// The zone is not written as `33N`.
     NotZone { column: usize },
 }

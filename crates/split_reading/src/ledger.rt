@@ -2,19 +2,20 @@
 
 ghost use Rattle.std.specs.Prelude.{◌≡◌, ◌++◌, ◌∷◌, ◌-◌, ◌<◌, [], false, IfErr, IfOk, IfSome, None, OnOk, length};
 ghost use Rattle.csv.specs.Records.{fields_of};
-ghost use Rattle.split_reading.specs.Ledger.{AreTimely, GoesOn, IsFaultAt, IsLedger, IsLedgerFault, IsRowFault, IsWithin, Writes, animal_in, names_with, sensor_in, written};
+ghost use Rattle.split_reading.specs.Ledger.{AreTimely, GoesOn, IsFaultAt, IsLedger, IsLedgerFault, IsRowFault, IsWithin, Writes, animal_in, last_of, lasts_with, names_with, with_last, written};
 ghost use Rattle.split_reading.specs.Words.{texts};
 ghost use Rattle.split_table.specs.Table.{TakesRecord};
 
-use crate::cells::{cell, is_missing};
 use crate::fault::ReadingFault;
+use crate::moment::{When, time_text};
 use crate::rules::Rules;
-use crate::told::{Told, name_in, told_in};
+use crate::told::{Told, name_in, sensor_in, told_in};
 use crate::words::number_of;
 use csv::ByteRecord;
 use indexmap::IndexSet;
 use range_plane::OutOfMemory;
 use split_table::Table;
+use split_times::Moment;
 use std::alloc::Global;
 
 /// What a record says.
@@ -32,20 +33,11 @@ pub struct Row {
 pub struct Ledger {
     /// The names of the animals, numbered from 0 in the order of their first records.
     pub names: IndexSet<Vec<u8>>,
-    /// The sensors, as the records have them; that of a record that names none is empty.
+    /// The sensors by their names; that of a record that names none is empty.
     pub sensors: IndexSet<Vec<u8>>,
+    /// The moment of the last fix of each animal, in the order of records; none where it has no fix so far.
+    pub lasts: Vec<Option<Moment>>,
     pub rows: Vec<Row>,
-}
-
-// The sensor that a record names; empty where it names none.
-fn sensor_in<'a>(fields: &'a ByteRecord, rules: &Rules<'_>) -> &'a [u8]
-    ensures { result.now ≡ sensor_in rules.now.sensor (fields_of «fields».entry.now) }
-{
-    let Some(column) = rules.sensor else {
-        return b"";
-    };
-    let text = cell(fields, column);
-    if is_missing(text) { b"" } else { text }
 }
 
 // The number of the animal of a record, if it names one.
@@ -53,7 +45,7 @@ fn animal_in(
     alloc: Global,
     names: &mut IndexSet<Vec<u8>>,
     fields: &ByteRecord,
-    rules: &Rules<'_>,
+    rules: &Rules<'_, '_>,
 ) -> Result<Option<u32>, OutOfMemory>
     requires { length (texts names.old) < 4_294_967_296 }
     ensures value { IfOk result (λ animal. animal ≡ animal_in rules.now (texts names.old) (fields_of «fields».now)) }
@@ -63,6 +55,50 @@ fn animal_in(
         Some(name) => Ok(Some(number_of(alloc, names, name)? as u32)),
         None => Ok(None),
     }
+}
+
+// The moment of the last fix of an animal, if it had one.
+fn last_of(lasts: &[Option<Moment>], animal: Option<u32>) -> Option<Moment>
+    ensures { result ≡ last_of lasts.now animal }
+{
+    match animal {
+        Some(animal) => lasts.get(animal as usize).copied().unwrap_or(None),
+        None => None,
+    }
+}
+
+// Notes that this is the moment of the last fix of an animal.
+fn put_last(
+    lasts: &mut Vec<Option<Moment>>,
+    animal: usize,
+    last: Option<Moment>,
+) -> Result<(), OutOfMemory>
+    ensures { OnOk result (lasts.new.items ≡ with_last lasts.old.items animal last) }
+{
+    if animal < lasts.len() {
+        lasts[animal] = last;
+    } else {
+        lasts.push(last)?;
+    }
+    Ok(())
+}
+
+// Notes the moment of the last fix of an animal behind what a record of it says.
+fn note_last(
+    lasts: &mut Vec<Option<Moment>>,
+    animal: Option<u32>,
+    told: &Told,
+) -> Result<(), OutOfMemory>
+    ensures { OnOk result (lasts.new.items ≡ lasts_with lasts.old.items animal told.now) }
+{
+    let Some(animal) = animal else {
+        return Ok(());
+    };
+    let last = match told {
+        Told::Fix(fix) => Some(fix.moment),
+        Told::LeftOut(_) => last_of(lasts, Some(animal)),
+    };
+    put_last(lasts, animal as usize, last)
 }
 
 // Puts a row behind others.
@@ -90,16 +126,23 @@ fn advance(table: &mut Table<'_>) -> Result<bool, ReadingFault>
 fn write_record(
     alloc: Global,
     ledger: &mut Ledger,
+    buffer: &mut Vec<u8>,
     fields: &ByteRecord,
     number: u32,
-    rules: &Rules<'_>,
+    rules: &Rules<'_, '_>,
 ) -> Result<(), ReadingFault>
     requires number { 0 < number }
     requires few { IsWithin (number - 1) (written ledger.old) }
     ensures written { OnOk result (Writes rules.now number (written ledger.old) (fields_of «fields».now) (written ledger.new)) }
-    ensures fault { IfErr result (IsRowFault rules.now number (fields_of «fields».now)) }
+    ensures fault { IfErr result (IsRowFault rules.now number (written ledger.old) (fields_of «fields».now)) }
 {
-    let told = match told_in(fields, number, rules) {
+    let animal = animal_in(alloc, &mut ledger.names, fields, rules)?;
+    let when = When {
+        number,
+        text: time_text(buffer, fields, rules)?,
+        before: last_of(&ledger.lasts, animal),
+    };
+    let told = match told_in(fields, when, rules) {
         Ok(told) => told,
         Err(fault) => {
             return Err(ReadingFault::Record {
@@ -108,7 +151,7 @@ fn write_record(
             });
         }
     };
-    let animal = animal_in(alloc, &mut ledger.names, fields, rules)?;
+    note_last(&mut ledger.lasts, animal, &told)?;
     let sensor = number_of(alloc, &mut ledger.sensors, sensor_in(fields, rules))? as u32;
     let row = Row {
         animal,
@@ -124,8 +167,9 @@ fn read_next(
     alloc: Global,
     table: &mut Table<'_>,
     ledger: &mut Ledger,
+    buffer: &mut Vec<u8>,
     count: u32,
-    rules: &Rules<'_>,
+    rules: &Rules<'_, '_>,
 ) -> Result<bool, ReadingFault>
     requires few { IsWithin count (written ledger.old) }
     requires timely { AreTimely ledger.old.rows.items }
@@ -139,14 +183,13 @@ fn read_next(
     if count == u32::MAX {
         return Err(ReadingFault::TooManyRecords);
     }
-    match write_record(alloc, ledger, table.current(), count + 1, rules) {
+    match write_record(alloc, ledger, buffer, table.current(), count + 1, rules) {
         Ok(()) => Ok(true),
         Err(fault) => Err(fault),
     }
 }
 
-/// Reads the records of a table that are left, each by the same rules. A number has a point before its decimals: where
-/// semicolons part the fields, commas before decimals are a fault, and points before thousands are read as such a point.
+/// Reads the records of a table that are left, each by the same rules.
 ///
 /// # Errors
 ///
@@ -154,7 +197,7 @@ fn read_next(
 pub fn read_records(
     alloc: Global,
     table: &mut Table<'_>,
-    rules: &Rules<'_>,
+    rules: &Rules<'_, '_>,
 ) -> Result<Ledger, ReadingFault>
     ensures ledger { IfOk result (λ ledger. IfSome table.old.left (IsLedger rules.now ledger)) }
     ensures timely { IfOk result (λ ledger. AreTimely ledger.rows.items) }
@@ -163,11 +206,13 @@ pub fn read_records(
     let mut ledger = Ledger {
         names: IndexSet::new(alloc),
         sensors: IndexSet::new(alloc),
+        lasts: Vec::new(alloc),
         rows: Vec::new(alloc),
     };
+    let mut buffer = Vec::new(alloc);
     let mut count = 0u32;
     'records: loop {
-        match read_next(alloc, table, &mut ledger, count, rules) {
+        match read_next(alloc, table, &mut ledger, &mut buffer, count, rules) {
             Ok(true) => count += 1,
             Ok(false) => return Ok(ledger),
             Err(fault) => return Err(fault),

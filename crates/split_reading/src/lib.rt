@@ -15,7 +15,8 @@ mod zone;
 
 pub use fault::{CellFault, ReadingFault};
 pub use ledger::{Ledger, Row, read_records};
-pub use place::Place;
+pub use moment::time_text;
+pub use place::{Place, Position};
 pub use rules::Rules;
 pub use told::{Told, ToldFix};
-pub use zone::{Zone, zone_of};
+pub use zone::{Zone, zone_at, zone_of};

@@ -6,24 +6,28 @@ ghost use Rattle.split_reading.specs.Marks.{is_used_by, is_used_in, mark_in, usa
 
 use crate::cells::{cell, truth_in};
 use crate::fault::CellFault;
+use crate::rules::Rules;
 use csv::ByteRecord;
-use split_titles::Marks;
 
 // The truth of a mark, or none where the table does not have it or it is missing.
-fn mark_in(fields: &ByteRecord, column: Option<usize>) -> Result<Option<bool>, CellFault>
-    ensures { result ≡ mark_in column (fields_of «fields».now) }
+fn mark_in(
+    fields: &ByteRecord,
+    column: Option<usize>,
+    rules: &Rules<'_, '_>,
+) -> Result<Option<bool>, CellFault>
+    ensures { result ≡ mark_in rules.now column (fields_of «fields».now) }
 {
     match column {
-        Some(column) => truth_in(cell(fields, column), column),
+        Some(column) => truth_in(cell(fields, column, rules), column),
         None => Ok(None),
     }
 }
 
 // Whether a fix is used, by a column that has to say so.
-fn usage_in(fields: &ByteRecord, column: usize) -> Result<bool, CellFault>
-    ensures { result ≡ usage_in column (fields_of «fields».now) }
+fn usage_in(fields: &ByteRecord, column: usize, rules: &Rules<'_, '_>) -> Result<bool, CellFault>
+    ensures { result ≡ usage_in rules.now column (fields_of «fields».now) }
 {
-    match truth_in(cell(fields, column), column)? {
+    match truth_in(cell(fields, column, rules), column)? {
         Some(truth) => Ok(truth),
         None => Err(CellFault::NoTruth { column }),
     }
@@ -45,16 +49,17 @@ fn is_used_by(
 }
 
 // Whether the marks of a record have its fix as used.
-pub(crate) fn is_used_in(fields: &ByteRecord, marks: Marks) -> Result<bool, CellFault>
-    ensures { result ≡ is_used_in marks (fields_of «fields».now) }
+pub(crate) fn is_used_in(fields: &ByteRecord, rules: &Rules<'_, '_>) -> Result<bool, CellFault>
+    ensures { result ≡ is_used_in rules.now (fields_of «fields».now) }
 {
+    let marks = rules.marks;
     if let Some(column) = marks.usage {
-        return usage_in(fields, column);
+        return usage_in(fields, column, rules);
     }
-    let visible = mark_in(fields, marks.visible)?;
-    let manual = mark_in(fields, marks.manual_outlier)?;
-    let algorithm = mark_in(fields, marks.algorithm_outlier)?;
-    let import = mark_in(fields, marks.import_outlier)?;
-    let valid = mark_in(fields, marks.manual_valid)?;
+    let visible = mark_in(fields, marks.visible, rules)?;
+    let manual = mark_in(fields, marks.manual_outlier, rules)?;
+    let algorithm = mark_in(fields, marks.algorithm_outlier, rules)?;
+    let import = mark_in(fields, marks.import_outlier, rules)?;
+    let valid = mark_in(fields, marks.manual_valid, rules)?;
     Ok(is_used_by(visible, manual, algorithm, import, valid))
 }

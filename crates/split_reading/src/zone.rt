@@ -2,12 +2,14 @@
 
 ghost use Rattle.std.specs.Prelude.{◌≡◌};
 ghost use Rattle.csv.specs.Records.{fields_of};
-ghost use Rattle.split_reading.specs.Zones.{is_south_in, number_text, zone_in, zone_number, zone_of};
+ghost use Rattle.split_reading.specs.Zones.{is_south_in, number_of, number_text, zone_at, zone_in, zone_of, zone_or_at};
 
 use crate::cells::{cell, is_missing};
 use crate::fault::CellFault;
+use crate::rules::Rules;
 use csv::ByteRecord;
 use range_numbers::value_of;
+use split_projection::zone_number;
 
 /// A UTM zone.
 #[derive(Clone, Copy, PartialEq, Eq, Debug)]
@@ -39,8 +41,8 @@ fn number_text(text: &[u8]) -> &[u8]
 }
 
 // The number of a zone: of one digit or two, before which a 0 may stand.
-fn zone_number(digits: &[u8]) -> Option<u8>
-    ensures { result ≡ zone_number digits.now }
+fn number_of(digits: &[u8]) -> Option<u8>
+    ensures { result ≡ number_of digits.now }
 {
     let has_form = digits.len() < 3
         || (digits.len() == 3 && digits[0] == b'0' && digits[1] != b'0');
@@ -57,18 +59,40 @@ pub fn zone_of(text: &[u8]) -> Option<Zone>
 {
     let (letter, before) = text.split_last()?;
     let is_south = is_south_in(*letter)?;
-    let number = zone_number(number_text(before))?;
+    let number = number_of(number_text(before))?;
     Some(Zone { number, is_south })
 }
 
-// The zone that a record names, if it names one.
-pub(crate) fn zone_in(fields: &ByteRecord, column: Option<usize>) -> Result<Option<Zone>, CellFault>
-    ensures { result ≡ zone_in column (fields_of «fields».now) }
+/// The zone of a longitude and a latitude in trillionths of a degree: by the longitude alone, and of the south where the latitude
+/// is below 0.
+pub fn zone_at(longitude: i64, latitude: i64) -> Zone
+    ensures { result ≡ zone_at longitude latitude }
 {
-    let Some(column) = column else {
+    Zone {
+        number: zone_number(longitude),
+        is_south: latitude < 0,
+    }
+}
+
+// The zone of a fix: the one that its record names, or else that of its longitude, if it has one.
+pub(crate) fn zone_or_at(named: Option<Zone>, degrees: Option<(i64, i64)>) -> Option<Zone>
+    ensures { result ≡ zone_or_at named degrees }
+{
+    match (named, degrees) {
+        (Some(zone), _) => Some(zone),
+        (None, Some((longitude, latitude))) => Some(zone_at(longitude, latitude)),
+        (None, None) => None,
+    }
+}
+
+// The zone that a record names, if it names one.
+pub(crate) fn zone_in(fields: &ByteRecord, rules: &Rules<'_, '_>) -> Result<Option<Zone>, CellFault>
+    ensures { result ≡ zone_in rules.now (fields_of «fields».now) }
+{
+    let Some(column) = rules.zone else {
         return Ok(None);
     };
-    let text = cell(fields, column);
+    let text = cell(fields, column, rules);
     if is_missing(text) {
         return Ok(None);
     }

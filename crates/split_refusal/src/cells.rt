@@ -3,7 +3,7 @@
 use crate::kind::Kind;
 use crate::push::{Field, field_at, push, push_field, push_number};
 use crate::refusal::{Refusal, Sentence};
-use crate::times::{missing_time, second_sentence, time_sentence};
+use crate::times::{clock_sentence, missing_time, number_sentence, second_sentence, time_sentence};
 use crate::zones::zone_sentence;
 use range_plane::OutOfMemory;
 use split_reading::CellFault;
@@ -13,6 +13,10 @@ use std::alloc::Global;
 const NO_NUMBER: &str = " and not a number of up to 12 digits";
 
 const NO_MARK: &str = " and not true or false (or 1 or 0): write those, or rename the column";
+
+const MAY_BE_DAY: &str =
+    ", which may be seconds since 1970 or a day with hours, as all of the table: name the form of days, as by --time-format \
+                          %Y%m%d%H, or write times such as 2024-05-01 00:30:04";
 
 const NO_TRUTH: &str = " and neither true nor false: write those, or rename the column";
 
@@ -53,54 +57,150 @@ fn field_sentence(
     Ok(Sentence { kind, text })
 }
 
-// The column that has the fault, where one has.
-fn column_of(fault: CellFault, animal: Option<usize>) -> Option<usize> {
+/// A record of a table, and what its refusal needs to know of the table.
+#[derive(Clone, Copy)]
+pub struct RecordShown<'a> {
+    /// The number of the record.
+    pub number: u32,
+    pub titles: &'a [&'a [u8]],
+    pub fields: &'a [&'a [u8]],
+    /// The columns of the animal.
+    pub animal: &'a [usize],
+    /// The columns of the time.
+    pub time: &'a [usize],
+    /// The name of the zone by whose clock times are read.
+    pub clock: &'a str,
+}
+
+// The titles of some columns, and what a record has there, each with blanks between.
+fn joined(alloc: Global, shown: &RecordShown<'_>) -> Result<(Vec<u8>, Vec<u8>), OutOfMemory> {
+    let mut titles = Vec::new(alloc);
+    let mut cells = Vec::new(alloc);
+    for (at, column) in shown.time.iter().enumerate() {
+        if at > 0 {
+            push(&mut titles, " ")?;
+            push(&mut cells, " ")?;
+        }
+        let field = field_at(shown.titles, shown.fields, Some(*column));
+        titles.extend_from_slice(field.title)?;
+        cells.extend_from_slice(field.cell)?;
+    }
+    Ok((titles, cells))
+}
+
+// What is wrong with the time of a record, if that is the fault.
+fn sentence_of_time(
+    alloc: Global,
+    fault: CellFault,
+    clock: &str,
+    field: Field<'_>,
+) -> Result<Option<Sentence>, OutOfMemory> {
+    let sentence = match fault {
+        CellFault::NoTime => missing_time(alloc, field)?,
+        CellFault::Time { fault } => time_sentence(alloc, field, fault)?,
+        CellFault::Number { fault } => number_sentence(alloc, field, fault)?,
+        CellFault::Clock { fault } => clock_sentence(alloc, field, fault, clock)?,
+        CellFault::NotSecond => second_sentence(alloc, field)?,
+        _ => return Ok(None),
+    };
+    Ok(Some(sentence))
+}
+
+// The field of a record in a column.
+fn field_in<'a>(shown: &RecordShown<'a>, column: usize) -> Field<'a> {
+    field_at(shown.titles, shown.fields, Some(column))
+}
+
+// What is wrong with a record, where that is not its time.
+fn sentence_of_cell(
+    alloc: Global,
+    fault: CellFault,
+    shown: &RecordShown<'_>,
+) -> Result<Sentence, OutOfMemory> {
     match fault {
-        CellFault::FieldCount { .. } => None,
-        CellFault::NoAnimal => animal,
-        CellFault::NotNumber { column }
-        | CellFault::NotTruth { column }
-        | CellFault::NoTruth { column }
-        | CellFault::NoTime { column }
-        | CellFault::Time { column, .. }
-        | CellFault::NotSecond { column }
-        | CellFault::NotZone { column } => Some(column),
+        CellFault::FieldCount { count } => count_sentence(alloc, count, shown.titles.len()),
+        CellFault::NotNumber { column } => {
+            field_sentence(alloc, Kind::Number, field_in(shown, column), NO_NUMBER)
+        }
+        CellFault::NotTruth { column } => {
+            field_sentence(alloc, Kind::Mark, field_in(shown, column), NO_MARK)
+        }
+        CellFault::NoTruth { column } => {
+            field_sentence(alloc, Kind::Mark, field_in(shown, column), NO_TRUTH)
+        }
+        CellFault::NotZone { column } => zone_sentence(alloc, field_in(shown, column)),
+        _ => {
+            let animal = field_at(shown.titles, shown.fields, shown.animal.first().copied());
+            unnamed_sentence(alloc, animal.title)
+        }
     }
 }
 
-// What is wrong with a record of a table of so many titles, which has this field in the column with the fault.
+// What is wrong with a record.
 fn sentence_of(
     alloc: Global,
     fault: CellFault,
-    width: usize,
-    field: Field<'_>,
+    shown: &RecordShown<'_>,
 ) -> Result<Sentence, OutOfMemory> {
-    match fault {
-        CellFault::FieldCount { count } => count_sentence(alloc, count, width),
-        CellFault::NotNumber { .. } => field_sentence(alloc, Kind::Number, field, NO_NUMBER),
-        CellFault::NoAnimal => unnamed_sentence(alloc, field.title),
-        CellFault::NotTruth { .. } => field_sentence(alloc, Kind::Mark, field, NO_MARK),
-        CellFault::NoTruth { .. } => field_sentence(alloc, Kind::Mark, field, NO_TRUTH),
-        CellFault::NoTime { .. } => missing_time(alloc, field),
-        CellFault::Time { fault, .. } => time_sentence(alloc, field, fault),
-        CellFault::NotSecond { .. } => second_sentence(alloc, field),
-        CellFault::NotZone { .. } => zone_sentence(alloc, field),
+    let (title, cell) = joined(alloc, shown)?;
+    let field = Field {
+        title: &title,
+        cell: &cell,
+    };
+    match sentence_of_time(alloc, fault, shown.clock, field)? {
+        Some(sentence) => Ok(sentence),
+        None => sentence_of_cell(alloc, fault, shown),
     }
 }
 
-/// The refusal of a record of this number for what is wrong with it. It has these fields, the table has these titles, and
-/// the animal is in this column.
-pub fn refused_cell(
+// That the sign of a number may stand before thousands.
+fn grouped_sentence(alloc: Global, field: Field<'_>) -> Result<Sentence, OutOfMemory> {
+    let words = if field.cell.contains(&b',') {
+        ", whose comma may stand before thousands: export without it"
+    } else {
+        ", whose point may stand before thousands: export without it"
+    };
+    field_sentence(alloc, Kind::Number, field, words)
+}
+
+/// The refusal of a record with a number in this column whose sign may stand before thousands. It has these fields, and the table
+/// has these titles.
+pub fn refused_grouped(
     alloc: Global,
-    fault: CellFault,
     record: u32,
     titles: &[&[u8]],
     fields: &[&[u8]],
-    animal: Option<usize>,
+    column: usize,
 ) -> Refusal {
-    let field = field_at(titles, fields, column_of(fault, animal));
-    match sentence_of(alloc, fault, titles.len(), field) {
+    let field = field_at(titles, fields, Some(column));
+    match grouped_sentence(alloc, field) {
         Ok(sentence) => Refusal::whole(alloc, sentence.kind, Some(record), &sentence.text),
+        Err(_no_memory) => Refusal::out_of_memory(alloc),
+    }
+}
+
+// That a time may be a day with hours.
+fn day_sentence(alloc: Global, shown: &RecordShown<'_>) -> Result<Sentence, OutOfMemory> {
+    let (title, cell) = joined(alloc, shown)?;
+    let field = Field {
+        title: &title,
+        cell: &cell,
+    };
+    field_sentence(alloc, Kind::Time, field, MAY_BE_DAY)
+}
+
+/// The refusal of a record whose time may be a day with hours, as all others of its table.
+pub fn refused_day(alloc: Global, shown: &RecordShown<'_>) -> Refusal {
+    match day_sentence(alloc, shown) {
+        Ok(sentence) => Refusal::whole(alloc, sentence.kind, Some(shown.number), &sentence.text),
+        Err(_no_memory) => Refusal::out_of_memory(alloc),
+    }
+}
+
+/// The refusal of a record for what is wrong with it.
+pub fn refused_cell(alloc: Global, fault: CellFault, shown: &RecordShown<'_>) -> Refusal {
+    match sentence_of(alloc, fault, shown) {
+        Ok(sentence) => Refusal::whole(alloc, sentence.kind, Some(shown.number), &sentence.text),
         Err(_no_memory) => Refusal::out_of_memory(alloc),
     }
 }

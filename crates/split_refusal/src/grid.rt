@@ -54,6 +54,12 @@ fn sentence(
     })
 }
 
+/// The refusal of a record whose used fix has no place in the zone into which it is projected.
+pub fn refused_no_place(alloc: Global, record: u32) -> Refusal {
+    let words = b"its longitude and latitude have no place in the zone";
+    Refusal::new(alloc, Kind::Grid, Some(record), words)
+}
+
 /// The refusal of a record whose used fix is off the grid. It is in whole units, not shifted.
 pub fn refused_off_grid(
     alloc: Global,

@@ -15,8 +15,8 @@ mod times;
 mod titles;
 mod zones;
 
-pub use cells::refused_cell;
-pub use grid::refused_off_grid;
+pub use cells::{RecordShown, refused_cell, refused_day, refused_grouped};
+pub use grid::{refused_no_place, refused_off_grid};
 pub use kind::Kind;
 pub use names::refused_names;
 pub use refusal::Refusal;

@@ -20,7 +20,7 @@ pub fn refused_text(alloc: Global, what: TextFault, path: &[u8]) -> Refusal {
     let words = match what {
         TextFault::ByteZero => " is no text: it has a byte 0",
         TextFault::NotUtf8 => {
-            " is no text in UTF-8, and other codings are not read yet: write it anew in UTF-8"
+            " is no text in UTF-8: name its coding, such as --encoding latin-1"
         }
     };
     refusal_of(alloc, None, about(alloc, Kind::Text, path, words))

@@ -1,12 +1,13 @@
 // Sentences about times.
 
-use crate::digits::{Written, written_in};
+use crate::digits::is_number;
 use crate::forms::{has_iso_form, without_blanks};
 use crate::kind::Kind;
 use crate::push::{Field, push, push_field};
 use crate::refusal::Sentence;
 use range_plane::OutOfMemory;
-use split_times::{TimeFault, iso_moment};
+use split_clock::NoMoment;
+use split_times::{NumberFault, TimeFault, iso_moment};
 use std::alloc::Global;
 
 // Why a field is no time that is read.
@@ -18,10 +19,8 @@ enum Why {
     OtherForm,
     // It is before 1970, or past the greatest second.
     Outside,
-    // It is a number, and not of a column of seconds.
-    Number,
-    // It is more than a whole second.
-    Decimals,
+    // It is a number that is no second since 1970.
+    Number(NumberFault),
     // It is a time of ISO in a column of seconds.
     TimeAmongSeconds,
     // It has more than nine decimals.
@@ -36,27 +35,33 @@ impl Why {
             Why::NoTime => ", which is no time",
             Why::Outside =>
                 ", which is no time since 1970, and not within 0 to 1099511627776 seconds",
-            Why::Number => {
-                ": times that are numbers are not read yet, write a time such as 2024-05-01 00:30:04"
-            }
-            Why::Decimals =>
-                ": seconds that are not digits alone are not read yet, write whole ones",
+            Why::Number(fault) => number_words(fault),
             Why::TimeAmongSeconds => {
-                ": times in a column of seconds are not read yet, write whole seconds, or name the column otherwise, \
-                 such as timestamp"
+                ", which is a time among seconds: write seconds since a start, or name the column otherwise, such as timestamp"
             }
-            Why::ManyDecimals => ": more than nine decimals are not read yet, write nine at most",
-        }
-    }
-
-    // The kind of the refusal.
-    fn kind(self) -> Kind {
-        match self {
-            Why::Missing | Why::NoTime | Why::OtherForm | Why::Outside => Kind::Time,
-            Why::Number | Why::Decimals | Why::TimeAmongSeconds | Why::ManyDecimals => Kind::Unread,
+            Why::ManyDecimals => ", which has more than nine decimals: write nine at most",
         }
     }
 }
+
+// What is said of a number that is no second since 1970, by what it looks like.
+fn number_words(fault: NumberFault) -> &'static str {
+    match fault {
+        NumberFault::NotNumber => ", which is no number",
+        NumberFault::Negative => ", which is less than 0",
+        NumberFault::DaysOfExcel => ", which looks like days of Excel",
+        NumberFault::JulianDays => ", which looks like Julian days",
+        NumberFault::DateWithoutHyphens => ", which looks like a date without hyphens",
+        NumberFault::Milliseconds =>
+            ", which looks like milliseconds, or a date without signs between",
+        NumberFault::NotSecond => ", which is no second since 1970 (1990 to 2286)",
+    }
+}
+
+// The remedy of a number that is no second since 1970.
+const REMEDY: &str =
+    ": write a time such as 2024-05-01 00:30:04, or seconds since 1970, or seconds since another start in a column \
+                      'second'";
 
 // Whether a field has no time.
 fn is_missing(cell: &[u8]) -> bool {
@@ -81,7 +86,6 @@ fn why_no_time(cell: &[u8], fault: TimeFault) -> Why {
     match fault {
         TimeFault::MoreThanNineDecimals => Why::ManyDecimals,
         TimeFault::Before1970 => Why::Outside,
-        TimeFault::NotTime if written_in(cell).is_some() => Why::Number,
         TimeFault::NotTime => why_no_text(cell),
     }
 }
@@ -100,10 +104,9 @@ fn why_no_second(cell: &[u8]) -> Why {
     if is_missing(cell) {
         return Why::Missing;
     }
-    match written_in(cell) {
-        Some(Written::Parts | Written::MinusZero) => Why::Decimals,
-        Some(Written::Whole | Written::GreatParts | Written::Minus) => Why::Outside,
-        None => why_no_second_text(cell),
+    match is_number(cell) {
+        true => Why::Outside,
+        false => why_no_second_text(cell),
     }
 }
 
@@ -116,8 +119,11 @@ fn sentence(alloc: Global, field: Field<'_>, why: Why) -> Result<Sentence, OutOf
     } else {
         push_field(&mut text, field, why.words())?;
     }
+    if let Why::Number(_) = why {
+        push(&mut text, REMEDY)?;
+    }
     Ok(Sentence {
-        kind: why.kind(),
+        kind: Kind::Time,
         text,
     })
 }
@@ -139,4 +145,34 @@ pub(crate) fn time_sentence(
 // Why a field in a column of seconds is none.
 pub(crate) fn second_sentence(alloc: Global, field: Field<'_>) -> Result<Sentence, OutOfMemory> {
     sentence(alloc, field, why_no_second(field.cell))
+}
+
+// Why a number is no second since 1970.
+pub(crate) fn number_sentence(
+    alloc: Global,
+    field: Field<'_>,
+    fault: NumberFault,
+) -> Result<Sentence, OutOfMemory> {
+    sentence(alloc, field, Why::Number(fault))
+}
+
+// Why the clock of a zone has no such time.
+pub(crate) fn clock_sentence(
+    alloc: Global,
+    field: Field<'_>,
+    fault: NoMoment,
+    clock: &str,
+) -> Result<Sentence, OutOfMemory> {
+    if fault == NoMoment::Before1970 {
+        return sentence(alloc, field, Why::Outside);
+    }
+    let mut text = Vec::new(alloc);
+    text.extend_from_slice(field.title)?;
+    push(&mut text, ": the clocks of ")?;
+    push(&mut text, clock)?;
+    push(&mut text, " passed over that time")?;
+    Ok(Sentence {
+        kind: Kind::Time,
+        text,
+    })
 }

@@ -5,6 +5,7 @@ use crate::words::{push, push_quoted};
 use indexmap::{IndexMap, IndexSet};
 use range_plane::OutOfMemory;
 use std::alloc::{AllocError, Global};
+use unicode_normalization::to_nfkc;
 
 // A text without the blank at its start; `None` where there is no blank.
 fn behind_blank(text: &[u8]) -> Option<&[u8]> {
@@ -58,18 +59,78 @@ fn likeness(alloc: Global, name: &[u8]) -> Result<Vec<u8>, OutOfMemory> {
     }
 }
 
-// That two names are alike.
-fn alike_text(alloc: Global, first: &[u8], second: &[u8]) -> Result<Vec<u8>, AllocError> {
+// What a name has in common with those that differ in the form of letters alone: its normal form of compatibility, NFKC. One
+// that is no UTF-8 is like itself alone.
+fn letters_of(alloc: Global, name: &[u8]) -> Result<Vec<u8>, OutOfMemory> {
+    match str::from_utf8(name) {
+        Ok(text) => Ok(to_nfkc(alloc, text)?.into_bytes()),
+        Err(_no_text) => Ok(Vec::from_slice(alloc, name)?),
+    }
+}
+
+// That two names are alike, and what they differ in.
+fn alike_text(
+    alloc: Global,
+    first: &[u8],
+    second: &[u8],
+    what: &str,
+) -> Result<Vec<u8>, AllocError> {
     let mut text = Vec::new(alloc);
     push(&mut text, "animals ")?;
     push_quoted(&mut text, first)?;
     push(&mut text, " and ")?;
     push_quoted(&mut text, second)?;
-    push(
-        &mut text,
-        " differ in blanks or capitals alone: are they one?",
-    )?;
+    push(&mut text, " differ in ")?;
+    push(&mut text, what)?;
+    push(&mut text, " alone: are they one?")?;
     Ok(text)
+}
+
+// The first name of this key, if there was one; else this name is the first.
+fn first_of<'a>(
+    known: &mut IndexMap<Vec<u8>, &'a [u8]>,
+    key: Vec<u8>,
+    name: &'a [u8],
+) -> Result<Option<&'a [u8]>, OutOfMemory> {
+    let first = known.get(key.as_slice()).copied();
+    if first.is_none() {
+        let _none = known.insert(key, name)?;
+    }
+    Ok(first)
+}
+
+// The names that were seen, by what they have in common with others.
+#[derive(Drop)]
+struct Known<'a> {
+    by_likeness: IndexMap<Vec<u8>, &'a [u8]>,
+    by_letters: IndexMap<Vec<u8>, &'a [u8]>,
+}
+
+// Says which names before this one may be meant as one with it: the first from which it differs in blanks or capitals, and the
+// first from which it differs in the form of letters, if that is another one.
+fn tell_name<'a>(
+    alloc: Global,
+    said: &mut Said,
+    known: &mut Known<'a>,
+    name: &'a [u8],
+) -> Result<(), OutOfMemory> {
+    let alike = first_of(&mut known.by_likeness, likeness(alloc, name)?, name)?;
+    if let Some(first) = alike {
+        said.say(
+            alloc,
+            &alike_text(alloc, first, name, "blanks or capitals")?,
+        )?;
+    }
+    let same = first_of(&mut known.by_letters, letters_of(alloc, name)?, name)?;
+    match same {
+        Some(first) if alike != same => {
+            said.say(
+                alloc,
+                &alike_text(alloc, first, name, "the form of letters")?,
+            )
+        }
+        _ => Ok(()),
+    }
 }
 
 // Says which names may be meant as one, each with the first that it is like.
@@ -78,15 +139,12 @@ pub(crate) fn tell_alike(
     said: &mut Said,
     names: &IndexSet<Vec<u8>>,
 ) -> Result<(), OutOfMemory> {
-    let mut known: IndexMap<Vec<u8>, &[u8]> = IndexMap::new(alloc);
+    let mut known = Known {
+        by_likeness: IndexMap::new(alloc),
+        by_letters: IndexMap::new(alloc),
+    };
     for name in names.iter() {
-        let key = likeness(alloc, name)?;
-        match known.get(key.as_slice()).copied() {
-            Some(first) => said.say(alloc, &alike_text(alloc, first, name)?)?,
-            None => {
-                let _none = known.insert(key, name.as_slice())?;
-            }
-        }
+        tell_name(alloc, said, &mut known, name)?;
     }
     Ok(())
 }

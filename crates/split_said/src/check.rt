@@ -1,8 +1,11 @@
 // The records of a table as a whole.
 
 use crate::animals::check_animals;
-use crate::rows::used_fix;
+use crate::clocks::tell_clock;
+use crate::left::{count_left, tell_filters};
+use crate::rows::taken_fix;
 use crate::said::Said;
+use crate::seconds::check_seconds;
 use crate::sensors::{check_classes, check_sensors};
 use crate::sheet::Sheet;
 use crate::stop::{Stop, nothing_left, refusal_of, refused};
@@ -18,20 +21,18 @@ fn empty_text(alloc: Global) -> Result<Vec<u8>, AllocError> {
     Vec::from_slice(alloc, b"there is no record below the titles")
 }
 
-// How many records are left out for a reason that their own cells are.
-fn left_count(rows: &[Row], reason: Reason) -> usize {
-    rows.iter()
-        .filter(|row| row.told == Told::LeftOut(reason))
-        .count()
-}
-
 // Says how many records are none of an animal at a place.
-fn tell_left(alloc: Global, said: &mut Said, rows: &[Row]) -> Result<(), OutOfMemory> {
-    let unnamed = left_count(rows, Reason::Animal);
+fn tell_unread(
+    alloc: Global,
+    said: &mut Said,
+    sheet: &Sheet<'_>,
+    rows: &[Row],
+) -> Result<(), OutOfMemory> {
+    let unnamed = count_left(sheet, rows, Reason::Animal);
     said.say_counted(alloc, unnamed, b"records have no animal: left out")?;
-    let unplaced = left_count(rows, Reason::Coordinates);
+    let unplaced = count_left(sheet, rows, Reason::Coordinates);
     said.say_counted(alloc, unplaced, b"records have no coordinates: left out")?;
-    let zeros = left_count(rows, Reason::Zero);
+    let zeros = count_left(sheet, rows, Reason::Zero);
     said.say_counted(
         alloc,
         zeros,
@@ -59,11 +60,11 @@ fn tell_no_columns(alloc: Global, said: &mut Said, sheet: &Sheet<'_>) -> Result<
     Ok(())
 }
 
-// How many fixes are not used.
+// How many fixes of sensors that are wanted are not used.
 fn outlier_count(rows: &[Row]) -> usize {
     rows.iter()
         .filter(|row| match row.told {
-            Told::Fix(fix) => !fix.is_used,
+            Told::Fix(fix) => fix.is_of_sensor && !fix.is_used,
             Told::LeftOut(_) => false,
         })
         .count()
@@ -90,23 +91,28 @@ fn check(alloc: Global, said: &mut Said, sheet: &Sheet<'_>, ledger: &Ledger) -> 
         return Err(refused(alloc, Kind::Empty, None, empty_text(alloc)));
     }
     check_animals(alloc, said, sheet, ledger)?;
-    tell_left(alloc, said, &ledger.rows)?;
+    check_seconds(alloc, sheet, ledger)?;
+    tell_unread(alloc, said, sheet, &ledger.rows)?;
     tell_no_columns(alloc, said, sheet)?;
-    let is_argos = check_sensors(alloc, said, ledger)?;
+    tell_clock(alloc, said, sheet, &ledger.rows)?;
+    check_sensors(alloc, said, sheet, ledger)?;
     tell_outliers(alloc, said, sheet, &ledger.rows)?;
-    if ledger.rows.iter().all(|row| used_fix(row).is_none()) {
+    check_classes(alloc, said, sheet, ledger)?;
+    tell_filters(alloc, said, sheet, &ledger.rows)?;
+    if ledger.rows.iter().all(|row| taken_fix(row).is_none()) {
         return Err(nothing_left(alloc));
     }
-    check_classes(alloc, sheet, is_argos)
+    Ok(())
 }
 
 /// Checks the records of a table as a whole, and says what is left out and what is odd: animals with one record each, names
-/// that are alike, records without an animal or a place, columns that are not there, the sensor and outliers.
+/// that are alike, records without an animal or a place, columns that are not there, how times are read, the sensor, outliers, and fixes that filters
+/// leave out.
 ///
 /// # Errors
 ///
-/// The table has no record, or no fix is used; each animal has one record; fixes are of several sensors, or of Argos; or
-/// memory ran out. That Argos classes are not read is one too.
+/// The table has no record, or no fix is left; each animal has one record; seconds may be those of a minute; fixes are of several sensors and none is named, or of
+/// Argos and no class is named; no fix is of a sensor that is named; or memory ran out.
 pub fn check_ledger(
     alloc: Global,
     said: &mut Said,

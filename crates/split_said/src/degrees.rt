@@ -1,12 +1,12 @@
 // Degrees in the columns of metres.
 
-use crate::rows::used_metres;
+use crate::rows::taken_metres;
 use crate::said::Said;
 use crate::sheet::{Sheet, title_at};
 use crate::stop::{Stop, refused};
 use crate::words::{push, push_option, push_zone_option};
 use range_plane::Scale;
-use split_reading::{Row, Zone};
+use split_reading::{Row, Zone, zone_at};
 use split_refusal::Kind;
 use split_titles::Pair;
 use std::alloc::{AllocError, Global};
@@ -24,7 +24,7 @@ fn most_degrees(unit: Scale) -> (u64, u64) {
 fn are_near_corner(rows: &[Row], unit: Scale) -> bool {
     let (longitude, latitude) = most_degrees(unit);
     for row in rows {
-        if let Some((east, north)) = used_metres(row) {
+        if let Some((east, north)) = taken_metres(row) {
             if east.unsigned_abs() > longitude || north.unsigned_abs() > latitude {
                 return false;
             }
@@ -33,13 +33,15 @@ fn are_near_corner(rows: &[Row], unit: Scale) -> bool {
     true
 }
 
-// The zone of a place, by its longitude alone.
-fn zone_at(longitude: f64, latitude: f64) -> Zone {
-    let strip = saturating_f64_to_i64(((longitude + 180.0) / 6.0).floor()).rem_euclid(60);
-    Zone {
-        number: u8::try_from(strip.saturating_add(1)).unwrap_or(1),
-        is_south: !(latitude >= 0.0),
-    }
+// How many trillionths a degree has.
+const TRILLION: f64 = 1_000_000_000_000.0;
+
+// The zone of a place in degrees.
+fn zone_of(longitude: f64, latitude: f64) -> Zone {
+    zone_at(
+        saturating_f64_to_i64((longitude * TRILLION).round()),
+        saturating_f64_to_i64((latitude * TRILLION).round()),
+    )
 }
 
 // That columns of metres have degrees, the first of which are these.
@@ -61,7 +63,7 @@ fn degrees_text(
     push(&mut text, " ")?;
     push_option(&mut text, "--lat", titles.1)?;
     push(&mut text, " ")?;
-    push_zone_option(&mut text, zone_at(first.0, first.1))?;
+    push_zone_option(&mut text, zone_of(first.0, first.1))?;
     push(&mut text, "; or, if they are metres, add 1000 to all")?;
     Ok(text)
 }

@@ -1,69 +1,28 @@
-// The columns that were taken, and the extent of fixes that are used.
+// The columns that were taken, and where and when fixes are used.
 
 use crate::figures::push_thousandths;
+use crate::place::push_place;
 use crate::said::Said;
 use crate::sheet::{Sheet, title_at, units_of_metre};
+use crate::span::push_span;
 use crate::tracks::Herd;
 use crate::words::{push, push_number};
 use indexmap::IndexSet;
 use range_plane::{OutOfMemory, Scale};
+use split_doubts::{Axis, extent_of_tracks, span};
+use split_fates::Extent;
+use split_reading::Zone;
 use split_titles::Pair;
-use split_tracks::Entry;
 use std::alloc::{AllocError, Global};
-use std::num::nearest_i64_to_f64;
+use std::num::nearest_u64_to_f64;
 
-// The least and the greatest of some numbers.
-#[derive(Clone, Copy)]
-struct Span {
-    least: i64,
-    most: i64,
-}
-
-// The span of numbers and of one more.
-fn widened(span: Option<Span>, number: i64) -> Option<Span> {
-    match span {
-        Some(span) => Some(Span {
-            least: span.least.min(number),
-            most: span.most.max(number),
-        }),
-        None => Some(Span {
-            least: number,
-            most: number,
-        }),
-    }
-}
-
-// The spans of eastings and northings, and of those of one more track.
-fn widened_by(
-    spans: (Option<Span>, Option<Span>),
-    track: &[Entry],
-) -> (Option<Span>, Option<Span>) {
-    let (mut east, mut north) = spans;
-    for entry in track {
-        if entry.is_used {
-            east = widened(east, entry.easting);
-            north = widened(north, entry.northing);
-        }
-    }
-    (east, north)
-}
-
-// The spans of all fixes that are used.
-fn spans_of(herd: &Herd<'_>) -> (Option<Span>, Option<Span>) {
-    let mut spans = (None, None);
-    for animal in herd.order {
-        spans = widened_by(spans, herd.track(*animal));
-    }
-    spans
-}
-
-// How many kilometres a span is wide.
-fn kilometres(span: Option<Span>, unit: Scale) -> f64 {
-    let width = match span {
-        Some(span) => span.most.saturating_sub(span.least),
+// How many kilometres the extent of fixes is wide along an axis; 0 where there are none.
+fn kilometres(extent: &Option<Extent>, axis: Axis, unit: Scale) -> f64 {
+    let width = match extent {
+        Some(extent) => span(axis, extent),
         None => 0,
     };
-    nearest_i64_to_f64(width) / f64::from(units_of_metre(unit)) / 1000.0
+    nearest_u64_to_f64(width) / f64::from(units_of_metre(unit)) / 1000.0
 }
 
 // The titles of a pair of columns behind others.
@@ -112,23 +71,40 @@ fn push_titles(text: &mut Vec<u8>, titles: &IndexSet<&[u8]>) -> Result<(), Alloc
     Ok(())
 }
 
-// Says which columns were taken, the number of animals, and the extent of the fixes that are used.
+// Appends how wide the extent of the fixes that are used is.
+fn push_box(
+    alloc: Global,
+    text: &mut Vec<u8>,
+    herd: &Herd<'_>,
+    unit: Scale,
+) -> Result<(), AllocError> {
+    let extent = extent_of_tracks(herd.tracks);
+    push(text, "box ")?;
+    push_thousandths(alloc, text, kilometres(&extent, Axis::Easting, unit))?;
+    push(text, " by ")?;
+    push_thousandths(alloc, text, kilometres(&extent, Axis::Northing, unit))?;
+    push(text, " km")
+}
+
+// Says which columns were taken, the number of animals, and the extent of the fixes that are used, where they lie, if the zone
+// is known, and from when to when they are.
 pub(crate) fn tell_columns(
     alloc: Global,
     said: &mut Said,
     sheet: &Sheet<'_>,
+    zone: Option<Zone>,
     herd: &Herd<'_>,
 ) -> Result<(), OutOfMemory> {
-    let (east, north) = spans_of(herd);
     let mut text = Vec::new(alloc);
     push(&mut text, "columns: ")?;
     push_titles(&mut text, &titles_taken(alloc, sheet)?)?;
     push(&mut text, "; ")?;
     push_number(&mut text, herd.order.len())?;
-    push(&mut text, " animals, box ")?;
-    push_thousandths(alloc, &mut text, kilometres(east, sheet.unit))?;
-    push(&mut text, " by ")?;
-    push_thousandths(alloc, &mut text, kilometres(north, sheet.unit))?;
-    push(&mut text, " km")?;
+    push(&mut text, " animals, ")?;
+    push_box(alloc, &mut text, herd, sheet.unit)?;
+    if let Some(zone) = zone {
+        push_place(alloc, &mut text, herd, sheet.unit, zone)?;
+    }
+    push_span(alloc, &mut text, sheet, herd)?;
     said.say(alloc, &text)
 }

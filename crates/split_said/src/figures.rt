@@ -11,6 +11,19 @@ pub(crate) fn push_signed(text: &mut Vec<u8>, number: i64) -> Result<(), AllocEr
     push(text, buffer.format(number))
 }
 
+// Appends a number with commas between thousands.
+pub(crate) fn push_grouped(text: &mut Vec<u8>, number: u64) -> Result<(), AllocError> {
+    let mut buffer = Buffer::new();
+    let figures = buffer.format(number).as_bytes();
+    for (at, figure) in figures.iter().enumerate() {
+        if at > 0 && figures.len().saturating_sub(at) % 3 == 0 {
+            push(text, ",")?;
+        }
+        text.extend_from_slice(&[*figure])?;
+    }
+    Ok(())
+}
+
 // Appends so many units as metres with two decimals.
 pub(crate) fn push_metres(text: &mut Vec<u8>, units: i64, unit: Scale) -> Result<(), AllocError> {
     if units < 0 {

@@ -1,11 +1,12 @@
 // The grid of a table's coordinates.
 
 use crate::degrees::check_degrees;
+use crate::projection::projected_zone;
 use crate::said::Said;
 use crate::sheet::Sheet;
 use crate::shift::find_shift;
 use crate::stop::{Stop, refusal_of};
-use crate::utm::{not_projected, utm_zones};
+use crate::utm::utm_zone;
 use crate::words::{push, push_zone};
 use crate::zeros::ask_zeros;
 use range_plane::OutOfMemory;
@@ -18,10 +19,12 @@ use std::alloc::Global;
 pub struct Grid {
     /// The zone, as it is told; none where it is not known.
     pub zone: Option<Zone>,
-    /// The zone that records have to name whose fixes are taken; none where they need not name one.
+    /// The zone of which fixes are taken that are of no other; none where all are of one grid.
     pub of_zone: Option<Zone>,
     /// By how many whole metres coordinates are shifted, east and north.
     pub shift: (i64, i64),
+    /// Whether longitude and latitude are projected; else metres are those of the table.
+    pub is_projected: bool,
 }
 
 // Says that coordinates are those of the table, and of which zone.
@@ -35,6 +38,34 @@ fn tell_zone(alloc: Global, said: &mut Said, zone: Option<Zone>) -> Result<(), O
     said.say(alloc, &text)
 }
 
+// The grid of metres that are those of the table.
+fn own_grid(alloc: Global, said: &mut Said, sheet: &Sheet<'_>, rows: &[Row]) -> Result<Grid, Stop> {
+    tell_zone(alloc, said, sheet.zone)?;
+    let shift = find_shift(alloc, said, sheet.unit, rows)?;
+    Ok(Grid {
+        zone: sheet.zone,
+        of_zone: None,
+        shift,
+        is_projected: false,
+    })
+}
+
+// The grid of longitude and latitude, which are projected.
+fn projected_grid(
+    alloc: Global,
+    said: &mut Said,
+    sheet: &Sheet<'_>,
+    rows: &[Row],
+) -> Result<Grid, Stop> {
+    let zone = projected_zone(alloc, said, sheet, rows)?;
+    Ok(Grid {
+        zone: Some(zone),
+        of_zone: None,
+        shift: (0, 0),
+        is_projected: true,
+    })
+}
+
 // The grid of the rows of a table.
 fn grid_of(
     alloc: Global,
@@ -44,35 +75,31 @@ fn grid_of(
     unrounded: Option<(f64, f64)>,
 ) -> Result<Grid, Stop> {
     let Some(metres) = sheet.columns.metres else {
-        return Err(not_projected(alloc, sheet, rows));
+        return projected_grid(alloc, said, sheet, rows);
     };
     ask_zeros(alloc, said, rows, sheet.unit)?;
     check_degrees(alloc, said, sheet, metres, rows, unrounded)?;
-    if sheet.columns.is_utm {
-        let zones = utm_zones(alloc, said, sheet, rows)?;
-        return Ok(Grid {
-            zone: Some(zones.zone),
-            of_zone: zones.of_records,
-            shift: (0, 0),
-        });
+    if !sheet.columns.is_utm {
+        return own_grid(alloc, said, sheet, rows);
     }
-    tell_zone(alloc, said, sheet.zone)?;
-    let shift = find_shift(alloc, said, sheet.unit, rows)?;
-    Ok(Grid {
-        zone: sheet.zone,
-        of_zone: None,
-        shift,
-    })
+    match utm_zone(alloc, said, sheet, rows)? {
+        Some(zone) => Ok(Grid {
+            zone: Some(zone),
+            of_zone: Some(zone),
+            shift: (0, 0),
+            is_projected: false,
+        }),
+        None => projected_grid(alloc, said, sheet, rows),
+    }
 }
 
 /// The grid on which the fixes of a table are taken, which is said. `unrounded` are the easting and northing of the first fix
-/// that is used and has some, as the table writes them, where not all that are used are whole numbers of metres; none where
+/// that is taken and has some, as the table writes them, where not all that are taken are whole numbers of metres; none where
 /// all are.
 ///
 /// # Errors
 ///
-/// Coordinates are degrees, of no zone, of several or wider than a grid; fixes have none; or memory ran out. What would have to
-/// be projected is one too.
+/// Coordinates are degrees, of no zone, of several or wider than a grid; fixes have none; or memory ran out.
 pub fn find_grid(
     alloc: Global,
     said: &mut Said,

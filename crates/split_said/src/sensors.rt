@@ -1,48 +1,51 @@
 // The sensors of fixes that are used.
 
+use crate::left::{count_left, tell_left};
 use crate::ranked::{Ranked, push_ranked, rank, word_or_none};
-use crate::rows::used_fix;
 use crate::said::Said;
 use crate::sheet::Sheet;
 use crate::stop::{Stop, refused};
-use crate::unread::classes_text;
 use crate::words::{push, push_option};
-use indexmap::IndexMap;
 use range_plane::OutOfMemory;
-use split_reading::Ledger;
+use split_filters::ARGOS;
+use split_reading::{Ledger, Row, Told, ToldFix};
 use split_refusal::Kind;
+use split_tracks::Reason;
 use std::alloc::{AllocError, Global};
 
-const ARGOS: &str = "argos-doppler-shift";
+const GPS: &[u8] = b"gps";
 
-const GPS: &str = "gps";
+// Which fixes are counted.
+#[derive(Clone, Copy)]
+enum Counted {
+    All,
+    Used,
+    // Those that are used, of sensors that are wanted.
+    Wanted,
+}
 
-// The name of a sensor by its number of Movebank.
-fn sensor_of_number(number: &[u8]) -> Option<&'static str> {
-    match number {
-        b"397" => Some("bird-ring"),
-        b"653" => Some(GPS),
-        b"673" => Some("radio-transmitter"),
-        b"82798" => Some(ARGOS),
-        b"2365682" => Some("natural-mark"),
-        b"3886361" => Some("solar-geolocator"),
-        _ => None,
+// Whether a fix is counted.
+fn is_counted(counted: Counted, fix: ToldFix) -> bool {
+    match counted {
+        Counted::All => true,
+        Counted::Used => fix.is_used,
+        Counted::Wanted => fix.is_used && fix.is_of_sensor,
     }
 }
 
-// The name of a sensor, of which a table may have the number.
-fn sensor_name(word: &[u8]) -> &[u8] {
-    match sensor_of_number(word) {
-        Some(name) => name.as_bytes(),
-        None => word,
+// Whether a row has a fix that is counted.
+fn is_counted_row(counted: Counted, row: &Row) -> bool {
+    match row.told {
+        Told::Fix(fix) => is_counted(counted, fix),
+        Told::LeftOut(_) => false,
     }
 }
 
-// How many fixes that are used each sensor of a ledger has.
-fn used_counts(alloc: Global, ledger: &Ledger) -> Result<Vec<usize>, OutOfMemory> {
+// How many of some fixes each sensor of a ledger has.
+fn counts_of(alloc: Global, ledger: &Ledger, counted: Counted) -> Result<Vec<usize>, OutOfMemory> {
     let mut counts = vec![in alloc; 0usize; ledger.sensors.len()]?;
     for row in ledger.rows.iter() {
-        if used_fix(row).is_some() {
+        if is_counted_row(counted, row) {
             if let Some(count) = counts.get_mut(row.sensor as usize) {
                 *count = count.saturating_add(1);
             }
@@ -51,30 +54,17 @@ fn used_counts(alloc: Global, ledger: &Ledger) -> Result<Vec<usize>, OutOfMemory
     Ok(counts)
 }
 
-// The same by the names of sensors, of which some may be named in two ways.
-fn counts_by_name<'a>(
+// The sensors with these counts, but for those of no fix, the most frequent first.
+fn ranked_sensors(
     alloc: Global,
-    ledger: &'a Ledger,
+    ledger: &Ledger,
     counts: &[usize],
-) -> Result<IndexMap<&'a [u8], usize>, OutOfMemory> {
-    let mut by_name: IndexMap<&[u8], usize> = IndexMap::new(alloc);
-    for (word, count) in ledger.sensors.iter().zip(counts) {
-        if *count > 0 {
-            let name = sensor_name(word);
-            let before = by_name.get(name).copied().unwrap_or(0);
-            let _before = by_name.insert(name, before.saturating_add(*count))?;
-        }
-    }
-    Ok(by_name)
-}
-
-// The sensors of fixes that are used, the most frequent first.
-fn used_sensors(alloc: Global, ledger: &Ledger) -> Result<Vec<Ranked>, OutOfMemory> {
-    let counts = used_counts(alloc, ledger)?;
-    let by_name = counts_by_name(alloc, ledger, &counts)?;
+) -> Result<Vec<Ranked>, OutOfMemory> {
     let mut sensors = Vec::new(alloc);
-    for (name, count) in by_name.iter() {
-        sensors.push(Ranked::new(Vec::from_slice(alloc, name)?, *count))?;
+    for (name, count) in ledger.sensors.iter().zip(counts) {
+        if *count > 0 {
+            sensors.push(Ranked::new(Vec::from_slice(alloc, name)?, *count))?;
+        }
     }
     rank(&mut sensors)?;
     Ok(sensors)
@@ -102,40 +92,111 @@ fn argos_text(alloc: Global) -> Result<Vec<u8>, AllocError> {
 }
 
 // Says of which sensor all fixes are, where it is not the usual one.
-fn tell_sensor(alloc: Global, said: &mut Said, sensor: &[u8]) -> Result<(), OutOfMemory> {
-    if sensor.is_empty() || sensor == GPS.as_bytes() {
+fn tell_sensor(alloc: Global, said: &mut Said, sensors: &[Ranked]) -> Result<(), OutOfMemory> {
+    let [only] = sensors else {
+        return Ok(());
+    };
+    if only.word.is_empty() || only.word.as_slice() == GPS {
         return Ok(());
     }
     let mut text = Vec::new(alloc);
     push(&mut text, "all fixes are of the sensor ")?;
-    text.extend_from_slice(sensor)?;
+    text.extend_from_slice(&only.word)?;
     said.say(alloc, &text)
 }
 
-// The only sensor of fixes that are used; none where none is used. Several are refused, and one is said.
-pub(crate) fn check_sensors(alloc: Global, said: &mut Said, ledger: &Ledger) -> Result<bool, Stop> {
-    let sensors = used_sensors(alloc, ledger)?;
-    let Some(first) = sensors.first() else {
-        return Ok(false);
-    };
-    if sensors.len() > 1 {
-        let text = several_text(alloc, &sensors, &first.word);
-        return Err(refused(alloc, Kind::Sensor, None, text));
-    }
-    tell_sensor(alloc, said, &first.word)?;
-    Ok(first.word.as_slice() == ARGOS.as_bytes())
+// Whether some fix is of this sensor.
+fn has_sensor(ledger: &Ledger, counts: &[usize], sensor: &[u8]) -> bool {
+    ledger
+        .sensors
+        .iter()
+        .zip(counts)
+        .any(|(own, count)| *count > 0 && own.as_slice() == sensor)
 }
 
-// Refuses fixes of Argos, and a column of their classes.
-pub(crate) fn check_classes(alloc: Global, sheet: &Sheet<'_>, is_argos: bool) -> Result<(), Stop> {
-    if is_argos {
-        return Err(refused(alloc, Kind::Argos, None, argos_text(alloc)));
-    }
-    match sheet.columns.argos {
-        Some(column) => {
-            let text = classes_text(alloc, sheet, column);
-            Err(refused(alloc, Kind::Unread, None, text))
+// That no fix is of this sensor.
+fn absent_text(alloc: Global, sensor: &[u8]) -> Result<Vec<u8>, AllocError> {
+    let mut text = Vec::new(alloc);
+    push(&mut text, "--sensor: no fix is of ")?;
+    text.extend_from_slice(word_or_none(sensor))?;
+    Ok(text)
+}
+
+// Refuses a sensor that is wanted and of which no fix is: the first by name.
+fn check_wanted(alloc: Global, sheet: &Sheet<'_>, ledger: &Ledger) -> Result<(), Stop> {
+    let counts = counts_of(alloc, ledger, Counted::All)?;
+    let mut absent: Vec<&[u8]> = Vec::new(alloc);
+    for sensor in sheet.filters.sensors {
+        if !has_sensor(ledger, &counts, sensor) {
+            absent.push(*sensor)?;
         }
+    }
+    match absent.iter().min() {
+        Some(first) => Err(refused(alloc, Kind::Sensor, None, absent_text(alloc, first))),
         None => Ok(()),
     }
+}
+
+// Refuses fixes that are used and of several sensors, none of which was named.
+fn check_one(alloc: Global, ledger: &Ledger) -> Result<(), Stop> {
+    let sensors = ranked_sensors(alloc, ledger, &counts_of(alloc, ledger, Counted::Used)?)?;
+    match sensors.first() {
+        Some(first) if sensors.len() > 1 => {
+            let text = several_text(alloc, &sensors, &first.word);
+            Err(refused(alloc, Kind::Sensor, None, text))
+        }
+        _ => Ok(()),
+    }
+}
+
+// Refuses several sensors of which none was named, and a named one of which no fix is; says how many records are of others, and
+// of which sensor all fixes are.
+pub(crate) fn check_sensors(
+    alloc: Global,
+    said: &mut Said,
+    sheet: &Sheet<'_>,
+    ledger: &Ledger,
+) -> Result<(), Stop> {
+    if sheet.filters.sensors.is_empty() {
+        check_one(alloc, ledger)?;
+    } else {
+        check_wanted(alloc, sheet, ledger)?;
+        let others = count_left(sheet, &ledger.rows, Reason::Sensor);
+        said.say_counted(alloc, others, b"records of other sensors: left out")?;
+    }
+    let sensors = ranked_sensors(alloc, ledger, &counts_of(alloc, ledger, Counted::Wanted)?)?;
+    tell_sensor(alloc, said, &sensors)?;
+    Ok(())
+}
+
+// Whether a row is of Argos: its fix is used, and has a class of Argos or is of its sensor.
+fn is_of_argos(ledger: &Ledger, row: &Row) -> bool {
+    let Told::Fix(fix) = row.told else {
+        return false;
+    };
+    let is_doppler = match ledger.sensors.get_index(row.sensor as usize) {
+        Some(sensor) => sensor.as_slice() == ARGOS,
+        None => false,
+    };
+    is_counted(Counted::Wanted, fix) && (fix.has_class || is_doppler)
+}
+
+// Refuses fixes of Argos whose classes were not named, and else says how many are of others.
+pub(crate) fn check_classes(
+    alloc: Global,
+    said: &mut Said,
+    sheet: &Sheet<'_>,
+    ledger: &Ledger,
+) -> Result<(), Stop> {
+    if sheet.filters.classes.is_empty() {
+        if ledger.rows.iter().any(|row| is_of_argos(ledger, row)) {
+            return Err(refused(alloc, Kind::Argos, None, argos_text(alloc)));
+        }
+        return Ok(());
+    }
+    let mut text = Vec::new(alloc);
+    push(&mut text, "fixes are of other Argos classes than ")?;
+    text.extend_from_slice(sheet.wanted.classes)?;
+    tell_left(alloc, said, sheet, &ledger.rows, Reason::Class, text)?;
+    Ok(())
 }

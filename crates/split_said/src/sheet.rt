@@ -1,9 +1,28 @@
 // A table, and what was asked of it.
 
 use range_plane::Scale;
+use split_filters::Filters;
 use split_reading::Zone;
 use split_titles::{Columns, trimmed};
 use std::alloc::Global;
+
+/// The values of filters, as they were named; those of filters that were not named are empty.
+#[derive(Clone, Copy)]
+pub struct Wanted<'a> {
+    pub classes: &'a [u8],
+    pub types: &'a [u8],
+    pub since: &'a [u8],
+    pub until: &'a [u8],
+}
+
+/// How times are read.
+#[derive(Clone, Copy)]
+pub struct TimesRead<'a> {
+    /// In which form, in words; empty where that goes without saying.
+    pub form: &'a [u8],
+    /// The name of the zone by whose clock.
+    pub clock: &'a [u8],
+}
 
 /// A table's titles and columns, and what was asked of it.
 #[derive(Clone, Copy)]
@@ -15,6 +34,9 @@ pub struct Sheet<'a> {
     pub zone: Option<Zone>,
     /// The name of the animal where no column has one.
     pub name: &'a [u8],
+    pub times: TimesRead<'a>,
+    pub filters: Filters<'a>,
+    pub wanted: Wanted<'a>,
     /// Whether fixes that are not used stand in tracks, with a mark; else they are left out.
     pub keeps_marks: bool,
 }

@@ -1,8 +1,11 @@
 // What is said of tracks.
 
 use crate::extent::tell_columns;
+use crate::far::ask_far_fixes;
 use crate::figures::push_two_digits;
 use crate::grid::Grid;
+use crate::metres::check_metres;
+use crate::not_read::tell_not_read;
 use crate::order::animals_in_order;
 use crate::said::Said;
 use crate::scale::check_scale;
@@ -176,12 +179,11 @@ fn tell_names(
     Ok(())
 }
 
-// Says what there is to say of tracks.
-fn tell(
+// Says what there is to say of tracks before filters look at them.
+fn tell_first(
     alloc: Global,
     said: &mut Said,
     sheet: &Sheet<'_>,
-    ledger: &Ledger,
     grid: &Grid,
     fates: &[Fate],
     herd: &Herd<'_>,
@@ -193,45 +195,91 @@ fn tell(
         check_scale(alloc, said, herd, sheet.unit)?;
     }
     tell_times(alloc, said, herd, fates)?;
-    tell_no_file(alloc, said, ledger, herd.tracks)?;
-    if herd.tracks.iter().all(|track| !has_used(track)) {
-        return Err(nothing_left(alloc));
-    }
-    tell_unfit(alloc, said, herd)?;
-    tell_columns(alloc, said, sheet, herd)?;
-    tell_names(alloc, said, ledger, herd)?;
     Ok(())
 }
 
-/// Says what there is to say of the tracks of a table: fixes off the grid, how far rounding moves fixes, areas that are wrong,
-/// the order of time, animals without a file, tracks that the program refuses, the columns that were taken, and names that are
-/// others in files. `fates` are those of the records of the ledger, and `tracks` those of its animals, each in the order of
-/// time. `names` are those of the animals' files. `moved` is the greatest number of metres by which rounding moves a fix.
+/// Says what there is to say of the tracks of a table before filters look at them: fixes off the grid, how far rounding moves
+/// fixes, areas that are wrong, and the order of time. `fates` are those of the records of the ledger, and `tracks` those of its
+/// animals, each in the order of time. `names` are those of the animals' files. `moved` is the greatest number of metres by which
+/// rounding moves a fix.
 ///
 /// # Errors
 ///
-/// Areas of an animal are wrong by more than 1 %, no fix is used, or memory ran out.
+/// Areas of an animal are wrong by more than 1 %, or memory ran out.
 pub fn tell_tracks(
     alloc: Global,
     said: &mut Said,
     sheet: &Sheet<'_>,
-    ledger: &Ledger,
     grid: &Grid,
     fates: &[Fate],
     tracks: &[Vec<Entry>],
     names: &[Vec<u8>],
     moved: f64,
 ) -> Result<(), Refusal> {
-    let order = match animals_in_order(alloc, fates, tracks.len()) {
-        Ok(order) => order,
-        Err(_no_memory) => return Err(Refusal::out_of_memory(alloc)),
+    let Ok(order) = animals_in_order(alloc, fates, tracks.len()) else {
+        return Err(Refusal::out_of_memory(alloc));
     };
     let herd = Herd {
         tracks,
         names,
         order: &order,
     };
-    match tell(alloc, said, sheet, ledger, grid, fates, &herd, moved) {
+    match tell_first(alloc, said, sheet, grid, fates, &herd, moved) {
+        Ok(()) => Ok(()),
+        Err(stop) => Err(refusal_of(alloc, stop)),
+    }
+}
+
+// Says what there is to say of the tracks that are written.
+fn tell_last(
+    alloc: Global,
+    said: &mut Said,
+    sheet: &Sheet<'_>,
+    grid: &Grid,
+    ledger: &Ledger,
+    herd: &Herd<'_>,
+) -> Result<(), Stop> {
+    tell_no_file(alloc, said, ledger, herd.tracks)?;
+    if herd.tracks.iter().all(|track| !has_used(track)) {
+        return Err(nothing_left(alloc));
+    }
+    tell_unfit(alloc, said, herd)?;
+    ask_far_fixes(alloc, said, herd, sheet.unit)?;
+    if !grid.is_projected {
+        check_metres(alloc, said, herd, sheet.unit)?;
+    }
+    tell_columns(alloc, said, sheet, grid.zone, herd)?;
+    tell_not_read(alloc, said, sheet)?;
+    tell_names(alloc, said, ledger, herd)?;
+    Ok(())
+}
+
+/// Says what there is to say of the tracks of a table that are written: animals without a file, tracks that the program refuses,
+/// fixes that lie far from the others of their animal, coordinates that can hardly be metres, the columns that were taken and
+/// those that were not, and names that are others in files. The parameters are those of [`tell_tracks`].
+///
+/// # Errors
+///
+/// No fix is used, coordinates are too great for metres, or memory ran out.
+pub fn tell_files(
+    alloc: Global,
+    said: &mut Said,
+    sheet: &Sheet<'_>,
+    grid: &Grid,
+    ledger: &Ledger,
+    fates: &[Fate],
+    tracks: &[Vec<Entry>],
+    names: &[Vec<u8>],
+) -> Result<(), Refusal> {
+    let Ok(order) = animals_in_order(alloc, fates, tracks.len()) else {
+        return Err(Refusal::out_of_memory(alloc));
+    };
+    let herd = Herd {
+        tracks,
+        names,
+        order: &order,
+    };
+    match tell_last(alloc, said, sheet, grid, ledger, &herd) {
         Ok(()) => Ok(()),
         Err(stop) => Err(refusal_of(alloc, stop)),
     }

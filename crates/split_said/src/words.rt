@@ -15,6 +15,29 @@ pub(crate) fn push_number(text: &mut Vec<u8>, number: usize) -> Result<(), Alloc
     push(text, buffer.format(number))
 }
 
+// Appends a number of parts, of which one has so many, as a decimal without zeros at its end.
+pub(crate) fn push_decimal(text: &mut Vec<u8>, parts: u64, one: u64) -> Result<(), AllocError> {
+    let mut buffer = Buffer::new();
+    push(text, buffer.format(parts.checked_div(one).unwrap_or(0)))?;
+    let mut rest = parts.checked_rem(one).unwrap_or(0);
+    let mut unit = one / 10;
+    if rest > 0 {
+        push(text, ".")?;
+    }
+    for _place in 0..20 {
+        if rest == 0 {
+            return Ok(());
+        }
+        push_number(
+            text,
+            usize::try_from(rest.checked_div(unit).unwrap_or(0)).unwrap_or(0),
+        )?;
+        rest = rest.checked_rem(unit).unwrap_or(0);
+        unit = unit / 10;
+    }
+    Ok(())
+}
+
 // Appends a name between apostrophes.
 pub(crate) fn push_quoted(text: &mut Vec<u8>, name: &[u8]) -> Result<(), AllocError> {
     push(text, "'")?;

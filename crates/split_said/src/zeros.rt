@@ -1,6 +1,6 @@
 // Fixes at the corner of a grid.
 
-use crate::rows::used_metres;
+use crate::rows::taken_metres;
 use crate::said::Said;
 use range_plane::{OutOfMemory, Scale};
 use split_reading::Row;
@@ -27,7 +27,7 @@ fn is_far(at: (i64, i64), unit: Scale) -> bool {
 // How many fixes that are used lie at the corner.
 fn corner_count(rows: &[Row]) -> usize {
     rows.iter()
-        .filter(|row| used_metres(row) == Some((0, 0)))
+        .filter(|row| taken_metres(row) == Some((0, 0)))
         .count()
 }
 
@@ -35,7 +35,7 @@ fn corner_count(rows: &[Row]) -> usize {
 fn are_others_far(rows: &[Row], unit: Scale) -> bool {
     let mut has_others = false;
     for row in rows {
-        if let Some(at) = used_metres(row) {
+        if let Some(at) = taken_metres(row) {
             if at != (0, 0) {
                 if !is_far(at, unit) {
                     return false;

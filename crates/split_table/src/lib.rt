@@ -8,4 +8,5 @@ mod separator;
 mod table;
 
 pub use laws::plain_records_are_lines;
-pub use table::{Table, TableFault};
+pub use separator::separator_of;
+pub use table::{Table, TableFault, without_mark};

@@ -46,9 +46,9 @@ fn separator_in(titles: &[u8]) -> u8
     }
 }
 
-// What stands between the fields of a table.
+/// What stands between the fields of a table whose text has no byte order mark: a semicolon, a tab or a comma.
 #[tactic(auto, unfolding(crate::specs::Separator::separator_of))]
-pub(crate) fn separator_of(text: &[u8]) -> u8
+pub fn separator_of(text: &[u8]) -> u8
     ensures value { result ≡ separator_of text.now }
     ensures parts { PartsFields result }
 {

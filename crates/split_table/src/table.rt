@@ -63,8 +63,8 @@ fn has_mark(text: &[u8]) -> bool
     text.len() >= 3 && text[0] == 0xEF && text[1] == 0xBB && text[2] == 0xBF
 }
 
-// A text without a byte order mark.
-fn without_mark(text: &[u8]) -> &[u8]
+/// A text without the byte order mark with which it may begin.
+pub fn without_mark(text: &[u8]) -> &[u8]
     ensures { result.now ≡ strip_bom text.entry.now }
 {
     if has_mark(text) { &text[3..] } else { text }

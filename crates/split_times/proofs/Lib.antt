@@ -1,3 +1,4 @@
-pub mod Days
+pub mod Bars
 pub mod Parts
+pub mod Places
 pub mod Values

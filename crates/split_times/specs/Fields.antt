@@ -1,23 +1,12 @@
 -- The fields of an ISO text: a date, a clock to the minute, seconds and an offset.
 use Rattle.std.specs.Prelude.{ℕ, ◌+◌, ◌*◌, ◌==◌, nat_le, nat_lt, Bool, true, ◌&&◌, ◌||◌, if◌then◌else◌, List, [], ◌∷◌, length, take, drop, slice_index, Option, Some, None, ℤ, pos, neg_ℤ}
-use Rattle.std.specs.Int.{is_in_range}
 use Rattle.std.specs.Str.Parse.{digits_value}
-use Rattle.jiff_core.specs.Calendar.{days_from_civil, days_in_month}
 use Rattle.range_numbers.specs.Number.{is_number}
-
--- what is found, and then what is found by it
-infixl 10 ◌>>=◌
-abbrev pub ◌>>=◌ : {A B : Type 0} → Option A → (A → Option B) → Option B
-None >>= f = None
-(Some x) >>= f = f x
+use Rattle.split_times.specs.Calendar.{◌>>=◌, civil_day}
 
 -- the number that digits write
 abbrev pub number_in : List ℕ → Option ℕ
 number_in digits = if is_number digits then Some (digits_value 10 digits) else None
-
--- whether the calendar has the day
-abbrev pub is_day : ℕ → ℕ → ℕ → Bool
-is_day year month day = is_in_range 1 12 month && is_in_range 1 (days_in_month (pos year) month) day
 
 -- the day of a date `2024-05-01`, counted from 1 January 1970
 unfoldable pub day_in : List ℕ → Option ℤ
@@ -25,7 +14,7 @@ day_in date = do
   year ← number_in (take 4 date)
   month ← number_in (take 2 (drop 5 date))
   day ← number_in (take 2 (drop 8 date))
-  if slice_index date 4 == 45 && slice_index date 7 == 45 && is_day year month day then Some (days_from_civil (pos year) month day) else None
+  if slice_index date 4 == 45 && slice_index date 7 == 45 then civil_day year month day else None
 
 -- the seconds from midnight to the minute of a clock ` 00:30` or `T00:30`
 unfoldable pub clock_in : List ℕ → Option ℕ
@@ -59,9 +48,9 @@ offset_minutes_in minutes =
 abbrev pub by_sign : ℕ → ℕ → Option ℤ
 by_sign sign seconds = if sign == 43 then Some (pos seconds) else if sign == 45 then Some (neg_ℤ (pos seconds)) else None
 
--- by how many seconds a clock is ahead of UTC: by its offset `+02`, `+0200` or `+02:00`, and `Z` and no offset are UTC
+-- by how many seconds a clock is ahead of UTC: by its offset `+02`, `+0200` or `+02:00`, and by `Z`, which is UTC
 unfoldable pub offset_in : List ℕ → Option ℤ
-offset_in [] = Some (pos 0)
+offset_in [] = None
 offset_in (sign ∷ digits) =
     if sign == 90 then (if length digits == 0 then Some (pos 0) else None)
     else if nat_lt (length digits) 2 then None
@@ -69,3 +58,10 @@ offset_in (sign ∷ digits) =
       hour ← number_in (take 2 digits)
       minute ← offset_minutes_in (drop 2 digits)
       if nat_le hour 23 && nat_le minute 59 then by_sign sign (hour * 3600 + minute * 60) else None
+
+-- the same, if there is an offset
+unfoldable pub ahead_in : List ℕ → Option (Option ℤ)
+ahead_in [] = Some None
+ahead_in (b ∷ bytes) = do
+  ahead ← offset_in (b ∷ bytes)
+  Some (Some ahead)

@@ -1,3 +1,13 @@
+pub mod Calendar
 pub mod Fields
+pub mod Form
+pub mod Forms
 pub mod Iso
 pub mod Limits
+pub mod Local
+pub mod Number
+pub mod Orders
+pub mod Several
+pub mod Signs
+pub mod Text
+pub mod Words

@@ -1,10 +1,11 @@
 // The fields of an ISO text.
 
-ghost use Rattle.std.specs.Prelude.{◌<◌, ◌≡◌, ◌≤ℤ◌, ◌^◌, ◌≤◌, IfSome, length, neg_ℤ, pos};
+ghost use Rattle.std.specs.Prelude.{◌<◌, ◌≡◌, ◌^◌, ◌≤◌, IfSome, length};
 ghost use Rattle.jiff_core.specs.Calendar.{IsEpochDay};
-ghost use Rattle.split_times.specs.Fields.{are_decimals, by_sign, clock_in, day_in, number_in, offset_in, offset_minutes_in, second_in};
+ghost use Rattle.split_times.specs.Fields.{ahead_in, are_decimals, by_sign, clock_in, day_in, number_in, offset_in, offset_minutes_in, second_in};
+ghost use Rattle.split_times.specs.Limits.{IsAhead};
 
-use jiff_core::civil::Date;
+use crate::days::civil_day;
 use range_numbers::value_of;
 
 // The greatest number of nine digits.
@@ -15,6 +16,7 @@ pub(crate) fn number_in(digits: &[u8]) -> Option<u32>
     requires { length digits.now ≤ 9 }
     ensures value { result ≡ number_in digits.now }
     ensures within { IfSome result (λ number. number < 10 ^ length digits.now) }
+    ensures small { IfSome result (λ number. number < 10 ^ 9) }
 {
     Some(value_of(digits, NUMBER_LIMIT)? as u32)
 }
@@ -32,10 +34,7 @@ pub(crate) fn day_in(date: &[u8]) -> Option<i64>
     if date[4] != b'-' || date[7] != b'-' {
         return None;
     }
-    match Date::new(year as i16, month as i8, day as i8) {
-        Ok(date) => Some(i64::from(date.to_unix_epoch_day())),
-        Err(_) => None,
-    }
+    civil_day(year, month, day)
 }
 
 // The seconds from midnight to the minute of a clock; `None` where there is no such minute.
@@ -43,7 +42,7 @@ pub(crate) fn day_in(date: &[u8]) -> Option<i64>
 pub(crate) fn clock_in(clock: &[u8]) -> Option<u32>
     requires { length clock.now ≡ 6 }
     ensures value { result ≡ clock_in clock.now }
-    ensures within { IfSome result (λ seconds. seconds < 86400) }
+    ensures within { IfSome result (λ seconds. seconds ≤ 86340) }
 {
     let hour = number_in(&clock[1..3])?;
     let minute = number_in(&clock[4..6])?;
@@ -55,7 +54,7 @@ pub(crate) fn clock_in(clock: &[u8]) -> Option<u32>
 }
 
 // Whether nothing stands behind whole seconds, or a point and digits.
-fn are_decimals(text: &[u8]) -> bool
+pub(crate) fn are_decimals(text: &[u8]) -> bool
     ensures { result ≡ are_decimals text.now }
 {
     match text.split_first() {
@@ -102,7 +101,7 @@ fn offset_minutes_in(minutes: &[u8]) -> Option<u32>
 fn by_sign(sign: u8, seconds: u32) -> Option<i64>
     requires { seconds < 86400 }
     ensures value { result ≡ by_sign sign seconds }
-    ensures within { IfSome result (λ ahead. (neg_ℤ (pos 86400) ≤ℤ ahead) × (ahead ≤ℤ pos 86400)) }
+    ensures within { IfSome result IsAhead }
 {
     match sign {
         b'+' => Some(i64::from(seconds)),
@@ -113,13 +112,11 @@ fn by_sign(sign: u8, seconds: u32) -> Option<i64>
 
 // By how many seconds the clock of an offset is ahead of UTC; `None` where there is no such offset.
 #[tactic(auto, unfolding(crate::specs::Fields::offset_in))]
-pub(crate) fn offset_in(offset: &[u8]) -> Option<i64>
+fn offset_in(offset: &[u8]) -> Option<i64>
     ensures value { result ≡ offset_in offset.now }
-    ensures within { IfSome result (λ ahead. (neg_ℤ (pos 86400) ≤ℤ ahead) × (ahead ≤ℤ pos 86400)) }
+    ensures within { IfSome result IsAhead }
 {
-    let Some((sign, digits)) = offset.split_first() else {
-        return Some(0);
-    };
+    let (sign, digits) = offset.split_first()?;
     if *sign == b'Z' {
         return if digits.is_empty() { Some(0) } else { None };
     }
@@ -133,4 +130,16 @@ pub(crate) fn offset_in(offset: &[u8]) -> Option<i64>
     } else {
         None
     }
+}
+
+// By how many seconds the clock of an offset is ahead of UTC, if there is an offset; `None` where it is none.
+#[tactic(auto, unfolding(crate::specs::Fields::ahead_in))]
+pub(crate) fn ahead_in(offset: &[u8]) -> Option<Option<i64>>
+    ensures value { result ≡ ahead_in offset.now }
+    ensures within { IfSome result (λ ahead. IfSome ahead IsAhead) }
+{
+    if offset.is_empty() {
+        return Some(None);
+    }
+    Some(Some(offset_in(offset)?))
 }

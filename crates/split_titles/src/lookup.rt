@@ -100,7 +100,20 @@ pub(crate) fn one_of<'a>(
     }
 }
 
-// The column of a title that was named, or of one of several between `|`.
+// The column of the first of titles between `|` that is there.
+pub(crate) fn first_place(titles: &[&[u8]], wanted: &[u8]) -> Option<usize>
+    ensures { IsWithin (length titles.now) result }
+{
+    for title in wanted.split(|byte| *byte == b'|') {
+        let place = next_place(titles, 0, title, true);
+        if place.is_some() {
+            return place;
+        }
+    }
+    None
+}
+
+// The column of a title that was named, or of the first of several between `|` that is there.
 pub(crate) fn named_place<'a>(
     titles: &[&[u8]],
     wanted: &'a [u8],
@@ -108,12 +121,10 @@ pub(crate) fn named_place<'a>(
 ) -> Result<usize, TitleFault<'a>>
     ensures { IfOk result (λ at. at < length titles.now) }
 {
-    for title in wanted.split(|byte| *byte == b'|') {
-        if let Some(at) = next_place(titles, 0, title, true) {
-            return Ok(at);
-        }
+    match first_place(titles, wanted) {
+        Some(at) => Ok(at),
+        None => Err(TitleFault::NoColumn { role, wanted }),
     }
-    Err(TitleFault::NoColumn { role, wanted })
 }
 
 // The column that was named, or else the only one of these usual titles.

@@ -20,8 +20,38 @@ fn with_columns<'a>(alloc: Global, command: Command<'a>) -> Result<Command<'a>, 
         .arg(text_option(alloc, "animal", "COLUMN"))?
         .arg(text_option(alloc, "name", "NAME"))?
         .arg(text_option(alloc, "time", "COLUMN"))?
+        .arg(text_option(alloc, "time-format", "FORM"))?
+        .arg(text_option(alloc, "tz", "ZONE"))?
         .arg(text_option(alloc, "easting", "COLUMN"))?
-        .arg(text_option(alloc, "northing", "COLUMN"))
+        .arg(text_option(alloc, "northing", "COLUMN"))?
+        .arg(text_option(alloc, "lon", "COLUMN"))?
+        .arg(text_option(alloc, "lat", "COLUMN"))?
+        .arg(text_option(alloc, "argos", "COLUMN"))?
+        .arg(text_option(alloc, "dop", "COLUMN"))?
+        .arg(text_option(alloc, "fix", "COLUMN"))
+}
+
+// The program with the options of the text.
+fn with_text<'a>(alloc: Global, command: Command<'a>) -> Result<Command<'a>, AllocError> {
+    command
+        .arg(text_option(alloc, "from", "MAKER"))?
+        .arg(text_option(alloc, "encoding", "ENCODING"))?
+        .arg(text_option(alloc, "skip-lines", "LINES"))?
+        .arg(text_option(alloc, "header", "TITLE"))?
+        .arg(text_option(alloc, "na", "WORDS").allow_hyphen_values(true))
+}
+
+// The program with the options that choose fixes.
+fn with_filters<'a>(alloc: Global, command: Command<'a>) -> Result<Command<'a>, AllocError> {
+    command
+        .arg(text_option(alloc, "sensor", "SENSORS"))?
+        .arg(text_option(alloc, "argos-class", "CLASSES"))?
+        .arg(text_option(alloc, "max-dop", "DOP"))?
+        .arg(text_option(alloc, "fix-type", "TYPES"))?
+        .arg(text_option(alloc, "since", "TIME"))?
+        .arg(text_option(alloc, "until", "TIME"))?
+        .arg(text_option(alloc, "max-speed", "SPEED"))?
+        .arg(text_option(alloc, "every", "LENGTH"))
 }
 
 // The program with its options and the export.
@@ -31,8 +61,10 @@ fn whole_command<'a>(alloc: Global) -> Result<Command<'a>, AllocError> {
         .arg(text_option(alloc, "into", "FOLDER"))?
         .arg(text_option(alloc, "unit", "UNIT"))?
         .arg(text_option(alloc, "zone", "ZONE"))?;
-    with_columns(alloc, command)?
+    let command = with_text(alloc, with_columns(alloc, command)?)?;
+    with_filters(alloc, command)?
         .arg(flag(alloc, "mark"))?
+        .arg(flag(alloc, "machine"))?
         .arg(flag(alloc, "skip-unnamed"))?
         .arg(Arg::new(alloc, "EXPORT").value_name("EXPORT"))
 }

@@ -4,6 +4,43 @@ use clap::ArgMatches;
 use split_record::OptionGiven;
 use std::alloc::{AllocFailed, Global};
 
+// The options but the folder and the unit, in the order of their names.
+const NAMES: [&str; 28] = [
+    "animal",
+    "argos",
+    "argos-class",
+    "dop",
+    "easting",
+    "encoding",
+    "every",
+    "fix",
+    "fix-type",
+    "from",
+    "header",
+    "lat",
+    "lon",
+    "mark",
+    "max-dop",
+    "max-speed",
+    "na",
+    "name",
+    "northing",
+    "sensor",
+    "since",
+    "skip-lines",
+    "skip-unnamed",
+    "time",
+    "time-format",
+    "tz",
+    "until",
+    "zone",
+];
+
+// Whether an option has no value.
+fn is_flag(name: &str) -> bool {
+    name == "mark" || name == "skip-unnamed"
+}
+
 // Appends an option that has a value, if it was given.
 fn push_value<'a>(
     given: &mut Vec<OptionGiven<'a>>,
@@ -35,19 +72,36 @@ fn push_flag<'a>(
     }
 }
 
+// The number of lines that are skipped, without zeros before it; none where it is 0.
+fn line_count(text: &str) -> Option<&str> {
+    let digits = text.trim_start_matches('0');
+    if digits.is_empty() {
+        None
+    } else {
+        Some(digits)
+    }
+}
+
+// The value of an option, as the record has it.
+fn value_of<'a>(name: &str, value: Option<&'a str>) -> Option<&'a str> {
+    match value {
+        Some(text) if name == "skip-lines" => line_count(text),
+        _ => value,
+    }
+}
+
 // The options that were given, but the folder and the unit, in the order of their names.
 pub(crate) fn options_given<'a>(
     alloc: Global,
     matches: &ArgMatches<'a>,
 ) -> Result<Vec<OptionGiven<'a>>, AllocFailed<OptionGiven<'a>>> {
     let mut given = Vec::new(alloc);
-    push_value(&mut given, "animal", matches.get_str("animal"))?;
-    push_value(&mut given, "easting", matches.get_str("easting"))?;
-    push_flag(&mut given, "mark", matches.get_flag("mark"))?;
-    push_value(&mut given, "name", matches.get_str("name"))?;
-    push_value(&mut given, "northing", matches.get_str("northing"))?;
-    push_flag(&mut given, "skip-unnamed", matches.get_flag("skip-unnamed"))?;
-    push_value(&mut given, "time", matches.get_str("time"))?;
-    push_value(&mut given, "zone", matches.get_str("zone"))?;
+    for name in NAMES {
+        if is_flag(name) {
+            push_flag(&mut given, name, matches.get_flag(name))?;
+        } else {
+            push_value(&mut given, name, value_of(name, matches.get_str(name)))?;
+        }
+    }
     Ok(given)
 }

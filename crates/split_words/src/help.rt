@@ -22,34 +22,69 @@ refused, and then there is no folder.
 Usage: homerange-split [OPTIONS] EXPORT
 
 Arguments:
-  EXPORT  The export: text in UTF-8 with a line of titles
+  EXPORT  The export: text with a line of titles, or GPX
 
 Options:
-      --into <FOLDER>      Folder to make [default: tracks]
-      --unit <UNIT>        Unit of the coordinates of tracks: m for metres,
-                           dm for decimetres [default: m]
-      --zone <ZONE>        UTM zone of all coordinates, such as 33N
-      --animal <COLUMN>    Title of the column of the animal
-      --name <NAME>        Name of the one animal, where no column has it
-                           [default: animal]
-      --time <COLUMN>      Title of the column of the time
-      --easting <COLUMN>   Title of the column of the easting in metres
-      --northing <COLUMN>  Title of the column of the northing in metres
-      --mark               Write outliers too, with 0 in a column use
-      --skip-unnamed       Leave out records that name no animal
-  -h, --help               Print help
-  -V, --version            Print version
+      --into <FOLDER>          Folder to make [default: tracks]
+      --unit <UNIT>            Unit of the coordinates of tracks: m for metres,
+                               dm for decimetres [default: m]
+      --zone <ZONE>            UTM zone of all coordinates, such as 33N
+      --from <MAKER>           Options for a maker: vectronic, lotek, telonics,
+                               eobs, ornitela, argos, gpx
+      --encoding <ENCODING>    Encoding of the export [default: utf-8]
+      --skip-lines <LINES>     Number of lines before that of titles
+      --header <TITLE>         Start of the line of titles, where others stand
+                               before it
+      --na <WORDS>             Words for what is missing, between commas, beside
+                               NA and nothing
+      --animal <COLUMN>        Title of the column of the animal; of
+                               COLUMN,COLUMN the second where the first is
+                               empty
+      --name <NAME>            Name of the one animal, where no column has it
+                               [default: animal]
+      --time <COLUMN>          Title of the column of the time; COLUMN,COLUMN
+                               are joined
+      --time-format <FORM>     Form of times, such as '%d.%m.%Y %H:%M:%S'
+      --tz <ZONE>              Zone of times, such as Europe/Ljubljana
+                               [default: UTC]
+      --easting <COLUMN>       Title of the column of the easting in metres
+      --northing <COLUMN>      Title of the column of the northing in metres
+      --lon <COLUMN>           Title of the column of the longitude
+      --lat <COLUMN>           Title of the column of the latitude
+      --argos <COLUMN>         Title of the column of Argos classes
+      --dop <COLUMN>           Title of the column of the dilution of precision
+      --fix <COLUMN>           Title of the column of the type of fixes
+      --mark                   Write outliers too, with 0 in a column use
+      --skip-unnamed           Leave out records that name no animal
+      --machine                Say why an export is refused as a record of CSV:
+                               kind, file, record, text
+  -h, --help                   Print help
+  -V, --version                Print version
+
+Filters, in their order (none is a fix without a sensor or a class):
+      --sensor <SENSORS>       Fixes of these sensors, such as gps
+      --argos-class <CLASSES>  Fixes of these Argos classes, such as 3,2,1
+      --max-dop <DOP>          Fixes whose dilution of precision is at most this
+      --fix-type <TYPES>       Fixes of these types, such as 3D
+      --since <TIME>           Fixes of this moment or later, such as 2024-03-01
+      --until <TIME>           Fixes of this moment or before; a day is its last
+      --max-speed <SPEED>      Fixes that the animal could come to from the last
+                               that is kept, at so many metres a second
+      --every <LENGTH>         The first fix of each piece of so long, such as
+                               2h or 30min, counted by the clock of --tz
 
 Table:
-  Fields stand between commas or tabs. Columns that are not named are found by
-  their usual titles, such as those of Movebank:
+  Fields stand between commas, semicolons or tabs. Columns that are not named
+  are found by their usual titles, such as those of Movebank:
     individual-local-identifier   the animal
     timestamp                     the time in UTC, such as 2024-05-01 00:30:04
+    location-long, location-lat   where it was, in degrees of WGS 84
     utm-easting, utm-northing     where it was, in metres
     utm-zone                      the zone of these, such as 33N
   Titles such as animal,second,easting,northing and id,date,x,y are usual too; a
-  column second has whole seconds. docs/TABLES.md has all titles, and the rules
-  by which tables are read. Longitude and latitude alone are not read.
+  column second has seconds since a start of your own. docs/TABLES.md has all
+  titles, and the rules by which tables are read. Longitude and latitude are
+  projected into the UTM zone of most fixes.
 
 Example:
   homerange-split --zone 33N export.csv

@@ -4,7 +4,7 @@ use crate::fault::{WordFault, refused};
 use range_plane::Scale;
 use split_reading::{Zone, zone_of};
 use split_refusal::{Kind, refused_zone};
-use std::alloc::Global;
+use std::alloc::{AllocError, Global};
 
 // What stands for a folder that is not named.
 const DEFAULT_FOLDER: &str = "tracks";
@@ -53,19 +53,32 @@ pub(crate) fn zone_in(alloc: Global, value: Option<&str>) -> Result<Option<Zone>
     }
 }
 
-// The title of a column, if it was given. Several between commas are not read yet.
-pub(crate) fn column_of<'a>(
+// The words of a list, between which commas stand.
+pub(crate) fn list_of<'a>(
     alloc: Global,
-    option: &str,
     value: Option<&'a str>,
-) -> Result<Option<&'a str>, WordFault> {
-    match value {
-        Some(title) if title.as_bytes().contains(&b',') => {
-            let words = format!(in alloc;
-                "--{option} names several columns, which this program does not read yet: name one of them"
-            )?;
-            Err(refused(alloc, Kind::Unread, words.as_str()))
+) -> Result<Vec<&'a [u8]>, WordFault> {
+    let mut words: Vec<&[u8]> = Vec::new(alloc);
+    if let Some(text) = value {
+        for word in text.split(',') {
+            words.push(word.as_bytes())?;
         }
-        _ => Ok(value),
+    }
+    Ok(words)
+}
+
+// Appends a name to a list of so many.
+pub(crate) fn push_listed(text: &mut String, count: usize, name: &str) -> Result<(), AllocError> {
+    if count > 0 {
+        text.push_str(", ")?;
+    }
+    text.push_str(name)
+}
+
+// The refusal of the value of an option, which has to be something else.
+pub(crate) fn refused_value(alloc: Global, option: &str, value: &str, wanted: &str) -> WordFault {
+    match format!(in alloc; "{option} is '{value}' and not {wanted}") {
+        Ok(words) => refused(alloc, Kind::Option, words.as_str()),
+        Err(_) => WordFault::OutOfMemory,
     }
 }

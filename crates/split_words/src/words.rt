@@ -1,14 +1,21 @@
 // What the words of the command line say.
 
+use crate::choices::{Choices, choices_of, read_bounds};
+use crate::columns::{NamedColumns, columns_of};
 use crate::command::found;
 use crate::fault::{WordFault, fault_of, refused};
 use crate::given::options_given;
-use crate::values::{column_of, folder_of, name_of, unit_of, zone_in};
+use crate::preset::texts_of;
+use crate::text::{TextWords, header_in, text_words};
+use crate::times::{forms_in, zone_name_in};
+use crate::values::{folder_of, list_of, name_of, unit_of, zone_in};
 use clap::ArgMatches;
 use range_plane::Scale;
+use split_clock::Clock;
 use split_reading::Zone;
 use split_record::OptionGiven;
 use split_refusal::Kind;
+use split_times::Forms;
 use std::alloc::Global;
 
 /// What the words of the command line say.
@@ -21,16 +28,23 @@ pub struct Words<'a> {
     pub unit: Scale,
     /// The zone of all coordinates.
     pub zone: Option<Zone>,
-    /// The title of the column of the animal.
-    pub animal: Option<&'a str>,
+    /// How the text of the export is read.
+    pub text: TextWords,
+    /// The start of the line of titles.
+    pub header: Option<&'a str>,
+    pub columns: NamedColumns<'a>,
+    /// The forms of times; without them they are ISO texts or seconds.
+    pub forms: Option<Forms<'a>>,
+    /// The same as they were named; empty where none was.
+    pub form_words: &'a str,
+    /// The name of the time zone by whose clock times are read that name none.
+    pub zone_name: Option<&'a str>,
     /// The name of the one animal.
     pub name: Option<&'a str>,
-    /// The title of the column of the time.
-    pub time: Option<&'a str>,
-    /// The title of the column of the easting.
-    pub easting: Option<&'a str>,
-    /// The title of the column of the northing.
-    pub northing: Option<&'a str>,
+    /// Words that are missing wherever they stand (`--na`).
+    pub missing: Vec<&'a [u8]>,
+    /// Which fixes are taken.
+    pub choices: Choices<'a>,
     /// Whether fixes that are not used are written too, with a mark (`--mark`).
     pub keeps_marks: bool,
     /// Whether records that name no animal are left out (`--skip-unnamed`).
@@ -52,20 +66,45 @@ fn export_of<'a>(alloc: Global, value: Option<&'a str>) -> Result<&'a str, WordF
 
 // What the matches say.
 fn words_in<'a>(alloc: Global, matches: &ArgMatches<'a>) -> Result<Words<'a>, WordFault> {
+    let export = export_of(alloc, matches.get_str("EXPORT"))?;
+    let unit = unit_of(alloc, matches.get_str("unit"))?;
+    let into = folder_of(alloc, matches.get_str("into"))?;
+    let texts = texts_of(alloc, matches)?;
     Ok(Words {
-        export: export_of(alloc, matches.get_str("EXPORT"))?,
-        unit: unit_of(alloc, matches.get_str("unit"))?,
-        into: folder_of(alloc, matches.get_str("into"))?,
+        export,
+        unit,
+        into,
         name: name_of(alloc, matches.get_str("name"))?,
         zone: zone_in(alloc, matches.get_str("zone"))?,
-        animal: column_of(alloc, "animal", matches.get_str("animal"))?,
-        time: column_of(alloc, "time", matches.get_str("time"))?,
-        easting: matches.get_str("easting"),
-        northing: matches.get_str("northing"),
+        text: text_words(alloc, matches)?,
+        header: header_in(alloc, texts.header)?,
+        columns: columns_of(alloc, matches, &texts)?,
+        forms: forms_in(alloc, texts.time_format)?,
+        form_words: texts.time_format.unwrap_or(""),
+        zone_name: zone_name_in(alloc, matches.get_str("tz"))?,
+        missing: list_of(alloc, texts.na)?,
+        choices: choices_of(alloc, matches)?,
         keeps_marks: matches.get_flag("mark"),
         skips_unnamed: matches.get_flag("skip-unnamed"),
         given: options_given(alloc, matches)?,
     })
+}
+
+impl<'a> Words<'a> {
+    /// The name of the time zone by whose clock times are read that name none.
+    pub fn clock_name(&self) -> &'a str {
+        self.zone_name.unwrap_or("UTC")
+    }
+
+    /// Reads the first and the last second that are wanted (`--since`, `--until`), by the clock of the time zone.
+    ///
+    /// # Errors
+    ///
+    /// One is no time of the clock, or the last is before 1970; or memory ran out.
+    pub fn read_bounds(&mut self, alloc: Global, clock: &Clock) -> Result<(), WordFault> {
+        let zone_name = self.clock_name();
+        read_bounds(alloc, &mut self.choices, clock, zone_name)
+    }
 }
 
 /// Reads the words of the command line, of which the first is the program's name: options, and the export.

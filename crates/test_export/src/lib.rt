@@ -5,8 +5,16 @@
 #[cfg(test)]
 mod counts;
 #[cfg(test)]
+mod look;
+#[cfg(test)]
+mod look_times;
+#[cfg(test)]
 mod refused_cells;
 #[cfg(test)]
 mod said;
 #[cfg(test)]
 mod words;
+#[cfg(test)]
+mod words_of_makers;
+#[cfg(test)]
+mod words_of_times;

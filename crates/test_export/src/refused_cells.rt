@@ -2,15 +2,16 @@
 // Python, but where a test says otherwise.
 
 use range_plane::Scale;
+use split_clock::{Clock, NoMoment, clock_moment};
 use split_export::TextFault;
 use split_names::NamesFault;
 use split_reading::CellFault;
 use split_refusal::{
-    Kind, Refusal, refused_cell, refused_names, refused_off_grid, refused_table, refused_text,
-    refused_titles, refused_zone,
+    Kind, RecordShown, Refusal, refused_cell, refused_day, refused_names, refused_off_grid,
+    refused_table, refused_text, refused_titles, refused_zone,
 };
 use split_table::TableFault;
-use split_times::{TimeFault, iso_moment};
+use split_times::{TextFault as TimeTextFault, text_time};
 use split_titles::TitleFault;
 use std::alloc::{AllocError, Global};
 use std::process::Abort;
@@ -40,6 +41,19 @@ fn fields_of<'a>(alloc: Global, line: &'a [u8]) -> Result<Vec<&'a [u8]>, AllocEr
     line.split(|byte| *byte == b',').collect(alloc)
 }
 
+// The refusal of record 2 of a table, whose first column is the animal's and whose second is that of the time.
+fn refused_in(alloc: Global, fault: CellFault, titles: &[&[u8]], fields: &[&[u8]]) -> Refusal {
+    let shown = RecordShown {
+        number: 2,
+        titles,
+        fields,
+        animal: &[0],
+        time: &[1],
+        clock: "UTC",
+    };
+    refused_cell(alloc, fault, &shown)
+}
+
 // Checks the refusal of record 2 of a table, the animal of which is in the first column.
 fn expect_cell(
     rt: &impl Abort,
@@ -50,10 +64,22 @@ fn expect_cell(
     let titles = fields_of(alloc, titles)?;
     for (line, fault, kind, expected) in cases {
         let fields = fields_of(alloc, line.as_bytes())?;
-        let refusal = refused_cell(alloc, *fault, 2, &titles, &fields, Some(0));
+        let refusal = refused_in(alloc, *fault, &titles, &fields);
         expect_line(rt, alloc, &refusal, *kind, expected)?;
     }
     Ok(())
+}
+
+// Why a text is no time in UTC.
+fn time_fault(text: &[u8]) -> CellFault {
+    match text_time(text, None) {
+        Ok(time) => match clock_moment(time, &Clock::utc(), None) {
+            Ok(_) => CellFault::NoTime,
+            Err(fault) => CellFault::Clock { fault },
+        },
+        Err(TimeTextFault::Time(fault)) => CellFault::Time { fault },
+        Err(TimeTextFault::Number(fault)) => CellFault::Number { fault },
+    }
 }
 
 // Checks what is said of texts in the column of times of a table.
@@ -61,12 +87,8 @@ fn expect_times(rt: &impl Abort, alloc: Global, cases: &[(&str, Kind, &str)]) ->
     let titles = fields_of(alloc, MOVEBANK)?;
     for (text, kind, expected) in cases {
         let fields = [b"f".as_slice(), text.as_bytes(), b"1", b"2", b"33N"];
-        let fault = match iso_moment(text.as_bytes()) {
-            Ok(_) => TimeFault::NotTime,
-            Err(fault) => fault,
-        };
-        let fault = CellFault::Time { column: 1, fault };
-        let refusal = refused_cell(alloc, fault, 2, &titles, &fields, Some(0));
+        let fault = time_fault(text.as_bytes());
+        let refusal = refused_in(alloc, fault, &titles, &fields);
         expect_line(rt, alloc, &refusal, *kind, expected)?;
     }
     Ok(())
@@ -81,8 +103,8 @@ fn expect_seconds(
     let titles = fields_of(alloc, OWN)?;
     for (text, kind, expected) in cases {
         let fields = [b"f".as_slice(), text.as_bytes(), b"1", b"2", b"1"];
-        let fault = CellFault::NotSecond { column: 1 };
-        let refusal = refused_cell(alloc, fault, 2, &titles, &fields, Some(0));
+        let fault = CellFault::NotSecond;
+        let refusal = refused_in(alloc, fault, &titles, &fields);
         expect_line(rt, alloc, &refusal, *kind, expected)?;
     }
     Ok(())
@@ -94,7 +116,7 @@ fn expect_zones(rt: &impl Abort, alloc: Global, cases: &[(&str, Kind, &str)]) ->
     for (text, kind, expected) in cases {
         let fields = [b"f".as_slice(), b"2024-05-01", b"1", b"2", text.as_bytes()];
         let fault = CellFault::NotZone { column: 4 };
-        let refusal = refused_cell(alloc, fault, 2, &titles, &fields, Some(0));
+        let refusal = refused_in(alloc, fault, &titles, &fields);
         expect_line(rt, alloc, &refusal, *kind, expected)?;
     }
     Ok(())
@@ -169,7 +191,7 @@ fn records_without_an_animal_or_a_mark_are_refused(rt: HostRuntime) -> Result<()
         ),
         (
             "f,,2,3,1",
-            CellFault::NoTime { column: 1 },
+            CellFault::NoTime,
             Kind::Time,
             "record 2: there is no second",
         ),
@@ -278,50 +300,113 @@ fn seconds_are_refused(rt: HostRuntime) -> Result<(), Fail> {
     expect_seconds(&rt, rt.alloc(), &cases)
 }
 
-// The package for Python reads these.
 #[test]
-fn times_that_are_not_read_yet_are_told(rt: HostRuntime) -> Result<(), Fail> {
-    let numbers = [
+fn numbers_that_are_no_seconds_are_refused(rt: HostRuntime) -> Result<(), Fail> {
+    let cases = [
         (
-            "1714523404",
-            Kind::Unread,
-            "record 2: timestamp is '1714523404': times that are numbers are not read yet, write a time such as 2024-05-01 00:30:04",
+            "45413.5",
+            Kind::Time,
+            "record 2: timestamp is '45413.5', which looks like days of Excel: write a time such as 2024-05-01 00:30:04, or seconds since 1970, or seconds since another start in a column 'second'",
         ),
         (
-            "1714523404.5",
-            Kind::Unread,
-            "record 2: timestamp is '1714523404.5': times that are numbers are not read yet, write a time such as 2024-05-01 00:30:04",
+            "2460431",
+            Kind::Time,
+            "record 2: timestamp is '2460431', which looks like Julian days: write a time such as 2024-05-01 00:30:04, or seconds since 1970, or seconds since another start in a column 'second'",
+        ),
+        (
+            "20240501",
+            Kind::Time,
+            "record 2: timestamp is '20240501', which looks like a date without hyphens: write a time such as 2024-05-01 00:30:04, or seconds since 1970, or seconds since another start in a column 'second'",
+        ),
+        (
+            "1714523404000",
+            Kind::Time,
+            "record 2: timestamp is '1714523404000', which looks like milliseconds, or a date without signs between: write a time such as 2024-05-01 00:30:04, or seconds since 1970, or seconds since another start in a column 'second'",
+        ),
+        (
+            "500000000",
+            Kind::Time,
+            "record 2: timestamp is '500000000', which is no second since 1970 (1990 to 2286): write a time such as 2024-05-01 00:30:04, or seconds since 1970, or seconds since another start in a column 'second'",
+        ),
+        (
+            "-5",
+            Kind::Time,
+            "record 2: timestamp is '-5', which is less than 0: write a time such as 2024-05-01 00:30:04, or seconds since 1970, or seconds since another start in a column 'second'",
         ),
         (
             "2024-05-01 10:00:00.1234567891",
-            Kind::Unread,
-            "record 2: timestamp is '2024-05-01 10:00:00.1234567891': more than nine decimals are not read yet, write nine at most",
+            Kind::Time,
+            "record 2: timestamp is '2024-05-01 10:00:00.1234567891', which has more than nine decimals: write nine at most",
         ),
     ];
-    expect_times(&rt, rt.alloc(), &numbers)?;
+    expect_times(&rt, rt.alloc(), &cases)?;
     let seconds = [
         (
-            "1.5",
-            Kind::Unread,
-            "record 2: second is '1.5': seconds that are not digits alone are not read yet, write whole ones",
-        ),
-        (
-            "12.",
-            Kind::Unread,
-            "record 2: second is '12.': seconds that are not digits alone are not read yet, write whole ones",
-        ),
-        (
             "-0",
-            Kind::Unread,
-            "record 2: second is '-0': seconds that are not digits alone are not read yet, write whole ones",
+            Kind::Time,
+            "record 2: second is '-0', which is no time since 1970, and not within 0 to 1099511627776 seconds",
         ),
         (
             "2024-05-01",
-            Kind::Unread,
-            "record 2: second is '2024-05-01': times in a column of seconds are not read yet, write whole seconds, or name the column otherwise, such as timestamp",
+            Kind::Time,
+            "record 2: second is '2024-05-01', which is a time among seconds: write seconds since a start, or name the column otherwise, such as timestamp",
         ),
     ];
     expect_seconds(&rt, rt.alloc(), &seconds)
+}
+
+// Titles and fields of several columns are shown with blanks between.
+#[test]
+fn times_of_clocks_and_of_several_columns_are_refused(rt: HostRuntime) -> Result<(), Fail> {
+    let alloc = rt.alloc();
+    let shown = RecordShown {
+        number: 7,
+        titles: &[b"id", b" day", b"hour"],
+        fields: &[b"f", b"2024-03-31", b"02:30"],
+        animal: &[0],
+        time: &[1, 2],
+        clock: "Europe/Ljubljana",
+    };
+    let passed = CellFault::Clock {
+        fault: NoMoment::PassedOver,
+    };
+    let expected = "record 7: day hour: the clocks of Europe/Ljubljana passed over that time";
+    expect_line(
+        &rt,
+        alloc,
+        &refused_cell(alloc, passed, &shown),
+        Kind::Time,
+        expected,
+    )?;
+    let early = CellFault::Clock {
+        fault: NoMoment::Before1970,
+    };
+    let expected =
+        "record 7: day hour is '2024-03-31 02:30', which is no time since 1970, and not within 0 to 1099511627776 seconds";
+    expect_line(
+        &rt,
+        alloc,
+        &refused_cell(alloc, early, &shown),
+        Kind::Time,
+        expected,
+    )?;
+    let expected =
+        "record 7: day hour is '2024-03-31 02:30', which may be seconds since 1970 or a day with hours, as all of the table: name the form of days, as by --time-format %Y%m%d%H, or write times such as 2024-05-01 00:30:04";
+    expect_line(
+        &rt,
+        alloc,
+        &refused_day(alloc, &shown),
+        Kind::Time,
+        expected,
+    )?;
+    let expected = "record 7: there is no day hour";
+    expect_line(
+        &rt,
+        alloc,
+        &refused_cell(alloc, CellFault::NoTime, &shown),
+        Kind::Time,
+        expected,
+    )
 }
 
 #[test]
@@ -404,7 +489,7 @@ fn files_are_refused(rt: HostRuntime) -> Result<(), Fail> {
         (
             refused_text(alloc, TextFault::NotUtf8, path),
             Kind::Text,
-            "t.csv is no text in UTF-8, and other codings are not read yet: write it anew in UTF-8",
+            "t.csv is no text in UTF-8: name its coding, such as --encoding latin-1",
         ),
         (
             refused_table(alloc, TableFault::NoTitles, path),

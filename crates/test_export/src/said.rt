@@ -1,14 +1,17 @@
-// Tests of what is said of tables, and of why they are refused. What is expected was said by the package for Python, but for
-// what is not read yet.
+// Tests of what is said of tables, and of why they are refused. What is expected was said by the package for Python: lines that
+// it does not say, and what stands behind the box in the line of columns, are tested in `test_doubts`.
 
 use range_plane::Scale;
 use split_fates::{Choice, fates_of};
+use split_filters::Filters;
 use split_names::file_names;
 use split_reading::{Ledger, Rules, Zone, read_records};
 use split_refusal::Refusal;
-use split_said::{Said, Sheet, check_ledger, find_grid, tell_tracks};
+use split_said::{
+    Said, Sheet, TimesRead, Wanted, check_ledger, find_grid, tell_files, tell_tracks,
+};
 use split_table::Table;
-use split_titles::{Columns, Named, Pair, find_columns};
+use split_titles::{Columns, Named, find_columns};
 use split_tracks::tracks_of;
 use std::alloc::{AllocError, Global};
 use std::process::Abort;
@@ -25,6 +28,16 @@ struct Asked {
     unrounded: Option<(f64, f64)>,
     moved: f64,
 }
+
+// No filter.
+const NO_FILTERS: Filters<'static> = Filters {
+    sensors: &[],
+    classes: &[],
+    most_dop: None,
+    types: &[],
+    since: None,
+    until: None,
+};
 
 // Nothing is asked.
 const PLAIN: Asked = Asked {
@@ -74,21 +87,26 @@ const IN_DECIMETRES: Asked = Asked {
 const UTM: &str = "individual-local-identifier,timestamp,utm-easting,utm-northing,utm-zone";
 
 // How the records of a table are read.
-fn rules_of(columns: &Columns<Global>, width: usize, asked: &Asked) -> Rules<'static> {
+fn rules_of<'a>(columns: &'a Columns<Global>, width: usize, asked: &Asked) -> Rules<'static, 'a> {
     Rules {
         width,
-        animal: columns.animal.first().copied(),
+        missing: &[],
+        has_commas: false,
+        animal: columns.animal.as_slice(),
         name: b"animal",
-        time: columns.time.first().copied(),
+        time: columns.time.as_slice(),
         is_second: columns.is_second,
-        metres: columns.metres.unwrap_or(Pair {
-            first: 0,
-            second: 0,
-        }),
+        forms: None,
+        clock: None,
+        metres: columns.metres,
         degrees: columns.degrees,
         zone: columns.zone,
         marks: columns.marks,
         sensor: columns.sensor,
+        class: columns.argos,
+        dop: columns.dop,
+        fix_type: columns.fix_type,
+        filters: NO_FILTERS,
         unit: asked.unit,
         skips_unnamed: asked.skips_unnamed,
     }
@@ -117,6 +135,9 @@ fn tell(
         Ok(grid) => grid,
         Err(refusal) => return Ok(Err(refusal)),
     };
+    if grid.is_projected {
+        return Ok(Ok(()));
+    }
     let (east, north) = grid.shift;
     let choice = Choice {
         keeps_marks: asked.keeps_marks,
@@ -129,17 +150,30 @@ fn tell(
     let tracks = tracks_of(alloc, &fates, animals)?;
     let names = file_names(alloc, ledger.names.as_slice())?;
     let moved = asked.moved;
-    let told = tell_tracks(
-        alloc, said, sheet, ledger, &grid, &fates, &tracks, &names, moved,
-    );
-    Ok(told)
+    if let Err(refusal) = tell_tracks(alloc, said, sheet, &grid, &fates, &tracks, &names, moved) {
+        return Ok(Err(refusal));
+    }
+    Ok(tell_files(alloc, said, sheet, &grid, ledger, &fates, &tracks, &names))
+}
+
+// A line, without what the package for Python does not say in it; none where it does not say it at all.
+fn old_part(line: &str) -> Option<&str> {
+    if line.starts_with("not read: ") || line.contains(" m from the others: ") {
+        return None;
+    }
+    match line.split_once(" km") {
+        Some((before, _)) if line.starts_with("columns: ") => line.get(..before.len() + 3),
+        _ => Some(line),
+    }
 }
 
 // The lines that were said.
 fn push_lines(text: &mut Vec<u8>, said: &Said) -> Result<(), AllocError> {
     for line in said.lines.iter() {
-        text.extend_from_slice(line)?;
-        text.extend_from_slice(b"\n")?;
+        if let Some(line) = old_part(str::from_utf8(line).unwrap_or("")) {
+            text.extend_from_slice(line.as_bytes())?;
+            text.extend_from_slice(b"\n")?;
+        }
     }
     Ok(())
 }
@@ -152,6 +186,43 @@ fn push_refusal(alloc: Global, text: &mut Vec<u8>, refusal: &Refusal) -> Result<
     text.extend_from_slice(&refusal.line(alloc)?)?;
     text.extend_from_slice(b"\n")?;
     Ok(())
+}
+
+// A sheet of such titles and columns, without filters.
+fn sheet_of<'a>(
+    titles: &'a [&'a [u8]],
+    columns: &'a Columns<Global>,
+    nothing: &'a [&'a [u8]],
+    asked: &Asked,
+) -> Sheet<'a> {
+    let filters = Filters {
+        sensors: nothing,
+        classes: nothing,
+        most_dop: None,
+        types: nothing,
+        since: None,
+        until: None,
+    };
+    let wanted = Wanted {
+        classes: b"",
+        types: b"",
+        since: b"",
+        until: b"",
+    };
+    Sheet {
+        titles,
+        columns,
+        unit: asked.unit,
+        zone: asked.zone,
+        name: b"animal",
+        times: TimesRead {
+            form: b"",
+            clock: b"UTC",
+        },
+        filters,
+        wanted,
+        keeps_marks: asked.keeps_marks,
+    }
 }
 
 // What is said of a table.
@@ -168,14 +239,8 @@ fn told_of(alloc: Global, text: &str, asked: &Asked) -> Result<Vec<u8>, Fail> {
     let columns = find_columns(alloc, &shown, &asked.named)?;
     let rules = rules_of(&columns, shown.len(), asked);
     let ledger = read_records(alloc, &mut table, &rules)?;
-    let sheet = Sheet {
-        titles: &shown,
-        columns: &columns,
-        unit: asked.unit,
-        zone: asked.zone,
-        name: b"animal",
-        keeps_marks: asked.keeps_marks,
-    };
+    let nothing: Vec<&[u8]> = Vec::new(alloc);
+    let sheet = sheet_of(&shown, &columns, &nothing, asked);
     let mut said = Said::new(alloc);
     let end = tell(alloc, &mut said, &sheet, &ledger, asked)?;
     let mut lines = Vec::new(alloc);
@@ -398,7 +463,18 @@ fn fixes_of_argos_are_refused(rt: HostRuntime) -> Result<(), Fail> {
          a,2024-05-01 00:00:00,562000,5134000,33N,\n\
          a,2024-05-01 00:10:00,562000,5134000,33N,\n",
         &PLAIN,
-        "! unread: Argos classes are not read yet: use tools/split.py, or remove column 6 'argos-lc' if it has none\n",
+        "UTM coordinates are those of the export; zone: 33N 2\n\
+         columns: individual-local-identifier, timestamp, utm-easting, utm-northing; 1 animals, box 0.000 by 0.000 km\n",
+    )?;
+    expect_utm(
+        &rt,
+        alloc,
+        ",argos-lc\n\
+         a,2024-05-01 00:00:00,562000,5134000,33N,\n\
+         a,2024-05-01 00:10:00,562000,5134000,33N,B\n",
+        &PLAIN,
+        "! argos: fixes are of Argos, most of whose classes are off by kilometres: name the classes to take, such as \
+         --argos-class 3,2,1 (none is a fix without a class)\n",
     )
 }
 
@@ -554,11 +630,11 @@ fn fixes_of_no_zone_or_of_several_are_refused(rt: HostRuntime) -> Result<(), Fai
 }
 
 #[test]
-fn what_has_to_be_projected_is_not_read(rt: HostRuntime) -> Result<(), Fail> {
+fn longitude_and_latitude_are_projected_where_metres_are_not_taken(
+    rt: HostRuntime,
+) -> Result<(), Fail> {
     let alloc = rt.alloc();
-    let projected =
-        "! unread: longitude and latitude are not projected yet: export UTM coordinates of one zone with their \
-        utm-zone, or use tools/split.py\n";
+    let projected = "longitude and latitude are projected into zone 33N; fixes by zone: 33N 2\n";
     for (records, asked) in [
         (
             "a,2024-05-01 00:00:00,562000,5134000,33N,15,46\na,2024-05-01 00:10:00,562000,5134000,34N,15,46\n",
@@ -587,8 +663,9 @@ fn what_has_to_be_projected_is_not_read(rt: HostRuntime) -> Result<(), Fail> {
          a,2024-05-01 00:00:00,562000,5134000,33N,15,46\n\
          a,2024-05-01 00:10:00,562000,5134000,,15,46\n",
         &IN_ZONE,
-        "! unread: record 2: the zone of UTM coordinates is not taken from their longitude yet: name it in utm-zone, or use \
-         tools/split.py\n",
+        "UTM coordinates are those of the export; zone: 33N 2\n\
+         columns: individual-local-identifier, timestamp, utm-easting, utm-northing, location-long, location-lat; 1 animals, \
+         box 0.000 by 0.000 km\n",
     )?;
     expect_utm(
         &rt,
@@ -602,8 +679,9 @@ fn what_has_to_be_projected_is_not_read(rt: HostRuntime) -> Result<(), Fail> {
             ..IN_ZONE
         },
         "1 outliers: use 0\n\
-         ! unread: fixes that name no zone beside fixes of other zones are not read yet: name the zone of each in utm-zone, \
-         or use tools/split.py\n",
+         UTM coordinates are those of the export; zone: 33N 2\n\
+         1 outliers off the grid: left out\n\
+         columns: individual-local-identifier, timestamp, utm-easting, utm-northing; 1 animals, box 0.000 by 0.000 km\n",
     )
 }
 

@@ -1,6 +1,8 @@
 // Tests of the words of the program that makes tracks.
 
 use range_plane::Scale;
+use split_encoding::Encoding;
+use split_pace::Speed;
 use split_reading::Zone;
 use split_refusal::Kind;
 use split_words::{VERSION, WordFault, Words, read_words};
@@ -9,7 +11,7 @@ use std::process::Abort;
 use std::test::Fail;
 
 // The program's name and words behind it.
-fn words_of(alloc: Global, texts: &[&str]) -> Result<Vec<String>, AllocError> {
+pub(crate) fn words_of(alloc: Global, texts: &[&str]) -> Result<Vec<String>, AllocError> {
     let mut words = Vec::new(alloc);
     words.push(String::from_str(alloc, "homerange-split")?)?;
     for text in texts {
@@ -29,7 +31,7 @@ fn tell_given(text: &mut Vec<u8>, name: &[u8], value: Option<&[u8]>) -> Result<(
 }
 
 // The options given, each with its value.
-fn given_text(alloc: Global, words: &Words<'_>) -> Result<Vec<u8>, AllocError> {
+pub(crate) fn given_text(alloc: Global, words: &Words<'_>) -> Result<Vec<u8>, AllocError> {
     let mut text = Vec::new(alloc);
     for given in &words.given {
         tell_given(&mut text, given.name, given.value)?;
@@ -38,7 +40,7 @@ fn given_text(alloc: Global, words: &Words<'_>) -> Result<Vec<u8>, AllocError> {
 }
 
 // Checks that words are refused, of this kind and with this line.
-fn expect_refused(
+pub(crate) fn expect_refused(
     rt: &impl Abort,
     alloc: Global,
     texts: &[&str],
@@ -69,8 +71,13 @@ fn an_export_alone_has_defaults(rt: HostRuntime) -> Result<(), Fail> {
     assert!(rt; found.into == "tracks");
     assert!(rt; found.unit == Scale::Metre);
     assert!(rt; found.zone == None);
-    assert!(rt; found.animal == None && found.name == None && found.time == None);
-    assert!(rt; found.easting == None && found.northing == None);
+    assert!(rt; found.columns.animal.is_empty() && found.columns.time.is_empty());
+    assert!(rt; found.columns.easting == None && found.columns.northing == None);
+    assert!(rt; found.name == None && found.missing.is_empty());
+    assert!(rt;
+        found.text.encoding == Encoding::Utf8 && !found.text.is_gpx && found.text.skipped == 0
+    );
+    assert!(rt; found.choices.sensors.is_empty() && found.choices.needs_time() == "");
     assert!(rt; !found.keeps_marks && !found.skips_unnamed);
     assert!(rt; found.given.is_empty());
     Ok(())
@@ -110,11 +117,59 @@ fn words_say_each_option(rt: HostRuntime) -> Result<(), Fail> {
     };
     assert!(rt; found.export == "foxes.csv" && found.into == "out");
     assert!(rt; found.unit == Scale::Decimetre && found.zone == Some(zone));
-    assert!(rt; found.animal == Some("who") && found.name == Some("a b"));
-    assert!(rt; found.time == Some("when"));
-    assert!(rt; found.easting == Some("e") && found.northing == Some("n"));
+    assert!(rt; found.columns.animal.as_slice() == [b"who".as_slice()].as_slice());
+    assert!(rt; found.columns.time.as_slice() == [b"when".as_slice()].as_slice());
+    assert!(rt; found.name == Some("a b"));
+    assert!(rt; found.columns.easting == Some(b"e".as_slice()));
+    assert!(rt; found.columns.northing == Some(b"n".as_slice()));
     assert!(rt; found.keeps_marks && found.skips_unnamed);
     let given = b"animal=who;easting=e;mark;name=a b;northing=n;skip-unnamed;time=when;zone= 5s;";
+    assert!(rt; given_text(alloc, &found)?.as_slice() == given.as_slice());
+    Ok(())
+}
+
+#[test]
+fn words_say_which_fixes_are_taken(rt: HostRuntime) -> Result<(), Fail> {
+    let alloc = rt.alloc();
+    let texts = [
+        "a.csv",
+        "--sensor=gps,none",
+        "--argos-class=3,2",
+        "--max-dop=5.50",
+        "--fix-type=3D,none",
+        "--since=2024-05-01 00:00:00.5",
+        "--until=2024-05-01",
+        "--max-speed=1.25",
+        "--every=1.5h",
+        "--na=-9999,x",
+        "--encoding=Latin1",
+        "--skip-lines=02",
+    ];
+    let words = words_of(alloc, &texts)?;
+    let Ok(found) = read_words(alloc, &words) else {
+        assert!(rt; false);
+        return Ok(());
+    };
+    let choices = &found.choices;
+    assert!(rt; choices.sensors.as_slice() == [b"gps".as_slice(), b""].as_slice());
+    assert!(rt; choices.classes.as_slice() == [b"3".as_slice(), b"2"].as_slice());
+    assert!(rt; choices.types.as_slice() == [b"3D".as_slice(), b"none"].as_slice());
+    assert!(rt; choices.most_dop == Some(5_500_000_000_000));
+    assert!(rt; choices.since == None && choices.until == None);
+    assert!(rt; choices.since_words == Some("2024-05-01 00:00:00.5"));
+    assert!(rt; choices.until_words == Some("2024-05-01"));
+    assert!(rt;
+        choices.speed
+            == Some(Speed {
+                millionths: 1_250_000
+            })
+    );
+    assert!(rt; choices.every == Some(5400) && choices.needs_time() == "--since");
+    assert!(rt; found.missing.as_slice() == [b"-9999".as_slice(), b"x"].as_slice());
+    assert!(rt; found.text.encoding == Encoding::Latin1 && found.text.skipped == 2);
+    let given =
+        b"argos-class=3,2;encoding=Latin1;every=1.5h;fix-type=3D,none;max-dop=5.50;max-speed=1.25;na=-9999,x;\
+        sensor=gps,none;since=2024-05-01 00:00:00.5;skip-lines=2;until=2024-05-01;";
     assert!(rt; given_text(alloc, &found)?.as_slice() == given.as_slice());
     Ok(())
 }
@@ -145,17 +200,32 @@ fn options_that_cannot_be_right_are_refused(rt: HostRuntime) -> Result<(), Fail>
             ),
         ),
         (
-            &["a.csv", "--animal", "a,b"],
+            &["a.csv", "--max-dop=-1"],
+            (Kind::Option, "max-dop is '-1' and not a number from 0"),
+        ),
+        (
+            &["a.csv", "--max-speed", "1e3"],
             (
-                Kind::Unread,
-                "--animal names several columns, which this program does not read yet: name one of them",
+                Kind::Option,
+                "max-speed is '1e3' and not a number of metres a second from 0 to 1,000,000 with at most six decimals",
             ),
         ),
         (
-            &["a.csv", "--time", "a,b"],
+            &["a.csv", "--every", "2d"],
             (
-                Kind::Unread,
-                "--time names several columns, which this program does not read yet: name one of them",
+                Kind::Option,
+                "every is '2d' and not a whole number of seconds, such as 2h, 30min or 90s",
+            ),
+        ),
+        (
+            &["a.csv", "--skip-lines=-1"],
+            (Kind::Option, "skip-lines is '-1' and not a number from 0"),
+        ),
+        (
+            &["a.csv", "--encoding", "cp1253"],
+            (
+                Kind::Option,
+                "encoding: cp1253 is none of utf-8, ascii, utf-16, utf-16-le, utf-16-be, utf-32, utf-32-le, utf-32-be, latin-1, iso-8859-2, windows-1250, windows-1251, windows-1252",
             ),
         ),
         (
@@ -176,7 +246,7 @@ fn options_that_cannot_be_right_are_refused(rt: HostRuntime) -> Result<(), Fail>
 fn words_that_are_not_the_programs_are_refused(rt: HostRuntime) -> Result<(), Fail> {
     let alloc = rt.alloc();
     let cases = [
-        ["a.csv", "--lon", "x"].as_slice(),
+        ["a.csv", "--longitude", "x"].as_slice(),
         &["a.csv", "b.csv"],
         &["a.csv", "--zone"],
         &["a.csv", "--mark=1"],

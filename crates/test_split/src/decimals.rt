@@ -1,7 +1,7 @@
 // Tests of decimals in whole units. What is expected was computed by Python's `fractions`.
 
 use range_plane::Scale;
-use split_numbers::whole_units;
+use split_numbers::{trillionths, whole_units};
 
 #[test]
 fn decimals_come_to_the_nearest_unit(rt: HostRuntime) {
@@ -25,9 +25,12 @@ fn decimals_come_to_the_nearest_unit(rt: HostRuntime) {
         (b"0.9999999999999999999999", Some(1), Some(10)),
         (b"-0.0000000000000000000001", Some(0), Some(0)),
     ] {
-        assert!(rt; whole_units(text, Scale::Metre) == metres, "{text:?}");
         assert!(rt;
-            whole_units(text, Scale::Decimetre) == decimetres,
+            whole_units(text, Scale::Metre, false) == metres,
+            "{text:?}"
+        );
+        assert!(rt;
+            whole_units(text, Scale::Decimetre, false) == decimetres,
             "{text:?}"
         );
     }
@@ -85,9 +88,12 @@ fn zeros_and_twelve_digits_are_taken(rt: HostRuntime) {
             Some(15),
         ),
     ] {
-        assert!(rt; whole_units(text, Scale::Metre) == metres, "{text:?}");
         assert!(rt;
-            whole_units(text, Scale::Decimetre) == decimetres,
+            whole_units(text, Scale::Metre, false) == metres,
+            "{text:?}"
+        );
+        assert!(rt;
+            whole_units(text, Scale::Decimetre, false) == decimetres,
             "{text:?}"
         );
     }
@@ -126,9 +132,12 @@ fn half_a_unit_goes_up(rt: HostRuntime) {
         (b"99.5", Some(100), Some(995)),
         (b"-99.5", Some(-99), Some(-995)),
     ] {
-        assert!(rt; whole_units(text, Scale::Metre) == metres, "{text:?}");
         assert!(rt;
-            whole_units(text, Scale::Decimetre) == decimetres,
+            whole_units(text, Scale::Metre, false) == metres,
+            "{text:?}"
+        );
+        assert!(rt;
+            whole_units(text, Scale::Decimetre, false) == decimetres,
             "{text:?}"
         );
     }
@@ -187,8 +196,14 @@ fn all_else_is_no_decimal(rt: HostRuntime) {
         b"9999999999999",
         b"99999999999999999999999999999999",
     ] {
-        assert!(rt; whole_units(text, Scale::Metre).is_none(), "{text:?}");
-        assert!(rt; whole_units(text, Scale::Decimetre).is_none(), "{text:?}");
+        assert!(rt;
+            whole_units(text, Scale::Metre, false).is_none(),
+            "{text:?}"
+        );
+        assert!(rt;
+            whole_units(text, Scale::Decimetre, false).is_none(),
+            "{text:?}"
+        );
     }
 }
 
@@ -200,13 +215,65 @@ fn a_hundred_thousand_decimals_are_read_to_the_last(rt: HostRuntime) {
     text[1] = b'7';
     text[2] = b'.';
     text[3] = b'5';
-    assert!(rt; whole_units(&text, Scale::Metre) == Some(-7));
-    assert!(rt; whole_units(&text, Scale::Decimetre) == Some(-75));
+    assert!(rt; whole_units(&text, Scale::Metre, false) == Some(-7));
+    assert!(rt; whole_units(&text, Scale::Decimetre, false) == Some(-75));
     text[100_003] = b'1';
-    assert!(rt; whole_units(&text, Scale::Metre) == Some(-8));
-    assert!(rt; whole_units(&text, Scale::Decimetre) == Some(-75));
-    assert!(rt; whole_units(&text[1..], Scale::Metre) == Some(8));
+    assert!(rt; whole_units(&text, Scale::Metre, false) == Some(-8));
+    assert!(rt; whole_units(&text, Scale::Decimetre, false) == Some(-75));
+    assert!(rt; whole_units(&text[1..], Scale::Metre, false) == Some(8));
     text[100_003] = b'x';
-    assert!(rt; whole_units(&text, Scale::Metre).is_none());
-    assert!(rt; whole_units(&text[1..], Scale::Decimetre).is_none());
+    assert!(rt; whole_units(&text, Scale::Metre, false).is_none());
+    assert!(rt; whole_units(&text[1..], Scale::Decimetre, false).is_none());
+}
+
+#[test]
+fn trillionths_are_the_nearest(rt: HostRuntime) {
+    for (text, count) in [
+        (b"0".as_slice(), 0),
+        (b"-0.0", 0),
+        (b"15.805899", 15_805_899_000_000),
+        (b"-180", -180_000_000_000_000),
+        (b"46.356742000000", 46_356_742_000_000),
+        (b"0.0000000000004", 0),
+        (b"0.0000000000005", 1),
+        (b"-0.0000000000005", 0),
+        (b"-0.00000000000050000001", -1),
+        (b"14.1234567890123", 14_123_456_789_012),
+        (b"-14.1234567890125", -14_123_456_789_012),
+        (b"179.9999999999999", 180_000_000_000_000),
+        (b"360", 360_000_000_000_000),
+        (b"999999.9999999999999", 1_000_000_000_000_000_000),
+        (b"1000000", 1_000_000_000_000_000_000),
+        (b"-1000000.5", -1_000_000_000_000_000_000),
+        (b"145123456.5", 1_000_000_000_000_000_000),
+        (b"-999999999999", -1_000_000_000_000_000_000),
+        (b"000000012.5", 12_500_000_000_000),
+    ] {
+        assert!(rt; trillionths(text, false) == Some(count), "{text:?}");
+    }
+    for text in [
+        b"".as_slice(),
+        b"-",
+        b"1.",
+        b".5",
+        b"1e2",
+        b"+1",
+        b"1,5",
+        b"1000000000000",
+        b"12.3x",
+    ] {
+        assert!(rt; trillionths(text, false).is_none(), "{text:?}");
+    }
+}
+
+#[test]
+fn commas_stand_before_decimals_where_they_may(rt: HostRuntime) {
+    assert!(rt; whole_units(b"562000,5", Scale::Decimetre, true) == Some(5_620_005));
+    assert!(rt; whole_units(b"-1,95", Scale::Metre, true) == Some(-2));
+    assert!(rt; whole_units(b"1.95", Scale::Metre, true) == Some(2));
+    assert!(rt; trillionths(b"15,805899", true) == Some(15_805_899_000_000));
+    for text in [b"1,2,3".as_slice(), b"1.234,5", b"1,234.5", b"1,", b",5"] {
+        assert!(rt; whole_units(text, Scale::Metre, true).is_none(), "{text:?}");
+    }
+    assert!(rt; whole_units(b"562000,5", Scale::Metre, false).is_none());
 }

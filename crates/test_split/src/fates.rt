@@ -2,7 +2,8 @@
 
 use range_plane::{Fix, Point, Scale};
 use split_fates::{
-    Choice, Extent, FatesFault, MarkedFault, extent_of, fates_of, marked_fixes, shift_of,
+    Choice, Extent, FatesFault, MarkedFault, extent_of, fates_of, marked_fixes, own_shift,
+    project_rows, row_reason, shift_of,
 };
 use split_files::MarkedFix;
 use split_reading::{Row, Told, ToldFix, Zone};
@@ -28,9 +29,14 @@ fn fix_row(metres: Option<(i64, i64)>, zone: Option<Zone>, is_used: bool) -> Row
         sensor: 0,
         told: Told::Fix(ToldFix {
             moment: SECOND,
+            is_twice: false,
             metres,
+            degrees: None,
             zone,
             is_used,
+            is_of_sensor: true,
+            has_class: false,
+            left_for: None,
         }),
     }
 }
@@ -106,6 +112,104 @@ fn records_have_one_fate_each(rt: HostRuntime) -> Result<(), Fail> {
     Ok(())
 }
 
+// A row like another, whose fix is of such a sensor and is left out by filters for such a reason.
+fn filtered(row: Row, is_of_sensor: bool, left_for: Option<Reason>) -> Row {
+    match row.told {
+        Told::Fix(fix) => Row {
+            told: Told::Fix(ToldFix {
+                is_of_sensor,
+                left_for,
+                ..fix
+            }),
+            ..row
+        },
+        Told::LeftOut(_) => row,
+    }
+}
+
+#[test]
+fn a_fix_is_left_out_for_the_first_reason(rt: HostRuntime) -> Result<(), Fail> {
+    let used = fix_row(Some((5, 6)), None, true);
+    let unused = fix_row(Some((5, 6)), None, false);
+    let rows = [
+        filtered(used, false, Some(Reason::Dop)),
+        filtered(unused, false, None),
+        filtered(unused, true, Some(Reason::Class)),
+        filtered(used, true, Some(Reason::Before)),
+        fix_row(Some((5, 6)), None, true),
+    ];
+    let reasons = [
+        (
+            false,
+            [
+                Some(Reason::Sensor),
+                Some(Reason::Sensor),
+                Some(Reason::Outlier),
+                Some(Reason::Before),
+                None,
+            ],
+        ),
+        (
+            true,
+            [
+                Some(Reason::Sensor),
+                Some(Reason::Sensor),
+                Some(Reason::Class),
+                Some(Reason::Before),
+                None,
+            ],
+        ),
+    ];
+    for (keeps_marks, expected) in reasons {
+        let fates = fates_of(rt.alloc(), &choice(None, keeps_marks), &rows)?;
+        for ((row, fate), reason) in rows.iter().zip(&fates).zip(expected) {
+            assert!(&rt; row_reason(row, keeps_marks) == reason, "{reason:?}");
+            let is_left = match *fate {
+                Fate::LeftOut { reason, .. } => Some(reason),
+                Fate::InTrack { .. } => None,
+            };
+            assert!(&rt; is_left == reason, "{reason:?}");
+        }
+    }
+    Ok(())
+}
+
+// 15.805899 E 46.356742 N in zone 33N by pyproj 3.4.1 with PROJ 9.1.1: 562000.275 E 5134000.765 N.
+#[test]
+fn longitude_and_latitude_are_projected(rt: HostRuntime) {
+    let Row {
+        told: Told::Fix(fix),
+        ..
+    } = fix_row(None, None, true)
+    else {
+        assert!(rt; false);
+        return;
+    };
+    let with_degrees = |degrees: Option<(i64, i64)>| Row {
+        animal: Some(0),
+        sensor: 0,
+        told: Told::Fix(ToldFix { degrees, ..fix }),
+    };
+    let mut rows = [
+        with_degrees(Some((15_805_899_000_000, 46_356_742_000_000))),
+        with_degrees(Some((15_805_899_000_000, 91_000_000_000_000))),
+        with_degrees(None),
+    ];
+    let moved = project_rows(&mut rows, ZONE, Scale::Metre, false);
+    let metres = [Some((562_000, 5_134_001)), None, None];
+    for (row, expected) in rows.iter().zip(metres) {
+        let Told::Fix(fix) = row.told else {
+            assert!(rt; false);
+            return;
+        };
+        assert!(rt;
+            fix.metres == expected && fix.zone == Some(ZONE),
+            "{expected:?}"
+        );
+    }
+    assert!(rt; 0.362 < moved && moved < 0.363, "{moved}");
+}
+
 #[test]
 fn a_used_fix_off_the_grid_is_a_fault(rt: HostRuntime) {
     for metres in [
@@ -165,6 +269,18 @@ fn the_extent_is_that_of_used_fixes(rt: HostRuntime) {
     };
     assert!(rt; extent_of(&rows) == Some(extent), "of two");
     assert!(rt; extent_of(&rows[1..3]).is_none(), "of none");
+}
+
+#[test]
+fn a_local_grid_is_shifted_by_axis(rt: HostRuntime) {
+    let rows = [
+        fix_row(Some((-5, 40_000_000)), None, true),
+        fix_row(Some((7, 40_000_009)), None, true),
+        fix_row(Some((-9_000_000, 0)), None, false),
+    ];
+    assert!(rt; own_shift(Scale::Metre, &rows) == (1_000_000, -40_000_000));
+    assert!(rt; own_shift(Scale::Decimetre, &rows) == (10_000_000, 0));
+    assert!(rt; own_shift(Scale::Metre, &[]) == (0, 0));
 }
 
 #[test]

@@ -21,6 +21,8 @@ mod order;
 #[cfg(test)]
 mod reading;
 #[cfg(test)]
+mod reading_times;
+#[cfg(test)]
 mod record_text;
 #[cfg(test)]
 mod refused_titles;

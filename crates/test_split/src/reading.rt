@@ -2,13 +2,15 @@
 // says otherwise.
 
 use crate::sheets::{
-    MOVEBANK, NO_MARKS, OWN, Sheet, with_degrees, with_marks, with_sensor, with_texts, with_usage,
-    with_zone,
+    MOVEBANK, NO_FILTERS, NO_MARKS, OWN, Sheet, with_degrees, with_marks, with_sensor, with_texts,
+    with_usage, with_zone,
 };
 use crate::told_records::{expect_fault, expect_told};
 use range_plane::Scale;
+use split_clock::NoMoment;
+use split_filters::Filters;
 use split_reading::{CellFault, Rules};
-use split_times::TimeFault;
+use split_times::{NumberFault, TimeFault};
 use split_titles::{Marks, Pair};
 use std::test::Fail;
 
@@ -28,7 +30,7 @@ fn a_table_of_movebank_is_read(rt: HostRuntime) -> Result<(), Fail> {
             ; 1/0 1714523404: 562100 5134101 33N, not used\
             ; 0/1 1714521600: 562200 5134201 33N\
             ; 2/0: no coordinates\
-            ; 2/2 1714523460: degrees",
+            ; 2/2 1714523460: degrees 14500000000000 46300000000000 33N",
     )
 }
 
@@ -153,15 +155,22 @@ fn records_without_coordinates_are_left_out(rt: HostRuntime) -> Result<(), Fail>
 
 #[test]
 fn degrees_may_stand_alone(rt: HostRuntime) -> Result<(), Fail> {
-    for record in [
-        "fox,0,,,14.5,46.1",
-        "fox,0,NA,5134001,14.5,46.1",
-        "fox,0,562000,NA,-14.5,46.1",
-        "fox,0,,,0,46.1",
-        "fox,0,,,14.5,0",
+    let alloc = rt.alloc();
+    for (record, degrees) in [
+        ("fox,0,,,14.5,46.1", "14500000000000 46100000000000 33N"),
+        (
+            "fox,0,NA,5134001,14.5,-46.1",
+            "14500000000000 -46100000000000 33S",
+        ),
+        (
+            "fox,0,562000,NA,-14.5,46.1",
+            "-14500000000000 46100000000000 28N",
+        ),
+        ("fox,0,,,0,46.1", "0 46100000000000 31N"),
+        ("fox,0,,,14.5000000000005,0", "14500000000001 0 33N"),
     ] {
-        let expected = "[fox] | [] | 0/0 0: degrees";
-        expect_told(&rt, rt.alloc(), &with_degrees(), record, expected)?;
+        let expected = format!(in alloc; "[fox] | [] | 0/0 0: degrees {degrees}")?;
+        expect_told(&rt, alloc, &with_degrees(), record, expected.as_str())?;
     }
     Ok(())
 }
@@ -197,14 +206,14 @@ fn zeros_with_other_metres_or_degrees_are_taken(rt: HostRuntime) -> Result<(), F
             fox,6,0,0,0,\n\
             fox,7,0,0,0,0.1\n",
         "[fox] | [] \
-            | 0/0 0: 562000 5134001\
-            ; 0/0 1: 0 5134001\
-            ; 0/0 2: 562000 0\
-            ; 0/0 3: 0 0\
+            | 0/0 0: 562000 5134001 31N\
+            ; 0/0 1: 0 5134001 31N\
+            ; 0/0 2: 562000 0 31N\
+            ; 0/0 3: 0 0 33N\
             ; 0/0 4: 0 0\
-            ; 0/0 5: 0 0\
+            ; 0/0 5: 0 0 31N\
             ; 0/0 6: 0 0\
-            ; 0/0 7: 0 0",
+            ; 0/0 7: 0 0 31N",
     )
 }
 
@@ -262,13 +271,13 @@ fn without_a_column_of_the_animal_all_are_of_one(rt: HostRuntime) -> Result<(), 
         titles: "second,easting,northing",
         rules: Rules {
             width: 3,
-            animal: None,
+            animal: &[],
             name: b"Luna",
-            time: Some(0),
-            metres: Pair {
+            time: &[0],
+            metres: Some(Pair {
                 first: 1,
                 second: 2,
-            },
+            }),
             ..OWN.rules
         },
     };
@@ -287,12 +296,12 @@ fn without_a_column_of_the_time_records_are_in_its_order(rt: HostRuntime) -> Res
         titles: "animal,easting,northing",
         rules: Rules {
             width: 3,
-            time: None,
+            time: &[],
             is_second: false,
-            metres: Pair {
+            metres: Some(Pair {
                 first: 1,
                 second: 2,
-            },
+            }),
             ..OWN.rules
         },
     };
@@ -476,31 +485,34 @@ fn other_marks_are_refused(rt: HostRuntime) -> Result<(), Fail> {
 fn other_times_are_refused(rt: HostRuntime) -> Result<(), Fail> {
     let alloc = rt.alloc();
     for (cell, fault) in [
-        ("", CellFault::NoTime { column: 1 }),
-        ("NA", CellFault::NoTime { column: 1 }),
-        ("60", not_time(TimeFault::NotTime)),
+        ("", CellFault::NoTime),
+        ("NA", CellFault::NoTime),
+        ("60", not_second(NumberFault::NotSecond)),
+        ("45413", not_second(NumberFault::DaysOfExcel)),
         ("2024-05-01 24:00", not_time(TimeFault::NotTime)),
         ("01.05.2024", not_time(TimeFault::NotTime)),
-        ("1969-12-31 23:59:59", not_time(TimeFault::Before1970)),
+        (
+            "1969-12-31 23:59:59",
+            CellFault::Clock {
+                fault: NoMoment::Before1970,
+            },
+        ),
         ("1970-01-01 00:00+01", not_time(TimeFault::Before1970)),
     ] {
         let record = format!(in alloc; "fox,{cell},1,2")?;
         expect_fault(&rt, alloc, &with_texts(), &record, 1, fault)?;
     }
     for (cell, fault) in [
-        ("", CellFault::NoTime { column: 1 }),
-        ("NA", CellFault::NoTime { column: 1 }),
-        ("1099511627777", CellFault::NotSecond { column: 1 }),
-        (
-            "99999999999999999999999999",
-            CellFault::NotSecond { column: 1 },
-        ),
-        ("-1", CellFault::NotSecond { column: 1 }),
-        ("+60", CellFault::NotSecond { column: 1 }),
-        (" 60", CellFault::NotSecond { column: 1 }),
-        ("60 ", CellFault::NotSecond { column: 1 }),
-        ("1e3", CellFault::NotSecond { column: 1 }),
-        ("x", CellFault::NotSecond { column: 1 }),
+        ("", CellFault::NoTime),
+        ("NA", CellFault::NoTime),
+        ("1099511627777", CellFault::NotSecond),
+        ("99999999999999999999999999", CellFault::NotSecond),
+        ("-1", CellFault::NotSecond),
+        ("+60", CellFault::NotSecond),
+        (" 60", CellFault::NotSecond),
+        ("60 ", CellFault::NotSecond),
+        ("1e3", CellFault::NotSecond),
+        ("x", CellFault::NotSecond),
     ] {
         let record = format!(in alloc; "fox,{cell},1,2")?;
         expect_fault(&rt, alloc, &OWN, &record, 1, fault)?;
@@ -510,21 +522,29 @@ fn other_times_are_refused(rt: HostRuntime) -> Result<(), Fail> {
 
 // The fault of a text in the column of times.
 fn not_time(fault: TimeFault) -> CellFault {
-    CellFault::Time { column: 1, fault }
+    CellFault::Time { fault }
 }
 
-// Python reads these: more digits, and in a column of seconds decimals and texts.
+// The same of a number.
+fn not_second(fault: NumberFault) -> CellFault {
+    CellFault::Number { fault }
+}
+
+// Python reads these: more digits, and texts in a column of seconds.
 #[test]
 fn some_times_are_refused_that_python_reads(rt: HostRuntime) -> Result<(), Fail> {
     let alloc = rt.alloc();
     let fault = not_time(TimeFault::MoreThanNineDecimals);
     let record = "fox,2024-05-01 00:30:04.1234567890,1,2";
     expect_fault(&rt, alloc, &with_texts(), record, 1, fault)?;
-    for record in ["fox,1.5,1,2", "fox,2024-05-01,1,2"] {
-        let fault = CellFault::NotSecond { column: 1 };
-        expect_fault(&rt, alloc, &OWN, record, 1, fault)?;
-    }
-    Ok(())
+    expect_fault(
+        &rt,
+        alloc,
+        &OWN,
+        "fox,2024-05-01,1,2",
+        1,
+        CellFault::NotSecond,
+    )
 }
 
 #[test]
@@ -549,11 +569,7 @@ fn the_first_record_at_fault_is_named(rt: HostRuntime) -> Result<(), Fail> {
             3,
             CellFault::NoAnimal,
         ),
-        (
-            "fox,0,1,2\nfox,,1,2\nfox,x,1,2",
-            2,
-            CellFault::NoTime { column: 1 },
-        ),
+        ("fox,0,1,2\nfox,,1,2\nfox,x,1,2", 2, CellFault::NoTime),
     ] {
         expect_fault(&rt, rt.alloc(), &OWN, records, record, fault)?;
     }
@@ -610,7 +626,6 @@ const STAIRS: [(&str, CellFault); 14] = [
     (
         "1,1,?,14.5,46,0,0,0,1,gps,fox,1,2,?",
         CellFault::Time {
-            column: 2,
             fault: TimeFault::NotTime,
         },
     ),
@@ -630,4 +645,87 @@ fn of_one_record_the_first_fault_is_named(rt: HostRuntime) -> Result<(), Fail> {
     }
     let expected = "[fox] | [gps] | 0/0 1714521600: 1 2 33N";
     expect_told(&rt, alloc, &MOVEBANK, whole, expected)
+}
+
+#[test]
+fn filters_look_at_each_fix(rt: HostRuntime) -> Result<(), Fail> {
+    let sheet = Sheet {
+        titles: "animal,second,easting,northing,sensor-type-id,dop,fix-type",
+        rules: Rules {
+            width: 7,
+            sensor: Some(4),
+            dop: Some(5),
+            fix_type: Some(6),
+            filters: Filters {
+                sensors: &[b"gps"],
+                most_dop: Some(5_000_000_000_000),
+                types: &[b"3D"],
+                since: Some(10),
+                until: Some(20),
+                ..NO_FILTERS
+            },
+            ..OWN.rules
+        },
+    };
+    expect_told(
+        &rt,
+        rt.alloc(),
+        &sheet,
+        "v,10,1,2,653,5.000,3D\n\
+            v,20,1,2,gps,0.1,3D\n\
+            v,15,1,2,673,1,3D\n\
+            v,15,1,2,653,5.000000000001,3D\n\
+            v,15,1,2,653,0,3D\n\
+            v,15,1,2,653,,3D\n\
+            v,15,1,2,653,1,2D\n\
+            v,9,1,2,653,1,3D\n\
+            v,21,1,2,653,1,3D\n",
+        "[v] | [gps][radio-transmitter] \
+            | 0/0 10: 1 2\
+            ; 0/0 20: 1 2\
+            ; 0/1 15: 1 2, of another sensor\
+            ; 0/0 15: 1 2, filtered\
+            ; 0/0 15: 1 2, filtered\
+            ; 0/0 15: 1 2, filtered\
+            ; 0/0 15: 1 2, filtered\
+            ; 0/0 9: 1 2, filtered\
+            ; 0/0 21: 1 2, filtered",
+    )
+}
+
+#[test]
+fn a_word_that_is_missing_is_so_in_every_cell(rt: HostRuntime) -> Result<(), Fail> {
+    let sheet = Sheet {
+        rules: Rules {
+            missing: &[b"-9999", b"?"],
+            skips_unnamed: true,
+            ..OWN.rules
+        },
+        ..OWN
+    };
+    expect_told(
+        &rt,
+        rt.alloc(),
+        &sheet,
+        "v,0,-9999,2\n?,1,1,2\nv,2,1,-9999.0\n",
+        "[v] | [] | 0/0: no coordinates; -/0: no animal; 0/0 2: 1 -9999",
+    )
+}
+
+#[test]
+fn a_comma_stands_before_decimals_where_it_may(rt: HostRuntime) -> Result<(), Fail> {
+    let sheet = Sheet {
+        rules: Rules {
+            has_commas: true,
+            ..OWN.rules
+        },
+        ..OWN
+    };
+    expect_told(
+        &rt,
+        rt.alloc(),
+        &sheet,
+        "v,0,\"1000,5\",\"-2,5\"\n",
+        "[v] | [] | 0/0 0: 1001 -2",
+    )
 }

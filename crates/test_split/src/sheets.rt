@@ -1,6 +1,7 @@
 // Tables by their titles, and how their records are read.
 
 use range_plane::Scale;
+use split_filters::Filters;
 use split_reading::Rules;
 use split_titles::{Marks, Pair};
 
@@ -8,7 +9,7 @@ use split_titles::{Marks, Pair};
 #[derive(Clone, Copy)]
 pub(crate) struct Sheet {
     pub(crate) titles: &'static str,
-    pub(crate) rules: Rules<'static>,
+    pub(crate) rules: Rules<'static, 'static>,
 }
 
 // No column of marks.
@@ -21,23 +22,41 @@ pub(crate) const NO_MARKS: Marks = Marks {
     manual_valid: None,
 };
 
+// No filter.
+pub(crate) const NO_FILTERS: Filters<'static> = Filters {
+    sensors: &[],
+    classes: &[],
+    most_dop: None,
+    types: &[],
+    since: None,
+    until: None,
+};
+
 // A table that has what homerange takes.
 pub(crate) const OWN: Sheet = Sheet {
     titles: "animal,second,easting,northing",
     rules: Rules {
         width: 4,
-        animal: Some(0),
+        missing: &[],
+        has_commas: false,
+        animal: &[0],
         name: b"animal",
-        time: Some(1),
+        time: &[1],
         is_second: true,
-        metres: Pair {
+        forms: None,
+        clock: None,
+        metres: Some(Pair {
             first: 2,
             second: 3,
-        },
+        }),
         degrees: None,
         zone: None,
         marks: NO_MARKS,
         sensor: None,
+        class: None,
+        dop: None,
+        fix_type: None,
+        filters: NO_FILTERS,
         unit: Scale::Metre,
         skips_unnamed: false,
     },
@@ -133,14 +152,18 @@ pub(crate) const MOVEBANK: Sheet = Sheet {
     titles: "event-id,visible,timestamp,location-long,location-lat,algorithm-marked-outlier,import-marked-outlier,manually-marked-outlier,manually-marked-valid,sensor-type,individual-local-identifier,utm-easting,utm-northing,utm-zone",
     rules: Rules {
         width: 14,
-        animal: Some(10),
+        missing: &[],
+        has_commas: false,
+        animal: &[10],
         name: b"animal",
-        time: Some(2),
+        time: &[2],
         is_second: false,
-        metres: Pair {
+        forms: None,
+        clock: None,
+        metres: Some(Pair {
             first: 11,
             second: 12,
-        },
+        }),
         degrees: Some(Pair {
             first: 3,
             second: 4,
@@ -155,6 +178,10 @@ pub(crate) const MOVEBANK: Sheet = Sheet {
             manual_valid: Some(8),
         },
         sensor: Some(9),
+        class: None,
+        dop: None,
+        fix_type: None,
+        filters: NO_FILTERS,
         unit: Scale::Metre,
         skips_unnamed: false,
     },

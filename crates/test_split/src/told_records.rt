@@ -32,12 +32,20 @@ fn zone_words(alloc: Global, zone: Option<Zone>) -> Result<String, AllocError> {
 fn fix_words(alloc: Global, fix: &ToldFix) -> Result<String, AllocError> {
     let moment = moment_words(alloc, fix.moment)?;
     let zone = zone_words(alloc, fix.zone)?;
-    let end = if fix.is_used { "" } else { ", not used" };
-    match fix.metres {
-        Some((easting, northing)) => {
+    let end = match (fix.is_used, fix.is_of_sensor, fix.left_for) {
+        (false, _, _) => ", not used",
+        (true, false, _) => ", of another sensor",
+        (true, true, Some(_)) => ", filtered",
+        (true, true, None) => "",
+    };
+    match (fix.metres, fix.degrees) {
+        (Some((easting, northing)), _) => {
             format!(in alloc; " {moment}: {easting} {northing}{zone}{end}")
         }
-        None => format!(in alloc; " {moment}: degrees{zone}{end}"),
+        (None, Some((longitude, latitude))) => {
+            format!(in alloc; " {moment}: degrees {longitude} {latitude}{zone}{end}")
+        }
+        (None, None) => format!(in alloc; " {moment}: nowhere{zone}{end}"),
     }
 }
 

@@ -1,25 +1,17 @@
-use Rattle.std.proofs.Common.{◌≡◌, ◌∙◌, Ok, length, subst}
-use Rattle.split_export.specs.Export.{IsRulesFault}
-use Rattle.split_export.specs.Rules.{rules_of}
-use Rattle.split_export.proofs.TableFacts.{exported, unread, unruled}
+use Rattle.std.proofs.Common.{◌∙◌}
+use Rattle.split_export.specs.Export.{has_commas}
+use Rattle.split_export.proofs.TableFacts.{exported, unread}
 use Rattle.split_export.proofs.export.read_table.Goals as goal
 
-pub returns-in-Ok-read_records-clause-export : goal.returns-in-Ok-read_records-clause-export
-returns-in-Ok-read_records-clause-export c =
-    exported c.args.asked.now c.args.table.now.titles c.args.table.now.left c.in-Ok.titles c.in-Ok-rules_for.found.0 c.in-Ok-rules_for.found.1 c.in-Ok-read_records.ledger
+pub returns-in-Ok-ledger_by-clause-export : goal.returns-in-Ok-ledger_by-clause-export
+returns-in-Ok-ledger_by-clause-export c =
+    exported c.args.asked.now (has_commas c.args.text.now) c.args.table.now.titles c.args.table.now.left c.in-Ok.titles c.in-Ok-columns_of.columns c.in-Ok-ledger_by.ledger
     (c.in-Ok.ensures ∙ c.titles.ensures)
-    (subst (λ titles. rules_of c.in-Ok-rules_for.found.0 (length titles) c.args.asked.now ≡ Ok c.in-Ok-rules_for.found.1) c.deref.ensures.value c.in-Ok-rules_for.ensures.rules)
-    c.in-Ok-read_records.ensures.ledger c.in-Ok-read_records.ensures.timely
+    (rw (c.deref-2.ensures.value, c.has_commas.ensures) at c.in-Ok-ledger_by.ensures.ledger)
+    c.in-Ok-ledger_by.ensures.timely
 
 pub returns-clause-fault : goal.returns-clause-fault
 returns-clause-fault c =
-    unread c.args.asked.now c.args.table.now.titles c.args.table.now.left c.in-Ok.titles.items c.in-Ok-rules_for.found.0 c.in-Ok-rules_for.found.1 c.in-Err-read_records.fault
+    unread c.args.asked.now (has_commas c.args.text.now) c.args.table.now.titles c.args.table.now.left c.in-Ok.titles.items c.in-Ok-columns_of.columns c.in-Err-ledger_by.fault
     (c.in-Ok.ensures ∙ c.titles.ensures)
-    (subst (λ titles. rules_of c.in-Ok-rules_for.found.0 (length titles) c.args.asked.now ≡ Ok c.in-Ok-rules_for.found.1) c.deref.ensures.value c.in-Ok-rules_for.ensures.rules)
-    c.in-Err-read_records.ensures.fault
-
-pub returns-in-Err-rules_for-clause-fault : goal.returns-in-Err-rules_for-clause-fault
-returns-in-Err-rules_for-clause-fault c =
-    unruled c.args.asked.now c.args.table.now.titles c.args.table.now.left c.in-Ok.titles.items c.in-Err-rules_for.fault
-    (c.in-Ok.ensures ∙ c.titles.ensures)
-    (subst (λ titles. IsRulesFault (length titles) c.args.asked.now c.in-Err-rules_for.fault) c.deref.ensures.value c.in-Err-rules_for.ensures.fault)
+    (rw (c.deref-2.ensures.value, c.has_commas.ensures) at c.in-Err-ledger_by.ensures.fault)

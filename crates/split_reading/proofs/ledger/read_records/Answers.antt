@@ -10,6 +10,6 @@ records-init c =
     let sensors : texts c.new-2.result ≡ [] = ap (λ l. map (λ k. k.items) l) c.new-2.ensures.empty in
     record {
       few = (rw names (omega arith), rw sensors (omega arith));
-      timely = subst AreTimely (sym c.new-3.ensures.items) (λ k d below. absurd (omega (arith, below)));
-      so_far = λ records is. (records, is, begins _ _ records names sensors c.new-3.ensures.items, omega arith);
+      timely = subst AreTimely (sym c.new-4.ensures.items) (λ k d below. absurd (omega (arith, below)));
+      so_far = λ records is. (records, is, begins _ _ records names sensors c.new-3.ensures.items c.new-4.ensures.items, omega arith);
     }

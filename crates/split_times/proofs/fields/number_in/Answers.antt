@@ -18,3 +18,6 @@ returns-clause-value c = rw c.in_ok-value_of.ensures.0 (ap Some (value_is c))
 
 pub returns-clause-within : goal.returns-clause-within
 returns-clause-within c = omega (arith, value_is c, number_less c.args.digits.now c.in_ok-value_of.ensures.0)
+
+pub returns-clause-small : goal.returns-clause-small
+returns-clause-small c = omega (arith, value_is c, nine_digits c.args.digits.now c.in_ok-value_of.ensures.0 c.requires)

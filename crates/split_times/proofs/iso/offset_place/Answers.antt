@@ -1,17 +1,11 @@
-use Rattle.std.proofs.Common.{◌≡◌, ◌∙◌, ◌==◌, ◌||◌, ◌≤◌, ℕ, Option, Some, None, cond, ltb, length, inl, inr, arith, rules, tests, sym}
+use Rattle.std.proofs.Common.{◌≡◌, ◌∙◌, ◌==◌, ◌||◌, Some, None, cond, ltb, length, rules, tests, sym}
 use Rattle.std.proofs.lemmas.Iterator.{YieldsList-from_slice}
 use Rattle.std.proofs.lemmas.Iterator.Search.{position_from_yields_List}
 use Rattle.std.proofs.lemmas.List.Sums.{prefix_len-le-length}
-use Rattle.std.proofs.lemmas.Bool.{cases_lt, lt-ltb, le-ltb}
+use Rattle.split_times.proofs.Places.{none_found, place_found}
 use Rattle.split_times.proofs.iso.offset_place.Goals as goal
 use Rattle.split_times.proofs.iso.offset_place.Goals.{After-position}
 use Rattle.split_times.specs.Iso.{offset_place}
-
-place_found : (place count found : ℕ) → Some found ≡ cond (ltb place count) (Some place) None → found ≡ place
-place_found place count found e = elim (cases_lt place count) [ inl less ↦ cc (rw (lt-ltb place count less) at e) | inr more ↦ cc (rw (le-ltb place count more) at e) ]
-
-none_found : (place count : ℕ) → place ≤ count → ◌≡◌ {A = Option ℕ} None (cond (ltb place count) (Some place) None) → count ≡ place
-none_found place count within e = elim (cases_lt place count) [ inl less ↦ cc (rw (lt-ltb place count less) at e) | inr more ↦ omega (arith, more, within) ]
 
 found : (c : After-position) → c.position.result ≡ cond (ltb (offset_place c.args.rest.now) (length c.args.rest.now)) (Some (offset_place c.args.rest.now)) None
 found c =

@@ -13,5 +13,5 @@ returns-clause-value c =
     let whole = behind_day_is c.args.day _ c.args.behind.now c.in_ok-clock.clock.now c.in_ok-clock.rest.now c.split_at.result.0.now c.split_at.result.1.now c.in_ok-clock-2.clock c.offset_place.result
     cuts.0 cuts.1 cuts.2 c.in_ok-clock-2.ensures.value c.offset_place.ensures.value c.split_at.ensures.front c.split_at.ensures.back
     (omega (arith, ints, c.in_ok-clock-2.ensures.within)) in
-    let P : Option IsoTime → Type 0 = λ t. MatchOption c.time_behind_minute.result (t ≡ None) (λ time. t ≡ (let s : IsoTime = record { second = time.second; decimals = time.decimals.now } in Some s)) in
+    let P : Option IsoTime → Type 0 = λ t. MatchOption c.time_behind_minute.result (t ≡ None) (λ time. t ≡ (let s : IsoTime = record { second = time.second; ahead = time.ahead; decimals = time.decimals.now } in Some s)) in
     subst P (sym whole) c.time_behind_minute.ensures.value

@@ -1,0 +1,103 @@
+// By which form and which clock the times of a table are read.
+
+use crate::read::{day_refusal, untimed_refusal};
+use crate::wish::Wish;
+use range_plane::OutOfMemory;
+use split_export::{Asked, Export, TimesLook, column_of_times, look_at_times, rules_of};
+use split_reading::Row;
+use split_refusal::Refusal;
+use split_titles::Columns;
+use std::alloc::Global;
+
+// The zone that every clock without a name is of.
+const UTC: &str = "UTC";
+
+// Refuses a table without a column of the time one of whose columns has times.
+fn refuse_unread_times(alloc: Global, bytes: &[u8], export: &Export) -> Result<(), Refusal> {
+    match column_of_times(alloc, bytes, export.ledger.rows.len()) {
+        Ok(Some(column)) => Err(untimed_refusal(alloc, &export.titles, column)),
+        Ok(None) => Ok(()),
+        Err(_) => Err(Refusal::out_of_memory(alloc)),
+    }
+}
+
+// Looks at the times of a table of so many titles with such columns; none where there are no rules for it.
+fn look_by(
+    alloc: Global,
+    bytes: &[u8],
+    columns: &Columns<Global>,
+    width: usize,
+    rows: &[Row],
+    asked: &Asked<'_>,
+) -> Result<Option<TimesLook>, Refusal> {
+    let Ok(rules) = rules_of(columns, width, false, asked) else {
+        return Ok(None);
+    };
+    match look_at_times(alloc, bytes, &rules, rows) {
+        Ok(look) => Ok(Some(look)),
+        Err(_) => Err(Refusal::out_of_memory(alloc)),
+    }
+}
+
+// Those of forms that are used, as they are said.
+fn used_forms(alloc: Global, forms: &str, used: &[bool]) -> Result<Vec<u8>, OutOfMemory> {
+    let mut words = Vec::new(alloc);
+    for (form, is_used) in forms.split('|').zip(used) {
+        if *is_used {
+            if !words.is_empty() {
+                words.extend_from_slice(b" and ")?;
+            }
+            words.extend_from_slice(form.as_bytes())?;
+        }
+    }
+    if words.is_empty() {
+        words.extend_from_slice(b"ISO text")?;
+    }
+    Ok(words)
+}
+
+// In which form times are read, as it is said; empty where it goes without saying.
+fn form_words(alloc: Global, wish: &Wish<'_>, used: &[bool]) -> Result<Vec<u8>, OutOfMemory> {
+    if wish.forms.is_empty() && wish.clock_name == UTC {
+        return Ok(Vec::new(alloc));
+    }
+    used_forms(alloc, wish.forms, used)
+}
+
+/// In which form the times of an export are read, as it is said; empty where it goes without saying.
+///
+/// # Errors
+///
+/// All times are numbers that may be days with hours; no column of the time has a usual title, and one of another title has times;
+/// or memory ran out.
+pub(crate) fn form_of_times(
+    alloc: Global,
+    bytes: &[u8],
+    asked: &Asked<'_>,
+    wish: &Wish<'_>,
+    export: &Export,
+) -> Result<Vec<u8>, Refusal> {
+    if export.columns.time.is_empty() {
+        refuse_unread_times(alloc, bytes, export)?;
+        return Ok(Vec::new(alloc));
+    }
+    let width = export.titles.len();
+    let found = look_by(
+        alloc,
+        bytes,
+        &export.columns,
+        width,
+        &export.ledger.rows,
+        asked,
+    )?;
+    let Some(look) = found else {
+        return Ok(Vec::new(alloc));
+    };
+    if let Some(record) = look.day {
+        return Err(day_refusal(alloc, bytes, record, &export.columns));
+    }
+    match form_words(alloc, wish, &look.forms) {
+        Ok(words) => Ok(words),
+        Err(_) => Err(Refusal::out_of_memory(alloc)),
+    }
+}

@@ -1,0 +1,191 @@
+// The text of an export, in UTF-8.
+
+use split_encoding::{DecodeFault, Encoding, decode, encoding_of};
+use split_gpx::{GpxCause, GpxFault, declared_encoding, table_of_gpx};
+use split_refusal::{Kind, Refusal};
+use split_words::TextWords;
+use std::alloc::{AllocError, Global};
+
+// The refusal of a path, for what these words say of it.
+fn refused(alloc: Global, words: Result<String, AllocError>) -> Refusal {
+    match words {
+        Ok(words) => Refusal::new(alloc, Kind::Text, None, words.as_bytes()),
+        Err(_) => Refusal::out_of_memory(alloc),
+    }
+}
+
+// The refusal of bytes that are no text of an encoding.
+fn decode_refusal(alloc: Global, path: &str, encoding: Encoding, fault: DecodeFault) -> Refusal {
+    let name = encoding.name();
+    match fault {
+        DecodeFault::OutOfMemory => Refusal::out_of_memory(alloc),
+        DecodeFault::NoMark => refused(
+            alloc,
+            format!(in alloc;
+                "{path} is no text in {name}: it has no byte order mark; name the order by --encoding {name}-le or {name}-be"
+            ),
+        ),
+        DecodeFault::NoCharacter { place } => refused(
+            alloc,
+            format!(in alloc;
+                "{path} is no text in {name}: byte {place} is none of it; name its coding, such as --encoding latin-1"
+            ),
+        ),
+    }
+}
+
+// The text of bytes in an encoding.
+fn decoded(
+    alloc: Global,
+    path: &str,
+    bytes: &[u8],
+    encoding: Encoding,
+) -> Result<Vec<u8>, Refusal> {
+    match decode(alloc, bytes, encoding) {
+        Ok(text) => Ok(text),
+        Err(fault) => Err(decode_refusal(alloc, path, encoding, fault)),
+    }
+}
+
+// What is wrong in a line of GPX.
+fn cause_words(cause: GpxCause) -> &'static str {
+    match cause {
+        GpxCause::Character => "has a character that XML cannot have",
+        GpxCause::DocumentType => "has a document type, which is not read: remove it",
+        GpxCause::Reference => "has & without a name of XML behind it",
+        GpxCause::Markup => "has markup that is not that of XML",
+        GpxCause::OtherEnd => "ends another element than the last that is open",
+        GpxCause::TooDeep => "has an element in more than 100 others",
+        GpxCause::Outside => "has something outside of the outermost element",
+        GpxCause::Unclosed => "has an element without an end",
+    }
+}
+
+// The refusal of a text that is no GPX.
+fn gpx_refusal(alloc: Global, path: &str, fault: GpxFault) -> Refusal {
+    match fault {
+        GpxFault::OutOfMemory => Refusal::out_of_memory(alloc),
+        GpxFault::NotUtf8 | GpxFault::NotGpx => refused(
+            alloc,
+            format!(in alloc; "{path} is no GPX"),
+        ),
+        GpxFault::Refused { line, cause } => {
+            let words = cause_words(cause);
+            refused(
+                alloc,
+                format!(in alloc; "{path} is no GPX: line {line} {words}"),
+            )
+        }
+    }
+}
+
+// The encoding that GPX names itself.
+fn gpx_encoding(alloc: Global, path: &str, bytes: &[u8]) -> Result<Encoding, Refusal> {
+    let Some(name) = declared_encoding(bytes) else {
+        return Ok(Encoding::Utf8);
+    };
+    match encoding_of(name) {
+        Some(encoding) => Ok(encoding),
+        None => {
+            let name = str::from_utf8(name).unwrap_or("another one");
+            let words = format!(in alloc;
+                "{path}: the encoding {name} is not read: write it anew in UTF-8"
+            );
+            Err(refused(alloc, words))
+        }
+    }
+}
+
+// The table of GPX.
+fn gpx_table(alloc: Global, path: &str, bytes: &[u8]) -> Result<Vec<u8>, Refusal> {
+    let encoding = gpx_encoding(alloc, path, bytes)?;
+    let text = decoded(alloc, path, bytes, encoding)?;
+    match table_of_gpx(alloc, &text) {
+        Ok(table) => Ok(table),
+        Err(fault) => Err(gpx_refusal(alloc, path, fault)),
+    }
+}
+
+// A text behind its first line, which ends in LF, CRLF or CR.
+fn behind_line(text: &[u8]) -> &[u8] {
+    let Some(end) = text
+        .iter()
+        .position(|byte| *byte == b'\n' || *byte == b'\r')
+    else {
+        return b"";
+    };
+    let rest = text.get(end..).unwrap_or(b"");
+    match rest {
+        [b'\r', b'\n', behind @ ..] => behind,
+        [_, behind @ ..] => behind,
+        [] => b"",
+    }
+}
+
+/// A text behind so many lines.
+pub(crate) fn behind_lines(text: &[u8], count: usize) -> &[u8] {
+    let mut rest = text;
+    for _line in 0..count {
+        if rest.is_empty() {
+            return rest;
+        }
+        rest = behind_line(rest);
+    }
+    rest
+}
+
+// A text without the byte order mark of UTF-8 and the quotes at its start.
+fn without_quotes(text: &[u8]) -> &[u8] {
+    let text = text
+        .strip_prefix(b"\xEF\xBB\xBF".as_slice())
+        .unwrap_or(text);
+    let start = text.iter().position(|byte| *byte != b'"');
+    text.get(start.unwrap_or(text.len())..).unwrap_or(b"")
+}
+
+/// A text from the line on that begins with a header, before which quotes may stand.
+///
+/// # Errors
+///
+/// No line begins so, or memory ran out.
+pub(crate) fn from_header<'a>(
+    alloc: Global,
+    text: &'a [u8],
+    header: &str,
+) -> Result<&'a [u8], Refusal> {
+    let mut rest = text;
+    for _byte in 0..text.len() {
+        if without_quotes(rest).starts_with(header.as_bytes()) {
+            return Ok(rest);
+        }
+        rest = behind_line(rest);
+        if rest.is_empty() {
+            break;
+        }
+    }
+    let words = format!(in alloc; "no line begins with '{header}', as that of titles does");
+    match words {
+        Ok(words) => Err(Refusal::new(alloc, Kind::Columns, None, words.as_bytes())),
+        Err(_) => Err(Refusal::out_of_memory(alloc)),
+    }
+}
+
+/// The text of the bytes of an export at a path, which is a table; none where the bytes are that text.
+///
+/// # Errors
+///
+/// Why it is refused.
+pub(crate) fn text_of(
+    alloc: Global,
+    path: &str,
+    bytes: &[u8],
+    words: TextWords,
+) -> Result<Option<Vec<u8>>, Refusal> {
+    if words.is_gpx {
+        return Ok(Some(gpx_table(alloc, path, bytes)?));
+    }
+    match words.encoding {
+        Encoding::Utf8 => Ok(None),
+        encoding => Ok(Some(decoded(alloc, path, bytes, encoding)?)),
+    }
+}

@@ -1,0 +1,4 @@
+pub mod Axes
+pub mod Boxes
+pub mod Far
+pub mod Gaps

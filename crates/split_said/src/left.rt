@@ -1,0 +1,85 @@
+// How many records are left out, and why.
+
+use crate::said::Said;
+use crate::sheet::Sheet;
+use crate::words::{push, push_decimal};
+use range_plane::OutOfMemory;
+use split_fates::row_reason;
+use split_reading::Row;
+use split_tracks::Reason;
+use std::alloc::{AllocError, Global};
+
+// How many trillionths one has.
+const TRILLION: u64 = 1_000_000_000_000;
+
+// How many records are left out for a reason that is known before the grid is.
+pub(crate) fn count_left(sheet: &Sheet<'_>, rows: &[Row], reason: Reason) -> usize {
+    rows.iter()
+        .filter(|row| row_reason(row, sheet.keeps_marks) == Some(reason))
+        .count()
+}
+
+// Says how many records are left out for a reason, in these words.
+pub(crate) fn tell_left(
+    alloc: Global,
+    said: &mut Said,
+    sheet: &Sheet<'_>,
+    rows: &[Row],
+    reason: Reason,
+    words: Vec<u8>,
+) -> Result<(), OutOfMemory> {
+    let mut text = words;
+    push(&mut text, ": left out")?;
+    said.say_counted(alloc, count_left(sheet, rows, reason), &text)
+}
+
+// Words and a value.
+fn words_of(alloc: Global, words: &str, value: &[u8]) -> Result<Vec<u8>, AllocError> {
+    let mut text = Vec::from_slice(alloc, words.as_bytes())?;
+    text.extend_from_slice(value)?;
+    Ok(text)
+}
+
+// Says how many fixes are left out for their dilution of precision and their type.
+fn tell_quality(
+    alloc: Global,
+    said: &mut Said,
+    sheet: &Sheet<'_>,
+    rows: &[Row],
+) -> Result<(), OutOfMemory> {
+    if let Some(most) = sheet.filters.most_dop {
+        let text = words_of(alloc, "fixes have no DOP", b"")?;
+        tell_left(alloc, said, sheet, rows, Reason::NoDop, text)?;
+        let mut text = words_of(alloc, "fixes have a DOP above ", b"")?;
+        push_decimal(&mut text, most.unsigned_abs(), TRILLION)?;
+        tell_left(alloc, said, sheet, rows, Reason::Dop, text)?;
+    }
+    if !sheet.filters.types.is_empty() {
+        let text = words_of(
+            alloc,
+            "fixes are of other fix types than ",
+            sheet.wanted.types,
+        )?;
+        tell_left(alloc, said, sheet, rows, Reason::Type, text)?;
+    }
+    Ok(())
+}
+
+// Says how many fixes are left out for their quality and their time.
+pub(crate) fn tell_filters(
+    alloc: Global,
+    said: &mut Said,
+    sheet: &Sheet<'_>,
+    rows: &[Row],
+) -> Result<(), OutOfMemory> {
+    tell_quality(alloc, said, sheet, rows)?;
+    if sheet.filters.since.is_some() {
+        let text = words_of(alloc, "fixes are before ", sheet.wanted.since)?;
+        tell_left(alloc, said, sheet, rows, Reason::Before, text)?;
+    }
+    if sheet.filters.until.is_some() {
+        let text = words_of(alloc, "fixes are after ", sheet.wanted.until)?;
+        tell_left(alloc, said, sheet, rows, Reason::After, text)?;
+    }
+    Ok(())
+}

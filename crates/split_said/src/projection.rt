@@ -1,0 +1,84 @@
+// The zone into which longitude and latitude are projected.
+
+use crate::ranked::{Ranked, push_ranked};
+use crate::rows::{kept_fix, record_at};
+use crate::said::Said;
+use crate::sheet::Sheet;
+use crate::stop::{Stop, nothing_left, refused};
+use crate::words::{push, push_zone, push_zone_option};
+use crate::zones::{Zoned, first_zone, ranked_zones, zone_counts};
+use split_reading::{Row, Zone};
+use split_refusal::Kind;
+use std::alloc::{AllocError, Global};
+
+// Whether a fix that is kept has no longitude and latitude.
+fn is_bare(row: &Row, keeps_marks: bool) -> bool {
+    match kept_fix(row, keeps_marks) {
+        Some(fix) => fix.degrees.is_none(),
+        None => false,
+    }
+}
+
+// Refuses a fix that has nothing to project.
+fn check_degrees_are_there(alloc: Global, sheet: &Sheet<'_>, rows: &[Row]) -> Result<(), Stop> {
+    match rows.iter().position(|row| is_bare(row, sheet.keeps_marks)) {
+        Some(place) => {
+            let text = Vec::from_slice(alloc, b"there is no longitude and latitude to project");
+            Err(refused(alloc, Kind::Zone, Some(record_at(place)), text))
+        }
+        None => Ok(()),
+    }
+}
+
+// Whether some of these zones are of the south, and some of the north.
+fn are_of_both(zones: &[Ranked]) -> bool {
+    let is_south = |zone: &Ranked| zone.word.ends_with(b"S");
+    zones.iter().any(is_south) && !zones.iter().all(is_south)
+}
+
+// That fixes lie on both sides of the equator.
+fn both_text(alloc: Global, zones: &[Ranked], first: Zone) -> Result<Vec<u8>, AllocError> {
+    let mut text = Vec::new(alloc);
+    push(&mut text, "fixes lie on both sides of the equator (")?;
+    push_ranked(&mut text, zones)?;
+    push(&mut text, "): name the zone of all, such as ")?;
+    let south = Zone {
+        number: first.number,
+        is_south: true,
+    };
+    push_zone_option(&mut text, south)?;
+    Ok(text)
+}
+
+// Says into which zone places are projected, and of which zones they are.
+fn tell_zone(alloc: Global, said: &mut Said, zone: Zone, zones: &[Ranked]) -> Result<(), Stop> {
+    let mut text = Vec::new(alloc);
+    push(&mut text, "longitude and latitude are projected into zone ")?;
+    push_zone(&mut text, zone)?;
+    push(&mut text, "; fixes by zone: ")?;
+    push_ranked(&mut text, zones)?;
+    said.say(alloc, &text)?;
+    Ok(())
+}
+
+// The zone into which the longitudes and latitudes of a table are projected, which is said: the named one, or else that of most
+// fixes that are taken.
+pub(crate) fn projected_zone(
+    alloc: Global,
+    said: &mut Said,
+    sheet: &Sheet<'_>,
+    rows: &[Row],
+) -> Result<Zone, Stop> {
+    check_degrees_are_there(alloc, sheet, rows)?;
+    let zones = ranked_zones(alloc, &zone_counts(alloc, rows, Zoned::Degrees)?)?;
+    let Some(first) = first_zone(&zones) else {
+        return Err(nothing_left(alloc));
+    };
+    if sheet.zone.is_none() && are_of_both(&zones) {
+        let text = both_text(alloc, &zones, first);
+        return Err(refused(alloc, Kind::Zone, None, text));
+    }
+    let zone = sheet.zone.unwrap_or(first);
+    tell_zone(alloc, said, zone, &zones)?;
+    Ok(zone)
+}

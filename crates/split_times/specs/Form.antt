@@ -1,0 +1,62 @@
+-- What a text says under a form of times.
+use Rattle.std.specs.Prelude.{ℕ, ◌+◌, nat_lt, ◌==◌, if◌then◌else◌, List, [], ◌∷◌, length, take, drop, Option, Some, None, Result, Err}
+use Rattle.split_times.specs.Calendar.{◌>>=◌}
+use Rattle.split_times.specs.Forms.{pieces_of}
+use Rattle.split_times.specs.Local.{local_time_of}
+use Rattle.split_times.specs.Words.{digits_ahead, no_parts, with_word}
+use Rattle.split_times.specs.declared.local.LocalTime.{LocalTime}
+use Rattle.split_times.specs.declared.moment.TimeFault.{TimeFault}
+use Rattle.split_times.specs.declared.moment.TimeFault.TheVariants.{NotTime}
+use Rattle.split_times.specs.declared.sign.Sign.TheVariants as sign
+use Rattle.split_times.specs.declared.sign.Piece.{Piece}
+use Rattle.split_times.specs.declared.sign.Piece.TheVariants as piece
+use Rattle.split_times.specs.declared.words.TimeParts.{TimeParts}
+
+-- how many bytes a point and the digits behind it have, where a text begins with a point
+abbrev pub decimals_ahead : List ℕ → ℕ
+decimals_ahead [] = 0
+decimals_ahead (b ∷ text) = if b == 46 then 1 + digits_ahead text else 0
+
+-- how many bytes of a text a second may take: two digits or one, with all digits behind a point or without a point
+abbrev pub sizes_of_second : List ℕ → List ℕ
+sizes_of_second text = (2 + decimals_ahead (drop 2 text)) ∷ 2 ∷ (1 + decimals_ahead (drop 1 text)) ∷ 1 ∷ []
+
+-- how many any other piece may take: no word has more than four
+abbrev pub sizes_of_others : List ℕ
+sizes_of_others = 4 ∷ 3 ∷ 2 ∷ 1 ∷ []
+
+-- how many bytes of a text a piece may take, in the order in which they are tried
+abbrev pub sizes : Piece → List ℕ → List ℕ
+sizes (piece.Sign sign.Second) text = sizes_of_second text
+sizes p text = sizes_of_others
+
+-- one that is there, or else another
+abbrev pub or_else : Option TimeParts → Option TimeParts → Option TimeParts
+or_else None other = other
+or_else (Some parts) other = Some parts
+
+-- the first that is there of what is found by some sizes
+abbrev pub first_by : (ℕ → Option TimeParts) → List ℕ → Option TimeParts
+first_by found [] = None
+first_by found (size ∷ others) = or_else (found size) (first_by found others)
+
+-- what is found behind a word of so many bytes, by the rest of the text and the parts with the word
+abbrev pub behind_word : Piece → List ℕ → TimeParts → (List ℕ → TimeParts → Option TimeParts) → ℕ → Option TimeParts
+behind_word p text parts found size =
+    if nat_lt (length text) size then None
+    else with_word p (take size text) parts >>= (λ more. found (drop size text) more)
+
+-- the parts of a text under the pieces of a form, beside those that are said before: the first piece takes the first of its
+-- sizes that has one of its words and leaves a text of the other pieces
+unfoldable pub said : List Piece → List ℕ → TimeParts → Option TimeParts
+said [] text parts = if length text == 0 then Some parts else None
+said (p ∷ pieces) text parts = first_by (behind_word p text parts (said pieces)) (sizes p text)
+
+-- the time of the parts of a text, if it has any
+abbrev pub time_of : Option TimeParts → Result LocalTime TimeFault
+time_of None = Err NotTime
+time_of (Some parts) = local_time_of parts
+
+-- the time of a text under a form
+abbrev pub form_time : List ℕ → List ℕ → Result LocalTime TimeFault
+form_time form text = time_of (said (pieces_of form) text no_parts)

@@ -1,0 +1,154 @@
+#!/usr/bin/env python3
+"""run_rules.py PROGRAM: the rules of docs/TABLES.md that homerange-split alone has. Of each table stand here the options, the
+lines that are said or the refusal, and the files of tracks, all written by hand."""
+import csv
+import subprocess
+import sys
+import tempfile
+from pathlib import Path
+
+TITLES = "animal,second,easting,northing"
+FAR = "".join(f"v,{at},{500000 + 10 * at},{5000000 + 7 * at}\n" for at in range(9)) + "v,9,505000,5000000\nv,10,500010,5000003\n"
+KILOMETRES = "".join(f"v,{at},{500 + at % 3},{5000 + at % 2}\n" for at in range(10))
+OWN = f"{TITLES}\nv,0,1000,2000\nv,60,1030,2040\n"
+OF_ZERO = f"{TITLES},dop\nv,0,1000,2000,0\nv,9,1001,2000,-1\nv,20,1002,2000,4.9\nv,30,1003,2000,5\nv,40,1004,2000,5.0\n"
+LINES = ["coordinates are those of the table; zone: not known"]
+GPX = """<gpx><trk><name>fox</name><trkseg><trkpt lat="46.356742" lon="15.805899"><time>2024-05-01T00:00:00Z</time></trkpt>
+<trkpt lat="46.356842" lon="15.805999"><time>2024-05-01T01:00:00Z</time></trkpt></trkseg></trk></gpx>"""
+
+
+def columns(titles, box, rest=""):
+    return f"columns: {titles}; 1 animals, box {box} km{rest}"
+
+
+OWN_COLUMNS = columns("animal, second, easting, northing", "0.030 by 0.040", ", from second 0 to 60")
+
+# Name, options, bytes of the table, and either the record and a part of the refusal, or the lines that are said but the last, and
+# the tracks by their names.
+REFUSED = [
+    ("signs of thousands behind semicolons", [], b"id;date;x;y\na;2024-05-01;561,234;102,345\na;2024-05-02;561,300;102,400\n", 1, "x is '561,234', whose comma may stand before thousands"),
+    ("signs of thousands behind commas", [], b"id,date,x,y\na,2024-05-01,561.234,5\na,2024-05-02,12,7\n", 1, "x is '561.234', whose point may stand before thousands"),
+    ("a comma in a DOP between commas", ["--max-dop", "5"], f'{TITLES},dop\nv,0,1,2,"1,200"\n'.encode(), 1, "dop is '1,200' and not a number"),
+    ("a first fix far away", ["--max-speed", "2"], f"{TITLES}\nv,0,90000,1000\nv,60,1000,1000\nv,120,1001,1000\nv,180,1002,1000\n".encode(), None,
+     "--max-speed leaves out 3 of 4 fixes of v, more than half"),
+    ("a DOP of nobody", ["--max-dop", "1"], OF_ZERO.replace("5.0", "1").encode(), None, "--max-dop leaves out"),
+    ("a type without its column", ["--fix-type", "3D"], OWN.encode(), None, "--fix-type: no column has a usual title for it"),
+    ("a time without its column", ["--since", "2024-05-01"], b"id,x,y\nv,1000,2000\n", None, "--since: no column has a usual title for the time"),
+    ("coordinates in tenths of millimetres", [], f"{TITLES}\nv,0,5000000000,51000000000\nv,9,5000000001,51000000001\n".encode(), None, "more than 100,000 km"),
+    ("a maker's table", [], b"device_id,UTC_datetime,Latitude,Longitude\n1,2024-09-20 00:00:20,46.3,15.8\n", None, "the columns are those of ornitela"),
+    ("another encoding", ["--encoding", "cp1253"], OWN.encode(), None, "encoding: cp1253 is none of utf-8"),
+    ("UTF-16 without a mark", ["--encoding", "utf-16"], OWN.encode("utf-16-le"), None, "it has no byte order mark"),
+    ("bytes that are none of UTF-8", [], OWN.encode() + b"\xe9", None, "is no text in UTF-8: name its coding, such as --encoding latin-1"),
+    ("a document type", ["--from", "gpx"], b"<!DOCTYPE gpx><gpx/>", None, "has a document type, which is not read"),
+    ("a place that is none", ["--zone", "33N"], b"id,date,lon,lat\na,2024-05-01,15.8,46.3\na,2024-05-02,15.8,95\n", 2, "its longitude and latitude have no place in the zone"),
+    ("a sensor of no fix", ["--sensor", "gps"], OWN.encode(), None, "--sensor: no fix is of gps"),
+    ("seconds of a minute", [], f"{TITLES}\n{''.join(f'v,{at % 60},{1000 + at},2000' + chr(10) for at in range(61))}".encode(), None,
+     "all 61 seconds of v are below 60: are they those of a minute?"),
+    ("times under another title", [], b"id,x,y,when\na,1000,2000,2024-05-01\na,1030,2040,2024-05-02 10:00\n", None, "and when has times: name it, as by --time 'when'"),
+    ("days with hours", [], b"id,timestamp,x,y\na,2024050112,1000,2000\na,2024050213,1030,2040\n", 1, "may be seconds since 1970 or a day with hours"),
+    ("seconds before 1990", [], b"id,timestamp,x,y\na,599999999,1000,2000\n", 1, "is no second since 1970 (1990 to 2286)"),
+    ("ten decimals", [], b"id,timestamp,x,y\na,2024-05-01 00:30:04.1234567890,1000,2000\n", 1, "has more than nine decimals"),
+    ("a time among seconds", [], OWN.replace("v,60", "v,2024-05-01").encode(), 2, "which is a time among seconds"),
+    ("two signs of one thing", ["--time-format", "%Y-%m-%d %y"], OWN.encode(), None, "time-format is '%Y-%m-%d %y', which is no form of a day"),
+    ("a zone that is none", ["--tz", "Mars/Olympus"], OWN.encode(), None, "tz='Mars/Olympus' is no time zone"),
+    ("a zone that is a path", ["--tz", "../../../etc/passwd"], OWN.encode(), None, "tz='../../../etc/passwd' is no time zone"),
+    ("a zone that is a folder", ["--tz", "Europe"], OWN.encode(), None, "tz='Europe' is no time zone"),
+    ("a header of no line", ["--header", "Acquisition"], OWN.encode(), None, "no line begins with 'Acquisition'"),
+    ("an encoding beside GPX", ["--from", "gpx", "--encoding", "latin-1"], GPX.encode(), None, "--encoding is for texts with a line of titles"),
+    ("half a time", ["--time", "day,hour"], b"id,day,hour,x,y\na,2024-05-01,,1000,2000\n", 1, "there is no day hour"),
+    ("an hour that was passed over", ["--tz", "Europe/Ljubljana"], b"id,timestamp,x,y\na,2024-03-31 02:30,1000,2000\n", 1,
+     "timestamp: the clocks of Europe/Ljubljana passed over that time"),
+]
+READ = [
+    ("a word that is missing", ["--na", "-9999"], f"{TITLES}\nv,0,1000,2000\nv,30,-9999,-9999\nv,60,1030,2040\n".encode(),
+     ["1 records have no coordinates: left out", *LINES, OWN_COLUMNS], {"v": "v,0,1000,2000\nv,60,1030,2040\n"}),
+    ("decimal commas between tabs", [], b"id\tdate\tx\ty\na\t2024-05-01\t1000,5\t2000,25\na\t2024-05-02\t1030,5\t2040,25\n",
+     [*LINES, "coordinates are rounded to whole metres, which moves a fix by at most 0.56 m",
+      columns("id, date, x, y", "0.030 by 0.040", ", from 2024-05-01 to 2024-05-02")], {"a": "a,1714521600,1001,2000\na,1714608000,1031,2040\n"}),
+    ("a DOP of 0 or less", ["--max-dop", "5"], OF_ZERO.encode(),
+     ["2 fixes have no DOP: left out", *LINES, columns("animal, second, easting, northing", "0.002 by 0.000", ", from second 20 to 40")],
+     {"v": "v,20,1002,2000\nv,30,1003,2000\nv,40,1004,2000\n"}),
+    ("a fix far from the others", [], f"{TITLES}\n{FAR}".encode(),
+     [*LINES, "1 of 11 fixes of v lie 4,920 m from the others: records 10: are they hers?", columns("animal, second, easting, northing", "5.000 by 0.056", ", from second 0 to 10")],
+     {"v": FAR}),
+    ("kilometres", [], f"{TITLES}\n{KILOMETRES}".encode(),
+     [*LINES, "all 10 fixes lie within 2 by 1 m: are they in metres?", columns("animal, second, easting, northing", "0.002 by 0.001", ", from second 0 to 9")], {"v": KILOMETRES}),
+    ("titles that are not read", [], b"id,date,temperature,x,y,note\na,2024-05-01,9,1000,2000,x\na,2024-05-03,9,1030,2040,y\n",
+     [*LINES, columns("id, date, x, y", "0.030 by 0.040", ", from 2024-05-01 to 2024-05-03"), "not read: temperature, note"], {"a": "a,1714521600,1000,2000\na,1714694400,1030,2040\n"}),
+    ("days with hours by their form", ["--time-format", "%Y%m%d%H"], b"id,timestamp,x,y\na,2024050112,1000,2000\na,2024050213,1030,2040\n",
+     ["times are read as %Y%m%d%H, in UTC", *LINES, columns("id, timestamp, x, y", "0.030 by 0.040", ", from 2024-05-01 to 2024-05-02")],
+     {"a": "a,1714564800,1000,2000\na,1714654800,1030,2040\n"}),
+    ("seconds since 1970 with decimals", [], b"id,timestamp,x,y\na,1714523404.75,1000,2000\na,1714523561,1030,2040\n",
+     [*LINES, columns("id, timestamp, x, y", "0.030 by 0.040", ", from 2024-05-01 to 2024-05-01")], {"a": "a,1714523404,1000,2000\na,1714523561,1030,2040\n"}),
+    ("standard input", ["-"], OWN.encode(), [*LINES, OWN_COLUMNS], {"v": "v,0,1000,2000\nv,60,1030,2040\n"}),
+    ("latin-1", ["--encoding", "latin-1"], OWN.replace("v,", "é,").encode("latin-1"), [*LINES, OWN_COLUMNS], {"é": "é,0,1000,2000\né,60,1030,2040\n"}),
+    ("lines before the titles", ["--skip-lines", "2"], b"made by x\r\n\r\n" + OWN.encode(), [*LINES, OWN_COLUMNS], {"v": "v,0,1000,2000\nv,60,1030,2040\n"}),
+    ("GPX", ["--from", "gpx"], GPX.encode(),
+     ["longitude and latitude are projected into zone 33N; fixes by zone: 33N 2", "coordinates are rounded to whole metres, which moves a fix by at most 0.36 m",
+      columns("animal, time, lon, lat", "0.008 by 0.011", " near 15.8 E 46.4 N, from 2024-05-01 to 2024-05-01")], {"fox": "fox,1714521600,562000,5134001\nfox,1714525200,562008,5134012\n"}),
+]
+
+
+def run(program, words, table, folder):
+    """What the program does with a table."""
+    path = folder / "table"
+    path.write_bytes(table)
+    export = [] if words[-1:] == ["-"] else ["--", str(path)]
+    return subprocess.run([program, *words, *export], capture_output=True, cwd=folder, input=table)
+
+
+def refusal_fault(case, program, folder):
+    """How a table is not refused as it is wanted."""
+    _, words, table, record, text = case
+    found = run(program, words, table, folder)
+    lines = found.stderr.decode().splitlines()
+    start = "split: " if record is None else f"split: record {record}: "
+    is_refused = found.returncode in (1, 2) and len(lines) == 1 and lines[0].startswith(start) and text in lines[0] and not (folder / "tracks").exists()
+    return None if is_refused else f"status {found.returncode}: {lines}"
+
+
+def reading_fault(case, program, folder):
+    """How a table is not read as it is wanted."""
+    _, words, table, wanted, tracks = case
+    found = run(program, words, table, folder)
+    lines = found.stderr.decode().splitlines()
+    if found.returncode or lines[:-1] != [f"split: {line}" for line in wanted]:
+        return f"status {found.returncode}: {lines}"
+    made = {path.stem: path.read_text("utf-8") for path in (folder / "tracks").glob("*.csv")}
+    return None if made == {name: f"{TITLES}\n{text}" for name, text in tracks.items()} else f"makes {made}"
+
+
+def machine_fault(program, folder):
+    """How --machine does not say a refusal as a record of CSV."""
+    table = f"{TITLES}\nv,0,1,\"2,5\"\n".encode()
+    found = run(program, ["--machine"], table, folder)
+    path = str(folder / "table")
+    wanted = [["number", path, "1", "northing is '2,5' and not a number of up to 12 digits"]]
+    if found.returncode != 1 or list(csv.reader(found.stderr.decode().splitlines())) != wanted:
+        return f"status {found.returncode}: {found.stderr!r}"
+    found = subprocess.run([program, "--machine", "--nothing"], capture_output=True, cwd=folder)
+    lines = list(csv.reader(found.stderr.decode().splitlines()))
+    is_told = found.returncode == 2 and len(lines) == 1 and lines[0][:3] == ["option", "", ""] and "--nothing" in lines[0][3]
+    return None if is_told else f"status {found.returncode}: {found.stderr!r}"
+
+
+def faults(program):
+    """Each case with how the program does not do what it wants; None where it does."""
+    with tempfile.TemporaryDirectory() as name:
+        yield "a record of CSV", machine_fault(program, Path(name))
+    for case, fault_of in [*((case, refusal_fault) for case in REFUSED), *((case, reading_fault) for case in READ)]:
+        with tempfile.TemporaryDirectory() as name:
+            yield case[0], fault_of(case, program, Path(name))
+
+
+def main():
+    found = list(faults(str(Path(sys.argv[1]).resolve())))
+    bad = [(name, fault) for name, fault in found if fault]
+    for name, fault in bad:
+        print(f"{name}: {fault}")
+    print(f"{len(found) - len(bad)} passed, {len(bad)} failed")
+    sys.exit(bool(bad))
+
+
+if __name__ == "__main__":
+    main()
