@@ -1,4 +1,4 @@
-"""Finds the program and has it make the report of tracks, in as many runs as their number takes."""
+"""Finds the programs, and has homerange make the report of tracks, in as many runs as their number takes."""
 
 from __future__ import annotations
 
@@ -8,6 +8,7 @@ import os
 import re
 import shutil
 import subprocess
+import sys
 import tempfile
 from concurrent.futures import ThreadPoolExecutor
 from functools import cache
@@ -23,6 +24,7 @@ ROWS = 1_000  # of a track that are written together
 PACKAGE = Path(__file__).resolve().parent
 Progress = Callable[[int, int], object]  # is called with how many of how many runs are done
 OWN = PACKAGE / "release" / "homerange"  # what a wheel has
+SPLIT = "homerange-split"  # what lies beside the program
 
 
 class Program(NamedTuple):
@@ -64,11 +66,32 @@ def find_program(program: str | os.PathLike[str] | None = None) -> str:
     return os.path.abspath(found)
 
 
+def find_split_program(program: str | os.PathLike[str] | None = None) -> str:
+    """The path of homerange-split, which lies beside the program that find_program finds."""
+    path = find_program(program)
+    own = OWN.with_name(SPLIT)
+    if path == str(OWN):
+        check_own(own)
+        return str(own)
+    # The command of this package has the same name, and would call itself for ever.
+    for beside in (Path(each).with_name(SPLIT) for each in (path, os.path.realpath(path))):
+        if shutil.which(beside) and not is_called(beside):
+            return str(beside)
+    raise ProgramError(one_line(
+        f"there is no program {SPLIT} beside {path}: install it there, from release/{SPLIT} of homerange's repository"))
+
+
+def is_called(path: Path) -> bool:
+    """Whether a file is the command that runs."""
+    return os.path.isfile(sys.argv[0]) and os.path.samefile(path, sys.argv[0])
+
+
 @cache
 def check_own(path: Path) -> None:
-    """Refuses the program of a wheel that is not as it was built."""
-    wanted = path.with_name("SHA256SUMS").read_text("utf-8").split(" ")[0]
-    if checksum_of(path) != wanted or not os.access(path, os.X_OK):
+    """Refuses a program of a wheel that is not as it was built."""
+    sums = path.with_name("SHA256SUMS")
+    wanted = sums.read_text("utf-8").splitlines() if sums.is_file() else []
+    if not os.access(path, os.X_OK) or f"{checksum_of(path)}  release/{path.name}" not in wanted:
         raise ProgramError(f"{path} is not the program that this package was built with: install the package again")
 
 

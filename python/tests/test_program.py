@@ -1,7 +1,9 @@
-"""How the program is found, and which errors come of what it says."""
+"""How the programs are found, and which errors come of what homerange says."""
 import hashlib
 import os
 import stat
+import subprocess
+import sys
 from pathlib import Path
 
 import pytest
@@ -11,7 +13,7 @@ from frames import frame_of
 import homerange
 from homerange import home_range
 from homerange import program as runs
-from homerange.program import find_program
+from homerange.program import find_program, find_split_program
 
 POINTS = cloud(6, 20)
 CLONE = Path(homerange.__file__).parents[2]
@@ -33,6 +35,14 @@ def stand_in(tmp_path):
 
 def real_program():
     return find_program(None)
+
+
+def runnable(path):
+    """Makes a file that can be run, and its folder."""
+    path.parent.mkdir(exist_ok=True)
+    path.write_text("#!/bin/sh\n")
+    path.chmod(0o755)
+    return path
 
 
 @pytest.mark.parametrize("status, kind", [
@@ -121,20 +131,68 @@ def test_a_clone_is_known_by_its_own_files(tmp_path):
     assert runs.clone_of(Path("/homerange")) is None
 
 
-def test_the_program_of_a_wheel_is_held_to_its_checksum(tmp_path, monkeypatch):
-    own, real = tmp_path / "release" / "homerange", real_program()
-    own.parent.mkdir()
-    own.write_bytes(Path(real).read_bytes())
-    own.chmod(0o755)
+@pytest.fixture
+def wheel(tmp_path, monkeypatch):
+    """A folder release as a wheel has it, of two programs."""
+    folder = tmp_path / "release"
+    folder.mkdir()
+    for name in ("homerange", "homerange-split"):
+        runnable(folder / name)
+    said = subprocess.run(["sha256sum", "release/homerange", "release/homerange-split"], cwd=tmp_path, capture_output=True)
+    (folder / "SHA256SUMS").write_bytes(said.stdout)
     monkeypatch.delenv("HOMERANGE", raising=False)
-    (tmp_path / "release" / "SHA256SUMS").write_text(f"{hashlib.sha256(own.read_bytes()).hexdigest()}  release/homerange\n")
-    monkeypatch.setattr(runs, "OWN", own)
-    assert find_program() == str(own)
+    monkeypatch.setattr(runs, "OWN", folder / "homerange")
+    yield folder
     runs.check_own.cache_clear()
-    own.write_bytes(own.read_bytes() + b"x")
-    with pytest.raises(homerange.ProgramError, match="is not the program that this package was built with"):
-        find_program()
-    assert find_program(real) == real
+
+
+def test_the_programs_of_a_wheel_are_held_to_their_checksums(wheel):
+    for find, name in ((find_program, "homerange"), (find_split_program, "homerange-split")):
+        own = wheel / name
+        assert find() == str(own)
+        runs.check_own.cache_clear()
+        own.write_bytes(own.read_bytes() + b"x")
+        with pytest.raises(homerange.ProgramError, match=f"/{name} is not the program that this package was built with"):
+            find()
+        own.write_bytes(own.read_bytes()[:-1])
+    named = real_program()
+    assert find_program(named) == named
+
+
+def test_a_wheel_that_lost_a_file_is_refused(wheel):
+    (wheel / "homerange-split").unlink()
+    with pytest.raises(homerange.ProgramError, match="/homerange-split is not the program .*: install the package again"):
+        find_split_program()
+    runs.check_own.cache_clear()
+    (wheel / "SHA256SUMS").unlink()
+    with pytest.raises(homerange.ProgramError, match="/homerange is not the program .*: install the package again"):
+        find_split_program()
+
+
+def test_the_second_program_lies_beside_the_first(tmp_path, monkeypatch):
+    monkeypatch.setattr(runs, "OWN", tmp_path / "none")
+    monkeypatch.setattr(runs, "CLONE", None)
+    real, linked = runnable(tmp_path / "real" / "homerange"), tmp_path / "linked" / "homerange"
+    linked.parent.mkdir()
+    linked.symlink_to(real)
+    for named in (real, linked):
+        with pytest.raises(homerange.ProgramError, match=f"there is no program homerange-split beside {named}: install it there"):
+            find_split_program(named)
+    beside = runnable(real.with_name("homerange-split"))
+    monkeypatch.setenv("PATH", str(linked.parent))
+    assert find_split_program(real) == find_split_program(linked) == find_split_program() == str(beside)
+    nearer = runnable(linked.with_name("homerange-split"))
+    assert find_split_program() == str(nearer)
+    monkeypatch.setenv("HOMERANGE", str(real))
+    assert find_split_program() == str(beside)
+
+
+def test_a_command_is_not_taken_for_the_program_of_its_name(tmp_path, monkeypatch):
+    named = runnable(tmp_path / "homerange")
+    command = runnable(tmp_path / "homerange-split")
+    monkeypatch.setattr(sys, "argv", [str(command), "--version"])
+    with pytest.raises(homerange.ProgramError, match="there is no program homerange-split"):
+        find_split_program(named)
 
 
 def test_ranges_know_their_program():
