@@ -1,34 +1,56 @@
-# Finds and runs the program homerange.
+# Finds the programs homerange and homerange-split, and runs homerange.
 
 held_programs <- new.env(parent = emptyenv())  # those of packages whose checksum was looked at
 
-# The path of the program: the one that is named, the installed package's own, that of the clone that this code stands in, or
-# the one on PATH.
-homerange_program <- function() {
+# The path of the program.
+homerange_program <- function() normalizePath(found_program(getNamespaceInfo("homerange", "path")))
+
+# The program that is named, that of the installed package in this folder, that of the clone that it stands in, or the one on
+# PATH.
+found_program <- function(here) {
   named <- c("options(homerange.program)" = getOption("homerange.program", ""), "HOMERANGE" = Sys.getenv("HOMERANGE"))
   for (by in names(named)[nzchar(named)]) {
     path <- Sys.which(path.expand(named[[by]]))[[1]]
     if (!nzchar(path)) refuse("program", "there is no program ", named[[by]], ", which ", by, " names")
-    return(normalizePath(path))
+    return(path)
   }
-  here <- getNamespaceInfo("homerange", "path")
   found <- c(packed_program(here), clone_program(here), Sys.which("homerange"))
   found <- found[nzchar(found)]
   if (length(found) == 0) {
     refuse("program", "the program homerange was not found: name it by options(homerange.program = \"...\") or by ",
            "HOMERANGE in the environment, or put it on PATH")
   }
-  normalizePath(found[[1]])
+  found[[1]]
 }
 
-# The program that was installed with the package, which has to have the checksum that was, or nothing.
+# The path of the program homerange-split, which lies beside the program homerange.
+split_program <- function(here = getNamespaceInfo("homerange", "path")) {
+  found <- found_program(here)
+  if (identical(found, packed_path(here, "homerange"))) {
+    return(normalizePath(held_program(packed_path(here, "homerange-split"))))
+  }
+  for (folder in dirname(c(found, normalizePath(found)))) {
+    path <- Sys.which(file.path(folder, "homerange-split"))[[1]]
+    if (nzchar(path)) return(normalizePath(path))
+  }
+  refuse("program", "there is no program homerange-split beside ", found, ": install it there, from release/homerange-split of ",
+         "homerange's repository")
+}
+
+# The program that was installed with the package, or nothing.
 packed_program <- function(folder) {
-  path <- file.path(folder, "bin", "homerange")
-  if (!file.exists(path)) return(character())
+  path <- packed_path(folder, "homerange")
+  if (file.exists(path)) held_program(path) else character()
+}
+
+packed_path <- function(folder, name) file.path(folder, "bin", name)
+
+# The path of a program that was installed with the package, which has to have the checksum that was.
+held_program <- function(path) {
   if (is.null(held_programs[[path]])) {
-    sums <- file.path(folder, "bin", "SHA256SUMS")
+    sums <- file.path(dirname(path), "SHA256SUMS")
     lines <- if (file.exists(sums)) readLines(sums, warn = FALSE)
-    if (!paste0(checksum_of(path), "  release/homerange") %in% lines) {
+    if (!file.exists(path) || !paste0(checksum_of(path), "  release/", basename(path)) %in% lines) {
       refuse("program", path, " is not the program that was installed with the package: install the package again")
     }
     held_programs[[path]] <- TRUE

@@ -1,4 +1,4 @@
-# Finding the program, and its faults, by scripts in its place.
+# Finding the programs, and faults of homerange, by scripts in its place.
 
 fixes <- function() {
   data.frame(animal = rep(c("red fox", "b"), each = 2), second = 0:3, easting = 0:3, northing = 0:3)
@@ -103,12 +103,17 @@ test_that("the code's own clone has a program, and other folders have none", {
   for (other in c("library/homerange", "r/R", "data", "")) expect_identical(clone_program(file.path(folder, other)), character())
 })
 
+# The checksums of files of a folder, as release/SHA256SUMS has them.
+write_sums <- function(folder, names) {
+  sums <- system2("sha256sum", shQuote(file.path(folder, names)), stdout = TRUE)
+  writeLines(paste0(substr(sums, 1, 64), "  release/", names), file.path(folder, "SHA256SUMS"))
+}
+
 test_that("a program that came with the package is held to its checksum", {
   folder <- local_folder()
   expect_identical(packed_program(folder), character())
   path <- runnable(folder, "bin", "homerange")
-  sums <- file.path(folder, "bin", "SHA256SUMS")
-  writeLines(sub("^([0-9a-f]*).*", "\\1  release/homerange", system2("sha256sum", shQuote(path), stdout = TRUE)), sums)
+  write_sums(file.path(folder, "bin"), "homerange")
   expect_identical(packed_program(folder), path)
   other <- local_folder()
   file.copy(file.path(folder, "bin"), other, recursive = TRUE)
@@ -117,6 +122,55 @@ test_that("a program that came with the package is held to its checksum", {
   expect_error(changed(), "not the program that was installed with the package", class = "homerange_program_error")
   unlink(file.path(other, "bin", "SHA256SUMS"))
   expect_error(changed(), "not the program that was installed with the package", class = "homerange_program_error")
+})
+
+test_that("homerange-split lies beside homerange, and one that came with the package is held to its checksum", {
+  skip_on_os("windows")
+  local_session()
+  Sys.setenv(HOMERANGE = "")
+  make_packed <- function() {
+    folder <- local_folder(parent.frame())
+    for (name in c("homerange", "homerange-split")) runnable(folder, "bin", name)
+    write_sums(file.path(folder, "bin"), c("homerange", "homerange-split"))
+    folder
+  }
+  whole <- make_packed()
+  expect_identical(split_program(whole), normalizePath(file.path(whole, "bin", "homerange-split")))
+  changed <- make_packed()
+  cat("# changed\n", file = file.path(changed, "bin", "homerange-split"), append = TRUE)
+  expect_error(split_program(changed), "/homerange-split is not the program that was installed with the package",
+               class = "homerange_program_error")
+  lost <- make_packed()
+  unlink(file.path(lost, "bin", "homerange-split"))
+  expect_error(split_program(lost), "/homerange-split is not the program that was installed with the package",
+               class = "homerange_program_error")
+})
+
+test_that("homerange-split lies beside the program that is named or on PATH, or beside the file that this is a link to", {
+  skip_on_os("windows")
+  folder <- normalizePath(local_folder())
+  real <- runnable(folder, "real", "homerange")
+  dir.create(file.path(folder, "linked"))
+  linked <- file.path(folder, "linked", "homerange")
+  file.symlink(real, linked)
+  local_session()
+  for (named in c(real, linked)) {
+    options(homerange.program = named)
+    expect_error(split_program(), paste0("there is no program homerange-split beside ", named, ": install it there"),
+                 fixed = TRUE, class = "homerange_program_error")
+  }
+  beside <- runnable(folder, "real", "homerange-split")
+  for (named in c(real, linked)) {
+    options(homerange.program = named)
+    expect_identical(split_program(), beside)
+  }
+  options(homerange.program = NULL)
+  Sys.setenv(HOMERANGE = "", PATH = paste(dirname(linked), Sys.getenv("PATH"), sep = ":"))
+  expect_identical(split_program(folder), beside)
+  nearer <- runnable(folder, "linked", "homerange-split")
+  expect_identical(split_program(folder), nearer)
+  Sys.setenv(HOMERANGE = real)
+  expect_identical(split_program(folder), beside)
 })
 
 test_that("ranges know which program made them, and by which call", {
