@@ -1,6 +1,7 @@
 #!/bin/sh
-# build.sh [--anew]: proves the program and the crates that it stands on, with `rt`, and leaves it in
-# out/, with build.log, what the prover said, and SOURCES, the checksums of what it was made from.
+# build.sh [--anew] [PROGRAM]: proves a program, homerange if left out, or homerange-split, and the crates that it stands on,
+# with `rt`, and leaves it in out/, with build.log or build-split.log, what the prover said, and SOURCES, the checksums of
+# what it was made from.
 #
 # The crates are proved side by side, on a copy. A toolchain that keeps what this machine has proved before, here or in
 # another clone, proves it again with --anew alone; an older one always does. The status is 70 where the program could not
@@ -12,19 +13,24 @@ top=$(cd "$(dirname "$0")/.." && pwd)
 # shellcheck source=tools/sources.sh
 . "$top/tools/sources.sh"
 answer_words "$@"
-case $*: in
-    : | --anew:) ;;
-    *) misuse "it takes --anew alone, and not $*" ;;
-esac
+anew=
+if [ "${1:-}" = --anew ]; then
+    anew=$1
+    shift
+fi
+[ $# -gt 0 ] || set -- homerange
+is_program "$@" || misuse "it takes --anew, and homerange or homerange-split, and not $*"
+name=$1
 out=$top/out
+log=$out/build${name#homerange}.log
 room=
 
 say() {
-    printf 'homerange: %s\n' "$1" >&2
+    printf '%s: %s\n' "$name" "$1" >&2
 }
 
 fail() {
-    [ ! -f "$room/log" ] || mv -f "$room/log" "$out/build.log"
+    [ ! -f "$room/log" ] || mv -f "$room/log" "$log"
     say "the program cannot be built: $1"
     exit 70
 }
@@ -38,12 +44,12 @@ clear_room() {
 
 # Copies what the program is built from.
 copy() {
-    mkdir -p "$room/copy/.git" && cp "$top/HANDLES" "$room/copy" && program_crates >"$room/copy/crates.txt" || return
-    while read -r name _; do
-        name=crates/${name%:}
-        mkdir -p "$room/copy/$name" || return
+    mkdir -p "$room/copy/.git" && cp "$top/HANDLES" "$room/copy" && program_crates "$name" >"$room/copy/crates.txt" || return
+    while read -r crate _; do
+        crate=crates/${crate%:}
+        mkdir -p "$room/copy/$crate" || return
         for part in src specs proofs stdin stdout; do
-            [ ! -e "$top/$name/$part" ] || cp -R "$top/$name/$part" "$room/copy/$name" || return
+            [ ! -e "$top/$crate/$part" ] || cp -R "$top/$crate/$part" "$room/copy/$crate" || return
         done
     done <"$room/copy/crates.txt"
 }
@@ -54,31 +60,32 @@ mkdir -p "$out" 2>/dev/null
 # Of calls side by side one builds, and the others wait for it.
 exec 9<"$out"
 if ! flock -n 9; then
-    say 'another call builds the program: waiting for it'
+    say 'another call builds a program: waiting for it'
     flock 9
-    sum_sources
-    ! is_of_sum "$out" || exit 0
+    sum_sources "$name"
+    ! is_of_sum "$name" "$out" || exit 0
 fi
-{ rt help; cat "$(rt doc)"; } 2>&1 | grep -q -e --anew || set --
+{ rt help; cat "$(rt doc)"; } 2>&1 | grep -q -e --anew || anew=
 room=$(mktemp -d) || fail 'there is no room for a copy'
 trap clear_room EXIT
 trap 'exit 129' HUP
 trap 'exit 130' INT
 trap 'exit 143' TERM
 copy || fail 'its sources cannot be copied'
-sum=$(top=$room/copy && sum_sources && echo "$sum")
+sum=$(top=$room/copy && sum_sources "$name" && echo "$sum")
 say 'building the proved program; docs/GATE.md has how long it takes'
 begin=$(date +%s)
 : >"$room/log"
-(cd "$room/copy" && exec rt ci "$@") </dev/null >>"$room/log" 2>&1 9<&- &
+(cd "$room/copy" && exec rt ci ${anew:+"$anew"}) </dev/null >>"$room/log" 2>&1 9<&- &
 job=$!
-tail -n +1 -f --pid="$job" "$room/log" 9<&- | sed -u -n 's/^rt: \(.* proved\)$/homerange: \1/p' >&2 9<&- &
+tail -n +1 -f --pid="$job" "$room/log" 9<&- | sed -u -n "s/^rt: \(.* proved\)\$/$name: \1/p" >&2 9<&- &
 wait "$job"
 status=$?
 job=
-made=$room/copy/crates/homerange/out/homerange
+name_crate "$name"
+made=$room/copy/crates/$crate/out/$crate
 if [ "$status" -ne 0 ] || [ ! -x "$made" ]; then
-    fail "$(sed -n 's/^rt: \(FAILED: .*\)/\1, /p' "$room/log")the log is $out/build.log"
+    fail "$(sed -n 's/^rt: \(FAILED: .*\)/\1, /p' "$room/log")the log is $log"
 fi
-keep_program "$made" "$room/log" || fail "$out cannot be written"
+keep_program "$name" "$made" "$room/log" || fail "$out cannot be written"
 say "built in $(($(date +%s) - begin)) s"

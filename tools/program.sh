@@ -1,13 +1,15 @@
 #!/bin/sh
-# program.sh: prints the path of the program that ./homerange runs, and builds it where there is none. HOMERANGE_BUILD=1
-# leaves the release out. The status is 70 where no program can be had.
+# program.sh [PROGRAM]: prints the path of the program that ./homerange runs, or with homerange-split as PROGRAM of the one
+# that tools/homerange-split runs, and builds it where there is none. HOMERANGE_BUILD=1 leaves the release out. The status
+# is 70 where no program can be had.
 set -u
 top=$(cd "$(dirname "$0")/.." && pwd)
 # shellcheck source=tools/answers.sh
 . "$top/tools/answers.sh"
 answer_words "$@"
-[ $# -eq 0 ] || misuse "it takes nothing, and not $*"
 # shellcheck source=tools/sources.sh
 . "$top/tools/sources.sh"
-find_program || exit 70
+[ $# -gt 0 ] || set -- homerange
+is_program "$@" || misuse "it takes homerange or homerange-split, and not $*"
+find_program "$1" || exit 70
 echo "$program"

@@ -1,11 +1,13 @@
 #!/bin/sh
-# release.sh [--check | --deb [FOLDER]]: builds the program and makes the release of it: the folder release with homerange,
-# SOURCES (the checksum of what it was made from, and of the logic that it was proved in; the number of the toolchain's kit
-# and the checksum of its archive), SHA256SUMS (of it and its manual page) and a line in RELEASES, the list of all programs that were ever released: version, checksum, logic and sources. No
-# line is taken out, since folders that such a program made are to be verified for ever.
+# release.sh [--check | --deb [FOLDER]]: builds both programs and makes the release of them: the folder release with
+# homerange and homerange-split, SOURCES (the checksum of what each was made from, behind 'sources' and 'sources-split', and of
+# the logic that they were proved in; the number of the toolchain's kit and the checksum of its archive), SHA256SUMS (of both
+# and their manual pages) and a line in RELEASES, the list of all programs homerange that were ever released, and in
+# RELEASES-split, that of all programs homerange-split: version, checksum, logic and sources. No line is taken out, since
+# folders that such a program made are to be verified for ever.
 #
 # With --check it changes nothing. The status is 0 where the release is whole, of these sources and of the logic that is
-# here, and, byte for byte, the program that is built of them now. With --deb it makes of the release, which has to be of
+# here, and, byte for byte, the programs that are built of them now. With --deb it makes of the release, which has to be of
 # these sources, a Debian package in the folder (if left out, the working folder), by deb.py.
 set -eu
 top=$(cd "$(dirname "$0")/.." && pwd)
@@ -21,24 +23,26 @@ fail() {
     exit 1
 }
 
-# The program that is built of these sources, and not the release.
+# Builds the programs of these sources, and leaves the release out. The first is looked at once more, since it is built anew
+# where the second had to be by a toolchain of another logic.
 build() {
     HOMERANGE_BUILD=1
-    find_program || exit
+    for name in $programs homerange; do find_program "$name" || exit; done
     built=${program%/*}
 }
 
-# The checksums of the release and its manual page, as they stand.
+# The checksums of the release and its manual pages, as they stand.
 checksums() {
-    (cd "$top" && sha256sum release/homerange docs/homerange.1)
+    (cd "$top" && sha256sum release/homerange release/homerange-split docs/homerange.1 docs/homerange-split.1)
 }
 
-# The line of the release in the list of releases.
+# The line of a program of the release in its list of releases.
 release_line() {
-    version=$("$release/homerange" --version)
-    version=${version#homerange }
-    checksum=$(sha256sum <"$release/homerange")
-    echo "${version%% *} ${checksum%% *} $(sed -n 's/^logic //p' "$release/SOURCES") $(sed -n 's/^sources //p' "$release/SOURCES")"
+    version=$("$release/$1" --version)
+    version=${version#"$1 "}
+    checksum=$(sha256sum <"$release/$1")
+    said=$(sed -n 's/^logic //p' "$release/SOURCES")
+    echo "${version%% *} ${checksum%% *} $said $(sed -n "s/^sources${1#homerange} //p" "$release/SOURCES")"
 }
 
 # The kit of the toolchain that is here: its number, and the checksum of the archive that it came in, where it says it.
@@ -48,25 +52,31 @@ kit() {
     [ ! -r "$what" ] || sed -n '/^archive /p' "$what"
 }
 
-# Whether the release is in the list of releases.
+# Whether a program of the release is in its list of releases.
 is_listed() {
-    grep -qxF "$(release_line)" "$release/RELEASES" 2>/dev/null
+    grep -qxF "$(release_line "$1")" "$release/RELEASES${1#homerange}" 2>/dev/null
 }
 
 # Refuses a release that is not of these sources, or not whole.
 check_whole() {
-    sum_sources
-    is_of_sum "$release" || fail 'the release is not that of these sources: tools/release.sh makes it'
+    for name in $programs; do
+        sum_sources "$name"
+        is_of_sum "$name" "$release" || fail "$name of the release is not that of these sources: tools/release.sh makes it"
+    done
     checksums | cmp - "$release/SHA256SUMS" || fail 'the release is not that of its checksums'
-    is_listed || fail 'the release is not in the list RELEASES'
+    for name in $programs; do
+        is_listed "$name" || fail "$name of the release is not in the list RELEASES${name#homerange}"
+    done
 }
 
 check() {
     check_whole
     build
-    # Another kit may build the same program.
+    # Another kit may build the same programs.
     grep -v -e '^kit ' -e '^archive ' "$release/SOURCES" | cmp "$built/SOURCES" - || fail 'the release is of another logic'
-    cmp "$built/homerange" "$release/homerange" || fail 'the release is not what these sources build'
+    for name in $programs; do
+        cmp "$built/$name" "$release/$name" || fail "$name of the release is not what these sources build"
+    done
     echo 'release.sh: the release is what these sources build, byte for byte'
 }
 
@@ -84,11 +94,11 @@ case $*: in
     :)
         build
         mkdir -p "$release"
-        install -m 755 "$built/homerange" "$release/homerange"
+        for name in $programs; do install -m 755 "$built/$name" "$release/$name"; done
         install -m 644 "$built/SOURCES" "$release/SOURCES"
         kit >>"$release/SOURCES"
         checksums >"$release/SHA256SUMS"
-        is_listed || release_line >>"$release/RELEASES"
+        for name in $programs; do is_listed "$name" || release_line "$name" >>"$release/RELEASES${name#homerange}"; done
         ;;
     *) misuse "it takes --check or --deb, and not $*" ;;
 esac

@@ -1,10 +1,27 @@
-# What the program is built from, and which program is that of the sources. Other scripts read this one; they have the
-# top of the repository in $top. It starts few processes, since each call of ./homerange goes through it.
+# What the programs homerange and homerange-split are built from, and which program is that of the sources. Other scripts
+# read this one; they have the top of the repository in $top. It starts few processes, since each call of ./homerange goes
+# through it.
 # shellcheck shell=sh disable=SC2154,SC2034
 
-# The lines of crates.txt for the program and the crates that it stands on, in their order there.
+programs='homerange homerange-split'
+
+# Whether these words are the name of a program.
+is_program() {
+    [ $# -eq 1 ] && case " $programs " in *" $1 "*) ;; *) false ;; esac
+}
+
+# Puts into $crate the name of the crate that a program is built from.
+name_crate() {
+    case $1 in
+        homerange-split) crate=homerange_split ;;
+        *) crate=$1 ;;
+    esac
+}
+
+# The lines of crates.txt for a program and the crates that it stands on, in their order there.
 program_crates() {
-    awk -v program=homerange '
+    name_crate "$1"
+    awk -v program="$crate" '
         function add(name,   names, count, i) {
             if (name in wanted) return
             wanted[name] = 1
@@ -21,7 +38,7 @@ program_crates() {
 sum_sources() {
     sum=$(
         # Before the change of folder, since $top may be relative.
-        lines=$(program_crates)
+        lines=$(program_crates "$1")
         cd "$top" || exit 1
         set --
         while read -r name _; do
@@ -39,42 +56,53 @@ END
     sum=${sum%% *}
 }
 
-# Whether the program in this folder was made from sources of the checksum $sum.
+# Whether a program in this folder was made from sources of the checksum $sum: SOURCES has it behind 'sources' for homerange,
+# and behind 'sources-split' for homerange-split.
 is_of_sum() {
-    [ -x "$1/homerange" ] && [ -r "$1/SOURCES" ] && read -r _ made <"$1/SOURCES" && [ "$made" = "$sum" ]
+    [ -x "$2/$1" ] && [ -r "$2/SOURCES" ] || return
+    while read -r kind made; do
+        [ "$kind $made" != "sources${1#homerange} $sum" ] || return 0
+    done <"$2/SOURCES"
+    return 1
 }
 
-# Leaves in out/ a program that was made of the sources of $sum, the log of its build, and SOURCES, the checksums of
-# what it was made from.
+# Leaves in out/ a program that was made of the sources of $sum, the log of its build, and its line in SOURCES. What SOURCES
+# says of the other program stays where that was made in the same logic.
 keep_program() {
+    own=sources${1#homerange}
+    logic="logic $(rt version | sed 's/.* logic //')"
+    others=$(grep -qxF "$logic" "$top/out/SOURCES" 2>/dev/null && grep '^sources' "$top/out/SOURCES" | grep -v "^$own ")
     rm -f "$top/out/SOURCES"
-    mkdir -p "$top/out" && cp "$2" "$top/out/build.log" && install -m 755 "$1" "$top/out/homerange" || return
-    printf 'sources %s\nlogic %s\n' "$sum" "$(rt version | sed 's/.* logic //')" >"$top/out/SOURCES"
+    mkdir -p "$top/out" && cp "$3" "$top/out/build${1#homerange}.log" && install -m 755 "$2" "$top/out/$1" || return
+    {
+        printf '%s\n' "$own $sum" "$others" | grep . | LC_ALL=C sort
+        echo "$logic"
+    } >"$top/out/SOURCES"
 }
 
-# Whether the release runs on this machine: Linux on x86-64-v2, with a C library that is young enough.
+# Whether a program of the release runs on this machine: Linux on x86-64-v2, with a C library that is young enough.
 release_runs() {
     [ ! -r /proc/cpuinfo ] || grep -qw sse4_2 /proc/cpuinfo || return
-    "$top/release/homerange" --version >/dev/null 2>&1
+    "$top/release/$1" --version >/dev/null 2>&1
 }
 
-# Puts into $program the path of the program that these sources make: that which was built here, or else the release, or
+# Puts into $program the path of a program that these sources make: that which was built here, or else the release, or
 # else one that is built now, by build.sh. A program of other sources is never named. HOMERANGE_BUILD=1 leaves the
 # release out.
 find_program() {
-    program=$top/out/homerange
-    sum_sources
-    ! is_of_sum "$top/out" || return 0
-    if [ "${HOMERANGE_BUILD:-0}" != 1 ] && is_of_sum "$top/release"; then
-        if release_runs; then
-            program=$top/release/homerange
+    program=$top/out/$1
+    sum_sources "$1"
+    ! is_of_sum "$1" "$top/out" || return 0
+    if [ "${HOMERANGE_BUILD:-0}" != 1 ] && is_of_sum "$1" "$top/release"; then
+        if release_runs "$1"; then
+            program=$top/release/$1
             return
         fi
-        echo 'homerange: the release does not run on this machine (it wants Linux on x86-64-v2 with glibc 2.34)' >&2
+        echo "$1: the release does not run on this machine (it wants Linux on x86-64-v2 with glibc 2.34)" >&2
     fi
     # The sources may change while they are built.
-    until is_of_sum "$top/out"; do
-        "$top/tools/build.sh" || return
-        sum_sources
+    until is_of_sum "$1" "$top/out"; do
+        "$top/tools/build.sh" "$1" || return
+        sum_sources "$1"
     done
 }

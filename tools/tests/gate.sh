@@ -9,16 +9,22 @@ cp "$top/test" tried
 echo program >release/homerange
 sha256sum release/homerange >release/SHA256SUMS
 cp "$tools/answers.sh" tools/
-echo 'sum_sources() { sum=1; }; is_of_sum() { [ ! -e anew ]; }; keep_program() { cp "$2" kept; }' >tools/sources.sh
-printf '#!/bin/sh\necho release/homerange\n' >tools/program.sh
+cat >tools/sources.sh <<'END'
+programs='fox owl'
+sum_sources() { sum="sum of $1"; }
+name_crate() { crate=$1_crate; }
+is_of_sum() { [ ! -e "anew.$1" ]; }
+keep_program() { echo "$1 of $sum: $2, $(tail -n 1 "$3")" >>kept; }
+END
+printf '#!/bin/sh\necho "release/${1:-homerange}"\n' >tools/program.sh
 printf '#!/bin/sh\ncat tools/says\n' >tools/test.sh
 printf '#!/bin/sh\n[ "$#" -eq 0 ] || { cat missing; exit; }\necho it is installed >>called\n: >missing\n' >tools/setup.sh
 printf '#!/bin/sh\necho release.sh: the same\n' >tools/release.sh
 echo 'print("2 passed, 0 failed")' >hostile/allocations.py
-echo 'print("8 passed, 0 failed")' >tools/tests/tables/run_program.py
-echo 'print("5 passed, 0 failed")' >tools/tests/tables/random_tables.py
-echo 'print("6 passed, 0 failed")' >hostile/split_faults.py
-echo 'print("7 passed, 0 failed")' >hostile/split_files.py
+echo 'import sys; print(sys.argv[1:], "8 passed, 0 failed")' >tools/tests/tables/run_program.py
+echo 'import sys; print(sys.argv[1:], "5 passed, 0 failed")' >tools/tests/tables/random_tables.py
+echo 'import sys; print(sys.argv[1:], "6 passed, 0 failed")' >hostile/split_faults.py
+echo 'import sys; print(sys.argv[1:], "7 passed, 0 failed")' >hostile/split_files.py
 printf '#!/bin/sh\necho "9 passed, 0 failed"\n' >with/rt
 chmod +x tools/*.sh with/rt
 echo '4 passed, 0 failed' >tools/says
@@ -42,17 +48,21 @@ ends() {
 holds 'all parts' says
 holds 'the quick ones come first' ran 'release tools gate built split random faults files allocations'
 holds 'all are counted' ends '43 passed, 0 failed'
-holds 'the program of the gate is kept' grep -q '9 passed' kept
-touch anew
-holds 'without a program of these sources' says
-holds 'the gate comes first' ran 'release gate tools built split random faults files allocations'
-rm anew
+printf '%s of sum of %s: crates/%s_crate/out/%s_crate, 9 passed, 0 failed\n' fox fox fox fox owl owl owl owl >wanted
+holds 'the programs of the gate are kept' cmp wanted kept
+holds 'the program homerange-split is called' [ "$(grep -c "^\['release/homerange-split'\]" said)" -eq 4 ]
+for lost in fox owl; do
+    touch "anew.$lost"
+    holds "without a program $lost of these sources" says
+    holds "the gate comes first: $lost" ran 'release gate tools built split random faults files allocations'
+    rm "anew.$lost"
+done
 holds 'the quick parts alone' says --quick
-holds 'they are these' ran 'release tools allocations'
+holds 'they are these' ran 'release tools split random faults files allocations'
 if [ ! -x /usr/bin/rt ] && [ ! -x /bin/rt ]; then
     holds 'without the toolchain' says_without
-    holds 'all else is tested' ran 'release tools allocations'
-    holds 'the gate is skipped' ends '7 passed, 0 failed, 1 skipped'
+    holds 'all else is tested' ran 'release tools split random faults files allocations'
+    holds 'the gate is skipped' ends '33 passed, 0 failed, 1 skipped'
     holds 'it says why' grep -q '^test: gate: skipped, since there is no rt' said
 fi
 echo '3 passed, 1 failed, 2 skipped' >tools/says
