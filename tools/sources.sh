@@ -86,20 +86,24 @@ release_runs() {
     "$top/release/$1" --version >/dev/null 2>&1
 }
 
-# Puts into $program the path of a program that these sources make: that which was built here, or else the release, or
-# else one that is built now, by build.sh. A program of other sources is never named. HOMERANGE_BUILD=1 leaves the
-# release out.
-find_program() {
+# Puts into $program the path of a program that was made of these sources: that which was built here, or else the release.
+# HOMERANGE_BUILD=1 leaves the release out.
+find_made() {
     program=$top/out/$1
     sum_sources "$1"
     ! is_of_sum "$1" "$top/out" || return 0
-    if [ "${HOMERANGE_BUILD:-0}" != 1 ] && is_of_sum "$1" "$top/release"; then
-        if release_runs "$1"; then
-            program=$top/release/$1
-            return
-        fi
-        echo "$1: the release does not run on this machine (it wants Linux on x86-64-v2 with glibc 2.34)" >&2
-    fi
+    [ "${HOMERANGE_BUILD:-0}" != 1 ] && is_of_sum "$1" "$top/release" || return
+    program=$top/release/$1
+    release_runs "$1" && return
+    echo "$1: the release does not run on this machine (it wants Linux on x86-64-v2 with glibc 2.34)" >&2
+    return 1
+}
+
+# Puts into $program the path of a program that these sources make, which is built now, by build.sh, where there is none. A
+# program of other sources is never named.
+find_program() {
+    ! find_made "$1" || return 0
+    program=$top/out/$1
     # The sources may change while they are built.
     until is_of_sum "$1" "$top/out"; do
         "$top/tools/build.sh" "$1" || return

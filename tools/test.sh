@@ -2,9 +2,10 @@
 # test.sh [PROGRAM [PART ..]]: tests the scripts, what pages quote, and the program run for real, in a folder of its own
 # that it removes.
 #
-# PROGRAM is the program (if left out, that of tools/program.sh), and a PART a file of tools/tests without its `.sh`. If
-# parts are left out all are run, as many at once as there are processors; those whose names begin with the same word are
-# run one after the other, in one folder. Needs python3 and sha256sum. Tests that need something else are skipped where
+# PROGRAM is the program (if left out, that of tools/program.sh). homerange-split is the one beside it, or else the one of
+# these sources, where that was built or released. A PART is a file of tools/tests without its `.sh`. If parts are left out
+# all are run, as many at once as there are processors; those whose names begin with the same word are run one after the
+# other, in one folder. Needs python3 and sha256sum. Tests that need something else are skipped where
 # it is not there, and said so: all of it is installed by tools/setup.sh. The last line is 'N passed, M failed', with
 # ', K skipped' behind it where some were; the status is 0 where none failed.
 set -u
@@ -12,6 +13,8 @@ tools=$(cd "$(dirname "$0")" && pwd)
 top=${tools%/*}
 # shellcheck source=tools/answers.sh
 . "$top/tools/answers.sh"
+# shellcheck source=tools/sources.sh
+. "$top/tools/sources.sh"
 answer_words "$@"
 case ${1:-} in
     -*) misuse "it takes no option $1" ;;
@@ -97,6 +100,8 @@ fi
 # In a folder of its own: where it was built, a log lies beside it, which evidence takes along.
 mkdir "$work/tried"
 cp -- "$1" "$work/tried/homerange" || exit
+program=$(dirname -- "$1")/homerange-split
+if [ -x "$program" ] || find_made homerange-split; then cp -- "$program" "$work/tried"; fi
 HOMERANGE=$(readlink -f -- "$work/tried/homerange")
 export HOMERANGE
 shift

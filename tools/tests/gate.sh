@@ -13,7 +13,7 @@ cat >tools/sources.sh <<'END'
 programs='fox owl'
 sum_sources() { sum="sum of $1"; }
 name_crate() { crate=$1_crate; }
-is_of_sum() { [ ! -e "anew.$1" ]; }
+find_made() { [ ! -e "anew.$1" ]; }
 keep_program() { echo "$1 of $sum: $2, $(tail -n 1 "$3")" >>kept; }
 END
 printf '#!/bin/sh\necho "release/${1:-homerange}"\n' >tools/program.sh

@@ -1,11 +1,11 @@
-# Which program ./homerange runs, in a copy of the repository whose `rt` stands in for the toolchain's: it is quick, and
-# the program that it makes only says that it was built.
+# Which program ./homerange and tools/homerange-split run, in a copy of the repository whose `rt` stands in for the
+# toolchain's: it is quick, and a program that it makes only says that it was built.
 # shellcheck shell=sh disable=SC2154,SC2016
 
 rm -rf house stand-in
 mkdir house stand-in
 # A copy of what the program is built from, and of what runs it.
-(cd "$top" && find crates.txt HANDLES homerange python release tools docs/homerange.1 crates/*/src crates/*/specs \
+(cd "$top" && find crates.txt HANDLES homerange python release tools docs/homerange*.1 crates/*/src crates/*/specs \
     crates/*/proofs crates/homerange/std* -type f -print0 | xargs -0 cp --parents -t "$work/house") 2>/dev/null
 cat >stand-in/rt <<'END'
 #!/bin/sh
@@ -16,18 +16,22 @@ esac
 [ "$1" = ci ] || exit 0
 echo "$*" >"$STAND_IN/words"
 [ ! -e "$STAND_IN/fails" ] || { echo 'rt: FAILED: range_plane'; exit 1; }
-mkdir -p crates/homerange/out
-printf '#!/bin/sh\n[ "$1" != --version ] || exec echo "homerange built: $*"\nexec "%s" "$@"\n' "$RELEASED" \
-    >crates/homerange/out/homerange
-chmod +x crates/homerange/out/homerange
-echo 'rt: homerange proved'
+for crate in homerange homerange_split; do
+    [ -d "crates/$crate" ] || continue
+    name=$(echo "$crate" | tr _ -)
+    mkdir -p "crates/$crate/out"
+    printf '#!/bin/sh\n[ "$1" != --version ] || exec echo "%s built: $*"\nexec "%s" "$@"\n' "$name" "$RELEASED" \
+        >"crates/$crate/out/$crate"
+    chmod +x "crates/$crate/out/$crate"
+    echo "rt: $crate proved"
+done
 echo '1 passed, 0 failed'
 END
 chmod +x stand-in/rt
 export STAND_IN="$work/stand-in" RELEASED="$HOMERANGE"
 
 # Whether the house's program writes this of the version, after it told something with this text, or nothing. It is
-# called in the house, or in this folder by this name.
+# called in the house as ./homerange, or in this folder by this name.
 answers() {
     (cd "${3:-house}" && PATH="$work/stand-in:$PATH" "${4:-./homerange}" --version) >written 2>told
     [ "$(cat written)" = "$1" ] || return
@@ -41,6 +45,12 @@ version=$("$HOMERANGE" --version)
 holds 'the release answers at once' answers "$version" ''
 holds 'it answers in a folder of the house' answers "$version" '' house/tools ../homerange
 holds 'it answers in the folder above' answers "$version" '' . house/homerange
+split=tools/homerange-split
+split_version=$("$top/release/homerange-split" --version)
+holds 'the release of homerange-split answers at once' answers "$split_version" '' house $split
+holds 'it answers in the folder above' answers "$split_version" '' . house/$split
+ln -s "$work/house/$split" stand-in/by-link
+holds 'it answers by a link' answers "$split_version" '' . stand-in/by-link
 printf '%s\n' animal,second,easting,northing a,0,1,1 >one.csv
 rm -rf released cloned built new none
 
@@ -50,7 +60,7 @@ evidence() {
     holds "$1: its checksums hold" sh -c "cd $2 && sha256sum -c --strict SHA256SUMS"
 }
 evidence 'evidence of the release' released
-holds 'its sources and logic' [ "$(sed -n '/^sources\|^logic/s/ /: /p' "$top/release/SOURCES")" = "$(grep -e '^sources' -e '^logic' released/evidence.txt)" ]
+holds 'its sources and logic' [ "$(sed -n '/^sources \|^logic /s/ /: /p' "$top/release/SOURCES")" = "$(grep -e '^sources' -e '^logic' released/evidence.txt)" ]
 holds 'no log of a build' [ ! -e released/build.log ]
 holds 'no commit outside git' grep -qx 'commit: not known, since git finds no clone here' released/evidence.txt
 git -C house init -q
@@ -67,6 +77,11 @@ rm -rf house/out
 printf '\n// An edit.\n' >>house/crates/range_plane/src/lib.rt
 holds 'an edit is not answered by the release' answers 'homerange built: --version' 'homerange: homerange proved'
 holds 'what was built answers the next call' answers 'homerange built: --version' ''
+holds 'an edit that homerange-split stands on too' answers 'homerange-split built: --version' \
+    'homerange-split: homerange_split proved' house $split
+holds 'what was built answers the next call' answers 'homerange-split built: --version' '' house $split
+holds 'both are known' [ "$(sed 's/ .*//' house/out/SOURCES | paste -s -d ' ' -)" = 'sources sources-split logic' ]
+holds 'the first is still known' answers 'homerange built: --version' ''
 evidence 'evidence of what was built' built
 holds 'its log' grep -qx 'rt: homerange proved' built/build.log
 holds 'an edited source is a change' grep -q '^commit: .*, changed$' built/evidence.txt
@@ -93,6 +108,14 @@ rm stand-in/fails house/crates/range_plane/src/lib.rt house/crates/range_words/s
 (cd "$top" && cp --parents crates/range_plane/src/lib.rt crates/range_words/src/version.rt "$work/house")
 rm -rf house/out
 holds 'sources as they were are answered by the release' answers "$version" ''
+echo '// An edit.' >>house/crates/split_words/src/version.rt
+holds 'an edit of homerange-split alone leaves homerange as it is' answers "$version" ''
+holds 'and is not answered by the release' answers 'homerange-split built: --version' 'building the proved program' house $split
+holds 'homerange is not built with it' [ ! -e house/out/homerange ]
+holds 'a release of other sources of homerange-split does not pass' is_refused checked
+(cd "$top" && cp --parents crates/split_words/src/version.rt "$work/house")
+rm -rf house/out
+holds 'its sources as they were are answered by the release' answers "$split_version" '' house $split
 export HOMERANGE_BUILD=1
 holds 'a build that is asked for' answers 'homerange built: --version' 'building the proved program'
 unset HOMERANGE_BUILD
@@ -106,15 +129,25 @@ rm stand-in/old
 rm -rf house/out
 printf '#!/none\n' >house/release/homerange
 holds 'a release that does not run here' answers 'homerange built: --version' 'the release does not run on this machine'
+holds 'the other program of it does' answers "$split_version" '' house $split
 holds 'a release with a changed byte does not pass' is_refused checked
 
-# A release that is made anew passes, until a byte of it, of its checksums or of the manual page changes.
+# A release that is made anew passes, until a byte of it, of its checksums or of a manual page changes. A program that was
+# built by a toolchain of another logic than the other is built anew.
 rm -rf house/release
+sed -i 's/^logic .*/logic 1/' house/out/SOURCES
 holds 'a release is made' env PATH="$work/stand-in:$PATH" house/tools/release.sh
 holds 'a release that was made passes' checked
-for file in release/homerange release/SOURCES release/SHA256SUMS docs/homerange.1; do
+holds 'it is of both programs' [ "$(sed 's/ .*//' house/release/SOURCES | paste -s -d ' ' -)" = 'sources sources-split logic kit' ]
+for name in homerange homerange-split; do
+    sum=$(sha256sum <"house/release/$name")
+    sources=$(sed -n "s/^sources${name#homerange} //p" house/release/SOURCES)
+    holds "its line of $name" [ "$(cat "house/release/RELEASES${name#homerange}")" = "built: ${sum%% *} 0 $sources" ]
+done
+for file in release/homerange release/homerange-split release/SOURCES release/SHA256SUMS release/RELEASES release/RELEASES-split \
+    docs/homerange.1 docs/homerange-split.1; do
     cp "house/$file" saved
-    printf 'x' >>"house/$file"
+    sed -i '1 s/$/x/' "house/$file"
     holds "a release beside a changed $file does not pass" is_refused checked
     cp saved "house/$file"
 done
