@@ -8,11 +8,11 @@ import os
 import signal
 import subprocess
 import sys
-from typing import NoReturn, TextIO
+from typing import Callable, NoReturn, TextIO
 
 from .. import __version__
 from ..errors import one_line
-from ..program import CLONE, find_program
+from ..program import CLONE, find_program, find_split_program
 
 
 def end_by_signals() -> None:
@@ -41,10 +41,20 @@ def show_all(stream: TextIO) -> None:
 
 
 def program_of_command() -> str:
-    """The path of the program. In a clone it is that of the sources as they stand, which is built where there is none."""
+    """The path of the program homerange."""
+    return _path_by(find_program, "homerange")
+
+
+def split_program_of_command() -> str:
+    """The path of the program homerange-split."""
+    return _path_by(find_split_program, "homerange-split")
+
+
+def _path_by(find: Callable[[None], str], name: str) -> str:
+    """The path of a program. In a clone it is that of the sources as they stand, which is built where there is none."""
     if os.environ.get("HOMERANGE") or CLONE is None:
-        return find_program(None)
-    found = subprocess.run([CLONE / "tools" / "program.sh"], stdout=subprocess.PIPE, text=True)
+        return find(None)
+    found = subprocess.run([CLONE / "tools" / "program.sh", name], stdout=subprocess.PIPE, text=True)
     if found.returncode != 0:
         sys.exit(found.returncode)
     return found.stdout.rstrip("\n")
