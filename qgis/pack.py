@@ -1,6 +1,6 @@
 #!/usr/bin/env python3
 """pack.py [ZIP]: the plugin for QGIS as the file that 'Install from ZIP' takes, with the package for Python and the released
-program in it. ZIP is homerange-qgis-VERSION.zip in the working folder, if left out. Two calls write the same bytes."""
+programs in it. ZIP is homerange-qgis-VERSION.zip in the working folder, if left out. Two calls write the same bytes."""
 
 import re
 import sys
@@ -33,8 +33,8 @@ def content():
     for path in files_in(PACKAGE):
         if path.parent.name != "commands":
             yield f"homerange/package/{path.relative_to(PACKAGE)}", path.read_bytes(), 0o644
-    # As in a wheel: the package has a program of its own, and holds it to its checksum.
-    for name, rights in (("homerange", 0o755), ("SOURCES", 0o644), ("SHA256SUMS", 0o644)):
+    # As in a wheel: the package has programs of its own, and holds them to their checksums.
+    for name, rights in (("homerange", 0o755), ("homerange-split", 0o755), ("SOURCES", 0o644), ("SHA256SUMS", 0o644)):
         yield f"homerange/package/release/{name}", (RELEASE / name).read_bytes(), rights
 
 

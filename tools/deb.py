@@ -1,6 +1,6 @@
 #!/usr/bin/env python3
-"""deb.py FOLDER: the Debian package homerange_VERSION_amd64.deb in a folder: the released program, its manual page, the
-package for Python with its commands, and the documents. Two calls write the same bytes. Needs dpkg-deb."""
+"""deb.py FOLDER: the Debian package homerange_VERSION_amd64.deb in a folder: the released programs, their manual pages,
+the package for Python with its commands, and the documents. Two calls write the same bytes. Needs dpkg-deb."""
 
 import gzip
 import os
@@ -55,16 +55,17 @@ def write(path: Path, data: bytes, rights: int = 0o644) -> None:
     path.chmod(rights)
 
 
-def put_program(root: Path) -> None:
-    """The program, which the package for Python finds as its own, and its page of the manual."""
+def put_programs(root: Path) -> None:
+    """The programs, which the package for Python finds as its own, and their pages of the manual. The command
+    homerange-split is the package's."""
     release = root / MODULES / "homerange" / "release"
     write(root / "usr/bin/homerange", (TOP / "release/homerange").read_bytes(), 0o755)
     release.mkdir(parents=True)
-    for name in ("SOURCES", "SHA256SUMS", "RELEASES"):
+    for name in ("SOURCES", "SHA256SUMS", "RELEASES", "RELEASES-split", "homerange-split"):
         shutil.copy(TOP / "release" / name, release)
     (release / "homerange").symlink_to("../../../../../bin/homerange")
-    page = gzip.compress((TOP / "docs/homerange.1").read_bytes(), mtime=0)
-    write(root / "usr/share/man/man1/homerange.1.gz", page)
+    for page in ("homerange.1", "homerange-split.1"):
+        write(root / "usr/share/man/man1" / f"{page}.gz", gzip.compress((TOP / "docs" / page).read_bytes(), mtime=0))
 
 
 def put_modules(root: Path) -> None:
@@ -100,7 +101,7 @@ def build(folder: Path) -> Path:
     path = folder / f"homerange_{__version__}_amd64.deb"
     with tempfile.TemporaryDirectory(prefix="homerange-") as room:
         root = Path(room, "root")
-        for put in (put_program, put_modules, put_documents, put_control):
+        for put in (put_programs, put_modules, put_documents, put_control):
             put(root)
         for own in (root, *root.rglob("*")):
             if own.is_dir():

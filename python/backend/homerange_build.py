@@ -1,5 +1,5 @@
-"""Builds the package by setuptools, from a copy of its folder into which the released program and the scripts of herds are
-put. A wheel with the program is for the machines that the program is for; one without it is for all, and that is said.
+"""Builds the package by setuptools, from a copy of its folder into which the released programs and the scripts of herds are
+put. A wheel with the programs is for the machines that they are for; one without them is for all, and that is said.
 
 setuptools and wheel are those of this machine, where it has them, so that nothing has to be fetched."""
 
@@ -17,7 +17,7 @@ from pathlib import Path
 from typing import Any, Iterator
 
 HERE = Path(__file__).resolve().parents[1]
-TAG = "manylinux_2_34_x86_64"  # what the released program needs
+TAG = "manylinux_2_34_x86_64"  # what the released programs need
 HERD = ("plan.sh", "step.sh", "words.sh")
 LEFT = shutil.ignore_patterns("__pycache__", "tests", "build", "dist", "*.egg-info", ".*")
 
@@ -29,16 +29,16 @@ def find_tools() -> list[str]:
     return [name for name in ("setuptools", "wheel") if find_spec(name) is None]
 
 
-def put_program(package: Path) -> bool:
-    """Puts the released program, its checksum and what it was made from into a copy of the package; answers whether it has
-    one then. One that was unpacked from a source distribution has it already."""
+def put_programs(package: Path) -> bool:
+    """Puts the released programs, their checksums and what they were made from into a copy of the package; answers whether
+    it has them then. One that was unpacked from a source distribution has them already."""
     release, own = HERE.parent / "release", package / "release"
     if not own.is_dir() and (release / "homerange").is_file():
         own.mkdir()
-        for name in ("homerange", "SOURCES", "RELEASES"):
+        for name in ("homerange", "homerange-split", "SOURCES", "RELEASES", "RELEASES-split"):
             shutil.copy2(release / name, own / name)
-        lines = (release / "SHA256SUMS").read_text("utf-8").splitlines()
-        (own / "SHA256SUMS").write_text(next(line for line in lines if line.endswith(" release/homerange")) + "\n", "utf-8")
+        lines = (release / "SHA256SUMS").read_text("utf-8").splitlines(keepends=True)
+        (own / "SHA256SUMS").write_text("".join(line for line in lines if "  release/" in line), "utf-8")
     return own.is_dir()
 
 
@@ -57,7 +57,7 @@ def staged() -> Iterator[Any]:
             herd.mkdir()
             for name in HERD:
                 shutil.copy2(scripts / name, herd / name)
-        if put_program(top / "homerange"):
+        if put_programs(top / "homerange"):
             (top / "setup.cfg").write_text(f"[bdist_wheel]\nplat_name = {TAG}\n", "utf-8")
         else:
             print("homerange: there is no release/homerange: this build has no program, and looks for one where it runs",

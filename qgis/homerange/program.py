@@ -1,4 +1,4 @@
-"""The package for Python and the program, as they lie in the plugin."""
+"""The package for Python and the programs, as they lie in the plugin."""
 
 import os
 
@@ -23,10 +23,12 @@ def load():
 
 
 def program():
-    """The path of the package's own program, which is held to its checksum. What QGIS unpacks has no right to run."""
-    from .package.program import OWN, check_own
+    """The path of the package's own program, which is held to its checksum, as homerange-split beside it is. What QGIS
+    unpacks has no right to run."""
+    from .package.program import OWN, SPLIT, check_own
 
-    if not os.access(OWN, os.X_OK):
-        OWN.chmod(0o755)
-    check_own(OWN)
+    for path in (OWN, OWN.with_name(SPLIT)):
+        if path.is_file() and not os.access(path, os.X_OK):
+            path.chmod(0o755)
+        check_own(path)
     return str(OWN)

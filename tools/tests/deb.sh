@@ -1,4 +1,4 @@
-# Tests the Debian package: it is built, and dpkg installs it in a folder of its own, where its program and its commands
+# Tests the Debian package: it is built, and dpkg installs it in a folder of its own, where its programs and its commands
 # serve, and takes it out again.
 # shellcheck shell=sh disable=SC2154
 
@@ -28,8 +28,12 @@ if is_here dpkg-deb 'the Debian package'; then
         dpkg-deb -x deb/one/homerange_1.0.0_amd64.deb deb/root
     fi
     holds 'its program is the released one' cmp deb/root/usr/bin/homerange "$top/release/homerange"
-    zcat deb/root/usr/share/man/man1/homerange.1.gz >deb/page
-    holds 'its page of the manual is there' cmp deb/page "$top/docs/homerange.1"
+    carried=deb/root/usr/lib/python3/dist-packages/homerange/release
+    holds 'it has the released homerange-split' cmp $carried/homerange-split "$top/release/homerange-split"
+    for page in homerange.1 homerange-split.1; do
+        zcat "deb/root/usr/share/man/man1/$page.gz" >deb/page
+        holds "its page $page of the manual is there" cmp deb/page "$top/docs/$page"
+    done
     for page in README.md CHANGELOG.md CITATION.cff SECURITY.md docs/GUIDE.md; do
         holds "its $page is there" cmp "deb/root/usr/share/doc/homerange/$page" "$top/$page"
     done
@@ -48,11 +52,15 @@ if is_here dpkg-deb 'the Debian package'; then
         holds 'its modules find its program' unpacked python3 -c 'import pandas, homerange
 ranges = homerange.home_range(pandas.read_csv("fox.csv"))
 assert ranges.program.path.endswith("dist-packages/homerange/release/homerange"), ranges.program'
+        holds 'and homerange-split' [ "$(unpacked python3 -c '
+from homerange.program import find_split_program
+print(find_split_program())')" = "$work/$carried/homerange-split" ]
     else
         skip "the modules of the Debian package: $(tail -n 1 errors)"
     fi
     if [ "$(id -u)" -eq 0 ]; then
         holds 'it is taken out' dpkg_there -r homerange
         holds 'nothing of it is left' [ ! -e deb/root/usr/bin/homerange ]
+        holds 'nor of its modules' [ ! -e $carried ]
     fi
 fi

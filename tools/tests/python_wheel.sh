@@ -1,5 +1,5 @@
-# Tests the Python package as it is installed: a wheel is built without a network, has the released program, and serves in a
-# new environment that has pandas and nothing of this clone.
+# Tests the Python package as it is installed: a wheel is built without a network, has the released programs, and serves in
+# a new environment that has pandas and nothing of this clone.
 # shellcheck shell=sh disable=SC2154
 
 # Runs a command in a folder that is not the clone, with the environment's commands first and no program named.
@@ -21,9 +21,11 @@ else
     holds 'it is of the machines of the program' [ -f wheel/dist/homerange-1.0.0-py3-none-manylinux_2_34_x86_64.whl ]
     holds 'nothing is left beside the package' is_clean
     if is_here objdump 'the C library that the release needs'; then
-        needed=$(objdump -T "$top/release/homerange" | grep -o 'GLIBC_[0-9.]*' | sort -V | tail -n 1)
-        later=$(printf '%s\n' GLIBC_2.34 "$needed" | sort -V | tail -n 1)
-        holds 'the release needs no later C library' [ "$later" = GLIBC_2.34 ]
+        for file in homerange homerange-split; do
+            needed=$(objdump -T "$top/release/$file" | grep -o 'GLIBC_[0-9.]*' | sort -V | tail -n 1)
+            later=$(printf '%s\n' GLIBC_2.34 "$needed" | sort -V | tail -n 1)
+            holds "$file of the release needs no later C library" [ "${needed:+$later}" = GLIBC_2.34 ]
+        done
     fi
     cp -r "$top/python" wheel/bare/
     python3 -m build --no-isolation --wheel --outdir wheel/dist wheel/bare/python >wheel/said 2>&1
@@ -33,7 +35,13 @@ else
     python3 -m venv --system-site-packages wheel/env
     holds 'the wheel is installed' env PIP_NO_INDEX=1 wheel/env/bin/pip install wheel/dist/*manylinux*.whl
     package=$(installed python -c 'import homerange; print(homerange.__path__[0])')
-    holds 'it has the released program' cmp "$package/release/homerange" "$top/release/homerange"
+    for file in homerange homerange-split SOURCES RELEASES RELEASES-split; do
+        holds "it has $file of the release" cmp "$package/release/$file" "$top/release/$file"
+    done
+    for file in homerange homerange-split; do holds "its $file can be run" [ -x "$package/release/$file" ]; done
+    holds 'it finds homerange-split' [ "$(installed python -c '
+from homerange.program import find_split_program
+print(find_split_program())')" = "$package/release/homerange-split" ]
     cp "$top"/examples/*.csv wheel/away
     holds 'ranges are those of a monotone chain' installed python -c '
 import sys, pandas, homerange
@@ -73,11 +81,17 @@ assert len(homerange.read_export("export.csv")) == 8' "$top/python/tests"
         holds "version of homerange-$command" [ "$(installed homerange-$command --version)" = 'homerange for Python 1.0.0' ]
     done
 
+    printf x >>"$package/release/homerange-split"
+    installed python -c 'from homerange.program import find_split_program; find_split_program()' 2>wheel/said
+    holds 'a homerange-split that was changed is refused' [ $? -eq 1 ]
+    holds 'that is said' grep -q 'homerange-split is not the program that this package was built with' wheel/said
     printf x >>"$package/release/homerange"
     installed homerange-corners 95 fox.csv >wheel/own 2>wheel/said
     holds 'a program that was changed does not run' [ $? -eq 1 ]
     holds 'that is said' grep -q 'is not the program that this package was built with: install the package again' wheel/said
     python3 -m venv --system-site-packages --clear wheel/env
     holds 'the folder is installed' env PIP_NO_INDEX=1 wheel/env/bin/pip install "$top/python"
-    holds 'it has the program' cmp "$package/release/homerange" "$top/release/homerange"
+    for file in homerange homerange-split; do
+        holds "it has $file" cmp "$package/release/$file" "$top/release/$file"
+    done
 fi

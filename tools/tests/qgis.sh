@@ -30,7 +30,9 @@ else
     python3 "$top/qgis/pack.py" two.zip
     holds 'it is packed as the same bytes' cmp one.zip two.zip
     python3 -m zipfile -e one.zip "$plugins"
-    holds 'its program is the released one' cmp "$plugins/homerange/package/release/homerange" "$top/release/homerange"
+    for file in homerange homerange-split; do
+        holds "its $file is the released one" cmp "$plugins/homerange/package/release/$file" "$top/release/$file"
+    done
     holds 'QGIS takes it' process plugins enable homerange
     holds 'its algorithm is there' process help homerange:ranges
     holds 'its help has what it refuses' grep -q 'one in degrees is refused' said
@@ -54,7 +56,12 @@ else
     sed -n 's/^failed: //p' layers | while read -r said; do holds "the plugin for QGIS: $said" false; done
     holds 'the tests of layers ended' grep -qx '[1-9][0-9]* passed, 0 failed' layers
 
-    echo >>"$plugins/homerange/package/release/homerange"
-    holds 'another program is refused' is_refused_with 'is not the program that this package was built with' INPUT=fixes.gpkg
+    for file in homerange homerange-split; do
+        holds "its $file can be run" [ -x "$plugins/homerange/package/release/$file" ]
+        echo >>"$plugins/homerange/package/release/$file"
+        holds "another $file is refused" is_refused_with "/$file is not the program that this package was built with" \
+            INPUT=fixes.gpkg
+        cp "$top/release/$file" "$plugins/homerange/package/release/$file"
+    done
     cd "$work" || exit 1
 fi

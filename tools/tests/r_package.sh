@@ -37,13 +37,19 @@ if is_r_ready; then
     holds 'its tests found the program' grep -q 'FAIL 0 | WARN 0 | SKIP 0 ' homerange.Rcheck/tests/testthat.Rout
     mkdir installed
     holds 'the package for R is installed from the clone' R CMD INSTALL --library=installed "$top/r"
-    holds 'it has the released program in it' cmp "$top/release/homerange" installed/homerange/bin/homerange
+    for file in homerange homerange-split; do
+        holds "it has the released $file in it" cmp "$top/release/$file" "installed/homerange/bin/$file"
+    done
     cat >own.R <<'END'
 library(homerange)
 ranges <- home_range(deer, quiet = TRUE)
 stopifnot(ranges$program$path == system.file("bin", "homerange", package = "homerange"))
+stopifnot(homerange:::split_program() == system.file("bin", "homerange-split", package = "homerange"))
 END
     holds 'which it runs' env -u HOMERANGE R_LIBS="$PWD/installed" Rscript own.R
+    echo >>installed/homerange/bin/homerange-split
+    holds 'and not another homerange-split that was put there' is_refused env -u HOMERANGE R_LIBS="$PWD/installed" \
+        Rscript -e 'homerange:::split_program()'
     echo >>installed/homerange/bin/homerange
     holds 'and not another that was put there' is_refused env -u HOMERANGE R_LIBS="$PWD/installed" \
         Rscript -e 'homerange::homerange_program()'
