@@ -170,6 +170,7 @@ def test_a_wheel_that_lost_a_file_is_refused(wheel):
 
 
 def test_the_second_program_lies_beside_the_first(tmp_path, monkeypatch):
+    monkeypatch.delenv("HOMERANGE", raising=False)
     monkeypatch.setattr(runs, "OWN", tmp_path / "none")
     monkeypatch.setattr(runs, "CLONE", None)
     real, linked = runnable(tmp_path / "real" / "homerange"), tmp_path / "linked" / "homerange"
