@@ -2,8 +2,8 @@
 
     python3 split_faults.py HOMERANGE_SPLIT [--most N]
 
-HOMERANGE_SPLIT is the built program (`rt ci` leaves it in `crates/homerange_split/out/homerange_split`). `refuse.c`,
-which is preloaded, makes calls fail. Each run has a folder of its own, and first goes unhindered. Then call k of each
+HOMERANGE_SPLIT is the program, such as `tools/program.sh homerange-split` names. `refuse.c`, which is preloaded, makes
+calls fail. Each run has a folder of its own, and first goes unhindered. Then call k of each
 kind fails, k = 1, 2, .. until a run has no such call: alone and with each call of the kind behind it, with one error
 and another; reads and writes also take less than they are given. Behind a disk that fails while the folder is written
 each call of what removes it fails too.
