@@ -6,6 +6,7 @@ import csv
 import itertools
 import math
 import os
+import tempfile
 import warnings
 from collections import Counter
 from datetime import date, datetime
@@ -20,15 +21,15 @@ import pandas
 from .asked import UNITS, Asked, seconds_of, zone_of_time
 from .bar import progress_of
 from .errors import FrameError, HomeRangeInfo, HomeRangeNote, ReportError, one_line, path_of, refuse
-from .exports import LISTS, read_text
+from .exports import LISTS
 from .frames import Tracks, crs_named, frame_given, read_frame
 from .groups import Group, check_by, group_tracks
 from .growth import share
 from .overview import Facts, Row, facts_of, reasons_of, rows_of
-from .program import MOST_ANIMALS, Program, Runs, checksum_of, find_program, program_of
+from .program import MOST_ANIMALS, Program, Runs, checksum_of, find_program, find_split_program, program_of
 from .record import Record, read_record
 from .report import Corners, Percent, Report, Table, kept_count, nearest, polygon_of, read as read_lines
-from .tables import Said
+from .split import path_of_track, split_export, words_of_options
 
 if TYPE_CHECKING:
     import geopandas
@@ -43,7 +44,7 @@ SOME = 16  # of the corners of a polygon, at most
 SLACK = 1e-12  # by how much of itself and of 1 the square of a rounded distance is not known, with a wide margin
 # How lines begin that say what was taken, and nothing that was left out or changed.
 TAKEN = ("columns: ", "UTM coordinates are", "coordinates are those", "longitude and latitude are", "days and hours are",
-         "ranges are by group")
+         "ranges are by group", "not read: ")
 
 
 def times_of(seconds: pandas.Series, tz: str) -> pandas.Series:
@@ -539,42 +540,51 @@ def read_export(path: str | os.PathLike[str], **options: Any) -> pandas.DataFram
     """The fixes of a table of text, such as an export of Movebank or of a collar, as a data frame for ``home_range``.
 
     path: the file.
-    options: those of tools/split.py, with _ for hyphens (``from_`` for from): zone, sensor, skip_unnamed, animal, time,
-        time_format, tz, lon, lat, easting, northing, na, skip_lines, encoding, argos_class, max_dop, fix_type, since,
-        until, max_speed, every. docs/TABLES.md says what each does, and how a table is read.
+    options: those of homerange-split, with _ for hyphens (``from_`` for from): unit, zone, from_, encoding, skip_lines, header,
+        na, animal, name, time, time_format, tz, easting, northing, lon, lat, argos, dop, fix, skip_unnamed, sensor, argos_class,
+        max_dop, fix_type, since, until, max_speed, every. docs/TABLES.md says what each does, and how a table is read.
 
-    The frame has animals, times (whole seconds since 1970), coordinates in metres with their UTM zone, where it is
-    known, and ``use``, which is False for outliers. What was left out is said in warnings (HomeRangeNote), and what was
-    taken (HomeRangeInfo). What cannot be right is refused (FrameError), with the record's number.
+    The table is read by the program homerange-split, which lies beside homerange. The frame has animals, by the names that
+    files have; times (whole seconds since 1970); coordinates in metres, rounded to whole ones, or to decimetres by
+    ``unit='dm'``, with their UTM zone, where it is known; and ``use``, which is False for outliers. What was left out is said
+    in warnings (HomeRangeNote), and what was taken (HomeRangeInfo). What cannot be right is refused (FrameError), with the
+    record's number; ProgramError is raised where the program is not there.
     """
     words = {"from" if name == "from_" else name.replace("_", "-"): value for name, value in options.items()}
-    for option in LISTS:
-        if option in words and option not in ("animal", "time"):
-            words[option] = words_of(words[option], option)
-    for option in ("animal", "time"):
-        given = words.get(option)
-        several = [] if given is None else [given] if isinstance(given, str) else given
-        if not isinstance(several, (list, tuple)) or not all(isinstance(word, str) for word in several):
-            refuse(f"{option}={given!r} is no name of a column: a text, or several, is wanted")
-    said = Said(lambda line: None)
-    try:
-        split = read_text(str(path_of(path, "path")), {**words, "mark": True}, said)
-    except FrameError as fault:
-        raise FrameError(f"{one_line(str(path))}: {fault}", fault.kind, fault.record) from None
-    # What the frame has is neither rounded nor shifted.
-    tell(line for line in said.lines if not line.startswith(("coordinates are rounded", "coordinates are shifted")))
-    tracks = split.tracks
-    places, records = tracks.places, tracks.places.records
-    rows = itertools.chain.from_iterable(tracks.rows.values())
-    order = sorted(rows, key=lambda at: (records.second[at], records.part[at]))
-    is_since_1970 = all(10 ** 8 <= records.second[at] < 10 ** 10 for at in order)
-    titles = ("utm-easting", "utm-northing") if tracks.zone else ("easting", "northing")
+    if "mark" in words:
+        refuse("there is no option mark: the column use says which fixes are used")
+    own = str(path_of(path, "path"))
+    with tempfile.TemporaryDirectory(prefix="homerange-") as folder:
+        into = Path(folder, "tracks")
+        try:
+            split_export(own, str(into), words_of_options({**words, "mark": True}), find_split_program())
+        except FrameError as fault:
+            shown = one_line(own)
+            text = str(fault) if str(fault).startswith(shown) else f"{shown}: {fault}"
+            raise FrameError(text, fault.kind, fault.record) from None
+        record = read_record(into / "split.txt")
+        frame = frame_of_tracks(into, record)
+    # The shift is taken off again.
+    tell(line for line in record.said if not line.startswith("coordinates are shifted"))
+    return frame
+
+
+def frame_of_tracks(folder: Path, record: Record) -> pandas.DataFrame:
+    """The fixes of all tracks of a folder, in the order of time."""
+    tracks = []
+    for name in record.tracks:
+        with open(path_of_track(folder, name), encoding="utf-8", newline="") as file:
+            track = pandas.read_csv(file, dtype="int64", usecols=["second", "easting", "northing", "use"], quoting=csv.QUOTE_NONE)
+        tracks.append(track.assign(animal=name))
+    fixes = pandas.concat(tracks, ignore_index=True).sort_values("second", kind="stable", ignore_index=True)
+    is_since_1970 = fixes["second"].between(10 ** 8, 10 ** 10, "left").all()
+    metres = {title: fixes[title] / UNITS[record.unit].per_metre - shift
+              for title, shift in zip(("easting", "northing"), record.shift)}
+    prefix = "utm-" if record.zone else ""
     return pandas.DataFrame({
-        "individual-local-identifier": [records.animal[at] for at in order],
-        "timestamp" if is_since_1970 else "second": [records.second[at] for at in order],
-        titles[0]: [places.east[at] for at in order], titles[1]: [places.north[at] for at in order],
-        **({"utm-zone": tracks.zone} if tracks.zone else {}),
-        "use": [bool(records.used[at]) for at in order]})
+        "individual-local-identifier": fixes["animal"], "timestamp" if is_since_1970 else "second": fixes["second"],
+        **{f"{prefix}{title}": numbers for title, numbers in metres.items()},
+        **({"utm-zone": record.zone} if record.zone else {}), "use": fixes["use"] == 1})
 
 
 def _read_track(path: str | os.PathLike[str]) -> tuple[str, pandas.DataFrame, int]:

@@ -16,3 +16,14 @@ def no_unexpected_notes():
         warnings.simplefilter("error", homerange.HomeRangeNote)
         warnings.simplefilter("ignore", homerange.HomeRangeInfo)
         yield
+
+
+@pytest.fixture
+def splitter():
+    """The program homerange-split."""
+    from homerange.program import find_split_program
+
+    try:
+        return find_split_program()
+    except homerange.ProgramError as fault:
+        pytest.skip(str(fault))

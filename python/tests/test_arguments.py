@@ -24,8 +24,8 @@ OF_RANGES = """
     levels unit animal time easting northing lon lat name zone crs use skip_unnamed sensor argos_class argos max_dop dop fix_type
     fix since until max_speed months hours every tz program jobs progress from_ to every_hours by""".split()
 OF_EXPORTS = """
-    zone sensor skip_unnamed animal time time_format tz lon lat easting northing na skip_lines encoding argos_class max_dop
-    fix_type since until max_speed every from_ nonsense""".split()
+    unit zone sensor skip_unnamed animal name time time_format tz lon lat easting northing na skip_lines header encoding argos
+    argos_class dop max_dop fix fix_type since until max_speed every from_ nonsense""".split()
 
 
 @pytest.fixture(scope="module")
@@ -84,7 +84,7 @@ def test_arguments_of_pictures(ranges):
 
 
 @pytest.mark.parametrize("name", OF_EXPORTS)
-def test_arguments_of_read_export(name):
+def test_arguments_of_read_export(splitter, name):
     is_taken_or_refused(lambda value: read_export(EXAMPLES / "export.csv", **{name: value}))
 
 
@@ -98,7 +98,7 @@ def test_arguments_of_write_page(ranges, tmp_path, name):
     is_taken_or_refused(lambda value: write_page(ranges, tmp_path / "page.html", **{name: value}))
 
 
-def test_paths(ranges, tmp_path, monkeypatch):
+def test_paths(splitter, ranges, tmp_path, monkeypatch):
     monkeypatch.chdir(tmp_path)
     is_taken_or_refused(read_export)
     is_taken_or_refused(read_report)
