@@ -2,7 +2,7 @@
 
 # The kinds of refusals of a table, which docs/TABLES.md has. Their errors are homerange_data_error too.
 kinds_of_tables <- c("text", "fields", "columns", "ambiguous", "number", "animal", "name", "onefix", "mark", "time", "zone",
-                     "degrees", "grid", "scale", "crs", "sensor", "argos", "empty")
+                     "degrees", "grid", "scale", "crs", "sensor", "argos", "empty", "unread")
 
 # Stops with a fault of this kind: its classes are homerange_KIND_error and homerange_error. The record is the number of
 # the row that has it, counted from 1.

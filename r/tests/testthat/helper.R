@@ -6,6 +6,11 @@ has_program <- function() {
 
 skip_without_program <- function() skip_if_not(has_program(), "the program homerange")
 
+# Where the second program is there, the first is too.
+skip_without_split <- function() {
+  skip_if(inherits(try(split_program(), silent = TRUE), "try-error"), "the program homerange-split")
+}
+
 # A random walk on whole metres.
 walk <- function(animal, number, seed, stride = 40, at = c(562000, 5134000)) {
   set.seed(seed)

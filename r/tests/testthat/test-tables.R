@@ -1,4 +1,4 @@
-# What data frames have and texts do not: classes of columns, time zones, local grids, reference systems; and exports.
+# What data frames have and texts do not: classes of columns, time zones, local grids, reference systems.
 
 square <- function(...) {
   data.frame(id = "hare", date = "2024-05-01", x = c(562000, 562200, 562200, 562000), y = c(5134000, 5134000, 5134200, 5134200), ...)
@@ -224,25 +224,4 @@ test_that("filters are arguments, and what they leave out is counted", {
 test_that("tables that are none say what makes one", {
   skip_without_program()
   refused(structure(list(), class = c("ltraj", "list")), "adehabitatLT::ld(x)", "empty")
-})
-
-test_that("an export is read as a table", {
-  skip_without_program()
-  path <- file.path(local_folder(), "export.csv")
-  lines <- c("device_id,UTC_datetime,hdop,Latitude,Longitude", "7,2024-09-20 00:00:20,1,46.356742,15.805899",
-             "7,2024-09-20 06:00:20,9,46.358710,15.807277", "7,2024-09-20 07:00:20,,,")
-  writeLines(lines, path)
-  expect_error(quietly(read_export(path)), "the columns are those of ornitela", class = "homerange_columns_error")
-  expect_error(read_export(path, form = "x"), "there is no option form", class = "homerange_option_error")
-  expect_error(read_export(c(path, path)), "file: the name of one file is wanted", class = "homerange_option_error")
-  expect_error(read_export(path, from = c("lotek", "argos")), "from: one text is wanted", class = "homerange_option_error")
-  expect_error(read_export(path, skip_lines = NA), "skip_lines: a whole number from 0", class = "homerange_option_error")
-  expect_error(read_export(path, sensor = NA), "sensor: text is wanted", class = "homerange_option_error")
-  skip_if_not_installed("sf")
-  expect_message(table <- read_export(path, from = "ornitela", max_dop = 5), "1 fixes have a DOP above 5: left out")
-  expect_equal(table$utm.easting, 562000, tolerance = 1e-6)
-  expect_identical(table$timestamp, as.POSIXct("2024-09-20 00:00:20", tz = "UTC"))
-  expect_identical(quietly(home_range(table))$animals$animal, "7")
-  writeLines(c(lines[1], "7,2024-09-20 00:00:20,1,46.356742"), path)
-  expect_error(quietly(read_export(path, from = "ornitela")), "record 1: 4 fields where 5 are wanted", class = "homerange_fields_error")
 })
