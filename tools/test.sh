@@ -56,6 +56,14 @@ is_here() {
     }
 }
 
+# Whether homerange-split is there; where it is not, says what is skipped.
+is_split_here() {
+    [ -x "$splitter" ] || {
+        skip "$1: no homerange-split"
+        return 1
+    }
+}
+
 # Whether a command fails.
 is_refused() {
     ! "$@"
@@ -104,6 +112,8 @@ program=$(dirname -- "$1")/homerange-split
 if [ -x "$program" ] || find_made homerange-split; then cp -- "$program" "$work/tried"; fi
 HOMERANGE=$(readlink -f -- "$work/tried/homerange")
 export HOMERANGE
+# shellcheck disable=SC2034
+splitter=${HOMERANGE%/*}/homerange-split
 shift
 touch "$work/passed" "$work/failed" "$work/skipped"
 for part in "$@"; do

@@ -88,7 +88,7 @@ def left_out(left: Mapping[tuple[str, str], int], records: int, source: str) -> 
 
 def said(lines: Sequence[str]) -> str:
     """What was said when fixes were read, but for lines on one animal and on files."""
-    passed = ("records of ", "columns: ")
+    passed = ("records of ", "columns: ", "not read: ")
     own = [line for line in lines if not any(part in line for part in passed) and " animals are in " not in line]
     if not own:
         return ""

@@ -126,8 +126,8 @@ def said(text: str, what: str) -> str:
     return text if is_word else refuse(f"{what} is {text!r}, which the program cannot be told: is it UTF-8, and short?")
 
 
-def split_export(path: str, into: str, words: Iterable[str], program: str) -> None:
-    """Has the program make the folder of tracks of an export."""
+def split_export(path: str, into: str, words: Iterable[str], program: str) -> list[str]:
+    """Has the program make the folder of tracks of an export, and answers what it says of it."""
     export = "./-" if path == "-" else said(path, "path")  # the program takes - for standard input
     try:
         run = subprocess.run([program, "--machine", f"--into={into}", *words, "--", export], capture_output=True)
@@ -135,6 +135,8 @@ def split_export(path: str, into: str, words: Iterable[str], program: str) -> No
         raise ProgramError(f"{program} does not run: {fault.strerror}") from fault
     if run.returncode != 0:
         refuse_run(run.returncode, run.stderr.decode("utf-8", "replace"), program)
+    lines = run.stderr.decode("utf-8", "replace").split("\n")
+    return [one_line(line.removeprefix("split: ")) for line in lines if line]
 
 
 def refuse_run(status: int, text: str, program: str) -> NoReturn:

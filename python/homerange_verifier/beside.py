@@ -1,9 +1,9 @@
 """What a verification takes of the package homerange that stands beside this one, in a clone or where both are installed:
-the program, the list of releases, the version, and what makes tracks of an export and tables, layers and page of a report,
-each in a process of its own."""
+the programs, the list of releases, the version, and what makes tables, layers and page of a report in a process of its own."""
 
 from __future__ import annotations
 
+import os
 import re
 import sys
 from pathlib import Path
@@ -13,8 +13,8 @@ from homerange.record import Record
 PACKAGE = Path(__file__).resolve().parents[1] / "homerange"
 RELEASE = PACKAGE / "release" if (PACKAGE / "release" / "homerange").is_file() else PACKAGE.parents[1] / "release"
 # A room has files of any name, of which Python is to import none.
-CALL = (sys.executable, "-P", "-c", "import sys; sys.path.insert(0, sys.argv.pop(1)); from homerange.{} import main; main()")
-SPLIT, MAKE = ((*CALL[:-1], CALL[-1].format(module), str(PACKAGE.parent)) for module in ("commands.split", "results"))
+MAKE = (sys.executable, "-P", "-c", "import sys; sys.path.insert(0, sys.argv.pop(1)); from homerange.results import main; main()",
+        str(PACKAGE.parent))
 
 
 def version() -> str:
@@ -26,6 +26,13 @@ def version() -> str:
 def program() -> tuple[Path, str]:
     """The program of the release, and whose it is."""
     return RELEASE / "homerange", "package" if RELEASE.parent == PACKAGE else "clone"
+
+
+def splitter(named: Path | None) -> Path | None:
+    """The program homerange-split of the release, or else the one beside the program that was named; None where there is none."""
+    folders = [RELEASE, *([] if named is None else [named.resolve().parent])]
+    paths = [folder / "homerange-split" for folder in folders]
+    return next((path for path in paths if path.is_file() and os.access(path, os.X_OK)), None)
 
 
 def releases() -> Path:

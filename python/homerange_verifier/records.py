@@ -11,11 +11,13 @@ from homerange.zones import CODE, UTM
 # The options of a split that a record may have, none of which names a file; and those of a call that read a data frame.
 SPLIT = set(
     "zone sensor from animal name time time-format tz lon lat easting northing na encoding argos-class argos max-dop dop "
-    "fix-type fix since until max-speed every skip-lines mark skip-unnamed".split())
+    "fix-type fix since until max-speed every skip-lines header mark skip-unnamed".split())
 TEXTS = sorted(SPLIT - {*"zone from tz encoding max-dop since until max-speed every skip-lines mark skip-unnamed".split()})  # any text
-FRAME = SPLIT - set("from time-format na encoding skip-lines mark".split()) | {"crs", "use", "months", "hours"}
+FRAME = SPLIT - set("from time-format na encoding skip-lines header mark".split()) | {"crs", "use", "months", "hours"}
 # What makes tracks, and what projects for it.
-TOOLS = (r"(split\.py|split\.R|homerange for (Python|R)) [0-9.]+,[0-9a-f]{64}", r"(pyproj|sf) [0-9.]+[a-z0-9.]* \(PROJ [0-9.]+\)")
+TOOLS = (r"homerange-split [0-9.]+ \(logic [0-9a-f]{16}\)|(split\.py|split\.R|homerange for (Python|R)) [0-9.]+,[0-9a-f]{64}",
+         r"(pyproj|sf) [0-9.]+[a-z0-9.]* \(PROJ [0-9.]+\)")
+OLDER = re.compile(r"split\.(py|R) ")  # how the names begin of what made tracks of an export before the program did
 
 
 def fault_of(record: Record, content: bytes) -> str | None:
@@ -29,7 +31,8 @@ def fault_of(record: Record, content: bytes) -> str | None:
     left = [(name, REASONS.index(reason) if reason in REASONS else -1) for name, _, reason in record.left]
     if left != sorted({*left}) or any(reason < 0 for _, reason in left) or not all(count for _, count, _ in record.left):
         return "split.txt has lines 'left' in another order, twice, or for a reason that is none"
-    if not (1 <= len(record.tools) <= 2 and all(map(re.fullmatch, TOOLS, record.tools))):
+    is_program = record.tools[:1] != [] and record.tools[0].startswith("homerange-split ")
+    if not (1 <= len(record.tools) <= 2 - is_program and all(map(re.fullmatch, TOOLS, record.tools))):
         return "split.txt has a line 'tool' that is none of what makes tracks"
     return system_fault(record)
 

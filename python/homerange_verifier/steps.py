@@ -26,7 +26,7 @@ from .intake import (
 from .layers import difference as layers_difference
 from .lines import Counts, Fault, Range, Track, first_difference, overlaps_of, read_track, report_lines
 from .older import form_of, read_older
-from .records import SPLIT as OPTIONS, TEXTS, fault_of as split_fault
+from .records import OLDER, SPLIT as OPTIONS, TEXTS, fault_of as split_fault
 from .releases import Release, releases
 
 MOST_ANIMALS, GROUP = 64, 32
@@ -35,7 +35,9 @@ RESULTS = (*TABLES, LAYERS, PAGE)
 NOT_THERE = 3  # the status of a maker that lacks something of this machine
 OUT_OF_MEMORY = 3  # that of the program
 # What a call says last that has not the room which it needs.
-SHORT = re.compile(rb"[A-Za-z_.]*MemoryError(: .*)?|split: again[^:]*: No space left on device|\[Errno (12|28)\] .*")
+SHORT = re.compile(rb"[A-Za-z_.]*MemoryError(: .*)?|split: not enough memory|split: again[^:]*: No space left on device(; .*)?"
+                   rb"|\[Errno (12|28)\] .*")
+NO_CLOCKS = "/usr/share/zoneinfo has no time zones"  # what homerange-split says of such a machine
 LINE = 128  # more bytes than a line of a report can have
 NAME = re.compile("[^\x00-\x1f\x7f,\"]{1,32}")  # of an animal, as the program takes it
 
@@ -282,23 +284,35 @@ class Verification:
         if odd:
             raise Fault(f"split.txt has the option {odd[0]}, which a split has not")
         self.name_export(self.export, self.split)
-        run = ran([*beside.SPLIT, *beside.words_of_split(self.split), "--into", "again", "--", EXPORT], self.room)
+        splitter = beside.splitter(self.program if self.is_named else None)
+        if splitter is None:
+            self.findings.unseen(f"whether the tracks are those of the export: there is no homerange-split beside {self.whose}")
+            return
+        run = ran([str(splitter.resolve()), *beside.words_of_split(self.split), "--into", "again", "--", EXPORT], self.room)
         if run.returncode == 0:
             self.compare_tracks(self.split, self.room / "again")
             return
         said = last_line(run)
-        if "pyproj" in said:
+        if NO_CLOCKS in said:
             self.findings.unseen(f"whether the tracks are those of the export: {said}")
         else:
-            self.differs(f"the export cannot be split as split.txt says: {said}")
+            self.differs_by_maker(f"the export cannot be split as split.txt says: {said}")
+
+    def differs_by_maker(self, text: str) -> None:
+        """Says that something is not what homerange-split makes again. Where another maker made the tracks, that may be why."""
+        maker = self.split.tools[0].partition(",")[0] if self.split and self.split.tools else ""
+        if OLDER.match(maker):
+            self.findings.unseen(f"{text}: by the record the tracks were made by {maker}, which this copy has not")
+        else:
+            self.differs(text)
 
     def name_export(self, export: Path, split: Record) -> None:
         """Says what of the export is known by the record alone, and what of it no split looks at."""
         if export.name != split.export:
             self.findings.note(f"whether the export is called '{split.export}', as the records say: '{export.name}' was named")
-        skipped = next((value for name, value in split.options if name == "skip-lines"), None)
-        if skipped is not None:
-            self.findings.note(f"what the first lines of the export say ({skipped}): they were skipped, and not looked at")
+        for name, skipped in split.options:
+            if name in ("skip-lines", "header"):
+                self.findings.note(f"what the first lines of the export say ({skipped}): they were skipped, and not looked at")
 
     def compare_tracks(self, split: Record, made: Path) -> None:
         """Whether tracks and record are those that were made again. What made them, and how the export is called, may differ."""
@@ -306,11 +320,11 @@ class Verification:
         for name in split.tracks:
             own = again.tracks.get(name)
             if own != split.tracks[name] or own is None or own.checksum != self.intake.sums.get(f"{TRACKS}/{name}.csv"):
-                self.differs(f"split again the export comes to another track of {name}")
+                self.differs_by_maker(f"split again the export comes to another track of {name}")
                 return
         wanted = record_text(again._replace(export=split.export, tools=split.tools)).encode("utf-8", "surrogateescape")
         if wanted != (self.given / SPLIT).read_bytes():
-            self.differs("split again the export comes to another record than split.txt")
+            self.differs_by_maker("split again the export comes to the same tracks and to another record than split.txt")
             return
         self.findings.held(f"split again with the options of the record the export '{self.export}' comes to the same tracks and the "
                            "same record, byte for byte but for its name and what made them")

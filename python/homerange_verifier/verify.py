@@ -12,8 +12,8 @@ What can be made again is made again, by this copy's code, and compared byte for
 
 The EXPORT may also lie in the folder, by its own name. The folder is a stranger's: nothing in it is run, no name, path or option is taken from it
 that is none of the few that such folders have, and all that is looked at is copied into a room of its own first. The program
-is the release of this clone or package, unless --program names another one. Needs Python 3.11; to split an export that has to be
-projected pyproj, and to make tables, layers and page again geopandas. Sentences say what held, what did not, and what was not
+is the release of this clone or package, unless --program names another one. Needs Python 3.11; to make tables, layers and page
+again geopandas. Sentences say what held, what did not, and what was not
 looked at. The status is 0 where all held, 1 where something did not, 2 where the call is wrong, 3 where nothing failed and
 something was not looked at, and 4 where what was found could not be written."""
 

@@ -242,10 +242,10 @@ def test_layers_without_an_area_are_said(tmp_path):
 
 
 @pytest.fixture
-def split(tmp_path):
+def split(tmp_path, splitter):
     """The folder of tracks of the example of an export, with the report of it."""
     export = TOOLS.parent / "examples" / "export.csv"
-    subprocess.run([sys.executable, TOOLS / "split.py", export], cwd=tmp_path, capture_output=True, check=True)
+    subprocess.run([splitter, export], cwd=tmp_path, capture_output=True, check=True)
     files = sorted((tmp_path / "tracks").glob("*.csv"))
     report = subprocess.run([find_program(None), "--percent", "95,100", *files], capture_output=True, check=True).stdout
     (tmp_path / "report.txt").write_bytes(report)

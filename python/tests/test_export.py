@@ -1,6 +1,7 @@
 """Exports: arguments become options of homerange-split, its refusals become errors, and a frame has what it made."""
 import datetime
 import subprocess
+import sys
 import warnings
 from pathlib import Path
 
@@ -152,6 +153,17 @@ def test_refusals_become_errors(stub, tmp_path, status, record, kind, text):
     assert str(fault.value).removeprefix(f"{tmp_path}/programs/") == text
     if kind is FrameError:
         assert (fault.value.kind, fault.value.record) == (record.split(",")[0], 3 if status == 1 and "3" in text else None)
+
+
+def test_the_command_becomes_the_program(stub):
+    words = stub("echo said; exit 7")
+    call = "import sys; sys.path.insert(0, sys.argv.pop(1)); from homerange.commands.split import main; main()"
+    run = subprocess.run([sys.executable, "-c", call, TOP / "python", "--nonsense", "a b", "--", ""], capture_output=True)
+    assert (run.returncode, run.stdout, run.stderr) == (7, b"said\n", b"")
+    assert words.read_text() == "--nonsense\na b\n--\n\n"
+    words.with_name("homerange-split").unlink()
+    run = subprocess.run([sys.executable, "-c", call, TOP / "python"], capture_output=True)
+    assert run.returncode == 1 and run.stderr.startswith(b"homerange-split: ") and run.stderr.count(b"\n") == 1
 
 
 def test_a_program_that_is_not_there_is_named(stub, tmp_path):

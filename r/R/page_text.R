@@ -96,7 +96,7 @@ text_without_range <- function(x) {
 
 # What was said when fixes were read, but for lines on one animal and on files.
 said_text <- function(lines) {
-  own <- lines[!grepl("records of |columns: | animals are in ", lines)]
+  own <- lines[!grepl("records of |columns: |not read: | animals are in ", lines)]
   if (!length(own)) return("")
   shown <- paste0("\u201c", as_html(utils::head(own, most_said)), "\u201d", collapse = "; ")
   rest <- length(own) - most_said

@@ -42,8 +42,8 @@ if is_here dpkg-deb 'the Debian package'; then
     unpacked homerange fox.csv >deb/report
     holds 'its program reports' cmp deb/direct deb/report
     holds 'homerange-split' unpacked homerange-split --into tracks export.csv
-    python3 "$tools/split.py" --into deb/tracks "$top/examples/export.csv" 2>errors
-    holds 'it splits as the clone does' diff -r deb/tracks deb/away/tracks
+    "$top/release/homerange-split" --into deb/tracks "$top/examples/export.csv" 2>errors
+    holds 'it splits as the released program does' diff -r deb/tracks deb/away/tracks
     holds 'homerange-herd' unpacked homerange-herd run tracks herd
     holds 'homerange-check' unpacked sh -c 'homerange-check herd/report.txt tracks/*.csv'
     if python3 -c 'import pandas' 2>errors; then

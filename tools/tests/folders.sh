@@ -36,6 +36,12 @@ if python3 -c 'import geopandas' 2>errors; then
     mkdir copy copy/tools
     cp -r "$top/python" "$top/release" copy
     cp "$tools/verify.py" copy/tools
+    rm -f copy/release/homerange-split
+    one=$tools/tests/folders/form$form/one
+    PYTHONDONTWRITEBYTECODE=1 python3 copy/tools/verify.py "$one" "$one.csv" >kept
+    holds 'a copy without homerange-split says so' [ $? -eq 3 ]
+    holds 'what it does not look at' \
+        grep -q '^not looked at: whether the tracks are those of the export: there is no homerange-split beside' kept
     sed -i 's/^[0-9.]* /0.0.1 /' copy/release/RELEASES
     holds 'another form: nothing is held to be false' env PYTHONDONTWRITEBYTECODE=1 sh -c \
         'python3 copy/tools/verify.py other >kept; [ $? -eq 3 ] && ! grep -q "^did not hold" kept'

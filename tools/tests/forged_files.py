@@ -256,7 +256,7 @@ def of_record(name, *wanted, old, new, count=1):
         hand.seal_files()
 
 
-forgery.sealed("tracks of the record change places", "split again the export comes to another record than split.txt",
+forgery.sealed("tracks of the record change places", "split again the export comes to the same tracks and to another record than split.txt",
                file="tracks/split.txt", old="^(track,Bor,.*\n)(track,.*\n)", new=r"\2\1")
 forgery.sealed("a coding that is no character set", "split: encoding: punycode is no character set: name that of the table",
                file="tracks/split.txt", old="^zone,33N", new="zone,33N\noption,encoding,punycode")

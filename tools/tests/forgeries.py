@@ -21,7 +21,7 @@ class Runner(Hand):
     """One who forges what evidence.py made."""
 
     def make(self):
-        self.call(sys.executable, TOOLS / "split.py", "--into", "tracks", "export.csv")
+        self.call(self.splitter, "--into", "tracks", "export.csv")
         self.call(sys.executable, TOOLS / "evidence.py", "hand-in", "tracks")
 
 
@@ -46,6 +46,14 @@ def mark_unused(hand):
     lines = hand.path("tracks/Bor.csv").read_text().split("\n")
     marked = [lines[0] + ",use", *(f"{line},{int(at != 5)}" for at, line in enumerate(lines[1:-1])), ""]
     hand.path("tracks/Bor.csv").write_text("\n".join(marked))
+
+
+@forgery("02b a fix is moved, run again and sealed, by what made tracks before the program did",
+         "not looked at: split again the export comes to another track of Bor: by the record the tracks were made by split.py 1.0.0")
+def _(hand):
+    move_fix(hand)
+    hand.sub("tracks/split.txt", "^tool,homerange-split .*", f"tool,split.py 1.0.0,{64 * '0'}")
+    hand.sealed_run()
 
 
 @forgery("03 a fix is marked as not used", "tracks/Bor.csv was changed since")
@@ -454,12 +462,12 @@ forgery.sealed("80 another form",
                "evidence.txt as a whole: it says form 2, and version 1.0.0, whose program it names, makes form 1",
                file="evidence.txt", old="^form: 1", new="form: 2")
 forgery.sealed("81 what makes tracks says more", "split.txt has a line 'tool' that is none of what makes tracks",
-               file="tracks/split.txt", old="^(tool,split.py .*)", new=r"\1 seen by the authority")
+               file="tracks/split.txt", old="^(tool,homerange-split .*)", new=r"\1 seen by the authority")
 forgery.sealed("82 what makes no tracks", "split.txt has a line 'tool' that is none of what makes tracks",
                file="tracks/split.txt", old="^tool,.*\n", new="")
 forgery.sealed("83 another version of what makes tracks",
-               "not known: whether the tracks were made by what split.txt says: split.py 9.0",
-               file="tracks/split.txt", old="^tool,split.py [0-9.]*", new="tool,split.py 9.0")
+               "not known: whether the tracks were made by what split.txt says: homerange-split 9.0",
+               file="tracks/split.txt", old="^tool,homerange-split [0-9.]*", new="tool,homerange-split 9.0")
 forgery.sealed("84 an option that a split has not", "the option depth, which a split has not",
                file="tracks/split.txt", old="^zone,33N", new="zone,33N\noption,depth,9")
 forgery.sealed("85 lines of a record in another order", "split.txt is in another form than such records have",

@@ -56,6 +56,7 @@ class Hand:
     def __init__(self, program, room, export):
         self.program, self.room, self.export, self.folder = program, room, room / "export.csv", room / "hand-in"
         self.outside = room / "outside"  # what nobody may write
+        self.splitter = Path(program).with_name("homerange-split")
         self.hand_in(export)
 
     def hand_in(self, export):

@@ -55,9 +55,13 @@ assert ranges.program.path == f"{homerange.__path__[0]}/release/homerange" and r
 assert len(homerange.read_export("export.csv")) == 8' "$top/python/tests"
 
     # Each command, beside what the scripts of the clone or the program itself make.
-    python3 "$tools/split.py" --into wheel/tracks "$top/examples/export.csv" 2>wheel/said
+    "$top/release/homerange-split" --into wheel/tracks "$top/examples/export.csv" 2>wheel/said
     holds 'homerange-split' installed homerange-split --into tracks "$top/examples/export.csv"
-    holds 'it splits as the clone does' diff -r wheel/tracks wheel/away/tracks
+    holds 'it splits as the released program does' diff -r wheel/tracks wheel/away/tracks
+    installed homerange-split --nonsense 2>wheel/own
+    holds 'it has the status of the program' [ $? -eq 2 ]
+    "$top/release/homerange-split" --nonsense 2>wheel/said
+    holds 'and its words' cmp wheel/said wheel/own
     "$tools/corners.py" 95 "$top/examples/fox.csv" >wheel/corners
     installed homerange-corners 95 fox.csv >wheel/own
     holds 'homerange-corners' cmp wheel/corners wheel/own
@@ -77,7 +81,8 @@ assert len(homerange.read_export("export.csv")) == 8' "$top/python/tests"
         skip "homerange-ranges: $(tail -n 1 errors)"
     fi
 
-    for command in split ranges corners herd evidence verify check; do
+    holds 'version of homerange-split' [ "$(installed homerange-split --version)" = "$("$top/release/homerange-split" --version)" ]
+    for command in ranges corners herd evidence verify check; do
         holds "version of homerange-$command" [ "$(installed homerange-$command --version)" = 'homerange for Python 1.0.0' ]
     done
 

@@ -25,9 +25,12 @@ refuses_ranges() {
     holds "nothing half is left: $wanted" [ ! -e plan/none.part ]
 }
 
-if python3 -c 'import geopandas, matplotlib, pandas' 2>errors; then
+if ! is_split_here 'ranges of an export'; then
+    :
+elif python3 -c 'import geopandas, matplotlib, pandas' 2>errors; then
     rm -rf plan
     mkdir plan
+    ln -s "$splitter" plan
     make=$tools/ranges.sh
 
     # Rounded by hand from examples/export.csv; one fix of the vixen has no coordinates.
@@ -110,14 +113,10 @@ assert ("class", "boundary") in page.attributes' "$top/python/tests"
         grep -qF "$(sha256sum <"$top/examples/export.csv" | cut -c 1-64)" plan/page/report.html
 
     # Another zone, from longitude and latitude; decimetres; other levels; marked outliers; the southern half.
-    if python3 -c 'import pyproj' 2>errors; then
-        holds 'ranges in another zone' "$make" --zone 34N --percent=100 "$top/examples/export.csv" plan/zone
-        sed 1d -s plan/zone/tracks/*.csv | cut -d, -f1,3,4 >plan/fixes
-        holds 'numbers in another zone' are_ranges plan/zone 32634 1 100 plan/fixes
-        holds 'another zone is verified' verify_ranges plan/zone "$top/examples/export.csv"
-    else
-        skip 'ranges in another zone: no pyproj'
-    fi
+    holds 'ranges in another zone' "$make" --zone 34N --percent=100 "$top/examples/export.csv" plan/zone
+    sed 1d -s plan/zone/tracks/*.csv | cut -d, -f1,3,4 >plan/fixes
+    holds 'numbers in another zone' are_ranges plan/zone 32634 1 100 plan/fixes
+    holds 'another zone is verified' verify_ranges plan/zone "$top/examples/export.csv"
     cat >plan/export.csv <<END
 individual-local-identifier,timestamp,utm-easting,utm-northing,utm-zone,visible
 NA,2024-05-01 00:00:00,562000.04,8134000.05,23S,true
@@ -182,11 +181,9 @@ assert {*corners} == {(-300, -400), (-200, -400), (-200, -300)}, [*corners]'
             echo "1,7,0$hour.05.2024,0$hour:00:00,46.35$hour,15.8$hour,$hour.5,GPS-3D,Vesna"
         done
     } >plan/export.csv
-    if python3 -c 'import pyproj' 2>errors; then
-        holds 'ranges of a collar' "$make" --from vectronic --max-dop 4 --percent=100 plan/export.csv plan/collar
-        holds 'its filter' grep -qx 'animal,Vesna,fixes,3' plan/collar/report.txt
-        holds 'ranges of a collar are verified' verify_ranges plan/collar plan/export.csv
-    fi
+    holds 'ranges of a collar' "$make" --from vectronic --max-dop 4 --percent=100 plan/export.csv plan/collar
+    holds 'its filter' grep -qx 'animal,Vesna,fixes,3' plan/collar/report.txt
+    holds 'ranges of a collar are verified' verify_ranges plan/collar plan/export.csv
 
     # Odd names, more levels than one table has room for, an animal without an area, and one with marked outliers alone.
     {

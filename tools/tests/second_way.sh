@@ -16,7 +16,9 @@ finds() {
     holds "a second way finds: $wanted" grep -q "^failed honest/changed: .*$wanted" found
 }
 
-if python3 -c 'import geopandas, matplotlib, pyproj' 2>errors; then
+if ! is_split_here 'a second way to tables, page and layers'; then
+    :
+elif python3 -c 'import geopandas, matplotlib, pyproj' 2>errors; then
     rm -rf honest
     mkdir honest
     holds 'honest evidence of data frames' env PYTHONDONTWRITEBYTECODE=1 python3 "$tools/tests/honest.py" honest

@@ -19,17 +19,53 @@ from pathlib import Path
 from typing import Any
 
 from ..about import TYPED, read_about
-from ..asked import zone_of_time
+from ..asked import UNITS, zone_of_time
 from ..bar import Log
 from ..errors import FrameError, HomeRangeError, OptionError, one_line
 from ..evidence import ABOUT, Wish, make_report, new_folder
-from ..exports import split_text
 from ..program import program_of
-from .options import Options, program_of_command, show_all
-from .split import add_options
+from ..split import split_export, words_of_options
+from .options import Options, program_of_command, show_all, split_program_of_command
 from .tables import add_page_options, check_libraries, words_of, write_all
 
 OWN = {"export", "into", "percent", "over", "clock", *TYPED}  # options that are not those of the split
+OPTIONS = {
+    "zone": ("33N", "the UTM zone of all coordinates"),
+    "sensor": ("gps", "the types of sensors to take, separated by commas"),
+    "from": ("MAKER", "options for a maker: vectronic, lotek, telonics, eobs, ornitela, argos, gpx"),
+    "animal": ("COLUMN", "the column of the animal; of COLUMN,COLUMN the second where the first is empty"),
+    "name": ("NAME", "the name of the one animal, where no column has it"),
+    "time": ("COLUMN", "the column of the time; COLUMN,COLUMN are joined"),
+    "time-format": ("FORM", "the form of times, such as '%%d.%%m.%%Y %%H:%%M:%%S'"),
+    "tz": ("ZONE", "the zone of times, such as Europe/Ljubljana [default: UTC]"),
+    "lon": ("COLUMN", "the column of the longitude"),
+    "lat": ("COLUMN", "the column of the latitude"),
+    "easting": ("COLUMN", "the column of the easting in metres"),
+    "northing": ("COLUMN", "the column of the northing in metres"),
+    "na": ("WORDS", "words for what is missing, between commas, beside NA and nothing"),
+    "encoding": ("latin-1", "the coding of the text [default: utf-8]"),
+    "header": ("TITLE", "the start of the line of titles, where others stand before it"),
+    "skip-lines": ("N", "lines before the line of titles"),
+    "argos-class": ("3,2,1", "the Argos classes to take"),
+    "argos": ("COLUMN", "the column of Argos classes"),
+    "max-dop": ("5", "the greatest dilution of precision"),
+    "dop": ("COLUMN", "the column of the dilution of precision"),
+    "fix-type": ("3D", "the types of fixes to take, separated by commas"),
+    "fix": ("COLUMN", "the column of the types of fixes"),
+    "since": ("TIME", "the first moment or day"),
+    "until": ("TIME", "the last moment or day"),
+    "max-speed": ("M/S", "the greatest speed from the last fix that is kept"),
+    "every": ("2h", "one fix in each piece of time"),
+}
+
+
+def add_split_options(parser: argparse.ArgumentParser) -> None:
+    """Adds the options of homerange-split."""
+    parser.add_argument("--unit", choices=[*UNITS], default="m", help="metres or decimetres [default: m]")
+    for name, (value, text) in OPTIONS.items():
+        parser.add_argument(f"--{name}", metavar=value, help=text)
+    parser.add_argument("--mark", action="store_true", help="write outliers too, with 0 in a column use")
+    parser.add_argument("--skip-unnamed", action="store_true", help="leave records of no animal out")
 
 
 def read_options(name: str) -> argparse.Namespace:
@@ -37,7 +73,7 @@ def read_options(name: str) -> argparse.Namespace:
     parser.add_argument("export", metavar="EXPORT", nargs="?", type=Path, help="the export, text with a line of titles")
     parser.add_argument("into", metavar="INTO", nargs="?", type=Path, help="the folder to make")
     parser.add_argument("--percent", metavar="LIST", default="50,95,100", help="the levels [default: 50,95,100]")
-    add_options(parser)
+    add_split_options(parser)
     add_page_options(parser)
     parser.add_argument("--clock", metavar="ZONE", help="the zone of dates on the page [default: that of --tz, or UTC]")
     options, others = parser.parse_known_args()
@@ -57,12 +93,13 @@ def check_call(options: argparse.Namespace) -> None:
             raise HomeRangeError(f"{one_line(str(path))} cannot be read")
 
 
-def fill(folder: Path, options: argparse.Namespace, log: Log, program: str) -> None:
+def fill(folder: Path, options: argparse.Namespace, log: Log, program: str, splitter: str) -> None:
     """Makes all in a folder, in which it works, so that nothing has the folder's name."""
     os.chdir(folder)
     log.at("reading the export")
     wishes: dict[str, Any] = {own.replace("_", "-"): value for own, value in vars(options).items() if own not in OWN}
-    split_text(str(options.export), "tracks", wishes, lambda line: log.say(line, by="split"))
+    for line in split_export(str(options.export), "tracks", words_of_options(wishes), splitter):
+        log.say(line, by="split")
     log.at("running the program")
     words = words_of(options, options.clock or options.tz or "UTC")
     report = make_report(Path(), Wish(options.percent, None, program_of(program)), words, keeps_rows=True)
@@ -72,11 +109,11 @@ def fill(folder: Path, options: argparse.Namespace, log: Log, program: str) -> N
 def make(options: argparse.Namespace, name: str) -> None:
     """Makes the folder, which is there only once it is whole."""
     check_call(options)
-    program, into = program_of_command(), options.into.absolute()
+    program, splitter, into = program_of_command(), split_program_of_command(), options.into.absolute()
     options.export, options.over = options.export.resolve(), options.over and options.over.resolve()
     log = Log(name)
     try:
-        new_folder(into, lambda folder: fill(folder, options, log, program))
+        new_folder(into, lambda folder: fill(folder, options, log, program, splitter))
     finally:
         log.clear()
 

@@ -20,7 +20,7 @@ PHRASES = {
     "grid": "marked as outliers and off the grid", "speed": "faster than the limit", "months": "in other months",
     "hours": "at other hours", "every": "not the first in their interval", "use": "not in use, as the data said"}
 MOST_SAID = 12
-NOT_SAID = ("records of ", "columns: ", " animals are in ")
+NOT_SAID = ("records of ", "columns: ", "not read: ", " animals are in ")
 SCALE, EARTH = 0.9996, 6_371_008.8  # of UTM in the middle of a zone, and the mean radius in metres
 SIDE = 10_000  # metres of a square whose area is compared
 RULE = (
