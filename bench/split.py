@@ -1,14 +1,11 @@
-"""Times homerange-split beside tools/split.py, and beside R that reads and projects, over exports of several sizes.
+"""Times homerange-split beside R that reads and projects, over exports of several sizes.
 
-An export has Movebank's 17 columns with longitude and latitude, or 5 columns in metres, and 1 animal or 1,000. The
-peers make tracks too; R, a script of bench/field, only reads by `data.table::fread`, projects by `sf::st_transform`,
-sorts and writes one file. What homerange-split and split.py write is compared first: of metres byte for byte; of
-degrees at most one line in a thousand may differ, by a metre, since fixes on a half of one go either way. Then all take
-turns, and a row has the medians: seconds from start to end and of the processor, microseconds of the processor for each
-record, and the most MB held, of which nothing is known below what this script holds.
+An export has Movebank's 17 columns with longitude and latitude, or 5 columns in metres, and 1 animal or 1,000. R, a
+script of bench/field, only reads by `data.table::fread`, projects by `sf::st_transform`, sorts and writes one file. Both
+take turns, and a row has the medians: seconds from start to end and of the processor, microseconds of the processor for
+each record, and the most MB held, of which nothing is known below what this script holds.
 
-Needs Debian's packages python3-pyproj, r-cran-data.table and r-cran-sf; a peer without its package is left out, and
-said so.
+Needs Debian's packages r-cran-data.table and r-cran-sf; without them R is left out.
 """
 
 import argparse
@@ -24,7 +21,6 @@ from dataclasses import dataclass
 import programs
 import timing
 
-SPLIT = programs.TOP / "tools" / "split.py"
 SCRIPT = programs.TOP / "bench" / "field" / "fread_tracks.R"
 START = datetime.datetime(2024, 5, 1)
 SIZES = (1_000, 10_000, 100_000, 1_000_000)
@@ -88,8 +84,6 @@ def loads(command):
 def all_peers(proved, is_movebank):
     """The folder and the command of each program, by name, without those whose packages are not there."""
     found = {"homerange-split": ("own", proved, "--into", "own", "export.csv")}
-    if not is_movebank or loads(["/usr/bin/python3", "-c", "import pyproj"]):
-        found["split.py"] = "other", "/usr/bin/python3", SPLIT, "--into", "other", "export.csv"
     if loads(["Rscript", "-e", "library(data.table); library(sf)"]):
         name = "R, `fread`, `st_transform`" if is_movebank else "R, `fread`"
         found[name] = "third", "Rscript", SCRIPT, "export.csv", "third"
@@ -102,38 +96,6 @@ def measured(into, command, folder):
     return timing.measured(command, folder)
 
 
-def lines_of(folder, path):
-    return (folder / path).read_text("utf-8").splitlines()
-
-
-def differing(own, other):
-    """How many lines of two tracks differ by one metre in a place, and whether none differs otherwise."""
-    count = 0
-    for mine, theirs in zip(own, other, strict=True):
-        if mine != theirs:
-            count += 1
-            far = max(abs(int(one) - int(two)) for one, two in zip(mine.split(",")[1:], theirs.split(",")[1:]))
-            if far > 1:
-                return count, False
-    return count, True
-
-
-def compare(case, folder):
-    """Ends the run where the tracks of split.py are others, but for fixes that projecting puts on a half metre."""
-    own, other = folder / "own", folder / "other"
-    if not other.exists():
-        return
-    names = sorted(path.name for path in own.glob("*.csv"))
-    if names != sorted(path.name for path in other.glob("*.csv")):
-        raise SystemExit(f"{case}: other files")
-    counts = [differing(lines_of(own, name), lines_of(other, name)) for name in names]
-    moved = sum(count for count, _ in counts)
-    if not all(is_near for _, is_near in counts) or moved > (case.records // 1000 if case.is_movebank else 0):
-        raise SystemExit(f"{case}: {moved} lines differ")
-    if moved:
-        print(f"{case.name}, {case.records} records: {moved} lines differ by a metre, of fixes on a half of one")
-
-
 def time_case(case, proved, turns):
     """Prints the rows of a case."""
     with tempfile.TemporaryDirectory() as name:
@@ -143,7 +105,6 @@ def time_case(case, proved, turns):
         peers = all_peers(proved, case.is_movebank)
         for peer in peers.values():
             measured(*peer, folder)
-        timing.apart(compare, case, folder)
         runs = [[measured(*peer, folder) for peer in peers.values()] for _ in range(turns)]
     for peer, own in zip(peers, zip(*runs)):
         took, user, system, held = map(statistics.median, zip(*own))

@@ -7,8 +7,8 @@
 of each animal, its percent polygons, its table of incremental area analysis, and the overlaps. ``read_report`` reads a
 report that the program made elsewhere. Both answer with ``HomeRanges``; ``plot_curve`` and ``plot_ranges`` draw it,
 ``write_layers`` writes a GeoPackage, ``write_page`` a page to hand in, and ``share_inside`` says how much of each range lies in a reserve.
-``read_export`` makes a data frame of an export of Movebank or of a collar. docs/TABLES.md says how frames and exports are
-read.
+``read_export`` has the program homerange-split read an export of Movebank or of a collar, and makes a data frame of it.
+docs/TABLES.md says how frames and exports are read.
 
 The numbers are those of the program. This package chooses, sorts and rounds the fixes, and says what it did in warnings
 of the class ``HomeRangeNote``; it is tested and not proved.

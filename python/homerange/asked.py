@@ -1,16 +1,16 @@
-"""What is asked of a table: the options of the commands, which are arguments in Python. docs/TABLES.md says what each
-does; here stands what it may be."""
+"""What is asked of a data frame: arguments, whose names are those of the options of homerange-split. docs/TABLES.md says what
+each does; here stands what it may be."""
 
 from __future__ import annotations
 
 import math
 import re
 import zoneinfo
-from dataclasses import dataclass, field
+from dataclasses import dataclass
 from datetime import date, datetime, timezone
 from typing import Any, NamedTuple, Sequence
 
-from .cells import Form, day_begins, iso_time, moments_of
+from .cells import day_begins, iso_time, moments_of
 from .errors import refuse
 from .zones import zone_of
 
@@ -34,12 +34,10 @@ NUMBER = re.compile("[-+]?(?:[0-9]+[.]?[0-9]*|[.][0-9]+)(?:[eE][-+]?[0-9]+)?")
 class Asked:
     """Options. None is no wish."""
 
-    is_frame: bool = False
     all_used: bool = False  # an argument said which rows are used, so neither marks nor sensors are asked
     unit: str = "m"
     zone: str | None = None
     sensor: Sequence[str] | None = None
-    mark: bool = False
     skip_unnamed: bool = False
     animal: Sequence[str] | None = None
     time: Sequence[str] | None = None
@@ -51,11 +49,6 @@ class Asked:
     fix: str | None = None
     argos: str | None = None  # the column of Argos classes
     name: str = "animal"
-    na: Sequence[str] = ()
-    skip_lines: int = 0
-    header: str | None = None  # with which the line of titles begins
-    encoding: str = "utf-8"
-    time_format: str | None = None
     tz: str | None = None
     argos_class: Sequence[str] | None = None
     max_dop: float | None = None
@@ -67,20 +60,6 @@ class Asked:
     months: Sequence[int] | None = None
     hours: tuple[float, float] | None = None
     by: str | None = None  # the periods of a calendar by which fixes are grouped
-    missing: frozenset[str] = field(init=False)
-
-    def __post_init__(self) -> None:
-        self.missing = frozenset({"", "NA", *self.na})
-
-    def word(self, option: str, value: str) -> str:
-        """An option as it is written in this front end."""
-        if self.is_frame:
-            return f"{option.replace('-', '_')}={value!r}"
-        return f"--{option} {value}" if " " not in value else f"--{option} '{value}'"
-
-    def title(self, option: str) -> str:
-        """An option's own name in this front end."""
-        return option.replace("-", "_") if self.is_frame else f"--{option}"
 
     @property
     def clock(self) -> str:
@@ -99,16 +78,12 @@ class Asked:
         if not isinstance(self.unit, str) or self.unit not in UNITS:
             refuse(f"unit={self.unit!r} is neither 'm' nor 'dm'")
         if not isinstance(self.name, str):
-            refuse(f"{self.title('name')}={self.name!r} is no text")
-        texts = ("zone", "easting", "northing", "lon", "lat", "dop", "fix", "argos", "encoding", "time_format",
-                 "header")
-        for option in texts:
+            refuse(f"name={self.name!r} is no text")
+        for option in ("zone", "easting", "northing", "lon", "lat", "dop", "fix", "argos"):
             if not isinstance(value := getattr(self, option), (str, type(None))):
                 refuse(f"{option}={value!r} is no text")
-        if self.name == "" or (self.is_frame and any(letter < " " or letter == "\x7f" for letter in self.name)):
-            refuse(f"{self.title('name')}: a name without control characters is wanted")
-        if not isinstance(self.skip_lines, int) or isinstance(self.skip_lines, bool) or not 0 <= self.skip_lines < 2 ** 40:
-            refuse(f"skip-lines is {self.skip_lines!r} and not a number from 0")
+        if self.name == "" or any(letter < " " or letter == "\x7f" for letter in self.name):
+            refuse("name: a name without control characters is wanted")
         zone_of_time(self.clock)
         self.max_dop = positive(self.max_dop, "max-dop")
         self.max_speed = positive(self.max_speed, "max-speed")
@@ -116,15 +91,19 @@ class Asked:
             seconds_of(self.every)
         if self.zone is not None:
             zone_of(self.zone)
-        forms_of(self.time_format)
         for bound, is_end in ((self.since, False), (self.until, True)):
             if bound is not None:
                 second_of_bound(bound, self.clock, is_end)
 
 
-def forms_of(text: str | None) -> list[Form]:
-    """The forms of times that were named."""
-    return [] if text is None else [Form(form) for form in text.split("|")]
+def word_of(option: str, value: str) -> str:
+    """An option as it is written in a call."""
+    return f"{title_of(option)}={value!r}"
+
+
+def title_of(option: str) -> str:
+    """An option's own name in a call."""
+    return option.replace("-", "_")
 
 
 def zone_of_time(name: object) -> zoneinfo.ZoneInfo:

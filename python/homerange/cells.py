@@ -13,8 +13,6 @@ from decimal import Decimal
 from functools import lru_cache
 from typing import Any, Callable, Dict, NamedTuple, Optional, Sequence, TypeVar
 
-from .errors import refuse
-
 Value = TypeVar("Value")
 
 LAST_SECOND = 1_099_511_627_776
@@ -29,13 +27,7 @@ ISO = re.compile(
     r"(Z|[+-][0-9]{2}(?::?[0-9]{2})?)?)?")
 DATE = re.compile("[0-9]{4}-[0-9]{2}-[0-9]{2}")
 SECONDS = re.compile("[0-9]+([.][0-9]*)?|-[0-9.]+")
-THOUSANDS = re.compile("-?[0-9]{1,3}([.][0-9]{3})+")
-NAMES_OF_MONTHS = ("jan", "feb", "mar", "apr", "may", "jun", "jul", "aug", "sep", "oct", "nov", "dec")
-FORMS = {
-    "Y": "(?P<Y>[0-9]{4})", "y": "(?P<y>[0-9]{2})", "m": "(?P<m>[0-9]{1,2})", "d": "(?P<d>[0-9]{1,2})",
-    "j": "(?P<j>[0-9]{1,3})", "b": f"(?P<b>{'|'.join(NAMES_OF_MONTHS)})", "H": "(?P<H>[0-9]{1,2})",
-    "I": "(?P<I>[0-9]{1,2})", "M": "(?P<M>[0-9]{1,2})", "S": "(?P<S>[0-9]{1,2}([.][0-9]+)?)", "p": "(?P<p>am|pm)",
-}
+MISSING = frozenset({"", "NA"})  # texts of cells that are missing
 # As in 20240501, 240501, 2024050112 and 2405011230; the last two are no seconds before 2030.
 DIGITS_OF_DATE = re.compile(
     "(?:19|20)?[0-9]{2}(?:0[1-9]|1[0-2])[0-3][0-9]|(?:19|20)[0-9]{2}(?:0[1-9]|1[0-2])[0-3][0-9](?:[01][0-9]|2[0-3])"
@@ -78,18 +70,16 @@ def shown(cell: object) -> str:
 
 
 class Numbers:
-    """Reads numbers of a column. Where semicolons separate, decimals may stand behind a comma."""
+    """Reads numbers of a column. Decimals may stand behind a comma, where that is said."""
 
-    def __init__(self, title: str, semicolons: bool, is_metres: bool, missing: frozenset[str]) -> None:
-        point = "[.,]" if semicolons else "[.]"
-        digits = f"-?0*[0-9]{{1,12}}(?:{point}[0-9]+)?"
-        self.form, self.title, self.missing = re.compile(digits), title, missing
-        self.semicolons, self.is_grouped = semicolons, semicolons and is_metres
+    def __init__(self, title: str, has_commas: bool = False) -> None:
+        point = "[.,]" if has_commas else "[.]"
+        self.form, self.title = re.compile(f"-?0*[0-9]{{1,12}}(?:{point}[0-9]+)?"), title
         self.column = re.compile("(?:(?:-?[0-9]{1,12}+(?:[.][0-9]++)?)?+\n)*+")
 
     def read(self, cell: Any) -> float:
         """The number of a cell; NaN where it is missing."""
-        if cell is None or (isinstance(cell, str) and cell in self.missing):
+        if cell is None or (isinstance(cell, str) and cell in MISSING):
             return math.nan
         if isinstance(cell, str):
             return self.parse(cell)
@@ -111,8 +101,6 @@ class Numbers:
         """The number of a text."""
         if not self.form.fullmatch(text):
             raise Unread(f"{self.title} is {shown(text)} and not a number of up to 12 digits", "number")
-        if self.is_grouped and THOUSANDS.fullmatch(text):
-            raise Unread(f"{self.title} is '{text}', whose point may stand before thousands: export without it", "number")
         return float(text.replace(",", "."))
 
     def whole_column(self, cells: Sequence[Any]) -> list[float] | None:
@@ -121,14 +109,14 @@ class Numbers:
             text = "\n".join([*cells, ""])
         except TypeError:
             return None
-        if self.semicolons or text.count("\n") != len(cells) or not self.column.fullmatch(text):
+        if text.count("\n") != len(cells) or not self.column.fullmatch(text):
             return None
         return list(map(float, cells)) if "" not in cells else [float(cell) if cell else math.nan for cell in cells]
 
 
-def truth(cell: Any, title: str, missing: frozenset[str]) -> bool | None:
+def truth(cell: Any, title: str) -> bool | None:
     """The truth of a cell, None where it is missing."""
-    if cell is None or (isinstance(cell, str) and cell in missing):
+    if cell is None or (isinstance(cell, str) and cell in MISSING):
         return None
     found = TRUTHS.get(cell if isinstance(cell, str) else str(cell))
     if found is None:
@@ -226,74 +214,17 @@ DAYS, CLOCKS, PLAIN_CLOCKS, FRACTIONS = Known(begin_of_day), Known(time_of_day),
 MINUTES, SECONDS_OF_MINUTE = Known(plain_minute), Known(plain_second)
 
 
-def is_whole_form(signs: set[str]) -> bool:
-    """Whether the signs of a form say a day, and of its time nothing that means little alone."""
-    is_day = not signs.isdisjoint("Yy") and ("j" in signs or "d" in signs and not signs.isdisjoint("mb"))
-    is_half = ("I" in signs) != ("p" in signs) or signs >= {"H", "I"}
-    is_hour = not signs.isdisjoint("HI")
-    return is_day and not is_half and (is_hour or "M" not in signs) and ("M" in signs or "S" not in signs)
-
-
-class Form:
-    """A form of times, as strptime has it."""
-
-    def __init__(self, form: str) -> None:
-        pieces = re.split("(%.)", form)
-        signs = [piece[1] for piece in pieces[1::2]]
-        unknown = [sign for sign in signs if sign not in FORMS]
-        if unknown or len({*signs}) < len(signs) or not is_whole_form({*signs}):
-            refuse(f"time-format is '{form}', which is no form of a day, such as %Y-%m-%d, %d.%m.%y, %d %b %Y or %Y %j, with "
-                   "%H:%M:%S or %I:%M %p")
-        body = "".join(FORMS[piece[1]] if at % 2 else re.escape(piece) for at, piece in enumerate(pieces))
-        self.form, self.text, self.is_used = re.compile(body, re.IGNORECASE | re.ASCII), form, False
-
-    def read(self, text: str) -> Stamp | None:
-        """The stamp of a text; None where it has another form, or is no time."""
-        found = self.form.fullmatch(text)
-        if found is None:
-            return None
-        self.is_used = True
-        has = found.groupdict()
-        try:
-            day = self.day(has)
-        except ValueError:
-            return None
-        hour, second = int(has.get("H") or 0), has.get("S") or "0"
-        if has.get("I"):
-            if not 1 <= int(has["I"]) <= 12:
-                return None
-            hour = int(has["I"]) % 12 + 12 * ((has.get("p") or "am").lower() == "pm")
-        minute, whole = int(has.get("M") or 0), int(second.partition(".")[0])
-        if hour > 23 or minute > 59 or whole > 59:
-            return None
-        return day + 3600 * hour + 60 * minute + whole, float("0." + (second.partition(".")[2] or "0")), True
-
-    @staticmethod
-    def day(has: dict[str, str]) -> int:
-        """The second at which the day begins."""
-        short = int(has.get("y") or 0)
-        year = int(has["Y"]) if has.get("Y") else short + (2000 if short < 69 else 1900)
-        month = NAMES_OF_MONTHS.index(has["b"].lower()) + 1 if has.get("b") else int(has.get("m") or 1)
-        ordinal = date(year, month, int(has.get("d") or 1)).toordinal()
-        if has.get("j"):
-            ordinal = date(year, 1, 1).toordinal() + int(has["j"]) - 1
-        return 86400 * (ordinal - DAYS_TO_1970)
-
-
 class Times:
     """Reads times of a column."""
 
-    def __init__(
-        self, title: str, is_second: bool, forms: Sequence[Form], is_zoned: bool, missing: frozenset[str],
-    ) -> None:
-        self.title, self.is_second, self.forms, self.missing = title, is_second, forms, missing
-        self.slack = 86400 if is_zoned else 0  # how far a local clock may be before that of UTC
+    def __init__(self, title: str, is_second: bool) -> None:
+        self.title, self.is_second = title, is_second
 
-    def read(self, cell: Any) -> Stamp:
-        """The stamp of a cell."""
+    def read(self, cell: Any) -> Moment:
+        """The moment of a cell."""
         if isinstance(cell, Moment):
-            return self.within((cell.second, cell.part, False), cell)
-        if cell is None or (isinstance(cell, str) and cell.strip(" ") in self.missing):
+            return self.within(cell, cell)
+        if cell is None or (isinstance(cell, str) and cell.strip(" ") in MISSING):
             raise Unread(f"there is no {self.title}", "time")
         if isinstance(cell, Bad):
             raise Unread(f"{self.title} is {cell.text}", cell.kind)
@@ -306,8 +237,6 @@ class Times:
     def whole_column(self, cells: Sequence[Any]) -> tuple[list[int], list[float]] | None:
         """The seconds and fractions of a column of texts of UTC that are all as 2024-05-01 00:30:04; None where they have
         to be read one by one."""
-        if self.forms or self.slack:
-            return None
         try:
             "".join(cells)  # fails where one is no text
             seconds = [DAYS[cell[:10]] + PLAIN_CLOCKS[cell[10:19]] for cell in cells]
@@ -316,21 +245,20 @@ class Times:
             return None
         return (seconds, parts) if min(seconds, default=0) >= 0 else None
 
-    def parse(self, text: str) -> Stamp:
-        """The stamp of a text."""
-        if self.forms:
-            found = next((stamp for form in self.forms if (stamp := form.read(text))), None)
-        elif SECONDS.fullmatch(text) and text.isascii():
+    def parse(self, text: str) -> Moment:
+        """The moment of a text; without a zone it is of UTC."""
+        if SECONDS.fullmatch(text) and text.isascii():
             found = self.number(float(text) if len(text) < 300 else math.inf, text) if text.count(".") < 2 else None
         else:
-            found = iso_time(text)
+            stamp = iso_time(text)
+            found = stamp and Moment(*stamp[:2])
         if found is None:
-            why = ", which is no time" if not self.forms and ISO.fullmatch(text) else f" and not {WANTED_TIME}"
+            why = ", which is no time" if ISO.fullmatch(text) else f" and not {WANTED_TIME}"
             raise Unread(f"{self.title} is {shown(text)}{why}", "time")
         return found
 
-    def number(self, value: float, text: str) -> Stamp:
-        """The stamp of a number of seconds."""
+    def number(self, value: float, text: str) -> Moment:
+        """The moment of a number of seconds."""
         if not math.isfinite(value):
             raise Unread(f"{self.title} is {shown(text)} and not {WANTED_TIME}", "time")
         digits = len(str(int(value)))
@@ -338,14 +266,14 @@ class Times:
             raise Unread(f"{self.title} is {shown(text)}, which {looks_like(value)}: write {WANTED_TIME}, or seconds since "
                          "1970, or seconds since another start in a column 'second'", "time")
         second = math.floor(value)
-        return second, value - second, False
+        return Moment(second, value - second)
 
-    def within(self, stamp: Stamp, cell: object) -> Stamp:
-        """The stamp, if it is within what a track takes."""
-        if not -self.slack * stamp[2] <= stamp[0] <= LAST_SECOND:
+    def within(self, moment: Moment, cell: object) -> Moment:
+        """The moment, if it is within what a track takes."""
+        if not 0 <= moment.second <= LAST_SECOND:
             raise Unread(f"{self.title} is {shown(cell)}, which is no time since 1970, and not within 0 to {LAST_SECOND} "
                          "seconds", "time")
-        return stamp
+        return moment
 
 
 def are_digits_of_date(value: float) -> bool:

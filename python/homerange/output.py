@@ -2,6 +2,8 @@
 
 from __future__ import annotations
 
+import hashlib
+import itertools
 import os
 import shutil
 from dataclasses import replace
@@ -12,16 +14,15 @@ from .about import Words, read_about
 from .asked import zone_of_time
 from .errors import ReportError, path_of, refuse
 from .evidence import ABOUT, REPORT, TRACKS, Wish, copy_tracks, make_report, new_folder, used_tracks
-from .exports import write_track
 from .frames import Tracks
 from .names import file_names, refuse_same_names
 from .page import rings_given, words_typed, write_rings
-from .program import Program, checksum_of, find_program, program_of
+from .program import ROWS, Program, checksum_of, find_program, program_of
 from .ranges import HomeRanges, check_whole, ranges_of
 from .record import Made, Record, given, in_order, read_record, record_in, tools_of, write_record
 from .report import Report
 from .results import BOUNDARY, words_beside, write_results
-from .tracks import Track
+from .split import path_of_track
 from .zones import text_of_crs, zone_of_crs
 
 if TYPE_CHECKING:
@@ -89,6 +90,17 @@ def tracks_of(ranges: HomeRanges) -> Tracks:
     return ranges.tracks
 
 
+def write_track(folder: Path, name: str, track: pandas.DataFrame) -> str:
+    """Writes the file of an animal, and answers its checksum."""
+    checksum, numbers = hashlib.sha256(), zip(*(track[title].tolist() for title in ("second", "easting", "northing")))
+    with open(path_of_track(folder, name), "xb") as file:
+        lines = (f"{name},{second},{east},{north}\n".encode() for second, east, north in numbers)
+        for piece in itertools.chain([b"animal,second,easting,northing\n"], iter(lambda: b"".join(itertools.islice(lines, ROWS)), b"")):
+            file.write(piece)
+            checksum.update(piece)
+    return checksum.hexdigest()
+
+
 def put_tracks(ranges: HomeRanges, tracks: Tracks, names: Mapping[str, str], folder: Path) -> None:
     """Puts tracks into a folder with their record: those of a frame as new files, else the files that were read."""
     if ranges.files:
@@ -99,9 +111,7 @@ def put_tracks(ranges: HomeRanges, tracks: Tracks, names: Mapping[str, str], fol
     (folder / TRACKS).mkdir()
     made: dict[str, Made] = {}
     for name, track in tracks.by_name.items():
-        seconds, eastings, northings = (track[title].tolist() for title in ("second", "easting", "northing"))
-        own = Track(seconds, eastings, northings, [1] * len(track))
-        made[names[name]] = Made(len(track), len(track), write_track(folder / TRACKS, names[name], own, False))
+        made[names[name]] = Made(len(track), len(track), write_track(folder / TRACKS, names[name], track))
     write_record(folder / TRACKS / "split.txt", record_of(ranges, tracks, names, made))
 
 

@@ -21,7 +21,6 @@ import pandas
 from .asked import UNITS, Asked, seconds_of, zone_of_time
 from .bar import progress_of
 from .errors import FrameError, HomeRangeInfo, HomeRangeNote, ReportError, one_line, path_of, refuse
-from .exports import LISTS
 from .frames import Tracks, crs_named, frame_given, read_frame
 from .groups import Group, check_by, group_tracks
 from .growth import share
@@ -387,7 +386,7 @@ class HomeRanges:
 
     def evidence(self, folder: str | os.PathLike[str], **page: Any) -> None:
         """Makes all that is handed in, in a new folder, as docs/EVIDENCE.md describes it: the fixes as files, by names as
-        split.py makes them, with a record of how they were made, or the files and the record that ``read_report`` was
+        homerange-split makes them, with a record of how they were made, or the files and the record that ``read_report`` was
         given; the report of a new run over these files, which has to have the numbers of these ranges; the record of the
         run; tables; polygons, where geopandas is there; the page, with the arguments of ``write_page``; and the checksums
         of all these. ``tools/verify.py`` of homerange's repository checks it.
@@ -442,7 +441,7 @@ def words_of(value: Any, option: str) -> list[str] | None:
     if value is None:
         return None
     if isinstance(value, str):
-        return value.split(",") if option in LISTS and option not in ("animal", "time") else [value]
+        return [value] if option in ("animal", "time") else value.split(",")
     if isinstance(value, pandas.Series) or not isinstance(value, Iterable):
         refuse(f"{option}={type(value).__name__} is no name: a text, or several, is wanted")
     return [str(word) for word in value]
@@ -488,7 +487,7 @@ def home_range(
     zone, crs: the UTM zone, or the reference system, of the coordinates; longitude and latitude are projected into zone.
     use: which rows are used: a column, a truth for each row (a Series goes by its index), or True for all. Then neither
         marks nor sensors are looked at.
-    skip_unnamed, sensor, argos_class, max_dop, fix_type, since, until, max_speed, every: as the options of split.py;
+    skip_unnamed, sensor, argos_class, max_dop, fix_type, since, until, max_speed, every: as the options of homerange-split;
         argos, dop and fix name their columns. from_, to and every_hours are other names of since, until and every.
     months: the months that are wanted, 1 to 12.
     hours: two hours of the day, the second not included; (18, 6) is the night.
@@ -512,7 +511,7 @@ def home_range(
     if every_hours is not None:
         seconds_of(every_hours, "every_hours")
     asked = Asked(
-        is_frame=True, unit=unit, zone=zone, skip_unnamed=skip_unnamed, animal=words_of(animal, "animal"),
+        unit=unit, zone=zone, skip_unnamed=skip_unnamed, animal=words_of(animal, "animal"),
         time=words_of(time, "time"), easting=easting, northing=northing, lon=lon, lat=lat, name=name, argos=argos,
         dop=dop, fix=fix, sensor=words_of(sensor, "sensor"), argos_class=words_of(argos_class, "argos-class"),
         max_dop=max_dop, fix_type=words_of(fix_type, "fix-type"), since=either(since, from_, "since", "from_"),

@@ -19,7 +19,7 @@ PACKAGE = Path(__file__).resolve().parent
 SUM = re.compile("[0-9a-f]{64}")
 COUNT = re.compile("[0-9]{1,9}")
 ESCAPED = re.compile(r"\\(\\|x[0-9a-f]{2}|u[0-9a-f]{4})")
-NO_OPTIONS = ("unit", "skip-lines", "mark", "skip-unnamed")  # whose value may be that of no wish
+NO_OPTIONS = ("unit", "skip-unnamed")  # whose value may be that of no wish
 SINGLE = ("export", "sha256", "unit", "zone", "shift", "crs")  # kinds of which there is one line
 # What such a line may have: the export is a plain name of a file, since a record may be a stranger's.
 FORMS = {"export": re.compile("(?!\\.{1,2}\\Z)[^/]+"), "sha256": SUM, "unit": re.compile("d?m"),

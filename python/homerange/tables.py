@@ -1,5 +1,5 @@
-"""From the cells of a table to its records: which rows have coordinates and an animal, and what they say. The rules are
-those of docs/TABLES.md, of a text and of a data frame alike."""
+"""From the cells of a data frame to its records: which rows have coordinates and an animal, and what they say. The rules are
+those of docs/TABLES.md."""
 
 from __future__ import annotations
 
@@ -9,8 +9,8 @@ from collections import Counter
 from itertools import compress
 from typing import Any, Callable, Iterable, Mapping, NoReturn, Optional, Sequence
 
-from .asked import Asked, forms_of, zone_of_time
-from .cells import Bad, Numbers, Stamp, Times, Unread, moments_of, shown, truth
+from .asked import Asked, title_of, word_of
+from .cells import MISSING, Bad, Moment, Numbers, Times, Unread, shown, truth
 from .errors import FrameError, one_line, refuse
 from .titles import ARGOS_CLASSES, DOPS, FIX_TYPES, HOMERANGE, Titles, find_columns
 from .zones import zone_of
@@ -112,9 +112,9 @@ class Faults:
 
 
 class Table:
-    """A table that is read in pieces. Its columns are found by the titles."""
+    """A table. Its columns are found by the titles."""
 
-    def __init__(self, titles: Sequence[str], asked: Asked, semicolons: bool = False, has_points: bool = False) -> None:
+    def __init__(self, titles: Sequence[str], asked: Asked, has_points: bool = False) -> None:
         asked.check()
         self.asked, self.titles = asked, Titles(titles, asked)
         self.columns = find_columns(self.titles, has_points)
@@ -122,8 +122,6 @@ class Table:
         self.records, self.said_by_row = Records(), Counter[str]()
         self.rows, self.rows_of = 0, Counter[str]()
         self.left: Counter[tuple[str, str]] = Counter()
-        self.missing = asked.missing
-        self.names_missing = frozenset({"", *asked.na})
         self.marks = {} if asked.all_used else self.find_marks()
         is_any_sensor = asked.all_used and not asked.sensor
         self.sensor = None if is_any_sensor else self.titles.first(("sensor-type", "sensor-type-id"))
@@ -133,22 +131,18 @@ class Table:
         self.require(asked.max_dop is not None and self.dop is None, "max-dop", "dop", DOPS)
         self.require(asked.fix_type is not None and self.fix is None, "fix-type", "fix", FIX_TYPES)
         self.zone = self.titles.usual("utm-zone") if self.columns.is_utm else None
-        self.readers = self.number_readers(semicolons)
+        self.readers = self.number_readers()
         self.times = self.time_reader()
-        self.clock = zone_of_time(asked.clock)
-        self.last: dict[str, tuple[int, float]] = {}
-        self.twice: list[int] = []
 
     def check_time(self) -> None:
         needs = self.asked.needs_time
         if not self.columns.time and needs:
-            refuse(f"{self.asked.title(needs)}: no column has a usual title for the time: name it, as by "
-                   f"{self.asked.word('time', 'COLUMN')}")
+            refuse(f"{title_of(needs)}: no column has a usual title for the time: name it, as by {word_of('time', 'COLUMN')}")
 
     def require(self, fails: bool, option: str, column: str, usual: Sequence[str]) -> None:
         if fails:
-            refuse(f"{self.asked.title(option)}: no column has a usual title for it ({', '.join(usual)}): "
-                   f"name it, as by {self.asked.word(column, 'COLUMN')}", "columns")
+            refuse(f"{title_of(option)}: no column has a usual title for it ({', '.join(usual)}): "
+                   f"name it, as by {word_of(column, 'COLUMN')}", "columns")
 
     def optional(self, option: str, named: str | None, usual: Sequence[str]) -> int | None:
         """A column that was named, or the first of usual titles."""
@@ -166,18 +160,17 @@ class Table:
         """The title of a column; a point has none."""
         return self.titles.titles[at] if at >= 0 else "point"
 
-    def number_readers(self, semicolons: bool) -> list[tuple[str, int, Numbers]]:
+    def number_readers(self) -> list[tuple[str, int, Numbers]]:
         """What reads the coordinates: the column of the records, the place in a row, and the form of its numbers."""
         pairs = (("east", "north", self.columns.grid), ("longitude", "latitude", self.columns.degrees))
-        return [(name, at, Numbers(self.title(at), semicolons, pair is self.columns.grid,
-                                   self.missing))
+        return [(name, at, Numbers(self.title(at)))
                 for *names, pair in pairs if pair is not None for name, at in zip(names, pair)]
 
     def time_reader(self) -> Times:
         """What reads times."""
         title = " ".join(map(self.title, self.columns.time))
         is_second = len(self.columns.time) == 1 and self.titles.plain[self.columns.time[0]] == HOMERANGE.time
-        return Times(title, is_second, forms_of(self.asked.time_format), not self.asked.is_frame and self.asked.clock != "UTC", self.missing)
+        return Times(title, is_second)
 
     @property
     def wanted(self) -> list[int]:
@@ -223,7 +216,7 @@ class Table:
     def named(self, cells: Cells) -> list[Any]:
         """The cells of a column of animals, "" for those that are missing. Equal ones are one object, which takes less
         memory."""
-        kinds = {cell: "" if cell is None or cell in self.names_missing else cell for cell in {*cells}}
+        kinds = {cell: "" if cell is None else cell for cell in {*cells}}
         return [kinds[cell] for cell in cells]
 
     def with_place(self, places: Mapping[str, Sequence[float]], names: list[Any]) -> Sequence[int]:
@@ -254,7 +247,7 @@ class Table:
         truths = {}
         for name, at in self.marks.items():
             def read(cell: Any, title: str = self.title(at), must: bool = name == "use") -> bool | None:
-                found = truth(cell, title, self.missing)
+                found = truth(cell, title)
                 if must and found is None:
                     raise Unread(f"{title} is {shown(cell)} and neither true nor false: write those, or rename the "
                                  "column", "mark")
@@ -275,13 +268,13 @@ class Table:
             ("zone", self.zone, self.zone_of_cell, ZONE), ("sensor", self.sensor, self.sensor_of_cell, ZONE),
             ("argos", self.argos, self.word_of_cell, ZONE), ("fix", self.fix, self.word_of_cell, ZONE)]
         if self.dop is not None:
-            readers.append(("dop", self.dop, Numbers(self.title(self.dop), True, False, self.missing).read, DOP))
+            readers.append(("dop", self.dop, Numbers(self.title(self.dop), has_commas=True).read, DOP))
         return {name: faults.distinct(read, cells[at], rows, order, "") for name, at, read, order in readers
                 if at is not None}
 
     def word_of_cell(self, cell: Any) -> str:
         """What a cell says as a word, "" where it is missing."""
-        if cell is None or (isinstance(cell, str) and cell in self.missing):
+        if cell is None or (isinstance(cell, str) and cell in MISSING):
             return ""
         if isinstance(cell, Bad):
             raise Unread(cell.text, cell.kind)
@@ -318,32 +311,12 @@ class Table:
         whole = self.times.whole_column(texts)
         if whole is not None:
             return whole
-        stamps = faults.each(self.times.read, texts, rows, TIME, (0, 0.0, False))
-        if self.times.slack:
-            stamps = [self.moment(stamp, row, name, faults) for stamp, row, name in zip(stamps, rows, names)]
-        return [stamp[0] for stamp in stamps], [stamp[1] for stamp in stamps]
+        moments = faults.each(self.times.read, texts, rows, TIME, Moment(0, 0.0))
+        return [moment.second for moment in moments], [moment.part for moment in moments]
 
     def unnamed(self) -> str:
         title = self.title(self.columns.animal[0])
-        how = "skip_unnamed=True" if self.asked.is_frame else "--skip-unnamed"
-        return f"there is no {title}, and {how} leaves such records out"
-
-    def moment(self, stamp: Stamp, row: int, name: str, faults: Faults) -> Stamp:
-        """A stamp of UTC of one of a local clock, which comes behind the last one of its animal if it comes twice."""
-        second, part, is_local = stamp
-        if is_local:
-            found = moments_of(second, self.clock)
-            if not found or found[-1] < 0:
-                text = f"{self.times.title}: the clocks of {self.clock.key} passed over that time"
-                faults.note(row, TIME, Unread(text, "time"))
-                return stamp
-            second = found[0]
-            if len(found) > 1:
-                self.twice.append(self.rows + row + 1)
-                if (second, part) < self.last.get(name, (second, part)):
-                    second = found[1]
-        self.last[name] = (second, part)
-        return second, part, False
+        return f"there is no {title}, and skip_unnamed=True leaves such records out"
 
     def finish(self, said: Said) -> Records:
         """The records, once it is said what was read as what, and which rows are none."""
@@ -359,17 +332,7 @@ class Table:
             said.say(f"no column has a usual title for the animal: all fixes are of one, named {self.asked.name}")
         if not self.columns.time:
             said.say("no column has a usual title for the time: fixes are in the order of rows, as seconds 0, 1, 2, ..")
-        self.tell_times(said)
-        if self.twice:
-            numbers = ", ".join(map(str, self.twice[:10])) + (", .." if len(self.twice) > 10 else "")
-            said.say(f"records lie in the hour that comes twice in {self.clock.key}: records {numbers}", len(self.twice))
         return self.records
-
-    def tell_times(self, said: Said) -> None:
-        """Says by which form and in which zone times were read, where these were named."""
-        if self.columns.time and (self.times.forms or self.times.slack):
-            forms = " and ".join(form.text for form in self.times.forms if form.is_used) or "ISO text"
-            said.say(f"times are read as {forms}, in {self.clock.key}")
 
     def check_animals(self, said: Said) -> None:
         """Refuses a column of the animal that has another one in each row, and says where most have."""
@@ -379,7 +342,7 @@ class Table:
         title = self.title(self.columns.animal[0])
         if single == animals:
             refuse(f"every one of {animals} animals has one record: is {title} the animal? Name its column, as by "
-                   f"{self.asked.word('animal', 'COLUMN')}", "onefix")
+                   f"{word_of('animal', 'COLUMN')}", "onefix")
         if 2 * single > animals:
             said.say(f"of {animals} animals have one record: is {title} the animal?", single)
         self.tell_alike(said)

@@ -5,7 +5,7 @@ from __future__ import annotations
 import re
 from typing import NamedTuple, Sequence
 
-from .asked import Asked
+from .asked import Asked, title_of, word_of
 from .cells import shown
 from .errors import refuse
 
@@ -71,7 +71,7 @@ class Titles:
     def refuse_both(self, found: Sequence[int], what: str, option: str = "") -> None:
         """Refuses two columns that fit."""
         names = " and ".join(f"column {at + 1} '{self.titles[at]}'" for at in found[:2])
-        remedy = f"name one, as by {self.asked.word(option, self.titles[found[0]])}" if option else "rename one"
+        remedy = f"name one, as by {word_of(option, self.titles[found[0]])}" if option else "rename one"
         refuse(f"{names} both fit {what}: {remedy}", "ambiguous")
 
     def pair(self, titles: tuple[str, str]) -> Pair | None:
@@ -80,13 +80,9 @@ class Titles:
         return None if first is None or second is None else (first, second)
 
     def named(self, text: str, option: str) -> int:
-        """The column of a title that was named, or of one of several between |."""
-        wanted = text.split("|")
-        found = [at for title in wanted for at, own in enumerate(self.titles) if own == title.strip(" \t")]
-        if not found:
-            refuse(f"{self.asked.title(option)}: there is no column '{' or '.join(wanted)}'; the table has {self.listed()}",
-                   "columns")
-        return found[0]
+        """The column of a title that was named."""
+        found = next((at for at, own in enumerate(self.titles) if own == text.strip(" \t")), None)
+        return refuse(f"{title_of(option)}: there is no column '{text}'; the table has {self.listed()}", "columns") if found is None else found
 
     def listed(self) -> str:
         """The first titles of a table, as a refusal lists them."""
@@ -140,8 +136,8 @@ def _usual_places(titles: Titles) -> tuple[Columns, Family | None]:
         titles.refuse_both([degrees[0][0], degrees[1][0]], "the longitude", "lon")
     if not degrees:
         remedy = "name them, as by {} and {}, or {} and {}".format(
-            titles.asked.word("easting", "X"), titles.asked.word("northing", "Y"),
-            titles.asked.word("lon", "X"), titles.asked.word("lat", "Y"))
+            word_of("easting", "X"), word_of("northing", "Y"),
+            word_of("lon", "X"), word_of("lat", "Y"))
         refuse(f"there are no columns of usual titles for easting and northing, or longitude and latitude: {remedy}; "
                f"the table has {titles.listed()}", "columns")
     return Columns([], [], None, degrees[0], False, False), MOVEBANK if location else None

@@ -8,11 +8,11 @@ from array import array
 from collections import defaultdict
 from datetime import timedelta
 from itertools import compress, islice
-from math import floor, hypot, isfinite, isnan
-from typing import Any, Callable, Iterable, NamedTuple, Optional, Sequence
+from math import floor, hypot, isfinite
+from typing import Any, Callable, Iterable, NamedTuple, NoReturn, Optional, Sequence
 
 from . import zones
-from .asked import UNITS, Unit, second_of_bound, seconds_of, text_of_bound, zone_of_time
+from .asked import UNITS, Unit, second_of_bound, seconds_of, text_of_bound, title_of, word_of, zone_of_time
 from .cells import EPOCH, LAST_OF_CALENDAR, Offsets
 from .errors import refuse
 from .tables import ARGOS, CLASSES_OF_ARGOS, Records, Said, Table, nothing_left, ranked
@@ -23,12 +23,11 @@ STEP = 1_000_000  # metres by which a local grid is shifted
 
 
 class Track(NamedTuple):
-    """The records of one animal in the order of time, in whole units."""
+    """The fixes of one animal in the order of time, in whole units."""
 
     seconds: Sequence[int]
     eastings: Sequence[int]
     northings: Sequence[int]
-    used: Sequence[int]  # 1 or 0
 
 
 class Choice:
@@ -55,23 +54,20 @@ class Choice:
         if wanted is None and len({*used}) > 1:
             first, counts = ranked(used)
             refuse(f"fixes are of several sensors ({counts}): name those to take, such as "
-                   f"{self.asked.word('sensor', first or 'none')}", "sensor")
+                   f"{word_of('sensor', first or 'none')}", "sensor")
         if wanted is not None:
             names = {"" if name == "none" else name for name in wanted}
             for name in sorted(names.difference(of)):
-                refuse(f"{self.asked.title('sensor')}: no fix is of {name or 'none'}", "sensor")
+                refuse(f"{title_of('sensor')}: no fix is of {name or 'none'}", "sensor")
             self.keep([sensor in names for sensor in of], "sensor", "records of other sensors")
         left = {*compress(records.sensor, records.used)}
         if len(left) == 1 and not left <= {"gps", ""}:
             self.said.say(f"all fixes are of the sensor {left.pop()}")
 
     def outliers(self) -> None:
-        """Leaves outliers out, unless they are written with a mark."""
-        used = self.records.used
-        if self.asked.mark:
-            self.said.say("outliers: use 0", len(used) - sum(used))
-        elif not all(used):
-            self.keep([mark == 1 for mark in used], "outlier", "outliers")
+        """Leaves outliers out."""
+        if not all(self.records.used):
+            self.keep([mark == 1 for mark in self.records.used], "outlier", "outliers")
 
     def classes(self) -> None:
         """Keeps the Argos classes that are wanted, which have to be named where fixes are of Argos."""
@@ -79,10 +75,10 @@ class Choice:
         argos = records.argos or [""] * len(records)
         sensors = records.sensor or [""] * len(records)
         if wanted is None:
-            found = {*compress(zip(argos, sensors), records.used)}
+            found = {*zip(argos, sensors)}
             if any(of in CLASSES_OF_ARGOS or sensor == ARGOS for of, sensor in found):
                 refuse("fixes are of Argos, most of whose classes are off by kilometres: name the classes to take, "
-                       f"such as {self.asked.word('argos-class', '3,2,1')} (none is a fix without a class)", "argos")
+                       f"such as {word_of('argos-class', '3,2,1')} (none is a fix without a class)", "argos")
             return
         names = {"" if name == "none" else name for name in wanted}
         self.keep([of in names for of in argos], "class", f"fixes are of other Argos classes than {','.join(wanted)}")
@@ -127,53 +123,51 @@ def off_grid(easting: array[int], northing: array[int], limit: int) -> list[int]
 
 
 class Places:
-    """The places of records in metres of one grid. A record that is not used may have none, as NaN."""
+    """The places of records in metres of one grid."""
 
     def __init__(self, table: Table, records: Records, said: Said) -> None:
         self.table, self.asked, self.records, self.said = table, table.asked, records, said
         self.wanted = None if self.asked.zone is None else zones.zone_of(self.asked.zone)
-        self.zone, self.is_shifted, self.is_projected, self.off = self.wanted, False, False, list[int]()
+        self.zone, self.is_shifted, self.is_projected = self.wanted, False, False
         self.east: Sequence[float] = records.east
         self.north: Sequence[float] = records.north
 
     def find(self) -> None:
         """Takes the metres of the table, or projects longitude and latitude."""
-        records, used = self.records, self.records.used
-        if not any(used):
+        records = self.records
+        if not len(records):
             nothing_left()
         self.ask_zeros()
         self.check_degrees()
         if self.table.columns.grid and not self.table.columns.is_utm:
             self.is_shifted = True
-            if self.wanted or not self.asked.is_frame:
-                self.said.say(f"coordinates are those of the table; zone: {self.wanted or 'not known'}")
+            if self.wanted:
+                self.said.say(f"coordinates are those of the table; zone: {self.wanted}")
             return
-        if not records.east or not any(east == east for east in compress(records.east, used)) or not self.take_grid():
+        if not any(east == east for east in records.east) or not self.take_grid():
             self.project()
 
-    def used_pairs(self) -> list[tuple[float, float]]:
-        """The eastings and northings of the used records that have them."""
-        places = zip(compress(self.records.east, self.records.used), compress(self.records.north, self.records.used))
-        return [place for place in places if place[0] == place[0]]
+    def pairs(self) -> list[tuple[float, float]]:
+        """The eastings and northings of the records that have them."""
+        return [place for place in zip(self.records.east, self.records.north) if place[0] == place[0]]
 
     def ask_zeros(self) -> None:
         """Asks about fixes at the corner of the grid, where all others are far from it."""
         if not self.table.columns.grid or 0 not in self.records.east:
             return
-        pairs = self.used_pairs()
+        pairs = self.pairs()
         away = [hypot(*pair) for pair in pairs if pair != (0, 0)]
         if min(away, default=0.0) > FAR:
             self.said.say("fixes lie at easting 0 and northing 0: are they fixes that failed?", len(pairs) - len(away))
 
     def check_degrees(self) -> None:
         """Refuses degrees in the columns of metres."""
-        columns, records = self.table.columns, self.records
+        columns = self.table.columns
         if columns.grid is None:
             return
-        places = zip(compress(records.east, records.used), compress(records.north, records.used))
-        if not all(abs(east) <= 180 and abs(north) <= 90 for east, north in places if east == east):
+        pairs = self.pairs()
+        if not all(abs(east) <= 180 and abs(north) <= 90 for east, north in pairs):
             return
-        pairs = self.used_pairs()
         if all(east == floor(east) and north == floor(north) for east, north in pairs):
             return
         if columns.is_own or columns.grid[0] < 0:
@@ -181,9 +175,9 @@ class Places:
             return
         titles = [self.table.title(at) for at in columns.grid]
         zone = zones.zone_at(*pairs[0])
-        words = [self.asked.word(*pair) for pair in (("lon", titles[0]), ("lat", titles[1]), ("zone", zone))]
+        words = [word_of(*pair) for pair in (("lon", titles[0]), ("lat", titles[1]), ("zone", zone))]
         refuse(f"all of {titles[0]} and {titles[1]} lie within 180 by 90, as longitude and latitude do: say so by "
-               f"{(', ' if self.asked.is_frame else ' ').join(words)}; or, if they are metres, add 1000 to all",
+               f"{', '.join(words)}; or, if they are metres, add 1000 to all",
                "degrees")
 
     def zone_of(self, at: int, wanted: Optional[str]) -> str:
@@ -195,65 +189,48 @@ class Places:
         if records.longitude and records.longitude[at] == records.longitude[at]:
             return zones.zone_at(records.longitude[at], records.latitude[at])
         if wanted is None:
-            refuse(f"there is no utm-zone: name that of its coordinates, such as {self.asked.word('zone', '33N')}",
+            refuse(f"there is no utm-zone: name that of its coordinates, such as {word_of('zone', '33N')}",
                    "zone", records.number[at])
         return wanted
 
-    def zones_of(self, mask: Sequence[int], wanted: Optional[str]) -> Iterable[str]:
-        """The zones of the records whose place in the mask is true."""
+    def zones_of(self, wanted: Optional[str]) -> Iterable[str]:
+        """The zones of the records that have metres."""
         records = self.records
         if records.zone and all({*records.zone}):
-            return compress(records.zone, mask)
-        return (self.zone_of(at, wanted) for at in compress(range(len(records)), mask))
-
-    def out_of_zone(self, zone: str, has_grid: Sequence[bool]) -> list[int]:
-        """The records that are not of the zone, or have no metres."""
-        if all(has_grid) and {*self.records.zone} == {zone}:
-            return []
-        return [at for at, grid in enumerate(has_grid) if not grid or self.zone_of(at, zone) != zone]
+            return (zone for zone, east in zip(records.zone, records.east) if east == east)
+        return (self.zone_of(at, wanted) for at, east in enumerate(records.east) if east == east)
 
     def take_grid(self) -> bool:
-        """Takes the UTM coordinates of the table, where those of all used records are of one zone, the wanted one if
-        any."""
+        """Takes the UTM coordinates of the table, where those of all records are of one zone, the wanted one if any."""
         records, wanted = self.records, self.wanted
-        has_all = not isnan(sum(records.east))
-        has_grid = [True] * len(records) if has_all else [east == east for east in records.east]
-        used_grid = records.used if has_all else [bool(used and grid) for used, grid in zip(records.used, has_grid)]
-        zone, counts = ranked(self.zones_of(used_grid, wanted))
-        bare = None if has_all else next((at for at, grid in enumerate(has_grid) if not grid and records.used[at]), None)
-        remedy = f"name the zone of all, such as {self.asked.word('zone', zone)}"
+        zone, counts = ranked(self.zones_of(wanted))
+        bare = next((at for at, east in enumerate(records.east) if east != east), None)
+        remedy = f"name the zone of all, such as {word_of('zone', zone)}"
         if "," in counts and not wanted:
             refuse(f"fixes lie in several zones ({counts}): {remedy}", "zone")
         if bare is not None and not wanted:
             refuse(f"there are no UTM coordinates: {remedy}", "zone", records.number[bare])
         if "," in counts or bare is not None or wanted not in (None, zone):
             return False
-        for at in self.out_of_zone(zone, has_grid):
-            records.east[at] = float("nan")
         self.zone = zone
         self.said.say(f"UTM coordinates are those of the export; zone: {counts}")
         return True
 
     def project(self) -> None:
-        """Projects longitude and latitude into the wanted zone, or else into that of most used records."""
+        """Projects longitude and latitude into the wanted zone, which has to be named."""
         records = self.records
         bare = next((at for at in range(len(records))
                      if not records.longitude or records.longitude[at] != records.longitude[at]), None)
         if bare is not None:
             refuse("there is no longitude and latitude to project", "zone", records.number[bare])
-        pairs = zip(compress(records.longitude, records.used), compress(records.latitude, records.used))
+        pairs = zip(records.longitude, records.latitude)
         most, counts = ranked(zones.zone_at(*pair) if all(map(isfinite, pair)) else "none" for pair in pairs)
-        if self.wanted is None and self.asked.is_frame:
-            self.refuse_degrees(most)
-        if self.wanted is None and "N" in counts and "S" in counts:
-            refuse(f"fixes lie on both sides of the equator ({counts}): name the zone of all, such as "
-                   f"{self.asked.word('zone', most[:-1] + 'S')}", "zone")
-        self.zone = self.wanted or most
+        self.zone = self.refuse_degrees(most) if self.wanted is None else self.wanted
         self.said.say(f"longitude and latitude are projected into zone {self.zone}; fixes by zone: {counts}")
         self.is_projected = True
         self.east, self.north = zones.project(records.longitude, records.latitude, self.zone)
 
-    def refuse_degrees(self, zone: str) -> None:
+    def refuse_degrees(self, zone: str) -> NoReturn:
         longitude, latitude = (self.table.title(at) for at in self.table.columns.degrees or ())
         refuse(f"the frame has longitude and latitude: name the UTM zone to project them into, zone={zone!r}; or make "
                "points of them and project them, as by points = geopandas.GeoDataFrame(frame, "
@@ -261,7 +238,7 @@ class Places:
                "degrees")
 
     def shift(self, unit: Unit) -> tuple[int, int]:
-        """How many metres all eastings and northings are shifted by, so that those of the used are on the grid."""
+        """How many metres all eastings and northings are shifted by, so that they are on the grid."""
         if not self.is_shifted:
             return (0, 0)
         shifts = self.shift_of("eastings", self.east, unit), self.shift_of("northings", self.north, unit)
@@ -271,8 +248,8 @@ class Places:
 
     def shift_of(self, side: str, metres: Sequence[float], unit: Unit) -> int:
         """How many metres one side is shifted by. What is wider than the grid is refused."""
-        used = [value for value in compress(metres, self.records.used) if isfinite(value)]
-        least, most = min(used, default=0.0), max(used, default=0.0)
+        finite = [value for value in metres if isfinite(value)]
+        least, most = min(finite, default=0.0), max(finite, default=0.0)
         added = -STEP * floor(least / STEP)
         for shift in (0, added):
             ends = [floor(unit.per_metre * (end + shift) + 0.5) for end in (least, most)]
@@ -282,21 +259,17 @@ class Places:
                "metres: is one of them wrong?", "grid")
 
     def rounded(self, unit: Unit, shift: tuple[int, int]) -> Whole:
-        """The places in whole units, half a unit rounded up; -1 where a fix that is not used is off the grid."""
+        """The places in whole units, half a unit rounded up."""
         whole = []
         for metres, added in zip((self.east, self.north), shift):
             scale, values = unit.per_metre, [value + added for value in metres] if added else metres
             whole.append(array("q", [floor(scale * value + 0.5) if -1e9 < value < 1e9 else -1 for value in values]))
-        self.off = off_grid(whole[0], whole[1], unit.limit)
-        for at in self.off:
-            self.refuse_used(at, unit)
-            whole[0][at] = -1
+        for at in off_grid(whole[0], whole[1], unit.limit):
+            self.refuse_off(at, unit)
         return whole[0], whole[1]
 
-    def refuse_used(self, at: int, unit: Unit) -> None:
-        """Refuses a used record that is off the grid."""
-        if not self.records.used[at]:
-            return
+    def refuse_off(self, at: int, unit: Unit) -> NoReturn:
+        """Refuses a record that is off the grid."""
         east, north = self.east[at], self.north[at]
         if not (isfinite(east) and isfinite(north)):
             refuse("its longitude and latitude have no place in the zone", "grid", self.records.number[at])
@@ -304,14 +277,12 @@ class Places:
                f"{unit.limit // unit.per_metre} metres", "grid", self.records.number[at])
 
 
-def check_scale(herd: Herd, places: Places, scale: zones.Scale, shown: Callable[[str], str]) -> None:
+def check_scale(herd: Herd, places: Places, scale: zones.Scale) -> None:
     """Refuses a grid on which areas of an animal are wrong by more than 1 %, and says where by more than 0.1 %."""
-    used, found = places.records.used, []
+    found = []
     for name, rows in herd.rows.items():
-        own = array("l", [at for at in rows if used[at]]) if 0 in used else rows
-        if own:
-            means = [sum(picked(metres, own)) / len(own) for metres in (places.east, places.north)]
-            found.append((scale(*means), shown(name)))
+        means = [sum(picked(metres, rows)) / len(rows) for metres in (places.east, places.north)]
+        found.append((scale(*means), name))
     worst, name = max(found, key=lambda pair: abs(pair[0] - 1), default=(1.0, ""))
     text = f"areas of {name} are {abs(worst - 1) * 100:.2f} % too {'great' if worst > 1 else 'small'} on this grid"
     if not isfinite(worst):
@@ -338,17 +309,15 @@ def picked(column: Sequence[Any], rows: array[int]) -> Sequence[Any]:
 class Herd:
     """The records of each animal in the order of time, as rows of their places."""
 
-    def __init__(self, choice: Choice, easting: array[int], northing: array[int], off: Iterable[int]) -> None:
+    def __init__(self, choice: Choice, easting: array[int], northing: array[int]) -> None:
         self.choice, self.said, self.records = choice, choice.said, choice.records
         self.easting, self.northing = easting, northing
-        self.rows: dict[str, array[int]] = {}
-        off, rows = {*off}, defaultdict[str, list[int]](list)
+        rows = defaultdict[str, list[int]](list)
         for at, name in enumerate(self.records.animal):
-            if at not in off:
-                rows[name].append(at)
+            rows[name].append(at)
         self.rows = {name: array("l", own) for name, own in rows.items()}
 
-    def sort(self, shown: Callable[[str], str]) -> None:
+    def sort(self) -> None:
         """Puts the records of each animal in the order of time, by the whole stamp, and says what was not."""
         second, part = self.records.second, self.records.part
         for name, rows in self.rows.items():
@@ -358,10 +327,10 @@ class Herd:
             stamps = list(zip(seconds, picked(part, rows)))
             falls = sum(map(operator.lt, stamps[1:], stamps))
             if falls:
-                self.said.say(f"records of {shown(name)} come before an earlier one: sorted by time", falls)
+                self.said.say(f"records of {name} come before an earlier one: sorted by time", falls)
                 rows = array("l", [rows[place] for place in sorted(range(len(rows)), key=stamps.__getitem__)])
                 self.rows[name] = rows
-            self.tell_same(rows, shown(name))
+            self.tell_same(rows, name)
 
     def tell_same(self, rows: array[int], name: str) -> None:
         """Says how many records have the second of the one before."""
@@ -372,11 +341,10 @@ class Herd:
         self.said.say(f"records of {name} have the second of the one before{text}", len(same))
 
     def leave(self, reason: str, text: str, chosen: Callable[[list[int]], list[int]]) -> None:
-        """Keeps of each animal's used records those that are chosen."""
-        total, used = 0, self.records.used
+        """Keeps of each animal's records those that are chosen."""
+        total = 0
         for name, rows in self.rows.items():
-            kept = {*chosen([at for at in rows if used[at]])}
-            rest = array("l", [at for at in rows if at in kept or not used[at]])
+            rest = array("l", chosen([*rows]))
             gone = len(rows) - len(rest)
             total += gone
             self.rows[name] = rest
@@ -387,7 +355,7 @@ class Herd:
     def fast(self, most: float, unit: Unit) -> None:
         """Leaves out fixes that an animal of this speed does not come to from the last that is kept."""
         def chosen(rows: list[int]) -> list[int]:
-            kept, before = rows[:1], None
+            kept, before = list[int](), None
             for at in rows:
                 fix = self.records.second[at], self.easting[at], self.northing[at]
                 if before is None or is_reached(most, unit, before, fix):
@@ -445,7 +413,7 @@ def tell_moved(places: Places, whole: Whole, shift: tuple[int, int], unit: Unit,
         return
     moves = [map(operator.sub, [one / scale - added for one in units] if added or scale != 1 else units, metres)
              for units, added, metres in zip(whole, shift, (places.east, places.north))]
-    most = max(move for move in map(hypot, *moves) if move < 1)  # not those of places off the grid
+    most = max(map(hypot, *moves))
     if most > 1e-6:
         said.say(f"coordinates are rounded to whole {unit.name}, which moves a fix by at most {most:.2g} m")
 
@@ -461,10 +429,9 @@ class Tracks(NamedTuple):
     table: Table
 
 
-def make_tracks(table: Table, said: Said, shown: Callable[[str], str] = str, scale: zones.Scale | None = None) -> Tracks:
+def make_tracks(table: Table, said: Said, scale: zones.Scale | None = None) -> Tracks:
     """The tracks of a table that was read: of each animal the records that are chosen, in whole units, in the order of
-    time. ``shown`` is how an animal's name is said, and ``scale`` the areal scale of the reference system that is known
-    otherwise than by its zone."""
+    time. ``scale`` is the areal scale of the reference system that is known otherwise than by its zone."""
     asked, unit = table.asked, UNITS[table.asked.unit]
     records = table.finish(said)
     animals = [name for name in table.rows_of] or [asked.name]
@@ -476,13 +443,11 @@ def make_tracks(table: Table, said: Said, shown: Callable[[str], str] = str, sca
     known_scale = scale or (zones.scale_of_zone if places.zone else None)
     shift = places.shift(unit)
     whole = places.rounded(unit, shift)
-    said.left.update((records.animal[at], "grid") for at in places.off)
-    said.say("outliers off the grid: left out", len(places.off))
     tell_moved(places, whole, shift, unit, said)
-    herd = Herd(choice, *whole, places.off)
+    herd = Herd(choice, *whole)
     if known_scale:
-        check_scale(herd, places, known_scale, shown)
-    herd.sort(shown)
+        check_scale(herd, places, known_scale)
+    herd.sort()
     if asked.max_speed is not None:
         herd.fast(asked.max_speed, unit)
     herd.calendar()
@@ -490,35 +455,33 @@ def make_tracks(table: Table, said: Said, shown: Callable[[str], str] = str, sca
         herd.thin(seconds_of(asked.every))
     by_name = {name: track_of(records, whole, rows) for name, rows in herd.rows.items() if rows}
     for name in sorted({*animals}.difference(by_name)):
-        said.say(f"no fix of '{name}' is left: {'it has no range' if asked.is_frame else 'no file'}")
-    tell_unfit(by_name, shown, said)
+        said.say(f"no fix of '{name}' is left: it has no range")
+    tell_unfit(by_name, said)
     tell_columns(table, by_name, unit, said)
     return Tracks(by_name, {name: herd.rows[name] for name in by_name}, places, places.zone, shift, table)
 
 
 def track_of(records: Records, whole: Whole, rows: array[int]) -> Track:
     """The track of these rows."""
-    return Track(*(array("q", picked(column, rows)) for column in (records.second, whole[0], whole[1], records.used)))
+    return Track(*(array("q", picked(column, rows)) for column in (records.second, *whole)))
 
 
-def tell_unfit(by_name: dict[str, Track], shown: Callable[[str], str], said: Said) -> None:
-    """Says which tracks the program refuses. Refuses where none has a used fix."""
-    if not any(any(track.used) for track in by_name.values()):
+def tell_unfit(by_name: dict[str, Track], said: Said) -> None:
+    """Says which tracks the program refuses. Refuses where there is none."""
+    if not by_name:
         nothing_left()
     for name, track in by_name.items():
-        if len(track.used) > MOST_FIXES:
-            said.say(f"{shown(name)} has {len(track.used)} records, more than the {MOST_FIXES} that homerange takes")
-        if not any(track.used):
-            said.say(f"no fix of {shown(name)} is used, which homerange refuses")
+        if len(track.seconds) > MOST_FIXES:
+            said.say(f"{name} has {len(track.seconds)} records, more than the {MOST_FIXES} that homerange takes")
 
 
 def tell_columns(table: Table, by_name: dict[str, Track], unit: Unit, said: Said) -> None:
-    """Says which columns were taken, the number of animals, and the extent of the used fixes."""
+    """Says which columns were taken, the number of animals, and the extent of the fixes."""
     columns = table.columns
     places = [*columns.animal, *columns.time, *(columns.grid or ()), *(columns.degrees or ())]
     titles = ", ".join(dict.fromkeys(map(table.title, places)))
     box = []
     for axis in (1, 2):
-        ends = [(min(used), max(used)) for track in by_name.values() if (used := [*compress(track[axis], track.used)])]
+        ends = [(min(track[axis]), max(track[axis])) for track in by_name.values()]
         box.append((max(end for _, end in ends) - min(end for end, _ in ends)) / unit.per_metre / 1000)
     said.say(f"columns: {titles}; {len(by_name)} animals, box {box[0]:.3f} by {box[1]:.3f} km")

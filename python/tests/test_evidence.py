@@ -101,14 +101,14 @@ def test_names_that_windows_cannot_tell_apart_or_hold(tmp_path):
 
 def test_what_a_call_was_told():
     asked = Asked(
-        is_frame=True, animal=["a", "b,c"], max_dop=5.0, max_speed=0.25, months=[3, 4], hours=(18.0, 6.5), every=2, zone="33n",
+        animal=["a", "b,c"], max_dop=5.0, max_speed=0.25, months=[3, 4], hours=(18.0, 6.5), every=2, zone="33n",
         since=datetime.date(2024, 5, 1), until=pandas.Timestamp("2024-05-31 18:00", tz="Europe/Ljubljana"), tz="UTC", name="fox")
     assert told(asked, "ok") == {
         "animal": "a,b,c", "max-dop": "5", "max-speed": "0.25", "months": "3,4", "hours": "18,6.5", "every": "2h", "zone": "33n",
         "since": "2024-05-01", "until": "2024-05-31T16:00:00Z", "tz": "UTC", "name": "fox", "use": "ok", "skip-unnamed": False}
-    bare = Asked(is_frame=True, every="30min", until="2024-05-31 18:00")
+    bare = Asked(every="30min", until="2024-05-31 18:00")
     assert told(bare, True) == {"every": "30min", "until": "2024-05-31 18:00", "use": True, "skip-unnamed": False}
-    assert told(Asked(is_frame=True), [True, False]) == {"skip-unnamed": False}
+    assert told(Asked(), [True, False]) == {"skip-unnamed": False}
 
 
 def test_another_reference_system_than_that_of_a_zone(tmp_path):

@@ -188,7 +188,7 @@ def test_a_frame_has_the_fixes_of_all_tracks(stub, tmp_path):
     (made / "split.txt").write_text(
         "export,x.csv\nsha256," + "0" * 64 + "\nunit,dm\nzone,33N\nshift,1000000,0\noption,mark\nsaid,1 outliers: use 0\n"
         "said,coordinates are shifted by 1000000 m east and 0 m north\nsaid,columns: a; 2 animals, box 0.001 by 0.001 km\n"
-        "said,not read: note\ntrack,b_ä,2,1," + "1" * 64 + "\ntrack,a,2,2," + "2" * 64 + "\ntool,homerange-split 1.0.0\n")
+        "said,not read: note\ntrack,b_ä,2,1," + "1" * 64 + "\ntrack,a,2,2," + "2" * 64 + "\ntool,homerange-split 1.0.0 (logic 0123456789abcdef)\n")
     stub(f'cp -r "{made}" "$into"')
     with pytest.warns(UserWarning) as told:
         fixes = read_export(EXPORT, unit="dm")

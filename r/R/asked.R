@@ -1,4 +1,5 @@
-# What is asked of a table: the options of the commands, which are arguments here. docs/TABLES.md says what each does.
+# What is asked of a table: arguments, whose names are those of the options of homerange-split. docs/TABLES.md says what each
+# does.
 
 units_known <- list(
   m = list(name = "metres", scale = 1, limit = 16777216, hectare = 20000),
@@ -8,23 +9,14 @@ lengths_known <- c(h = 3600, min = 60, s = 1)
 number_form <- "^[-+]?(?:[0-9]+[.]?[0-9]*|[.][0-9]+)(?:[eE][-+]?[0-9]+)?\\z"
 
 # Options by their names with _ for hyphens. One that is NULL is no wish.
-new_asked <- function(options, is_frame) {
-  asked <- list2env(list(
-    is_frame = is_frame, is_all_used = FALSE, unit = "m", mark = FALSE, skip_unnamed = FALSE, name = "animal", na = character(),
-    skip_lines = 0, encoding = "utf-8", quiet = FALSE
-  ))
+new_asked <- function(options) {
+  asked <- list2env(list(is_all_used = FALSE, unit = "m", skip_unnamed = FALSE, name = "animal", quiet = FALSE))
   list2env(options[!vapply(options, is.null, NA)], asked)
-  asked$missing <- c("", "NA", asked$na)
   asked
 }
 
-# An option's own name in this front end, and how it is written with a value.
-option_title <- function(asked, option) if (asked$is_frame) option else paste0("--", gsub("_", "-", option, fixed = TRUE))
-
-option_word <- function(asked, option, value) {
-  if (asked$is_frame) return(sprintf("%s = \"%s\"", option, value))
-  paste(option_title(asked, option), if (grepl(" ", value, fixed = TRUE)) paste0("'", value, "'") else value)
-}
+# How an option is written with a value.
+option_word <- function(option, value) sprintf("%s = \"%s\"", option, value)
 
 # The zone by whose clock days and hours are counted.
 clock_of <- function(asked) if (is.null(asked$tz) || identical(asked$tz, "")) "UTC" else asked$tz
@@ -48,15 +40,10 @@ check_asked <- function(asked) {
   if (!is_text(asked$unit) || !asked$unit %in% names(units_known)) {
     refuse("option", "unit: \"m\" for metres or \"dm\" for decimetres is wanted")
   }
-  for (option in c("zone", "easting", "northing", "lon", "lat", "dop", "fix", "argos", "name", "encoding", "time_format")) {
+  for (option in c("zone", "easting", "northing", "lon", "lat", "dop", "fix", "argos", "name")) {
     if (!is.null(asked[[option]]) && !is_text(asked[[option]])) refuse("option", option, ": one text is wanted")
   }
-  if (!is_number(asked$skip_lines) || asked$skip_lines < 0 || asked$skip_lines %% 1 > 0) {
-    refuse("option", "skip-lines is ", format(asked$skip_lines)[1], " and not a number from 0")
-  }
-  if (asked$name == "" || asked$is_frame && has_control(asked$name)) {
-    refuse("option", option_title(asked, "name"), ": a name without control characters is wanted")
-  }
+  if (asked$name == "" || has_control(asked$name)) refuse("option", "name: a name without control characters is wanted")
   for (option in c("skip_unnamed", "quiet")) {
     if (!is_truth(asked[[option]])) refuse("option", option, ": TRUE or FALSE is wanted")
   }
@@ -65,7 +52,6 @@ check_asked <- function(asked) {
   asked$max_speed <- number_from_0(asked$max_speed, "max-speed")
   if (!is.null(asked$every)) asked$step <- seconds_of(asked$every)
   if (!is.null(asked$zone)) zone_of(asked$zone)
-  forms_of(asked$time_format)
   for (option in c("since", "until")) if (!is.null(asked[[option]])) second_of_bound(asked[[option]], option, clock_of(asked))
 }
 

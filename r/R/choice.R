@@ -45,12 +45,12 @@ choose_sensors <- function(choice) {
     if (found$number > 1) {
       first <- if (found$first == "") "none" else found$first
       refuse("sensor", "fixes are of several sensors (", found$counts, "): name those to take, such as ",
-             option_word(choice$asked, "sensor", first))
+             option_word("sensor", first))
     }
   } else {
     missing <- sort(setdiff(with_none(wanted), of), method = "radix")
     if (length(missing)) {
-      refuse("sensor", option_title(choice$asked, "sensor"), ": no fix is of ", if (missing[1] == "") "none" else missing[1])
+      refuse("sensor", "sensor", ": no fix is of ", if (missing[1] == "") "none" else missing[1])
     }
     keep_records(choice, of %in% with_none(wanted), "sensor", "records of other sensors")
   }
@@ -58,15 +58,8 @@ choose_sensors <- function(choice) {
   if (length(left) == 1 && !left %in% c("gps", "")) say(choice$said, NULL, "all fixes are of the sensor ", left, kind = "guessed")
 }
 
-# Leaves outliers out, unless they are written with a mark.
-choose_outliers <- function(choice) {
-  used <- choice$records$used
-  if (choice$asked$mark) {
-    say(choice$said, sum(!used), "outliers: use 0")
-  } else {
-    keep_records(choice, used, "outlier", "outliers")
-  }
-}
+# Leaves outliers out.
+choose_outliers <- function(choice) keep_records(choice, choice$records$used, "outlier", "outliers")
 
 # Keeps the Argos classes that are wanted, which have to be named where fixes are of Argos.
 choose_classes <- function(choice) {
@@ -75,9 +68,9 @@ choose_classes <- function(choice) {
   classes <- words_in(records, "argos")
   if (is.null(wanted)) {
     is_argos <- by_distinct(classes, function(kinds) kinds %in% classes_of_argos) | words_in(records, "sensor") == argos_sensor
-    if (any(is_argos & records$used)) {
+    if (any(is_argos)) {
       refuse("argos", "fixes are of Argos, most of whose classes are off by kilometres: name the classes to take, such as ",
-             option_word(choice$asked, "argos_class", "3,2,1"), " (none is a fix without a class)")
+             option_word("argos_class", "3,2,1"), " (none is a fix without a class)")
     }
     return(invisible())
   }

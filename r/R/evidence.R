@@ -107,7 +107,7 @@ put_frame <- function(x, names, folder) {
   for (place in seq_along(names)) {
     own <- x$fixes[x$fixes$animal == x$animals$animal[place], ]
     records <- c(list(second = own$moment), own[c("easting", "northing")])
-    write_track(file.path(tracks, paste0(names[place], ".csv")), records, names[place], seq_len(nrow(own)), FALSE)
+    write_track(file.path(tracks, paste0(names[place], ".csv")), records, names[place], seq_len(nrow(own)))
   }
   left <- x$left_out
   left$animal <- file_names(all_animals(x))[match(left$animal, all_animals(x))]

@@ -15,7 +15,7 @@ home_range <- function(x, levels = c(50, 95, 100), unit = "m", animal = NULL, ti
     argos_class = words_of(argos_class, "argos_class"), argos = argos, max_dop = max_dop, dop = dop,
     fix_type = words_of(fix_type, "fix_type"), fix = fix, since = either(since, from, "since", "from"),
     until = either(until, to, "until", "to"), max_speed = max_speed, quiet = quiet
-  ), is_frame = TRUE)
+  ))
   check_asked(asked)
   program <- homerange_program()  # refuses now, and not after all has been read, where there is none
   read <- read_frame(x, asked, use, crs)

@@ -5,6 +5,7 @@
 
 powers_of_ten <- 10^(0:22)
 most <- 1e12  # which no number in a table reaches
+missing_texts <- c("", "NA")  # of cells that are missing
 
 read_values <- function(values, bad = NA_integer_, why = NULL, kind = NULL) {
   list(values = values, bad = bad, why = why, kind = kind)
@@ -19,7 +20,7 @@ cells_at <- function(cells, rows) {
   cells[rows]
 }
 
-are_missing <- function(cells, missing) {
+are_missing <- function(cells, missing = missing_texts) {
   if (is_moments(cells)) return(is.na(cells$second))
   if (is.character(cells)) is.na(cells) | cells %in% missing else is.na(cells)
 }
@@ -79,13 +80,10 @@ nearest_double <- function(text, number) {
   sign(number) * (whole + part)
 }
 
-has_digits <- function(texts) any(grepl("[0-9]", texts))
-
-# What reads the numbers of a column. Where semicolons separate, decimals may stand behind a comma.
-new_reader <- function(title, has_semicolons, is_metres, missing) {
-  point <- if (has_semicolons) "[.,]" else "[.]"
-  list(title = title, form = paste0("^-?0*[0-9]{1,12}(?:", point, "[0-9]+)?\\z"), has_semicolons = has_semicolons,
-       is_grouped = has_semicolons && is_metres, is_simple = !has_semicolons && !has_digits(missing), missing = missing)
+# What reads the numbers of a column. Decimals may stand behind a comma, where that is said.
+new_reader <- function(title, has_commas = FALSE) {
+  point <- if (has_commas) "[.,]" else "[.]"
+  list(title = title, form = paste0("^-?0*[0-9]{1,12}(?:", point, "[0-9]+)?\\z"), has_commas = has_commas)
 }
 
 # The numbers of cells; NA where they are missing.
@@ -98,17 +96,15 @@ read_numbers <- function(cells, reader) {
 
 numbers_of_text <- function(cells, reader) {
   is_plain <- grepl(reader$form, cells, perl = TRUE)
-  if (reader$is_simple && all(is_plain)) return(read_values(decimals(cells)))
-  is_there <- !are_missing(cells, reader$missing)
-  is_grouped <- reader$is_grouped & grepl("^-?[0-9]{1,3}(?:[.][0-9]{3})+\\z", cells, perl = TRUE)
-  bad <- which(is_there & (!is_plain | is_grouped))[1]
+  if (!reader$has_commas && all(is_plain)) return(read_values(decimals(cells)))
+  is_there <- !are_missing(cells)
+  bad <- which(is_there & !is_plain)[1]
   values <- rep(NA_real_, length(cells))
   good <- is_there & is_plain
   texts <- if (all(good)) cells else cells[good]
-  values[good] <- decimals(if (reader$has_semicolons) sub(",", ".", texts, fixed = TRUE) else texts)
-  why <- if (isTRUE(is_grouped[bad])) ", whose point may stand before thousands: export without it" else
-    " and not a number of up to 12 digits"
-  read_values(values, bad, paste0(reader$title, " is ", shown(cells, bad), why), "number")
+  values[good] <- decimals(if (reader$has_commas) sub(",", ".", texts, fixed = TRUE) else texts)
+  why <- paste0(reader$title, " is ", shown(cells, bad), " and not a number of up to 12 digits")
+  read_values(values, bad, why, "number")
 }
 
 numbers_of_numbers <- function(cells, reader) {
@@ -133,7 +129,7 @@ truths <- c(
 )
 
 # The truths of cells, NA where they are missing; where they must not be, that is a fault.
-read_truths <- function(cells, title, missing, must = FALSE) {
+read_truths <- function(cells, title, must = FALSE, missing = missing_texts) {
   kinds <- kinds_of_cells(cells)
   is_there <- !are_missing(kinds$cells, missing)
   found <- if (is_moments(cells)) rep(NA, length(is_there)) else unname(truths[match(as.character(kinds$cells), names(truths))])
@@ -156,11 +152,11 @@ shown_or_empty <- function(cells, at) if (is.character(cells) && is.na(cells[at]
 
 # What cells say as words, "" where they are missing; whole numbers are their digits. What else is made of a word is made of
 # each different one.
-read_words <- function(cells, missing, action = identity) {
+read_words <- function(cells, action = identity) {
   kinds <- kinds_of_cells(cells)
   own <- kinds$cells
   words <- if (is.numeric(own)) digits_of(own) else if (is_moments(own)) digits_of(own$second) else as.character(own)
-  words[are_missing(own, missing)] <- ""
+  words[are_missing(own)] <- ""
   action(words)[kinds$place]
 }
 

@@ -3,29 +3,26 @@
 far_from_corner <- 100000  # metres, within which fixes beside the corner of a grid are no surprise
 shift_step <- 1000000  # metres by which a local grid is shifted
 
-# The places of records. A record that is not used may have none, as NA.
+# The places of records.
 find_places <- function(table, records, said) {
   asked <- table$asked
   wanted <- if (!is.null(asked$zone)) zone_of(asked$zone)
-  if (!any(records$used)) nothing_left()
+  if (!size_of(records)) nothing_left()
   ask_zeros(table, records, said)
   check_degrees(table, records, said)
   if (!is.null(table$columns$grid) && !table$columns$is_utm) {
-    if (!is.null(wanted) || !asked$is_frame) {
-      say(said, NULL, "coordinates are those of the table; zone: ", if (is.null(wanted)) "not known" else wanted,
-          kind = "guessed")
-    }
+    if (!is.null(wanted)) say(said, NULL, "coordinates are those of the table; zone: ", wanted, kind = "guessed")
     return(list(east = records$east, north = records$north, zone = wanted, is_shifted = TRUE))
   }
-  has_grid <- !is.null(records$east) && any(!is.na(records$east[records$used]))
-  found <- if (has_grid) utm_places(asked, records, wanted, said)
+  has_grid <- !is.null(records$east) && any(!is.na(records$east))
+  found <- if (has_grid) utm_places(records, wanted, said)
   if (is.null(found)) projected_places(table, records, wanted, said) else found
 }
 
 # Asks about fixes at the corner of the grid, where all others are far from it.
 ask_zeros <- function(table, records, said) {
   if (is.null(table$columns$grid)) return(invisible())
-  is_there <- records$used & !is.na(records$east)
+  is_there <- !is.na(records$east)
   away <- sqrt(records$east[is_there]^2 + records$north[is_there]^2)
   zeros <- sum(away == 0)
   if (zeros < length(away) && min(away[away > 0]) > far_from_corner) {
@@ -37,7 +34,7 @@ ask_zeros <- function(table, records, said) {
 check_degrees <- function(table, records, said) {
   columns <- table$columns
   if (is.null(columns$grid)) return(invisible())
-  is_there <- records$used & !is.na(records$east)
+  is_there <- !is.na(records$east)
   east <- records$east[is_there]
   north <- records$north[is_there]
   if (!all(abs(east) <= 180 & abs(north) <= 90) || all(east == floor(east) & north == floor(north))) return(invisible())
@@ -47,15 +44,15 @@ check_degrees <- function(table, records, said) {
     return(invisible())
   }
   titles <- title_of(table, columns$grid)
-  words <- mapply(function(option, value) option_word(table$asked, option, value), c("lon", "lat", "zone"),
+  words <- mapply(function(option, value) option_word(option, value), c("lon", "lat", "zone"),
                   c(titles, zones_at(east[1], north[1])))
   refuse("degrees", "all of ", titles[1], " and ", titles[2], " lie within 180 by 90, as longitude and latitude do: say so by ",
-         paste(words, collapse = if (table$asked$is_frame) ", " else " "), "; or, if they are metres, add 1000 to all")
+         paste(words, collapse = ", "), "; or, if they are metres, add 1000 to all")
 }
 
 # The zones of the UTM coordinates of these records: as the table names them, or else as the longitude has it, or else the
 # wanted one.
-zones_of <- function(asked, records, mask, wanted) {
+zones_of <- function(records, mask, wanted) {
   zones <- words_in(records, "zone")[mask]
   if (!is.null(records$longitude)) {
     longitude <- records$longitude[mask]
@@ -64,48 +61,38 @@ zones_of <- function(asked, records, mask, wanted) {
   }
   none <- which(zones == "")
   if (length(none) && is.null(wanted)) {
-    refuse("zone", "there is no utm-zone: name that of its coordinates, such as ", option_word(asked, "zone", "33N"),
+    refuse("zone", "there is no utm-zone: name that of its coordinates, such as ", option_word("zone", "33N"),
            record = records$number[mask][none[1]])
   }
   zones[none] <- wanted
   zones
 }
 
-# The UTM coordinates of the table, where those of all used records are of one zone, the wanted one if any; else NULL.
-utm_places <- function(asked, records, wanted, said) {
+# The UTM coordinates of the table, where those of all records are of one zone, the wanted one if any; else NULL.
+utm_places <- function(records, wanted, said) {
   has_grid <- !is.na(records$east)
-  found <- ranked(zones_of(asked, records, records$used & has_grid, wanted))
-  bare <- which(records$used & !has_grid)
-  remedy <- paste("name the zone of all, such as", option_word(asked, "zone", found$first))
+  found <- ranked(zones_of(records, has_grid, wanted))
+  bare <- which(!has_grid)
+  remedy <- paste("name the zone of all, such as", option_word("zone", found$first))
   if (found$number > 1 && is.null(wanted)) refuse("zone", "fixes lie in several zones (", found$counts, "): ", remedy)
   if (length(bare) && is.null(wanted)) {
     refuse("zone", "there are no UTM coordinates: ", remedy, record = records$number[bare[1]])
   }
   if (found$number > 1 || length(bare) || !is.null(wanted) && wanted != found$first) return(NULL)
-  is_other <- !has_grid
-  is_other[has_grid] <- zones_of(asked, records, has_grid, found$first) != found$first
   say(said, NULL, "UTM coordinates are those of the export; zone: ", found$counts, kind = "guessed")
-  list(east = replace(records$east, is_other, NA), north = records$north, zone = found$first, is_shifted = FALSE)
+  list(east = records$east, north = records$north, zone = found$first, is_shifted = FALSE)
 }
 
-# Longitude and latitude projected into the wanted zone, or else into that of most used records.
+# Longitude and latitude projected into the wanted zone, which has to be named.
 projected_places <- function(table, records, wanted, said) {
-  asked <- table$asked
   bare <- if (is.null(records$longitude)) 1 else which(is.na(records$longitude))[1]
   if (!is.na(bare)) refuse("zone", "there is no longitude and latitude to project", record = records$number[bare])
-  longitude <- records$longitude[records$used]
-  latitude <- records$latitude[records$used]
-  zones <- ranked(zones_at(longitude, latitude))
-  if (is.null(wanted) && asked$is_frame) refuse_degrees(table, zones$first)
-  if (is.null(wanted) && grepl("N", zones$counts) && grepl("S", zones$counts)) {
-    refuse("zone", "fixes lie on both sides of the equator (", zones$counts, "): name the zone of all, such as ",
-           option_word(asked, "zone", sub("[NS]", "S", zones$first)))
-  }
-  zone <- if (is.null(wanted)) zones$first else wanted
-  say(said, NULL, "longitude and latitude are projected into zone ", zone, "; fixes by zone: ", zones$counts,
+  zones <- ranked(zones_at(records$longitude, records$latitude))
+  if (is.null(wanted)) refuse_degrees(table, zones$first)
+  say(said, NULL, "longitude and latitude are projected into zone ", wanted, "; fixes by zone: ", zones$counts,
       kind = "guessed")
-  places <- project(records$longitude, records$latitude, zone, asked)
-  list(east = places[, 1], north = places[, 2], zone = zone, is_shifted = FALSE, is_projected = TRUE)
+  places <- project(records$longitude, records$latitude, wanted)
+  list(east = places[, 1], north = places[, 2], zone = wanted, is_shifted = FALSE, is_projected = TRUE)
 }
 
 refuse_degrees <- function(table, zone) {
@@ -115,10 +102,10 @@ refuse_degrees <- function(table, zone) {
          titles[2], "\"), crs = 4326, na.fail = FALSE), ", code_of_zone(zone), ")")
 }
 
-# How many metres all eastings and northings are shifted by, so that those of used records are on the grid.
-shift_of_places <- function(places, used, unit, said) {
+# How many metres all eastings and northings are shifted by, so that they are on the grid.
+shift_of_places <- function(places, unit, said) {
   if (!places$is_shifted) return(c(0, 0))
-  shift <- c(shift_of(places$east[used], "eastings", unit), shift_of(places$north[used], "northings", unit))
+  shift <- c(shift_of(places$east, "eastings", unit), shift_of(places$north, "northings", unit))
   if (any(shift != 0)) {
     say(said, NULL, sprintf("coordinates are shifted by %.0f m east and %.0f m north", shift[1], shift[2]), kind = "moved")
   }
@@ -136,15 +123,14 @@ shift_of <- function(metres, side, unit) {
                                ends[1], ends[2], unit$limit %/% unit$scale))
 }
 
-# The places in whole units, half a unit rounded up, and which records are off the grid: of those that are used that is
-# refused.
+# The places in whole units, half a unit rounded up. One that is off the grid is refused.
 round_places <- function(places, records, unit, shift) {
   whole <- Map(function(metres, added) floor(unit$scale * (metres + added) + 0.5), list(places$east, places$north), shift)
   is_on <- !is.na(whole[[1]]) & !is.na(whole[[2]]) & whole[[1]] >= 0 & whole[[2]] >= 0 & whole[[1]] <= unit$limit &
     whole[[2]] <= unit$limit
-  bad <- which(!is_on & records$used)[1]
+  bad <- which(!is_on)[1]
   if (!is.na(bad)) refuse_off_grid(places$east[bad], places$north[bad], unit, records$number[bad])
-  list(easting = whole[[1]], northing = whole[[2]], is_on = is_on)
+  list(easting = whole[[1]], northing = whole[[2]])
 }
 
 refuse_off_grid <- function(east, north, unit, record) {
@@ -162,7 +148,7 @@ tell_moved <- function(places, whole, shift, unit, said) {
   east <- whole$easting / unit$scale - shift[1] - places$east
   north <- whole$northing / unit$scale - shift[2] - places$north
   moved <- sqrt(east^2 + north^2)
-  furthest <- max(moved[whole$is_on & moved < 1], 0)
+  furthest <- max(moved, 0)
   if (furthest > 1e-6) {
     say(said, NULL, "coordinates are rounded to whole ", unit$name, ", which moves a fix by at most ", sprintf("%.2g", furthest),
         " m", kind = "rounded")

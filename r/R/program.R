@@ -94,7 +94,7 @@ write_tracks <- function(fixes, folder) {
   records <- c(list(second = fixes$moment), fixes[c("easting", "northing")])
   rows <- split(seq_along(fixes$animal), as_groups(fixes$animal))
   files <- file.path(folder, paste0(seq_along(rows), ".csv"))
-  for (at in seq_along(rows)) write_track(files[at], records, as.character(at), rows[[at]], FALSE)
+  for (at in seq_along(rows)) write_track(files[at], records, as.character(at), rows[[at]])
   files
 }
 

@@ -5,7 +5,7 @@ kinds_of_lines <- c("export", "sha256", "unit", "zone", "shift", "crs", "option"
 single_lines <- kinds_of_lines[1:6]
 reasons_of_all <- c("animal", "coordinates", "zero", "sensor", "outlier", "class", "no dop", "dop", "type", "before", "after",
                     "grid", "speed", "months", "hours", "every", "use")  # use is an argument that left rows out
-no_options <- c("skip-lines", "mark", "skip-unnamed")  # whose value may be that of no wish
+no_options <- "skip-unnamed"  # whose value may be that of no wish
 
 # The lines of a record. What was left out is by the names that animals have in files.
 lines_of_record <- function(record) {

@@ -1,5 +1,5 @@
-# From the cells of a table to its records: which rows have coordinates and an animal, and what they say. The rules are
-# those of docs/TABLES.md, of a text and of a data frame alike.
+# From the cells of a data frame to its records: which rows have coordinates and an animal, and what they say. The rules are
+# those of docs/TABLES.md.
 
 types_of_sensors <- c(
   "397" = "bird-ring", "653" = "gps", "673" = "radio-transmitter", "82798" = "argos-doppler-shift", "2365682" = "natural-mark",
@@ -21,8 +21,8 @@ note_fault <- function(faults, found, rows, order) {
   list2env(list(row = row, order = order_of_faults[[order]], why = found$why, kind = found$kind), faults)
 }
 
-# A table that is read in pieces. Its columns are found by the titles.
-new_table <- function(titles, asked, has_semicolons = FALSE, has_points = FALSE) {
+# A table. Its columns are found by the titles.
+new_table <- function(titles, asked, has_points = FALSE) {
   check_asked(asked)
   table <- new.env()
   table$asked <- asked
@@ -31,12 +31,11 @@ new_table <- function(titles, asked, has_semicolons = FALSE, has_points = FALSE)
   check_time_is_there(table)
   find_marks(table)
   find_words(table)
-  table$readers <- number_readers(table, has_semicolons)
+  table$readers <- number_readers(table)
   table$times <- time_reader(table)
   table$names <- if (length(table$columns$animal)) character() else asked$name
   table$counts <- numeric()
   table$rows <- 0L
-  table$pieces <- list()
   table$left <- new_said(identity)
   table
 }
@@ -45,8 +44,8 @@ check_time_is_there <- function(table) {
   asked <- table$asked
   needs <- needs_time(asked)
   if (!length(table$columns$time) && !is.null(needs)) {
-    refuse("option", option_title(asked, needs), ": no column has a usual title for the time: name it, as by ",
-           option_word(asked, "time", "COLUMN"))
+    refuse("option", needs, ": no column has a usual title for the time: name it, as by ",
+           option_word("time", "COLUMN"))
   }
 }
 
@@ -81,8 +80,8 @@ wanted_column <- function(table, filter, option, titles) {
   if (is.null(table$asked[[filter]])) return(NA)
   found <- optional_column(table, option, titles)
   if (is.na(found)) {
-    refuse("columns", option_title(table$asked, filter), ": no column has a usual title for it (",
-           paste(titles, collapse = ", "), "): name it, as by ", option_word(table$asked, option, "COLUMN"))
+    refuse("columns", filter, ": no column has a usual title for it (",
+           paste(titles, collapse = ", "), "): name it, as by ", option_word(option, "COLUMN"))
   }
   found
 }
@@ -91,21 +90,18 @@ wanted_column <- function(table, filter, option, titles) {
 title_of <- function(table, at) ifelse(at > 0, table$titles$text[abs(at)], "point")
 
 # What reads the coordinates, by the names that records have for them, and where they stand.
-number_readers <- function(table, has_semicolons) {
+number_readers <- function(table) {
   columns <- table$columns
   at <- c(east = columns$grid[1], north = columns$grid[2], longitude = columns$degrees[1], latitude = columns$degrees[2])
   lapply(split(at, factor(names(at), names(at))), function(place) {
-    is_metres <- names(place) %in% c("east", "north")
-    c(new_reader(title_of(table, place), has_semicolons, is_metres, table$asked$missing), at = unname(place))
+    c(new_reader(title_of(table, place)), at = unname(place))
   })
 }
 
 time_reader <- function(table) {
-  asked <- table$asked
   columns <- table$columns$time
   is_second <- length(columns) == 1 && table$titles$plain[columns] == families$homerange$time
-  is_zoned <- !asked$is_frame && clock_of(asked) != "UTC"
-  new_times(paste(title_of(table, columns), collapse = " "), is_second, forms_of(asked$time_format), is_zoned, asked$missing)
+  list(title = paste(title_of(table, columns), collapse = " "), is_second = is_second)
 }
 
 # The columns that are read.
@@ -115,24 +111,9 @@ wanted_columns <- function(table) {
   sort(unique(found[!is.na(found) & found > 0]))
 }
 
-# The columns of numbers that may be read as such: where nothing else is a number, and nothing that is missing looks like one.
-plain_columns <- function(table) {
-  is_simple <- vapply(table$readers, `[[`, NA, "is_simple")
-  places <- vapply(table$readers, `[[`, 1L, "at")
-  setdiff(places[is_simple], c(table$columns$animal, table$columns$time, table$marks, table$words, table$dop))
-}
-
-# The column of times, if it may be read as ISO text of UTC, where it is nothing else.
-plain_times_column <- function(table) {
-  times <- table$times
-  is_simple <- length(table$columns$time) == 1 && is.null(times$forms) && !times$slack && !has_digits(times$missing)
-  places <- vapply(table$readers, `[[`, 1L, "at")
-  if (is_simple) setdiff(table$columns$time, c(table$columns$animal, places, table$marks, table$words, table$dop))
-}
-
 cells_of_column <- function(cells, at) cells[[as.character(at)]]
 
-# Takes the next rows, so many, of which the cells are by the number of their column. Refuses the first that has a fault.
+# Takes the rows, so many, of which the cells are by the number of their column. Refuses the first that has a fault.
 take_rows <- function(table, cells, count) {
   faults <- new_faults()
   rows <- seq_len(count)
@@ -149,19 +130,19 @@ take_rows <- function(table, cells, count) {
     named <- lapply(named, `[`, kept)
   }
   check_names(table, named, kept, faults)
-  found <- c(list(number = table$rows + kept, animal = match(named$name, table$names)), places,
+  found <- c(list(number = kept, animal = match(named$name, table$names)), places,
              list(used = used_rows(table, cells, kept, faults)), words_of_rows(table, cells, kept, faults),
              stamps_of_rows(table, cells, kept, faults))
-  if (is.finite(faults$row)) refuse(faults$kind, faults$why, record = table$rows + faults$row)
-  table$rows <- table$rows + count
-  table$pieces <- c(table$pieces, list(found))
+  if (is.finite(faults$row)) refuse(faults$kind, faults$why, record = faults$row)
+  table$rows <- count
+  table$records <- found
 }
 
 # The animal of each row, "" where there is none, and why it cannot be one, if so.
 names_of_rows <- function(table, cells, count) {
   columns <- table$columns$animal
   if (!length(columns)) return(list(name = rep(table$asked$name, count)))
-  found <- lapply(columns, function(at) names_of_cells(cells_of_column(cells, at), table$asked$na))
+  found <- lapply(columns, function(at) names_of_cells(cells_of_column(cells, at)))
   named <- Reduce(function(first, second) {
     Map(function(one, other) ifelse(first$name == "" & first$why == "", other, one), first, second)
   }, found)
@@ -174,10 +155,10 @@ names_of_rows <- function(table, cells, count) {
 }
 
 # The names of a column, "" where they are missing; why says what is wrong with one, "" where nothing is.
-names_of_cells <- function(cells, na) {
+names_of_cells <- function(cells) {
   faults <- attr(cells, "why")  # of a frame's names
   text <- as.vector(cells)
-  is_missing <- text %in% c(NA, na)
+  is_missing <- is.na(text)
   if (any(is_missing)) text[is_missing] <- ""
   list(name = text, why = if (is.null(faults)) rep("", length(text)) else faults)
 }
@@ -202,8 +183,7 @@ rows_with_place <- function(table, places, names) {
 check_names <- function(table, named, rows, faults) {
   bad <- which(named$name == "" & named$why == "")[1]
   if (!is.na(bad)) {
-    how <- if (table$asked$is_frame) "skip_unnamed = TRUE" else "--skip-unnamed"
-    why <- paste0("there is no ", title_of(table, table$columns$animal[1]), ", and ", how, " leaves such records out")
+    why <- paste0("there is no ", title_of(table, table$columns$animal[1]), ", and skip_unnamed = TRUE leaves such records out")
     note_fault(faults, read_values(NULL, bad, why, "animal"), rows, "animal")
   }
   odd <- which(named$why != "")[1]
@@ -216,7 +196,7 @@ check_names <- function(table, named, rows, faults) {
 used_rows <- function(table, cells, rows, faults) {
   marks <- lapply(names(table$marks), function(name) {
     at <- table$marks[[name]]
-    found <- read_truths(cells_of_column(cells, at), title_of(table, at), table$asked$missing, name == "use")
+    found <- read_truths(cells_of_column(cells, at), title_of(table, at), name == "use")
     note_fault(faults, found, rows, "mark")
     found$values %in% TRUE | (name == "visible" & is.na(found$values))
   })
@@ -231,7 +211,7 @@ used_rows <- function(table, cells, rows, faults) {
 words_of_rows <- function(table, cells, rows, faults) {
   words <- lapply(names(table$words), function(name) {
     action <- if (name == "sensor") sensors_of_words else identity
-    read_words(cells_of_column(cells, table$words[[name]]), table$asked$missing, action)
+    read_words(cells_of_column(cells, table$words[[name]]), action)
   })
   names(words) <- names(table$words)
   if (!is.null(words$zone)) {
@@ -240,7 +220,7 @@ words_of_rows <- function(table, cells, rows, faults) {
     words$zone <- found$values
   }
   if (!is.na(table$dop)) {
-    reader <- new_reader(title_of(table, table$dop), TRUE, FALSE, table$asked$missing)
+    reader <- new_reader(title_of(table, table$dop), has_commas = TRUE)
     found <- read_numbers(cells_of_column(cells, table$dop), reader)
     note_fault(faults, found, rows, "dop")
     words$dop <- found$values
@@ -254,22 +234,15 @@ sensors_of_words <- function(words) {
   unname(ifelse(is.na(types), words, types))
 }
 
-# The seconds of these rows and their fractions, and the other second of one of a local clock that comes twice.
+# The seconds of these rows and their fractions.
 stamps_of_rows <- function(table, cells, rows, faults) {
   columns <- table$columns$time
-  if (!length(columns)) return(list(second = table$rows + rows - 1, part = rep(0, length(rows))))
+  if (!length(columns)) return(list(second = rows - 1, part = rep(0, length(rows))))
   cells <- lapply(columns, function(at) cells_of_column(cells, at))
   if (length(cells) > 1) cells <- list(joined_texts(cells, table$times$title, faults, rows))
   stamps <- read_times(cells[[1]], table$times)
   note_fault(faults, stamps, rows, "time")
-  if (!table$times$slack || is.finite(faults$row)) return(stamps[c("second", "part")])
-  moments <- moments_of(stamps$second, clock_of(table$asked))
-  is_local <- stamps$is_local
-  last <- ifelse(is.na(moments$other), moments$first, moments$other)
-  bad <- which(is_local & (is.na(last) | last < 0))[1]
-  why <- paste0(table$times$title, ": the clocks of ", clock_of(table$asked), " passed over that time")
-  note_fault(faults, read_values(NULL, bad, why, "time"), rows, "time")
-  list(second = ifelse(is_local, moments$first, stamps$second), part = stamps$part, other = ifelse(is_local, moments$other, NA))
+  stamps[c("second", "part")]
 }
 
 # Texts of several columns joined by blanks, missing where one is. Other cells than text have no one form to join.
@@ -295,9 +268,7 @@ finish_table <- function(table, said) {
     say(said, sum(said$left$fixes[said$left$reason == reason]), texts[[reason]], ": left out")
   }
   tell_columns_missing(table, said)
-  tell_times(table, said)
-  records <- bound_pieces(table)
-  if (is.null(records$other)) records else settled_records(table, records, said)
+  table$records
 }
 
 tell_columns_missing <- function(table, said) {
@@ -311,50 +282,6 @@ tell_columns_missing <- function(table, said) {
   }
 }
 
-# Says by which form and in which zone times were read, where these were named.
-tell_times <- function(table, said) {
-  times <- table$times
-  if (!length(table$columns$time) || is.null(times$forms) && !times$slack) return(invisible())
-  used <- Filter(function(form) form$state$is_used, times$forms)
-  texts <- vapply(used, `[[`, "", "text")
-  how <- if (length(texts)) paste(texts, collapse = " and ") else "ISO text"
-  say(said, NULL, "times are read as ", how, ", in ", clock_of(table$asked), kind = "guessed")
-}
-
-# The records of all pieces, by columns; the pieces are gone then.
-bound_pieces <- function(table) {
-  columns <- unique(unlist(lapply(table$pieces, names)))
-  records <- list()
-  for (column in columns) {
-    records[[column]] <- unlist(lapply(table$pieces, `[[`, column), use.names = FALSE)
-    table$pieces <- lapply(table$pieces, function(piece) piece[names(piece) != column])
-  }
-  records
-}
-
-# The records with the second moment of times that come twice where the record before of the same animal is later than the
-# first.
-settled_records <- function(table, records, said) {
-  twice <- which(!is.na(records$other))
-  order <- order(records$animal)
-  before <- rep(NA_integer_, length(order))
-  before[order[-1]] <- ifelse(diff(records$animal[order]) == 0, order[-length(order)], NA)
-  for (at in twice) {
-    last <- before[at]
-    if (is.na(last)) next
-    is_earlier <- records$second[at] < records$second[last] ||
-      records$second[at] == records$second[last] && records$part[at] < records$part[last]
-    if (is_earlier) records$second[at] <- records$other[at]
-  }
-  numbers <- records$number[twice]
-  shown <- sprintf("%.0f", numbers[seq_len(min(10, length(numbers)))])
-  listed <- paste0(paste(shown, collapse = ", "), if (length(numbers) > 10) ", ..")
-  say(said, length(twice), "records lie in the hour that comes twice in ", clock_of(table$asked), ": records ", listed,
-      kind = "guessed")
-  records$other <- NULL
-  records
-}
-
 # Refuses a column of the animal that has another one in each row, and says where most have.
 check_animals <- function(table, said) {
   animals <- length(table$counts)
@@ -363,7 +290,7 @@ check_animals <- function(table, said) {
   title <- title_of(table, table$columns$animal[1])
   if (single == animals) {
     refuse("onefix", "every one of ", animals, " animals has one record: is ", title, " the animal? Name its column, as by ",
-           option_word(table$asked, "animal", "COLUMN"))
+           option_word("animal", "COLUMN"))
   }
   if (2 * single > animals) {
     say(said, single, "of ", animals, " animals have one record: is ", title, " the animal?", kind = "asked")

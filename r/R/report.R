@@ -21,7 +21,7 @@ kinds_of_codes <- replace(integer(256), utf8ToInt("abrcpo") + 1, seq_along(field
 report_text <- function(path) {
   size <- file.size(path)
   if (size > most_bytes) refuse("report", path, ": it is longer than R can read: take fewer animals at once")
-  text_of_bytes(readBin(path, "raw", size), path, "UTF-8")
+  text_of_bytes(readBin(path, "raw", size), path)
 }
 
 # The tables of a report's text, which is refused where it is not a whole report.
@@ -56,7 +56,7 @@ check_form <- function(text, name) {
 
 # Refuses the line of a text that stands behind these first bytes, which are whole lines that are right.
 refuse_line <- function(text, bytes, name) {
-  number <- sum(charToRaw(text)[seq_len(bytes)] == line_ends[1]) + 1
+  number <- sum(charToRaw(text)[seq_len(bytes)] == as.raw(10)) + 1
   line <- lines_of_text(text)[number]
   refuse("report", name, ": line ", number, " is none of a report there: ", substr(line, 1, 60))
 }
@@ -66,7 +66,7 @@ refuse_line <- function(text, bytes, name) {
 lines_of_report <- function(text) {
   bytes <- charToRaw(text)
   if (Encoding(text) != "unknown") Encoding(text) <- "bytes"
-  ends <- grepRaw(line_ends[1], bytes, fixed = TRUE, all = TRUE)
+  ends <- grepRaw(as.raw(10), bytes, fixed = TRUE, all = TRUE)
   kinds <- kinds_of_codes[as.integer(bytes[c(1L, ends + 1L)[seq_along(ends)]]) + 1L]
   commas <- c(1L, lengths(fields_of_kinds))[kinds + 1L]
   list(text = text, bytes = bytes, ends = ends, commas = grepRaw(as.raw(44), bytes, fixed = TRUE, all = TRUE),

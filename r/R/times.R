@@ -72,12 +72,7 @@ iso_clocks <- function(text) {
   list(second = ifelse(is_good, second, NA), part = part, offset = offset)
 }
 
-# What reads the times of a column. Slack is how far a local clock may be before that of UTC.
-new_times <- function(title, is_second, forms, is_zoned, missing) {
-  list(title = title, is_second = is_second, forms = forms, slack = if (is_zoned) 86400 else 0, missing = missing)
-}
-
-# The stamps of cells; bad, why and kind are those of the first that has none.
+# The stamps of cells of a column, which has a title and may be one of seconds; bad, why and kind are those of the first that has none.
 read_times <- function(cells, times) {
   if (is_moments(cells)) {
     stamps <- new_stamps(cells$second, cells$part, FALSE)
@@ -86,34 +81,33 @@ read_times <- function(cells, times) {
   } else {
     stamps <- stamps_of_numbers(if (is.numeric(cells)) cells else rep(NA_real_, length(cells)), times)
   }
-  least <- if (times$slack) -times$slack * stamps$is_local else 0
-  gone <- rows_without_time(cells, stamps, times)
-  is_bad <- is.na(stamps$second) | stamps$second < least | stamps$second > latest_second
+  gone <- rows_without_time(cells, stamps)
+  is_bad <- is.na(stamps$second) | stamps$second < 0 | stamps$second > latest_second
   is_bad[gone] <- TRUE
   bad <- which(is_bad)[1]
   why <- if (bad %in% gone) paste("there is no", times$title) else
-    paste0(times$title, " is ", shown(cells, bad), why_no_time(cells, bad, stamps, times))
+    paste0(times$title, " is ", shown(cells, bad), why_no_time(cells, bad, stamps))
   c(stamps, list(bad = bad, why = why, kind = "time"))
 }
 
-# The cells that are missing; those that are times need no look where nothing that stands for a missing one has digits.
-rows_without_time <- function(cells, stamps, times) {
-  suspects <- if (has_digits(times$missing)) seq_along(stamps$second) else which(is.na(stamps$second))
+# The cells that are missing.
+rows_without_time <- function(cells, stamps) {
+  suspects <- which(is.na(stamps$second))
   cells <- cells_at(cells, suspects)
-  suspects[are_missing(if (is.character(cells)) trimws(cells, whitespace = " ") else cells, times$missing)]
+  suspects[are_missing(if (is.character(cells)) trimws(cells, whitespace = " ") else cells)]
 }
 
 # Why a cell that is there is no time.
-why_no_time <- function(cells, at, stamps, times) {
+why_no_time <- function(cells, at, stamps) {
   if (!is.na(stamps$second[at])) {
     return(paste0(", which is no time since 1970, and not within 0 to ", sprintf("%.0f", latest_second), " seconds"))
   }
   number <- if (is.numeric(cells)) cells[at] else if (is.character(cells)) number_of_seconds(cells[at]) else NA
-  if (is.finite(number) && is.null(times$forms)) {
+  if (is.finite(number)) {
     return(paste0(", which ", looks_like(number), ": write ", wanted_time, ", or seconds since 1970, or seconds since another ",
                   "start in a column 'second'"))
   }
-  is_iso <- is.null(times$forms) && is.character(cells) && has_form(iso_form, cells[at])
+  is_iso <- is.character(cells) && has_form(iso_form, cells[at])
   if (is_iso) ", which is no time" else paste(" and not", wanted_time)
 }
 
@@ -124,7 +118,6 @@ number_of_seconds <- function(text) {
 }
 
 stamps_of_text <- function(text, times) {
-  if (!is.null(times$forms)) return(stamps_of_forms(text, times$forms))
   stamps <- iso_stamps(text)
   odd <- which(is.na(stamps$second))
   odd <- odd[has_form("^-?[0-9.]+\\z", text[odd])]

@@ -47,7 +47,7 @@ first_usual <- function(titles, wanted) {
 refuse_both <- function(titles, found, what, option = NULL) {
   names <- paste0("column ", found[1:2], " '", titles$text[found[1:2]], "'", collapse = " and ")
   remedy <- "rename one"
-  if (!is.null(option)) remedy <- paste("name one, as by", option_word(titles$asked, option, titles$text[found[1]]))
+  if (!is.null(option)) remedy <- paste("name one, as by", option_word(option, titles$text[found[1]]))
   refuse("ambiguous", names, " both fit ", what, ": ", remedy)
 }
 
@@ -62,14 +62,10 @@ listed <- function(titles) {
   paste(shortened(sprintf("'%s'", titles$text[seq_len(min(40, length(titles$text)))])), collapse = ", ")
 }
 
-# The column of a title that was named, or of one of several between |.
+# The column of a title that was named.
 named_column <- function(titles, text, option) {
-  wanted <- strsplit(paste0(text, "|"), "|", fixed = TRUE)[[1]]
-  found <- unlist(lapply(trimmed(wanted), function(title) which(titles$text == title)))
-  if (!length(found)) {
-    refuse("columns", option_title(titles$asked, option), ": there is no column '", paste(wanted, collapse = " or "),
-           "'; the table has ", listed(titles))
-  }
+  found <- which(titles$text == trimmed(text))
+  if (!length(found)) refuse("columns", option, ": there is no column '", text, "'; the table has ", listed(titles))
   found[1]
 }
 
@@ -123,7 +119,7 @@ usual_places <- function(titles) {
 }
 
 refuse_no_places <- function(titles) {
-  words <- mapply(function(option, value) option_word(titles$asked, option, value), c("easting", "northing", "lon", "lat"),
+  words <- mapply(function(option, value) option_word(option, value), c("easting", "northing", "lon", "lat"),
                   c("X", "Y", "X", "Y"))
   refuse("columns", "there are no columns of usual titles for easting and northing, or longitude and latitude: name them, as by ",
          words[1], " and ", words[2], ", or ", words[3], " and ", words[4], "; the table has ", listed(titles))

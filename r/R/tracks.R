@@ -4,39 +4,35 @@
 most_fixes <- 1048576  # of one animal
 
 # The tracks of a table that was read: of each animal the records that are chosen, in whole units, in the order of time.
-# shown is how an animal's name is said, and scale the areal scale of the reference system that is known otherwise than by
-# its zone.
-make_tracks <- function(table, said, shown = identity, scale = NULL) {
+# scale is the areal scale of the reference system that is known otherwise than by its zone.
+make_tracks <- function(table, said, scale = NULL) {
   records <- finish_table(table, said)
   choice <- new_choice(table, records, said)
   choose_records(choice)
   records <- choice$records
   unit <- units_known[[table$asked$unit]]
   places <- find_places(table, records, said)
-  shift <- shift_of_places(places, records$used, unit, said)
+  shift <- shift_of_places(places, unit, said)
   whole <- round_places(places, records, unit, shift)
-  leave_out(said, table$names[records$animal[!whole$is_on]], "grid")
-  say(said, sum(!whole$is_on), "outliers off the grid: left out")
   tell_moved(places, whole, shift, unit, said)
   if (is.null(scale) && !is.null(places$zone)) scale <- scale_of_zone
-  herd <- new_herd(choice, places, whole, shown)
+  herd <- new_herd(choice, whole)
   if (!is.null(scale)) check_scale(herd, places, scale)
   sort_herd(herd)
   filter_herd(herd, unit)
-  tell_animals(herd, table$asked$is_frame)
+  tell_animals(herd)
   tell_columns(herd, unit)
   list(herd = herd, records = herd$records, rows = herd$rows, places = places, zone = places$zone, shift = shift, table = table)
 }
 
-# The records with a place, whose rows stand by animal, in the order of their first rows.
-new_herd <- function(choice, places, whole, shown) {
+# The records, whose rows stand by animal, in the order of their first rows.
+new_herd <- function(choice, whole) {
   records <- choice$records
   records$easting <- whole$easting
   records$northing <- whole$northing
-  rows <- which(whole$is_on)
-  place <- match(records$animal[rows], unique(records$animal[rows]))
-  if (is.unsorted(place)) rows <- rows[order(place, method = "radix")]
-  list2env(list(records = records, rows = rows, names = choice$table$names, shown = shown, said = choice$said,
+  place <- match(records$animal, unique(records$animal))
+  rows <- if (is.unsorted(place)) order(place, method = "radix") else seq_along(place)
+  list2env(list(records = records, rows = rows, names = choice$table$names, said = choice$said,
                 asked = choice$asked, tz = choice$tz, table = choice$table))
 }
 
@@ -51,13 +47,12 @@ as_groups <- function(numbers) {
 }
 
 # How an animal is said, by its number.
-said_name <- function(herd, animal) herd$shown(herd$names[animal])
+said_name <- function(herd, animal) herd$names[animal]
 
 # Refuses a grid on which areas of an animal are wrong by more than 1 %, and says where by more than 0.1 %.
 check_scale <- function(herd, places, scale) {
-  used <- herd$rows[herd$records$used[herd$rows]]
-  animal <- as_groups(herd$records$animal[used])
-  means <- lapply(list(places$east, places$north), function(side) tapply(side[used], animal, mean))
+  animal <- as_groups(animals_of(herd))
+  means <- lapply(list(places$east, places$north), function(side) tapply(side[herd$rows], animal, mean))
   scales <- mapply(scale, means[[1]], means[[2]])
   scales[!is.finite(scales)] <- Inf
   worst <- which.max(abs(scales - 1))
@@ -117,13 +112,9 @@ filter_herd <- function(herd, unit) {
   }
 }
 
-# Keeps of each animal's used records those that are chosen.
+# Keeps of each animal's records those that are chosen.
 leave_rows <- function(herd, reason, text, chosen) {
-  used <- herd$records$used
-  kept <- lapply(split(herd$rows, as_groups(animals_of(herd))), function(rows) {
-    rows[!used[rows] | rows %in% chosen(rows[used[rows]])]
-  })
-  kept <- unlist(kept, use.names = FALSE)
+  kept <- unlist(lapply(split(herd$rows, as_groups(animals_of(herd))), chosen), use.names = FALSE)
   gone <- setdiff(herd$rows, kept)
   leave_out(herd$said, herd$names[herd$records$animal[gone]], reason)
   say(herd$said, length(gone), text, ": left out")
@@ -167,33 +158,26 @@ calendar_tests <- function(asked, tz) {
     })
 }
 
-# Says which animals have no track, and which tracks the program refuses. Refuses where no fix is used.
-tell_animals <- function(herd, is_frame) {
+# Says which animals have no track, and which tracks the program refuses. Refuses where no fix is left.
+tell_animals <- function(herd) {
   animal <- animals_of(herd)
-  used <- herd$records$used[herd$rows]
   for (name in sort(setdiff(herd$names, herd$names[animal]), method = "radix")) {
-    say(herd$said, NULL, "no fix of '", name, "' is left: ", if (is_frame) "it has no range" else "no file")
+    say(herd$said, NULL, "no fix of '", name, "' is left: it has no range")
   }
-  if (!any(used)) nothing_left()
+  if (!length(animal)) nothing_left()
   animals <- unique(animal)
   numbers <- tabulate(match(animal, animals), length(animals))
-  unused <- !animals %in% animal[used]
-  for (at in which(numbers > most_fixes | unused)) {
-    name <- said_name(herd, animals[at])
-    if (numbers[at] > most_fixes) {
-      say(herd$said, NULL, name, " has ", numbers[at], " records, more than the ", most_fixes, " that homerange takes",
-          kind = "limit")
-    }
-    if (unused[at]) say(herd$said, NULL, "no fix of ", name, " is used, which homerange refuses", kind = "limit")
+  for (at in which(numbers > most_fixes)) {
+    say(herd$said, NULL, said_name(herd, animals[at]), " has ", numbers[at], " records, more than the ", most_fixes,
+        " that homerange takes", kind = "limit")
   }
 }
 
-# Says which columns were taken, the number of animals, and the extent of the used fixes.
+# Says which columns were taken, the number of animals, and the extent of the fixes.
 tell_columns <- function(herd, unit) {
   columns <- herd$table$columns
   titles <- unique(title_of(herd$table, c(columns$animal, columns$time, columns$grid, columns$degrees)))
-  used <- herd$rows[herd$records$used[herd$rows]]
-  box <- vapply(herd$records[c("easting", "northing")], function(side) diff(range(side[used])), 0) / unit$scale / 1000
+  box <- vapply(herd$records[c("easting", "northing")], function(side) diff(range(side[herd$rows])), 0) / unit$scale / 1000
   say(herd$said, NULL, "columns: ", paste(titles, collapse = ", "), "; ", length(herd_animals(herd)), " animals, box ",
       sprintf("%.3f by %.3f km", box[1], box[2]), kind = "guessed")
 }

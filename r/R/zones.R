@@ -78,11 +78,8 @@ zone_of_crs <- function(crs) {
 }
 
 # A matrix of eastings and northings of longitudes and latitudes in a zone; not finite where they have no place.
-project <- function(longitude, latitude, zone, asked) {
-  if (!has_sf()) {
-    where <- if (asked$is_frame) "install it" else "install r-cran-sf"
-    refuse("zone", "there are no UTM coordinates of one zone, and longitude and latitude need sf: ", where)
-  }
+project <- function(longitude, latitude, zone) {
+  if (!has_sf()) refuse("zone", "there are no UTM coordinates of one zone, and longitude and latitude need sf: install it")
   places <- cbind(longitude, latitude)
   has_place <- abs(latitude) <= 90 & abs(longitude) <= 10 * 180 / pi  # what PROJ takes
   found <- matrix(Inf, nrow(places), 2)

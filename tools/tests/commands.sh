@@ -38,11 +38,9 @@ for script in "$top"/test "$tools"/*.sh "$tools"/herd/*.sh "$tools"/*.py "$tools
     holds "$called --nonsense" refuses_words "$script"
 done
 if is_here Rscript 'what scripts of R answer'; then
-    for script in check.R split.R; do
-        holds "$script --help" helps "$tools/$script"
-        holds "$script --version" is_versioned "$tools/$script"
-        holds "$script --nonsense" refuses_words "$tools/$script"
-    done
+    holds 'check.R --help' helps "$tools/check.R"
+    holds 'check.R --version' is_versioned "$tools/check.R"
+    holds 'check.R --nonsense' refuses_words "$tools/check.R"
 fi
 holds 'nothing was made' [ "$(LC_ALL=C ls commands)" = "errors
 said" ]

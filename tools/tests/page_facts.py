@@ -49,7 +49,7 @@ what status 5 means	crates/range_words/src/help.rt	fixes of a file were not all 
 the version	python/homerange/__init__.py	__version__ = "([0-9.]+)"
 the version	README.md	homerange_([0-9.]+)_amd64[.]deb
 the version	qgis/README.md	homerange-qgis-([0-9.]+)[.]zip
-the version	docs/TABLES.md	split[.]py ([0-9.]+),SUM
+the version	docs/TABLES.md	tool,homerange-split ([0-9.]+) [(]
 the version	CITATION.cff	^version: (.*)$
 the logic	release/SOURCES	logic ([0-9a-f]+)
 the logic	docs/PROOF.md	its logic, `([0-9a-f]+)`

@@ -1,6 +1,8 @@
 # Exports in which something has to be chosen or left out, and the record of a split. The functions are those of split.sh.
 # shellcheck shell=sh disable=SC2154
 
+is_split_here 'awkward exports' || return 0
+
 first=$(stamp '2024-05-01 00:30:00')
 
 # Fixes of several sensors make no range without being asked for.
@@ -81,9 +83,9 @@ says 'export.csv is no text: it has a byte 0'
 printf '%s\nJ\344ger,2024-05-01 00:30:00,1,2,33N,\n' "$head_line" | split_to 1
 says 'export.csv is no text in UTF-8'
 echo "$head_line" | split_to 2 --unit km
-says "argument --unit: invalid choice: 'km' (choose from 'm', 'dm')"
+says '--unit: km is neither m nor dm'
 echo "$head_line" | split_to 2 --bogus
-says 'unrecognized arguments: --bogus'
+says '--bogus'
 
 # The record of a split: the export and its checksum, the unit, the zone, the options, what was said, what was left out,
 # the tracks and their checksums, and by what it was made.
@@ -98,20 +100,20 @@ option,na,\\\\N
 option,tz,UTC
 said,1 records have no coordinates: left out
 said,UTM coordinates are those of the export; zone: 33N 1
-said,columns: individual-local-identifier, timestamp, utm-easting, utm-northing; 1 animals, box 0.000 by 0.000 km
+said,columns: individual-local-identifier, timestamp, utm-easting, utm-northing; 1 animals, box 0.000 by 0.000 km near 15.0 E 0.0 N, from 2024-05-01 to 2024-05-01
 said,animal 'a/b' is named a_b
 left,a_b,1,coordinates
 track,a_b,1,1,$(printf 'animal,second,easting,northing\na_b,1714523400,5000010,20\n' | sha256sum | cut -c -64)
+tool,$("$splitter" --version)
 END
 
 # What was read from a pipe has its own checksum; names of files are UTF-8 in whatever locale; a folder without a name.
 rm -rf "$work/piped" "$work/plain"
 printf '%s\n' "$head_line" 'J\303\244ger,2024-05-01 00:30:00,500001,2,33N,' | xargs -0 printf >"$work/export.csv"
-PYTHONUTF8=0 PYTHONCOERCECLOCALE=0 LC_ALL=C python3 "$tools/split.py" --into "$work/piped" /dev/stdin <"$work/export.csv" \
-    2>"$work/errors"
+LC_ALL=C "$splitter" --into "$work/piped" /dev/stdin <"$work/export.csv" 2>"$work/errors"
 holds 'the checksum of what was read from a pipe' \
     grep -qx "sha256,$(sha256sum <"$work/export.csv" | cut -c -64)" "$work/piped/split.txt"
 holds 'a name in UTF-8 in a locale without it' [ -f "$work/piped/Jäger.csv" ]
-holds 'a folder without a name is refused' is_refused python3 "$tools/split.py" --into '' "$work/export.csv"
-holds 'a folder that cannot be made is refused in a line' [ "$(python3 "$tools/split.py" --into /dev/null/x \
-    "$work/export.csv" 2>&1 | tail -n 1)" = 'split: /dev/null/x: Not a directory' ]
+holds 'a folder without a name is refused' is_refused "$splitter" --into '' "$work/export.csv"
+holds 'a folder that cannot be made is refused in a line' [ "$("$splitter" --into /dev/null/x "$work/export.csv" 2>&1)" = \
+    'split: /dev/null/x: Not a directory' ]

@@ -1,6 +1,8 @@
 # Exports that are refused. The functions are those of split.sh.
 # shellcheck shell=sh disable=SC2154
 
+is_split_here 'awkward exports' || return 0
+
 # An export of one record behind the titles, which is refused with this message.
 refuses() {
     message=$1

@@ -134,16 +134,16 @@ test_that("names are compared as Unicode compares them, in any locale", {
 test_that("what a call was told is in the record", {
   asked <- new_asked(list(animal = c("a", "b,c"), max_dop = 5, max_speed = 0.25, months = c(3, 4), hours = c(18, 6.5), every = 2,
                           zone = "33n", since = as.Date("2024-05-01"), until = as.POSIXct("2024-05-31 18:00", tz = "Europe/Berlin"),
-                          tz = "UTC", name = "a\\b\n"), is_frame = TRUE)
+                          tz = "UTC", name = "a\\b\n"))
   lines <- one_line(option_lines(options_told(asked, "ok")))
   expect_identical(lines, paste0("option,", c(
     "animal,a,b,c", "every,2h", "hours,18,6.5", "max-dop,5", "max-speed,0.25", "months,3,4", "name,a\\\\b\\x0a", "since,2024-05-01",
     "tz,UTC", "until,2024-05-31T16:00:00Z", "use,ok", "zone,33n")))
   expect_identical(options_of_lines(sub("^option,", "", lines))$name, "a\\b\n")
-  bare <- new_asked(list(every = "30min", until = "2024-05-31 18:00", skip_unnamed = TRUE), is_frame = TRUE)
+  bare <- new_asked(list(every = "30min", until = "2024-05-31 18:00", skip_unnamed = TRUE))
   expect_identical(option_lines(options_told(bare, TRUE)),
                    c("option,every,30min", "option,skip-unnamed", "option,until,2024-05-31 18:00", "option,use"))
-  expect_null(option_lines(options_told(new_asked(list(), is_frame = TRUE), c(TRUE, FALSE))))
+  expect_null(option_lines(options_told(new_asked(list()), c(TRUE, FALSE))))
 })
 
 test_that("a definition of a UTM zone is refused, and its code is taken", {
@@ -272,14 +272,14 @@ test_that("the verifier holds odd names, decimetres, grids of one's own, and mor
 
 # The export of the repository, its tracks in a folder, and their report.
 split_by_hand <- function(frame = parent.frame()) {
+  skip_without_split()
   export <- file.path(dirname(dirname(homerange_program())), "examples", "export.csv")
   named <- Sys.getenv("HOMERANGE_VERIFIER")
   if (nzchar(named)) export <- file.path(dirname(dirname(named)), "examples", "export.csv")
   skip_if_not(file.exists(export), "the export of the repository")
   folder <- local_folder(frame)
-  old <- options(homerange.code = c("1.0.0", strrep("0", 64)))
-  at_end(bquote(options(.(old))), frame)
-  split_text(export, file.path(folder, "tracks"), list(), identity)
+  into <- file.path(folder, "tracks")
+  system2(split_program(), c("--into", shQuote(into), shQuote(export)), stderr = FALSE)
   files <- list.files(file.path(folder, "tracks"), "[.]csv$", full.names = TRUE)
   report <- file.path(folder, "report.txt")
   system2(homerange_program(), c("--percent", "95,100", shQuote(rev(files))), stdout = report)

@@ -103,7 +103,7 @@ test_that("a table has the fixes of all tracks", {
   write("split.txt", "export,x.csv", paste0("sha256,", strrep("0", 64)), "unit,dm", "zone,33N", "shift,1000000,0", "option,mark",
         "said,1 outliers: use 0", "said,coordinates are shifted by 1000000 m east and 0 m north",
         "said,columns: a; 2 animals, box 0.001 by 0.001 km", "said,not read: note",
-        paste0("track,b_\u00e4,2,1,", strrep("1", 64)), paste0("track,a,2,2,", strrep("2", 64)), "tool,homerange-split 1.0.0")
+        paste0("track,b_\u00e4,2,1,", strrep("1", 64)), paste0("track,a,2,2,", strrep("2", 64)), "tool,homerange-split 1.0.0 (logic 0123456789abcdef)")
   local_split(sprintf("cp -r '%s' \"$into\"", made))
   told <- list()
   table <- withCallingHandlers(read_export("export.csv", unit = "dm", tz = "Europe/Berlin"), homerange_note = function(note) {

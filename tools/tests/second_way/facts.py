@@ -24,7 +24,7 @@ class Animal:
         self.name = own.track.name.encode("latin-1").decode("utf-8", "replace")
         self.areas = [area2 for _, area2 in own.curve]
         self.hull, self.used, self.first, self.last = own.hull, len(own.curve), self.seconds[0], self.seconds[-1]
-        # A fix that is in the track and not used is a marked outlier, where split.py made the track.
+        # A fix that is in the track and not used is a marked outlier, where the track was made of an export.
         self.left = split.left_of(self.name) if split else {}
         if own.track.unused:
             reason = "outlier" if split else "use"

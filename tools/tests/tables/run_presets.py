@@ -5,8 +5,8 @@ import re
 import sys
 from pathlib import Path
 
-TOP = Path(__file__).resolve().parents[3]
-SOURCE, OPTIONS = TOP / "crates/split_titles/src/presets.rt", TOP / "python/homerange/collars.csv"
+HERE = Path(__file__).resolve().parent
+SOURCE, OPTIONS = HERE.parents[2] / "crates/split_titles/src/presets.rt", HERE / "collars.csv"
 FIELD = re.compile(r'(\w+):\s*(?:Some\(\s*)?(?:"([^"\\]*)"|(GPX)|None)')
 
 

@@ -1,8 +1,7 @@
 #!/usr/bin/env python3
 """run_python.py CASES: whether the Python package makes of each table the tracks that are wanted, or refuses it with the
-kind and the record: as a text, as a frame with types, and as a frame of text. CASES is the folder that unpack.py wrote."""
+kind and the record: as a frame with types, and as a frame of text. CASES is the folder that unpack.py wrote."""
 import sys
-import tempfile
 from pathlib import Path
 
 from cases import LISTS, cases, difference, report
@@ -12,31 +11,19 @@ sys.path.insert(0, str(Path(__file__).resolve().parents[3] / "python"))
 import pandas
 from homerange import FrameError
 from homerange.asked import Asked
-from homerange.exports import split_text
 from homerange.frames import read_frame
 from homerange.names import file_names
 
-NUMBERS = {"max-dop": float, "max-speed": float}
 
-
-def compared(case, is_frame, make):
+def compared(case, make):
     """How what is made of a case is not what is wanted; None where it is."""
-    refusal = case.refusal(is_frame)
+    refusal = case.refusal(True)
     try:
         found = make(case)
     except FrameError as fault:
         told = ("-" if fault.record is None else str(fault.record), fault.kind)
         return None if told == refusal else f"refused as {told} ({fault}), {refusal or 'tracks'} wanted"
     return f"taken, and {refusal} is wanted: {found}" if refusal else difference(case.tracks, found)
-
-
-def as_text(case):
-    with tempfile.TemporaryDirectory() as folder:
-        options = {name: True if name in ("mark", "skip-unnamed") else int(value) if name == "skip-lines" else value
-                   for name, value in case.options.items()}
-        split_text(str(case.table), f"{folder}/tracks", options, lambda line: None)
-        paths = [path for path in Path(folder, "tracks").iterdir() if path.name != "split.txt"]
-        return {path.name[:-4]: path.read_bytes() for path in paths}
 
 
 def argument(name, value):
@@ -50,7 +37,7 @@ def as_frame(case, **reading):
     """The tracks of the table as a frame, as files would have them."""
     frame = pandas.read_csv(case.table, **reading)
     words = {name.replace("-", "_"): argument(name, value) for name, value in case.options.items()}
-    tracks = read_frame(frame, Asked(is_frame=True, **words), lambda line: None)
+    tracks = read_frame(frame, Asked(**words), lambda line: None)
     if tracks.shift != case.shift:
         raise AssertionError(f"{case.name}: shifted by {tracks.shift}")
     files = file_names(tracks.by_name)
@@ -73,9 +60,9 @@ def text_frame(case):
 
 
 def main():
-    results = [(case.name + " as text", compared(case, False, as_text)) for case in cases(sys.argv[1], "text")]
+    results = []
     for name, make in (("typed frame", typed_frame), ("frame of text", text_frame)):
-        results += [(f"{case.name} as a {name}", compared(case, True, make)) for case in cases(sys.argv[1], "frame")]
+        results += [(f"{case.name} as a {name}", compared(case, make)) for case in cases(sys.argv[1], "frame")]
     sys.exit(report(results))
 
 

@@ -1,5 +1,5 @@
 # run_r.R CASES: whether the package for R makes of each table the tracks that are wanted, or refuses it with the kind and the
-# record: as a text, as a frame with types, and as a frame of text. CASES is the folder that unpack.py wrote.
+# record: as a frame with types, and as a frame of text. CASES is the folder that unpack.py wrote.
 invisible(Sys.setlocale("LC_CTYPE", "C.UTF-8"))
 script <- sub("^--file=", "", grep("^--file=", commandArgs(), value = TRUE))
 package <- file.path(dirname(normalizePath(script)), "..", "..", "..", "r")
@@ -27,23 +27,13 @@ texts_in <- function(folder) {
   `names<-`(texts, sub("[.]csv$", "", paths))
 }
 
-as_text <- function(case) {
-  folder <- tempfile("tracks")
-  on.exit(unlink(folder, recursive = TRUE))
-  options <- options_of(case)
-  words <- !names(options) %in% c("mark", "skip_unnamed", "skip_lines")
-  options[words] <- lapply(options[words], as.character)
-  homerange$split_text(file.path(case, "table.csv"), folder, options, identity)
-  texts_in(folder)
-}
-
 # The tracks of the table as a frame that is read so, as files would have them.
 as_frame <- function(case, ...) {
   frame <- read.csv(file.path(case, "table.csv"), check.names = FALSE, encoding = "UTF-8", ...)
   options <- options_of(case)
-  lists <- intersect(names(options), homerange$list_options)
+  lists <- intersect(names(options), c("animal", "time", "sensor", "argos_class", "fix_type"))
   options[lists] <- lapply(options[lists], function(value) homerange$words_of(value, "value"))
-  read <- suppressMessages(homerange$read_frame(frame, homerange$new_asked(options, is_frame = TRUE)))
+  read <- suppressMessages(homerange$read_frame(frame, homerange$new_asked(options)))
   shift <- c(lines_of(case, "shift"), "0,0")[1]
   if (sprintf("%.0f,%.0f", read$shift[1], read$shift[2]) != shift) stop("shifted by ", paste(read$shift, collapse = ","))
   fixes <- read$fixes
@@ -60,8 +50,8 @@ as_typed_frame <- function(case) as_frame(case)
 as_frame_of_text <- function(case) as_frame(case, colClasses = "character", na.strings = character())
 
 # How what is made of a case is not what is wanted; NULL where it is.
-difference <- function(case, make, is_frame) {
-  refusal <- c(if (is_frame) lines_of(case, "refusal.frame"), lines_of(case, "refusal"))[1]
+difference <- function(case, make) {
+  refusal <- c(lines_of(case, "refusal.frame"), lines_of(case, "refusal"))[1]
   found <- tryCatch(make(case), homerange_error = function(fault) fault)
   if (inherits(found, "error")) {
     told <- paste(if (is.null(found$record)) "-" else found$record, found$kind)
@@ -74,24 +64,23 @@ difference <- function(case, make, is_frame) {
   }
 }
 
-# The cases that can be given to this kind of front end.
-cases_of <- function(folder, kind) {
+# The cases that can be given as a frame.
+cases_of <- function(folder) {
   cases <- list.dirs(folder, recursive = FALSE)
-  cases[vapply(cases, function(case) c(lines_of(case, "only"), kind)[1] == kind, NA)]
+  cases[vapply(cases, function(case) c(lines_of(case, "only"), "frame")[1] == "frame", NA)]
 }
 
 # How many cases of a way are as they are wanted, and how many there are. Prints those that are not.
-run_all <- function(what, make, is_frame) {
-  cases <- cases_of(commandArgs(trailingOnly = TRUE)[1], if (is_frame) "frame" else "text")
+run_all <- function(what, make) {
+  cases <- cases_of(commandArgs(trailingOnly = TRUE)[1])
   faults <- lapply(cases, function(case) {
-    tryCatch(difference(case, make, is_frame), error = function(fault) paste("stops:", conditionMessage(fault)))
+    tryCatch(difference(case, make), error = function(fault) paste("stops:", conditionMessage(fault)))
   })
   is_bad <- !vapply(faults, is.null, NA)
   if (any(is_bad)) cat(paste0(basename(cases)[is_bad], " as a ", what, ": ", faults[is_bad], "\n"), sep = "")
   c(sum(!is_bad), length(cases))
 }
 
-counts <- run_all("text", as_text, FALSE) + run_all("typed frame", as_typed_frame, TRUE) +
-  run_all("frame of text", as_frame_of_text, TRUE)
+counts <- run_all("typed frame", as_typed_frame) + run_all("frame of text", as_frame_of_text)
 cat(counts[1], "of", counts[2], "tables\n")
 quit(status = if (counts[1] == counts[2] && counts[2] > 0) 0 else 1)
