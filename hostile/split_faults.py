@@ -128,6 +128,9 @@ def all_cases():
     in_latin = METRES.replace(b"otter", b"loutre \xe9")
     yield Case("latin-1", ("--encoding", "latin-1", "export.csv"), {"export.csv": in_latin})
     yield Case("parents that are made", ("--into", "of/this/year", "export.csv"), own)
+    two = {**own, "other.csv": f"{TITLES}\notter,5,1501,2501\nfox,90,1020,2030\n".encode()}
+    yield Case("two exports", ("export.csv", "other.csv"), two)
+    yield Case("a refusal in the second of two", ("export.csv", "other.csv"), {**two, "other.csv": f"{TITLES}\nfox,9,x,1\n".encode()}, 1)
     yield Case("what another run left", ("export.csv",), {**own, ".tracks.part-1/fox.csv": b"x"})
     yield Case("a refusal in record 3", ("export.csv",), {"export.csv": METRES.replace(b"2020.5", b"x")}, 1)
     yield Case("a folder that is there", ("export.csv",), {**own, "tracks/fox.csv": b"of yesterday"}, 1)

@@ -177,6 +177,8 @@ class Reader:
         kind, comma, rest = line.partition(",")
         if not comma:
             self.refuse(line)
+        elif kind == "export" and kind in self.single:
+            raise FrameError(f"{self.path}: its tracks are of several exports: evidence is made of those of one", "text")
         elif kind in SINGLE and kind not in self.single and (kind not in FORMS or FORMS[kind].fullmatch(rest)):
             self.single[kind] = rest
         elif kind == "option":

@@ -123,3 +123,6 @@ def test_a_record_is_read(made: Path):
         (made / "split.txt").write_text(text.replace(old, new))
         with pytest.raises(FrameError, match="does not fit there"):
             read_record(made / "split.txt")
+    (made / "split.txt").write_text(f"export,hare.csv\nsha256,{64 * 'b'}\n{text}")
+    with pytest.raises(FrameError, match="its tracks are of several exports"):
+        read_record(made / "split.txt")

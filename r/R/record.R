@@ -75,6 +75,7 @@ read_record <- function(path) {
   refuse_line <- function(bad) {
     if (length(bad)) refuse("text", path, ": line ", bad[1], " is '", lines[bad[1]], "', which does not fit there")
   }
+  if (sum(kinds == "export") > 1) refuse("text", path, ": its tracks are of several exports: evidence is made of those of one")
   refuse_line(which(!kinds %in% kinds_of_lines | kinds == lines | duplicated(kinds) & kinds %in% single_lines))
   single <- as.list(`names<-`(rest, kinds)[kinds %in% single_lines])
   wanted <- c(if (any(c("export", "sha256") %in% kinds)) c("export", "sha256"), "unit", "zone")

@@ -1,7 +1,8 @@
 // From the bytes of an export to the files of its tracks.
 
-ghost use Rattle.std.specs.Prelude.{◌≡◌, IfOk, length, map};
+ghost use Rattle.std.specs.Prelude.{◌≡◌, IfErr, IfOk, length, map};
 ghost use Rattle.split_chain.specs.Chain.{AreFilesAt, AreFilesBy, AreFilesOf, AreMade, IsSplit, tracks_with};
+ghost use Rattle.split_chain.specs.Refused.{IsRefused};
 ghost use Rattle.split_counts.specs.Counts.{left_counts};
 ghost use Rattle.split_export.specs.Export.{bytes_of};
 ghost use Rattle.split_export.specs.Files.{entries_of_all, filed, files_of};
@@ -336,6 +337,7 @@ fn split_read(
         return Err(Refusal::out_of_memory(alloc));
     };
     let sheet = Sheet {
+        exports: wish.exports,
         titles: &titles,
         columns: &export.columns,
         unit: asked.unit,
@@ -377,7 +379,8 @@ pub fn split_export(
     asked: &Asked<'_>,
     wish: &Wish<'_>,
 ) -> Result<Split, Refusal>
-    ensures { IfOk result (λ split. IsSplit wish.now asked.now bytes.now split.files.items split.counts.items) }
+    ensures split { IfOk result (λ split. IsSplit wish.now asked.now bytes.now split.files.items split.counts.items) }
+    ensures refused { IfErr result (IsRefused asked.now bytes.now) }
 {
     let mut export = read(alloc, bytes, path, asked, wish.needs_time, wish.clock_name)?;
     refuse_maker(alloc, asked, &export)?;

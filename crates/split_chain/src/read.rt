@@ -1,7 +1,9 @@
 // The table of an export, or its refusal.
 
-ghost use Rattle.std.specs.Prelude.{IfOk};
+ghost use Rattle.std.specs.Prelude.{IfErr, IfOk, None, Some};
+ghost use Rattle.split_chain.specs.Refused.{IsOfFault, record_of, record_of_reading};
 ghost use Rattle.split_export.specs.Export.{IsExport};
+ghost use Rattle.split_refusal.specs.Refused.{Names};
 
 use range_plane::OutOfMemory;
 use split_export::{
@@ -25,7 +27,9 @@ pub(crate) fn shown<'a>(alloc: Global, texts: &'a [Vec<u8>]) -> Result<Vec<&'a [
 }
 
 // The refusal of titles.
-fn title_refusal(alloc: Global, bytes: &[u8], path: &[u8], fault: TitleFault<'_>) -> Refusal {
+fn title_refusal(alloc: Global, bytes: &[u8], path: &[u8], fault: TitleFault<'_>) -> Refusal
+    ensures { Names None result }
+{
     let Ok(titles) = titles_of(alloc, bytes) else {
         return Refusal::out_of_memory(alloc);
     };
@@ -44,7 +48,9 @@ enum RecordFault {
 }
 
 // The refusal of a record, of which this is shown.
-fn shown_refusal(alloc: Global, fault: RecordFault, shown: &RecordShown<'_>) -> Refusal {
+fn shown_refusal(alloc: Global, fault: RecordFault, shown: &RecordShown<'_>) -> Refusal
+    ensures { Names (Some shown.now.number) result }
+{
     match fault {
         RecordFault::Cell(fault) => refused_cell(alloc, fault, shown),
         RecordFault::Day => refused_day(alloc, shown),
@@ -61,7 +67,9 @@ fn fields_refusal<'a>(
     animal: &'a [usize],
     time: &'a [usize],
     clock: &'a str,
-) -> Refusal {
+) -> Refusal
+    ensures { Names (Some number) result }
+{
     let shown = RecordShown {
         number,
         titles,
@@ -81,7 +89,9 @@ fn record_refusal(
     fault: RecordFault,
     columns: &Columns<Global>,
     clock: &str,
-) -> Refusal {
+) -> Refusal
+    ensures { Names (Some «record») result }
+{
     let (Ok(titles), Ok(fields)) = (
         titles_of(alloc, bytes),
         fields_of_record(alloc, bytes, record),
@@ -142,7 +152,9 @@ fn reading_refusal(
     fault: ReadingFault,
     asked: &Asked<'_>,
     clock: &str,
-) -> Refusal {
+) -> Refusal
+    ensures { Names (record_of_reading fault) result }
+{
     match fault {
         ReadingFault::OutOfMemory => Refusal::out_of_memory(alloc),
         ReadingFault::TooManyRecords => Refusal::new(
@@ -166,7 +178,9 @@ fn reading_refusal(
 }
 
 // That an option needs a time, and no column has it.
-fn refused_no_time(alloc: Global, option: &str) -> Refusal {
+fn refused_no_time(alloc: Global, option: &str) -> Refusal
+    ensures { Names None result }
+{
     match format!(in alloc;
         "{option}: no column has a usual title for the time: name it, as by --time COLUMN"
     ) {
@@ -184,7 +198,9 @@ fn export_refusal(
     option: &str,
     clock: &str,
     fault: ExportFault<'_>,
-) -> Refusal {
+) -> Refusal
+    ensures { Names (record_of fault.entry) result }
+{
     match fault {
         ExportFault::Text(fault) => refused_text(alloc, fault, path),
         ExportFault::Table(fault) => refused_table(alloc, fault, path),
@@ -253,7 +269,8 @@ pub(crate) fn read(
     option: &str,
     clock: &str,
 ) -> Result<Export, Refusal>
-    ensures { IfOk result (IsExport asked.now bytes.now) }
+    ensures export { IfOk result (IsExport asked.now bytes.now) }
+    ensures fault { IfErr result (IsOfFault asked.now bytes.now) }
 {
     match read_export(alloc, bytes, asked) {
         Ok(export) => Ok(export),

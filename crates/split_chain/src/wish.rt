@@ -7,10 +7,13 @@ use range_plane::Scale;
 use split_clock::Clock;
 use split_pace::{Filter, Speed};
 use split_reading::Zone;
+use split_said::Exports;
 
 /// What is wished of tracks.
 #[derive(Clone, Copy)]
 pub struct Wish<'a> {
+    /// The exports of which the table was made.
+    pub exports: Exports<'a>,
     /// The zone of all coordinates.
     pub zone: Option<Zone>,
     /// Whether fixes that are not used stand in tracks, with a mark; else they are left out.

@@ -36,10 +36,10 @@ fn asks_for_record(words: &[String]) -> bool {
     false
 }
 
-// The export that words name which were read.
+// The one export that words name which were read; nothing where they name several.
 fn export_of<'a>(read: &Result<(Words<'a>, Clock), WordFault>) -> &'a str {
     match read {
-        Ok((words, _clock)) => words.export,
+        Ok((words, _clock)) => words.only_export(),
         Err(_) => "",
     }
 }

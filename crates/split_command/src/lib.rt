@@ -7,8 +7,10 @@ mod command_line;
 mod exit_status;
 mod folder;
 mod machine;
+mod read;
 mod record;
 mod run;
+mod several;
 mod stop;
 mod text;
 

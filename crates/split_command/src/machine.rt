@@ -36,10 +36,14 @@ fn record_of(
     }
 }
 
-/// Why there is no folder of an export at this path, as a record of CSV: the kind, the path, the number of the record where one has
+/// Why there is no folder of an export at this path, as a record of CSV: the kind, the path, or that of the export that the refusal
+/// names, the number of the record where one has
 /// the fault, and the text. None where there is no memory for it.
 pub(crate) fn machine_record(alloc: Global, stop: &Stop, export: &str) -> Option<Vec<u8>> {
-    let path = line_of(alloc, export.as_bytes()).ok()?;
+    let path = match &stop.refusal.export {
+        Some(own) => line_of(alloc, own).ok()?,
+        None => line_of(alloc, export.as_bytes()).ok()?,
+    };
     let text = text_of(alloc, stop)?;
     let mut buffer = Buffer::new();
     let number = match stop.refusal.record {

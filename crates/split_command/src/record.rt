@@ -4,7 +4,7 @@ use range_plane::OutOfMemory;
 use split_chain::Split;
 use split_counts::count_of;
 use split_export::TrackFile;
-use split_record::{Left, Record, TrackMade, record_text, sum_of};
+use split_record::{ExportRead, Left, Record, TrackMade, record_text, sum_of};
 use split_tracks::Reason;
 use split_words::{VERSION, Words};
 use std::alloc::Global;
@@ -27,12 +27,28 @@ const REASONS: [Reason; 14] = [
     Reason::Every,
 ];
 
-// The name at the end of a path.
-fn name_of(path: &str) -> &str {
+/// The name at the end of a path.
+pub(crate) fn name_of(path: &str) -> &str {
     match path.rsplit_once('/') {
         Some((_, name)) => name,
         None => path,
     }
+}
+
+// The exports that were read, whose bytes have these checksums.
+fn all_read<'a>(
+    alloc: Global,
+    paths: &[&'a str],
+    sums: &[[u8; 64]],
+) -> Result<Vec<ExportRead<'a>>, OutOfMemory> {
+    let mut read = Vec::new(alloc);
+    for (path, sum) in paths.iter().zip(sums) {
+        read.push(ExportRead {
+            name: name_of(path).as_bytes(),
+            sum: *sum,
+        })?;
+    }
+    Ok(read)
 }
 
 // Appends what is left out of an animal, or of none.
@@ -106,24 +122,24 @@ fn all_said<'a>(alloc: Global, split: &'a Split) -> Result<Vec<&'a [u8]>, OutOfM
     Ok(said)
 }
 
-/// The text of the record of tracks.
+/// The text of the record of tracks, made of exports with these checksums.
 ///
 /// # Errors
 ///
 /// Memory ran out.
 pub(crate) fn record_of(
     alloc: Global,
-    bytes: &[u8],
+    sums: &[[u8; 64]],
     words: &Words<'_>,
     split: &Split,
 ) -> Result<Vec<u8>, OutOfMemory> {
+    let exports = all_read(alloc, &words.exports, sums)?;
     let said = all_said(alloc, split)?;
     let left = all_left(alloc, split)?;
     let tracks = all_made(alloc, split)?;
     let tool = format!(in alloc; "homerange-split {VERSION}")?;
     let record = Record {
-        export: name_of(words.export).as_bytes(),
-        sum: sum_of(bytes),
+        exports: &exports,
         unit: words.unit,
         zone: split.grid.zone,
         shift: split.grid.shift,

@@ -1,9 +1,11 @@
 // What the words ask for, done.
 
-use crate::folder::{refuse_there, refused_path, write_tracks};
-use crate::record::record_of;
+use crate::folder::{refuse_there, write_tracks};
+use crate::read::{Exports, read_exports};
+use crate::record::{name_of, record_of};
+use crate::several::{join_exports, placed};
 use crate::stop::Stop;
-use crate::text::{behind_lines, from_header, text_of};
+use crate::text::{table_in, text_of};
 use itoa::Buffer;
 use range_plane::{OutOfMemory, Scale};
 use split_chain::{Split, Wish, split_export};
@@ -13,12 +15,8 @@ use split_refusal::{Kind, Refusal};
 use split_titles::Named;
 use split_words::{Choices, NamedColumns, Words};
 use std::alloc::Global;
-use std::fs;
 use std::io::Read;
 use std::rt::Files;
-
-// The path that stands for standard input.
-const STANDARD_INPUT: &str = "-";
 
 // The columns that the words name, where filters look at some.
 fn named_of<'a>(columns: &'a NamedColumns<'a>, choices: &Choices<'_>) -> Named<'a> {
@@ -38,8 +36,14 @@ fn named_of<'a>(columns: &'a NamedColumns<'a>, choices: &Choices<'_>) -> Named<'
 }
 
 // What the words wish of tracks, which choose such fixes, by this clock.
-fn wish_of<'a>(words: &Words<'a>, choices: &'a Choices<'a>, clock: &'a Clock) -> Wish<'a> {
+fn wish_of<'a>(
+    words: &Words<'a>,
+    choices: &'a Choices<'a>,
+    clock: &'a Clock,
+    exports: split_said::Exports<'a>,
+) -> Wish<'a> {
     Wish {
+        exports,
         zone: words.zone,
         keeps_marks: words.keeps_marks,
         speed: choices.speed,
@@ -55,10 +59,21 @@ fn wish_of<'a>(words: &Words<'a>, choices: &'a Choices<'a>, clock: &'a Clock) ->
     }
 }
 
-// Splits the text of a table, of which the words ask this.
+// A table, and the exports of which it was made.
+#[derive(Clone, Copy)]
+struct Source<'a> {
+    table: &'a [u8],
+    // Whether commas may stand before decimals also where they part its fields.
+    has_commas: bool,
+    // Of one export nothing has to be told.
+    names: &'a [&'a [u8]],
+    counts: &'a [u32],
+}
+
+// Splits a table, of which the words ask this.
 fn split_asked<'a>(
     alloc: Global,
-    table: &[u8],
+    source: Source<'a>,
     words: &Words<'a>,
     missing: &'a [&'a [u8]],
     named: Named<'a>,
@@ -66,11 +81,16 @@ fn split_asked<'a>(
     clock: &'a Clock,
 ) -> Result<Split, Refusal> {
     let filters = choices.filters();
-    let wish = wish_of(words, choices, clock);
+    let exports = split_said::Exports {
+        names: source.names,
+        counts: source.counts,
+    };
+    let wish = wish_of(words, choices, clock, exports);
     let asked = Asked {
         named,
         name: words.name.unwrap_or("animal").as_bytes(),
         unit: words.unit,
+        has_commas: source.has_commas,
         missing,
         forms: words.forms,
         clock: Some(clock),
@@ -78,13 +98,19 @@ fn split_asked<'a>(
         needs_time: !wish.needs_time.is_empty(),
         skips_unnamed: words.skips_unnamed,
     };
-    split_export(alloc, table, words.export.as_bytes(), &asked, &wish)
+    split_export(
+        alloc,
+        source.table,
+        words.first_export().as_bytes(),
+        &asked,
+        &wish,
+    )
 }
 
 // The same, where the words name such columns.
 fn split_named<'a>(
     alloc: Global,
-    table: &[u8],
+    source: Source<'a>,
     words: &Words<'a>,
     missing: &'a [&'a [u8]],
     columns: &'a NamedColumns<'a>,
@@ -92,24 +118,19 @@ fn split_named<'a>(
     clock: &'a Clock,
 ) -> Result<Split, Refusal> {
     let named = named_of(columns, choices);
-    split_asked(alloc, table, words, missing, named, choices, clock)
+    split_asked(alloc, source, words, missing, named, choices, clock)
 }
 
-// Splits the text of the export.
-fn split_text(
+// The same, with all that the words ask.
+fn split_source(
     alloc: Global,
-    text: &[u8],
+    source: Source<'_>,
     words: &Words<'_>,
     clock: &Clock,
 ) -> Result<Split, Refusal> {
-    let table = behind_lines(text, words.text.skipped);
-    let table = match words.header {
-        Some(header) => from_header(alloc, table, header)?,
-        None => table,
-    };
     split_named(
         alloc,
-        table,
+        source,
         words,
         &words.missing,
         &words.columns,
@@ -118,40 +139,77 @@ fn split_text(
     )
 }
 
-// Splits the bytes of the export.
-fn split_bytes(
+// Splits the text of one export.
+fn split_text(
+    alloc: Global,
+    text: &[u8],
+    words: &Words<'_>,
+    clock: &Clock,
+) -> Result<Split, Refusal> {
+    let source = Source {
+        table: table_in(alloc, text, words)?,
+        has_commas: false,
+        names: &[],
+        counts: &[],
+    };
+    split_source(alloc, source, words, clock)
+}
+
+// Splits the bytes of one export.
+fn split_one(
     alloc: Global,
     bytes: &[u8],
     words: &Words<'_>,
     clock: &Clock,
 ) -> Result<Split, Refusal> {
-    match text_of(alloc, words.export, bytes, words.text)? {
+    match text_of(alloc, words.first_export(), bytes, words.text)? {
         Some(text) => split_text(alloc, &text, words, clock),
         None => split_text(alloc, bytes, words, clock),
     }
 }
 
-// The bytes of standard input.
-fn input_bytes<I: Read>(alloc: Global, input: &mut I) -> Result<Vec<u8>, Refusal> {
-    let mut bytes = Vec::new(alloc);
-    match input.read_to_end(&mut bytes) {
-        Ok(_) => Ok(bytes),
-        Err(error) => Err(refused_path(alloc, Kind::Text, "standard input", &error)),
+// The names at the end of paths.
+fn names_of<'a>(alloc: Global, paths: &[&'a str]) -> Result<Vec<&'a [u8]>, OutOfMemory> {
+    let mut names: Vec<&[u8]> = Vec::new(alloc);
+    for path in paths {
+        names.push(name_of(path).as_bytes())?;
+    }
+    Ok(names)
+}
+
+// Splits the bytes of several exports, as those of one table.
+fn split_several(
+    alloc: Global,
+    all: &[Vec<u8>],
+    words: &Words<'_>,
+    clock: &Clock,
+) -> Result<Split, Refusal> {
+    let joined = join_exports(alloc, words, all)?;
+    let Ok(names) = names_of(alloc, &words.exports) else {
+        return Err(Refusal::out_of_memory(alloc));
+    };
+    let source = Source {
+        table: &joined.text,
+        has_commas: joined.has_commas,
+        names: &names,
+        counts: &joined.counts,
+    };
+    match split_source(alloc, source, words, clock) {
+        Ok(split) => Ok(split),
+        Err(refusal) => Err(placed(alloc, refusal, &words.exports, &joined.counts)),
     }
 }
 
-// The bytes of the export, which may be standard input.
-fn export_bytes<R: Files + AllocGlobal, I: Read>(
-    rt: &R,
-    path: &str,
-    input: &mut I,
-) -> Result<Vec<u8>, Refusal> {
-    if path == STANDARD_INPUT {
-        return input_bytes(rt.alloc(), input);
-    }
-    match fs::read(rt, path) {
-        Ok(bytes) => Ok(bytes),
-        Err(error) => Err(refused_path(rt.alloc(), Kind::Text, path, &error)),
+// Splits the bytes of all exports.
+fn split_all(
+    alloc: Global,
+    all: &[Vec<u8>],
+    words: &Words<'_>,
+    clock: &Clock,
+) -> Result<Split, Refusal> {
+    match all {
+        [one] => split_one(alloc, one, words, clock),
+        _ => split_several(alloc, all, words, clock),
     }
 }
 
@@ -186,7 +244,7 @@ fn say_last(alloc: Global, words: &Words<'_>, split: &mut Split) -> Result<(), O
     split.said.say(alloc, &line)
 }
 
-/// Splits the export that the words name, whose times are those of this clock, and writes the folder of its tracks. Answers what is
+/// Splits the exports that the words name, whose times are those of this clock, and writes the folder of its tracks. Answers what is
 /// said of that.
 ///
 /// # Errors
@@ -200,9 +258,9 @@ pub(crate) fn run<R: Files + AllocGlobal, I: Read>(
 ) -> Result<Vec<Vec<u8>>, Stop> {
     let alloc = rt.alloc();
     refuse_there(rt, words.into)?;
-    let bytes = export_bytes(rt, words.export, input)?;
-    let mut split = split_bytes(alloc, &bytes, words, clock)?;
-    let Ok(record) = record_of(alloc, &bytes, words, &split) else {
+    let Exports { all, sums } = read_exports(rt, words, input)?;
+    let mut split = split_all(alloc, &all, words, clock)?;
+    let Ok(record) = record_of(alloc, &sums, words, &split) else {
         return Err(Stop::from(Refusal::out_of_memory(alloc)));
     };
     write_tracks(rt, words.into, &split, &record)?;

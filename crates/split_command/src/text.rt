@@ -3,7 +3,7 @@
 use split_encoding::{DecodeFault, Encoding, decode, encoding_of};
 use split_gpx::{GpxCause, GpxFault, declared_encoding, table_of_gpx};
 use split_refusal::{Kind, Refusal};
-use split_words::TextWords;
+use split_words::{TextWords, Words};
 use std::alloc::{AllocError, Global};
 
 // The refusal of a path, for what these words say of it.
@@ -122,8 +122,8 @@ fn behind_line(text: &[u8]) -> &[u8] {
     }
 }
 
-/// A text behind so many lines.
-pub(crate) fn behind_lines(text: &[u8], count: usize) -> &[u8] {
+// A text behind so many lines.
+fn behind_lines(text: &[u8], count: usize) -> &[u8] {
     let mut rest = text;
     for _line in 0..count {
         if rest.is_empty() {
@@ -143,16 +143,8 @@ fn without_quotes(text: &[u8]) -> &[u8] {
     text.get(start.unwrap_or(text.len())..).unwrap_or(b"")
 }
 
-/// A text from the line on that begins with a header, before which quotes may stand.
-///
-/// # Errors
-///
-/// No line begins so, or memory ran out.
-pub(crate) fn from_header<'a>(
-    alloc: Global,
-    text: &'a [u8],
-    header: &str,
-) -> Result<&'a [u8], Refusal> {
+// A text from the line on that begins with a header, before which quotes may stand.
+fn from_header<'a>(alloc: Global, text: &'a [u8], header: &str) -> Result<&'a [u8], Refusal> {
     let mut rest = text;
     for _byte in 0..text.len() {
         if without_quotes(rest).starts_with(header.as_bytes()) {
@@ -167,6 +159,23 @@ pub(crate) fn from_header<'a>(
     match words {
         Ok(words) => Err(Refusal::new(alloc, Kind::Columns, None, words.as_bytes())),
         Err(_) => Err(Refusal::out_of_memory(alloc)),
+    }
+}
+
+/// The table in the text of an export, behind what the words leave out before it.
+///
+/// # Errors
+///
+/// No line begins as that of titles does, or memory ran out.
+pub(crate) fn table_in<'a>(
+    alloc: Global,
+    text: &'a [u8],
+    words: &Words<'_>,
+) -> Result<&'a [u8], Refusal> {
+    let table = behind_lines(text, words.text.skipped);
+    match words.header {
+        Some(header) => from_header(alloc, table, header),
+        None => Ok(table),
     }
 }
 

@@ -62,9 +62,9 @@ no_table (Err fault) holds = holds
 
 -- the fault of a table is that of its bytes
 pub of_bytes : (asked : Asked) (bytes : List ℕ) (table : TableLeft) (fault : ExportFault) → text_fault bytes ≡ None → IsTable (table_of bytes) table
-    → IfSome table.left (λ records. IsTableFault asked (has_commas bytes) (with_titles table.titles records) fault) → IsExportFault asked bytes fault
+    → IfSome table.left (λ records. IsTableFault asked (has_commas asked bytes) (with_titles table.titles records) fault) → IsExportFault asked bytes fault
 of_bytes asked bytes table (faults.Text why) none is h = absurd (no_table (table_of bytes) (of_table (λ t. ⊥) (table_of bytes) table is h))
 of_bytes asked bytes table (faults.Table why) none is h = absurd (no_table (table_of bytes) (of_table (λ t. ⊥) (table_of bytes) table is h))
 of_bytes asked bytes table (faults.Titles why) none is h = (none, of_table (λ t. ⊤) (table_of bytes) table is h)
-of_bytes asked bytes table (faults.NotTaken why) none is h = (none, of_table (λ t. IsTableFault asked (has_commas bytes) t (faults.NotTaken why)) (table_of bytes) table is h)
-of_bytes asked bytes table (faults.Reading why) none is h = (none, of_table (λ t. IsTableFault asked (has_commas bytes) t (faults.Reading why)) (table_of bytes) table is h)
+of_bytes asked bytes table (faults.NotTaken why) none is h = (none, of_table (λ t. IsTableFault asked (has_commas asked bytes) t (faults.NotTaken why)) (table_of bytes) table is h)
+of_bytes asked bytes table (faults.Reading why) none is h = (none, of_table (λ t. IsTableFault asked (has_commas asked bytes) t (faults.Reading why)) (table_of bytes) table is h)

@@ -1,5 +1,5 @@
 -- The table of an export, read.
-use Rattle.std.specs.Prelude.{◌≡◌, ◌⊎◌, ⊤, ℕ, Bool, ◌==◌, not, List, length, map, Some, None, Result, Ok, Err, Vec}
+use Rattle.std.specs.Prelude.{◌≡◌, ◌⊎◌, ⊤, ℕ, Bool, ◌==◌, ◌||◌, not, List, length, map, Some, None, Result, Ok, Err, Vec}
 use Rattle.std.specs.Global.{Global}
 use Rattle.split_reading.specs.Ledger.{AreTimely, IsLedger, IsLedgerFault}
 use Rattle.split_reading.specs.declared.fault.ReadingFault.{ReadingFault}
@@ -37,9 +37,10 @@ IsTableWith P (Err fault) = ⊥
 abbrev pub HasTitles : {A : Type 0} → Result Titled TableFault → List (Vec ℕ A) → Type 0
 HasTitles all titles = IsTableWith (λ table. bytes_of titles ≡ table.titles) all
 
--- whether commas may stand before decimals in a table: they do not part its fields
-abbrev pub has_commas : List ℕ → Bool
-has_commas bytes = not (separator_of (strip_bom bytes) == 44)
+-- whether commas may stand before decimals in a table: they do not part its fields, or did not part those of the texts of which it
+-- was made
+abbrev pub has_commas : Asked → List ℕ → Bool
+has_commas asked bytes = asked.has_commas || not (separator_of (strip_bom bytes) == 44)
 
 -- an export is that of a table: it has its titles, and what its records say by the rules that its columns and what is asked
 -- come to
@@ -52,7 +53,7 @@ pub record IsOfTable (asked : Asked) (commas : Bool) (table : Titled) (export : 
 
 -- an export is that of these bytes, which are the text of a table
 abbrev pub IsExport : Asked → List ℕ → Export → Type 0
-IsExport asked bytes export = (text_fault bytes ≡ None) × IsTableWith (λ table. IsOfTable asked (has_commas bytes) table export) (table_of bytes)
+IsExport asked bytes export = (text_fault bytes ≡ None) × IsTableWith (λ table. IsOfTable asked (has_commas asked bytes) table export) (table_of bytes)
 
 -- there are no rules for some columns
 abbrev pub IsNotTaken : Asked → NotTaken → Type 0
@@ -93,4 +94,4 @@ IsExportFault asked bytes (faults.Table why) = (text_fault bytes ≡ None) × Is
 IsExportFault asked bytes (faults.Titles why) = (text_fault bytes ≡ None) × IsTableWith (λ table. ⊤) (table_of bytes)
 IsExportFault asked bytes (faults.NotTaken why) = (text_fault bytes ≡ None) × IsTableWith (λ table. IsNotTaken asked why) (table_of bytes)
 IsExportFault asked bytes (faults.Reading why) =
-    (text_fault bytes ≡ None) × IsTableWith (λ table. IsTableFault asked (has_commas bytes) table (faults.Reading why)) (table_of bytes)
+    (text_fault bytes ≡ None) × IsTableWith (λ table. IsTableFault asked (has_commas asked bytes) table (faults.Reading why)) (table_of bytes)

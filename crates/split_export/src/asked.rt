@@ -14,6 +14,9 @@ pub struct Asked<'a> {
     /// The name of the animal where no column has one.
     pub name: &'a [u8],
     pub unit: Scale,
+    /// Whether commas may stand before decimals also where they part fields: the text was made of others whose fields they did
+    /// not part.
+    pub has_commas: bool,
     /// Words that are missing wherever they stand, beside the empty field and NA.
     pub missing: &'a [&'a [u8]],
     /// The forms of times. None where they are ISO texts or seconds since 1970.

@@ -116,11 +116,12 @@ fn ledger_by<'b>(
     }
 }
 
-// Whether commas may stand before decimals in a table: they do not part its fields.
-fn has_commas(text: &[u8]) -> bool
-    ensures { result ≡ has_commas text.now }
+// Whether commas may stand before decimals in a table: they do not part its fields, or did not part those of the texts of which it
+// was made.
+fn has_commas(text: &[u8], asked: &Asked<'_>) -> bool
+    ensures { result ≡ has_commas asked.now text.now }
 {
-    separator_of(without_mark(text)) != b','
+    asked.has_commas || separator_of(without_mark(text)) != b','
 }
 
 // Reads the table of a text of which no record was read.
@@ -131,9 +132,9 @@ fn read_table<'a>(
     asked: &Asked<'a>,
 ) -> Result<Export, ExportFault<'a>>
     ensures export { IfOk result (λ export. IfSome table.old.left
-        (λ records. IsOfTable asked.now (has_commas text.now) (with_titles table.old.titles records) export)) }
+        (λ records. IsOfTable asked.now (has_commas asked.now text.now) (with_titles table.old.titles records) export)) }
     ensures fault { IfErr result (λ fault. IfSome table.old.left
-        (λ records. IsTableFault asked.now (has_commas text.now) (with_titles table.old.titles records) fault)) }
+        (λ records. IsTableFault asked.now (has_commas asked.now text.now) (with_titles table.old.titles records) fault)) }
 {
     let titles = match own_fields(alloc, table.titles()) {
         Ok(titles) => titles,
@@ -143,7 +144,14 @@ fn read_table<'a>(
         Ok(columns) => columns,
         Err(fault) => return Err(ExportFault::Titles(fault)),
     };
-    match ledger_by(alloc, table, &columns, &titles, has_commas(text), asked) {
+    match ledger_by(
+        alloc,
+        table,
+        &columns,
+        &titles,
+        has_commas(text, asked),
+        asked,
+    ) {
         Ok(ledger) => Ok(Export {
             titles,
             columns,

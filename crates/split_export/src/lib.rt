@@ -18,6 +18,6 @@ pub use files::{TrackFile, make_files};
 pub use laws::files_are_read_back;
 pub use look::{Look, fields_of_record, look_at_metres, most_moved, part_alike};
 pub use rules::{NotTaken, rules_of};
-pub use text::TextFault;
+pub use text::{TextFault, text_fault};
 pub use times_look::{TimesLook, look_at_times};
 pub use unread_times::column_of_times;

@@ -24,7 +24,7 @@ fn is_utf8(bytes: &[u8]) -> bool
 }
 
 /// Why bytes are no text; `None` where they are one.
-pub(crate) fn text_fault(bytes: &[u8]) -> Option<TextFault>
+pub fn text_fault(bytes: &[u8]) -> Option<TextFault>
     ensures { result ≡ text_fault bytes.now }
 {
     if bytes.contains(&0) {

@@ -5,9 +5,9 @@ use Rattle.std.proofs.lemmas.List.{append-nil}
 use Rattle.split_record.specs.Lines.{text_of_all, text_of_line}
 
 -- the first lines
-pub head_joined : (none first second third all export sum unit zone shift : List ℕ) → first ≡ none ++ export ++ sum → second ≡ first ++ unit → third ≡ second ++ zone → all ≡ third ++ shift
-    → all ≡ none ++ (export ++ (sum ++ (unit ++ (zone ++ shift))))
-head_joined none first second third all export sum unit zone shift one two three four = rw (four, three, two, one) (simp append_assoc)
+pub head_joined : (none first second third all unit zone shift : List ℕ) (exports : List (List (List ℕ))) → first ≡ none ++ text_of_all exports → second ≡ first ++ unit
+    → third ≡ second ++ zone → all ≡ third ++ shift → all ≡ none ++ (text_of_all exports ++ (unit ++ (zone ++ shift)))
+head_joined none first second third all unit zone shift exports one two three four = rw (four, three, two, one) (simp append_assoc)
 
 -- all lines
 pub all_joined : (none first second third fourth fifth all : List ℕ) (head options said left tracks : List (List (List ℕ))) (tool : List (List ℕ))

@@ -8,6 +8,7 @@ use Rattle.range_plane.specs.declared.scale.Scale.TheVariants.{Metre, Decimetre}
 use Rattle.split_reading.specs.declared.zone.Zone.{Zone}
 use Rattle.split_tracks.specs.declared.fate.Reason.{Reason}
 use Rattle.split_tracks.specs.declared.fate.Reason.TheVariants as reasons
+use Rattle.split_record.specs.declared.record.ExportRead.{ExportRead}
 use Rattle.split_record.specs.declared.record.Left.{Left}
 use Rattle.split_record.specs.declared.record.OptionGiven.{OptionGiven}
 use Rattle.split_record.specs.declared.record.Record.{Record}
@@ -31,12 +32,15 @@ text_of_line line = line_text line ++ codes "\n"
 abbrev pub text_of_all : List (List (List ℕ)) → List ℕ
 text_of_all lines = flat_map text_of_line lines
 
--- the export, and the checksum of its bytes
+-- an export, and the checksum of its bytes
 abbrev pub export_line : List ℕ → List (List ℕ)
 export_line export = codes "export" ∷ export ∷ []
 
 abbrev pub sum_line : List ℕ → List (List ℕ)
 sum_line sum = codes "sha256" ∷ sum ∷ []
+
+abbrev pub export_lines : ExportRead → List (List (List ℕ))
+export_lines export = export_line export.name.now ∷ sum_line export.sum ∷ []
 
 -- the unit
 abbrev pub unit_word : Scale → List ℕ
@@ -106,11 +110,14 @@ track_line track = codes "track" ∷ track.name.now ∷ decimal track.records �
 abbrev pub tool_line : List ℕ → List (List ℕ)
 tool_line tool = codes "tool" ∷ tool ∷ []
 
--- the lines of which there is one, but the last
+-- the lines of exports
+abbrev pub lines_of_exports : List ExportRead → List (List (List ℕ))
+lines_of_exports exports = flat_map export_lines exports
+
+-- the lines before those of options
 abbrev pub head_lines : Record → List (List (List ℕ))
 head_lines «record» =
-    export_line «record».export.now ∷ sum_line «record».sum ∷ unit_line «record».unit ∷ zone_line «record».zone
-    ∷ shift_lines «record».shift.0 «record».shift.1
+    lines_of_exports «record».exports.now ++ unit_line «record».unit ∷ zone_line «record».zone ∷ shift_lines «record».shift.0 «record».shift.1
 
 -- all lines of a record
 abbrev pub lines_of : Record → List (List (List ℕ))

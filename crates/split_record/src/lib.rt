@@ -14,6 +14,6 @@ pub use laws::{
 };
 pub use one_line::push_one_line;
 pub use reasons::reason_words;
-pub use record::{Left, OptionGiven, Record, TrackMade};
+pub use record::{ExportRead, Left, OptionGiven, Record, TrackMade};
 pub use sum::sum_of;
 pub use text::record_text;

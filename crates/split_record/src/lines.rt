@@ -2,11 +2,11 @@
 
 ghost use Rattle.std.specs.Prelude.{◌≡◌, ◌++◌, IfOk, OnOk, option_map};
 ghost use Rattle.std.specs.List.{flat_map};
-ghost use Rattle.split_record.specs.Lines.{export_line, field_text, hemisphere, left_line, option_line, said_line, shift_line, shift_lines, sum_line, text_of_all, text_of_line, tool_line, track_line, unit_line, unit_word, value_fields, zone_line, zone_word};
+ghost use Rattle.split_record.specs.Lines.{export_line, export_lines, field_text, hemisphere, left_line, option_line, said_line, shift_line, shift_lines, sum_line, text_of_all, text_of_line, tool_line, track_line, unit_line, unit_word, value_fields, zone_line, zone_word};
 
 use crate::one_line::{doubled, push_one_line};
 use crate::reasons::reason_words;
-use crate::record::{Left, OptionGiven, Record, TrackMade};
+use crate::record::{ExportRead, Left, OptionGiven, Record, TrackMade};
 use itoa::{Buffer, Integer};
 use range_plane::{OutOfMemory, Scale};
 use split_reading::Zone;
@@ -28,7 +28,7 @@ fn push_number<A: Allocator, I: Integer>(text: &mut Vec<u8, A>, n: I) -> Result<
     push_field(text, buffer.format(n).as_bytes())
 }
 
-// Appends the line of the export.
+// Appends the line of an export.
 fn push_export<A: Allocator>(text: &mut Vec<u8, A>, export: &[u8]) -> Result<(), AllocError>
     ensures { OnOk result (text.new.items ≡ text.old.items ++ text_of_line (export_line export.now)) }
 {
@@ -37,7 +37,7 @@ fn push_export<A: Allocator>(text: &mut Vec<u8, A>, export: &[u8]) -> Result<(),
     text.extend_from_slice(b"\n")
 }
 
-// Appends the line of the export's checksum.
+// Appends the line of an export's checksum.
 fn push_sum<A: Allocator>(text: &mut Vec<u8, A>, sum: &[u8]) -> Result<(), AllocError>
     ensures { OnOk result (text.new.items ≡ text.old.items ++ text_of_line (sum_line sum.now)) }
 {
@@ -46,17 +46,15 @@ fn push_sum<A: Allocator>(text: &mut Vec<u8, A>, sum: &[u8]) -> Result<(), Alloc
     text.extend_from_slice(b"\n")
 }
 
-// Appends the lines that say what the tracks were made of.
-pub(crate) fn push_source<A: Allocator>(
+// Appends the lines of an export.
+pub(crate) fn push_export_lines<A: Allocator>(
     text: &mut Vec<u8, A>,
-    export: &[u8],
-    sum: &[u8],
+    export: &ExportRead<'_>,
 ) -> Result<(), AllocError>
-    ensures { OnOk result (text.new.items
-        ≡ text.old.items ++ text_of_line (export_line export.now) ++ text_of_line (sum_line sum.now)) }
+    ensures { OnOk result (text.new.items ≡ text.old.items ++ text_of_all (export_lines export.now)) }
 {
-    push_export(text, export)?;
-    push_sum(text, sum)
+    push_export(text, export.name)?;
+    push_sum(text, &export.sum)
 }
 
 // What a unit is called.

@@ -4,6 +4,15 @@ use range_plane::Scale;
 use split_reading::Zone;
 use split_tracks::Reason;
 
+/// An export that was read.
+#[derive(Clone, Copy)]
+pub struct ExportRead<'a> {
+    /// Its name, without its folder.
+    pub name: &'a [u8],
+    /// The checksum of its bytes.
+    pub sum: [u8; 64],
+}
+
 /// An option that was given.
 #[derive(Clone, Copy)]
 pub struct OptionGiven<'a> {
@@ -36,10 +45,8 @@ pub struct TrackMade<'a> {
 /// What a record of tracks says, each list in the order in which it is to be written.
 #[derive(Clone, Copy)]
 pub struct Record<'a> {
-    /// The name of the export, without its folder.
-    pub export: &'a [u8],
-    /// The checksum of its bytes.
-    pub sum: [u8; 64],
+    /// The exports of which the table was made.
+    pub exports: &'a [ExportRead<'a>],
     pub unit: Scale,
     /// None where it is not known.
     pub zone: Option<Zone>,

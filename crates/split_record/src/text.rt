@@ -1,17 +1,30 @@
 // The text of a record of tracks.
 
 ghost use Rattle.std.specs.Prelude.{◌≡◌, ◌++◌, IfOk, OnOk, map};
-ghost use Rattle.split_record.specs.Lines.{head_lines, left_line, option_line, record_text, said_line, text_of_all, track_line};
+ghost use Rattle.split_record.specs.Lines.{head_lines, left_line, lines_of_exports, option_line, record_text, said_line, text_of_all, track_line};
 
 use crate::lines::{
-    push_left, push_option, push_said, push_shift, push_source, push_tool, push_track, push_unit,
-    push_zone,
+    push_export_lines, push_left, push_option, push_said, push_shift, push_tool, push_track,
+    push_unit, push_zone,
 };
-use crate::record::{Left, OptionGiven, Record, TrackMade};
+use crate::record::{ExportRead, Left, OptionGiven, Record, TrackMade};
 use range_plane::OutOfMemory;
 use std::alloc::{AllocError, Allocator};
 
-// Appends the lines of which there is one: what the tracks were made of, the unit, the zone and the shift.
+// Appends the lines of all exports.
+fn push_exports<A: Allocator>(
+    text: &mut Vec<u8, A>,
+    exports: &[ExportRead<'_>],
+) -> Result<(), AllocError>
+    ensures { OnOk result (text.new.items ≡ text.old.items ++ text_of_all (lines_of_exports exports.now)) }
+{
+    for export in exports {
+        push_export_lines(text, export)?;
+    }
+    Ok(())
+}
+
+// Appends the lines before those of options: what the tracks were made of, the unit, the zone and the shift.
 fn push_head<A: Allocator + Copy>(
     alloc: A,
     text: &mut Vec<u8, A>,
@@ -19,7 +32,7 @@ fn push_head<A: Allocator + Copy>(
 ) -> Result<(), OutOfMemory>
     ensures { OnOk result (text.new.items ≡ text.old.items ++ text_of_all (head_lines «record».now)) }
 {
-    push_source(text, record.export, &record.sum)?;
+    push_exports(text, record.exports)?;
     push_unit(text, record.unit)?;
     push_zone(alloc, text, record.zone)?;
     push_shift(text, record)?;

@@ -1,5 +1,8 @@
 // Refusals of a record.
 
+ghost use Rattle.std.specs.Prelude.{Some};
+ghost use Rattle.split_refusal.specs.Refused.{Names};
+
 use crate::kind::Kind;
 use crate::push::{Field, field_at, push, push_field, push_number};
 use crate::refusal::{Refusal, Sentence};
@@ -190,7 +193,9 @@ fn day_sentence(alloc: Global, shown: &RecordShown<'_>) -> Result<Sentence, OutO
 }
 
 /// The refusal of a record whose time may be a day with hours, as all others of its table.
-pub fn refused_day(alloc: Global, shown: &RecordShown<'_>) -> Refusal {
+pub fn refused_day(alloc: Global, shown: &RecordShown<'_>) -> Refusal
+    ensures { Names (Some shown.now.number) result }
+{
     match day_sentence(alloc, shown) {
         Ok(sentence) => Refusal::whole(alloc, sentence.kind, Some(shown.number), &sentence.text),
         Err(_no_memory) => Refusal::out_of_memory(alloc),
@@ -198,7 +203,9 @@ pub fn refused_day(alloc: Global, shown: &RecordShown<'_>) -> Refusal {
 }
 
 /// The refusal of a record for what is wrong with it.
-pub fn refused_cell(alloc: Global, fault: CellFault, shown: &RecordShown<'_>) -> Refusal {
+pub fn refused_cell(alloc: Global, fault: CellFault, shown: &RecordShown<'_>) -> Refusal
+    ensures { Names (Some shown.now.number) result }
+{
     match sentence_of(alloc, fault, shown) {
         Ok(sentence) => Refusal::whole(alloc, sentence.kind, Some(shown.number), &sentence.text),
         Err(_no_memory) => Refusal::out_of_memory(alloc),

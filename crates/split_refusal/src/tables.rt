@@ -1,5 +1,8 @@
 // Refusals of a file: its text, and its quotes.
 
+ghost use Rattle.std.specs.Prelude.{◌≡◌, None};
+ghost use Rattle.split_refusal.specs.Refused.{Names, below_titles, record_of_table};
+
 use crate::kind::Kind;
 use crate::push::push;
 use crate::refusal::{Refusal, Sentence, refusal_of};
@@ -16,7 +19,9 @@ fn about(alloc: Global, kind: Kind, path: &[u8], words: &str) -> Result<Sentence
 }
 
 /// The refusal of a file that has no text.
-pub fn refused_text(alloc: Global, what: TextFault, path: &[u8]) -> Refusal {
+pub fn refused_text(alloc: Global, what: TextFault, path: &[u8]) -> Refusal
+    ensures { Names None result }
+{
     let words = match what {
         TextFault::ByteZero => " is no text: it has a byte 0",
         TextFault::NotUtf8 => {
@@ -27,7 +32,9 @@ pub fn refused_text(alloc: Global, what: TextFault, path: &[u8]) -> Refusal {
 }
 
 // The number of a record that has a fault; none of the line of titles, and none past 2^32.
-fn number_of(record: u64) -> Option<u32> {
+fn number_of(record: u64) -> Option<u32>
+    ensures { result ≡ below_titles «record» }
+{
     match u32::try_from(record) {
         Ok(number) if number > 0 => Some(number),
         _ => None,
@@ -35,7 +42,9 @@ fn number_of(record: u64) -> Option<u32> {
 }
 
 // The refusal of a quote that stands where none may.
-fn refused_quote(alloc: Global, record: u64, path: &[u8]) -> Refusal {
+fn refused_quote(alloc: Global, record: u64, path: &[u8]) -> Refusal
+    ensures { Names (below_titles «record») result }
+{
     let words =
         "a quote stands inside a field, or something behind it: quotes stand around a whole field, and are \
                  doubled inside it";
@@ -51,7 +60,9 @@ fn refused_quote(alloc: Global, record: u64, path: &[u8]) -> Refusal {
 }
 
 /// The refusal of a text that is no table.
-pub fn refused_table(alloc: Global, fault: TableFault, path: &[u8]) -> Refusal {
+pub fn refused_table(alloc: Global, fault: TableFault, path: &[u8]) -> Refusal
+    ensures { Names (record_of_table fault) result }
+{
     match fault {
         TableFault::OutOfMemory => Refusal::out_of_memory(alloc),
         TableFault::StrayQuote { record } => refused_quote(alloc, record, path),

@@ -1,5 +1,8 @@
 // Refusals of titles.
 
+ghost use Rattle.std.specs.Prelude.{None};
+ghost use Rattle.split_refusal.specs.Refused.{Names};
+
 use crate::kind::Kind;
 use crate::push::push;
 use crate::refusal::{Refusal, Sentence, refusal_of};
@@ -38,7 +41,9 @@ fn sentence_of(
 }
 
 /// The refusal of a table of these titles.
-pub fn refused_titles(alloc: Global, fault: TitleFault, titles: &[&[u8]], path: &[u8]) -> Refusal {
+pub fn refused_titles(alloc: Global, fault: TitleFault, titles: &[&[u8]], path: &[u8]) -> Refusal
+    ensures { Names None result }
+{
     match fault {
         TitleFault::OutOfMemory => Refusal::out_of_memory(alloc),
         _ => refusal_of(alloc, None, sentence_of(alloc, fault, titles, path)),

@@ -2,6 +2,7 @@
 
 use crate::animals::check_animals;
 use crate::clocks::tell_clock;
+use crate::exports::tell_exports;
 use crate::left::{count_left, tell_filters};
 use crate::rows::taken_fix;
 use crate::said::Said;
@@ -90,6 +91,7 @@ fn check(alloc: Global, said: &mut Said, sheet: &Sheet<'_>, ledger: &Ledger) -> 
     if ledger.rows.is_empty() {
         return Err(refused(alloc, Kind::Empty, None, empty_text(alloc)));
     }
+    tell_exports(alloc, said, &sheet.exports)?;
     check_animals(alloc, said, sheet, ledger)?;
     check_seconds(alloc, sheet, ledger)?;
     tell_unread(alloc, said, sheet, &ledger.rows)?;
@@ -105,7 +107,7 @@ fn check(alloc: Global, said: &mut Said, sheet: &Sheet<'_>, ledger: &Ledger) -> 
     Ok(())
 }
 
-/// Checks the records of a table as a whole, and says what is left out and what is odd: animals with one record each, names
+/// Checks the records of a table as a whole, and says what is left out and what is odd: exports of which it was made, animals with one record each, names
 /// that are alike, records without an animal or a place, columns that are not there, how times are read, the sensor, outliers, and fixes that filters
 /// leave out.
 ///

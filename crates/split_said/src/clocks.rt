@@ -1,6 +1,6 @@
 // By which form and which clock times are read.
 
-use crate::far::push_records;
+use crate::exports::{Exports, push_records};
 use crate::said::Said;
 use crate::sheet::Sheet;
 use crate::words::push;
@@ -19,12 +19,17 @@ fn form_text(alloc: Global, form: &[u8], clock: &[u8]) -> Result<Vec<u8>, AllocE
 }
 
 // That records lie in an hour that comes twice.
-fn twice_text(alloc: Global, records: &[u32], clock: &[u8]) -> Result<Vec<u8>, AllocError> {
+fn twice_text(
+    alloc: Global,
+    records: &[u32],
+    clock: &[u8],
+    exports: &Exports<'_>,
+) -> Result<Vec<u8>, AllocError> {
     let mut text = Vec::new(alloc);
     push(&mut text, "records lie in the hour that comes twice in ")?;
     text.extend_from_slice(clock)?;
     push(&mut text, ": records ")?;
-    push_records(&mut text, records)?;
+    push_records(&mut text, records, exports)?;
     Ok(text)
 }
 
@@ -61,6 +66,6 @@ pub(crate) fn tell_clock(
         said.say(alloc, &form_text(alloc, times.form, times.clock)?)?;
     }
     let records = records_twice(alloc, rows)?;
-    let text = twice_text(alloc, &records, times.clock)?;
+    let text = twice_text(alloc, &records, times.clock, &sheet.exports)?;
     said.say_counted(alloc, records.len(), &text)
 }

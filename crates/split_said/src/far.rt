@@ -1,33 +1,23 @@
 // Fixes that lie far from the others of an animal.
 
+use crate::exports::{Exports, push_records};
 use crate::figures::push_grouped;
 use crate::said::Said;
+use crate::sheet::Sheet;
 use crate::tracks::Herd;
-use crate::words::{push, push_number};
-use range_plane::{OutOfMemory, Scale};
+use crate::words::push;
+use range_plane::OutOfMemory;
 use split_doubts::{Axis, FarFixes, far_fixes};
 use split_tracks::Entry;
 use std::alloc::{AllocError, Global};
 
-// How many records are listed.
-const LISTED_RECORDS: usize = 10;
-
-// Appends the numbers of the first records, and whether there are more.
-pub(crate) fn push_records(text: &mut Vec<u8>, records: &[u32]) -> Result<(), AllocError> {
-    for (at, record) in records.iter().enumerate() {
-        if at > 0 {
-            push(text, ", ")?;
-        }
-        if at == LISTED_RECORDS {
-            return push(text, "..");
-        }
-        push_number(text, *record as usize)?;
-    }
-    Ok(())
-}
-
 // That fixes of an animal lie far from its others.
-fn far_text(alloc: Global, name: &[u8], far: &FarFixes<Global>) -> Result<Vec<u8>, AllocError> {
+fn far_text(
+    alloc: Global,
+    name: &[u8],
+    far: &FarFixes<Global>,
+    exports: &Exports<'_>,
+) -> Result<Vec<u8>, AllocError> {
     let mut text = Vec::new(alloc);
     push_grouped(&mut text, far.records.len() as u64)?;
     push(&mut text, " of ")?;
@@ -37,7 +27,7 @@ fn far_text(alloc: Global, name: &[u8], far: &FarFixes<Global>) -> Result<Vec<u8
     push(&mut text, " lie ")?;
     push_grouped(&mut text, far.metres)?;
     push(&mut text, " m from the others: records ")?;
-    push_records(&mut text, &far.records)?;
+    push_records(&mut text, &far.records, exports)?;
     push(&mut text, ": are they hers?")?;
     Ok(text)
 }
@@ -48,9 +38,10 @@ fn ask_far(
     said: &mut Said,
     name: &[u8],
     far: &Option<FarFixes<Global>>,
+    exports: &Exports<'_>,
 ) -> Result<(), OutOfMemory> {
     match far {
-        Some(far) => said.say(alloc, &far_text(alloc, name, far)?),
+        Some(far) => said.say(alloc, &far_text(alloc, name, far, exports)?),
         None => Ok(()),
     }
 }
@@ -70,15 +61,15 @@ fn ask_far_of(
     said: &mut Said,
     name: &[u8],
     track: &[Entry],
-    unit: Scale,
+    sheet: &Sheet<'_>,
 ) -> Result<(), OutOfMemory> {
-    let by_easting = far_fixes(alloc, Axis::Easting, track, unit)?;
-    ask_far(alloc, said, name, &by_easting)?;
-    let by_northing = far_fixes(alloc, Axis::Northing, track, unit)?;
+    let by_easting = far_fixes(alloc, Axis::Easting, track, sheet.unit)?;
+    ask_far(alloc, said, name, &by_easting, &sheet.exports)?;
+    let by_northing = far_fixes(alloc, Axis::Northing, track, sheet.unit)?;
     if are_same(&by_easting, &by_northing) {
         return Ok(());
     }
-    ask_far(alloc, said, name, &by_northing)
+    ask_far(alloc, said, name, &by_northing, &sheet.exports)
 }
 
 // Asks about fixes that lie far from the others of their animal.
@@ -86,10 +77,10 @@ pub(crate) fn ask_far_fixes(
     alloc: Global,
     said: &mut Said,
     herd: &Herd<'_>,
-    unit: Scale,
+    sheet: &Sheet<'_>,
 ) -> Result<(), OutOfMemory> {
     for animal in herd.order {
-        ask_far_of(alloc, said, herd.name(*animal), herd.track(*animal), unit)?;
+        ask_far_of(alloc, said, herd.name(*animal), herd.track(*animal), sheet)?;
     }
     Ok(())
 }

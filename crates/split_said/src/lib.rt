@@ -7,6 +7,7 @@ mod animals;
 mod check;
 mod clocks;
 mod degrees;
+mod exports;
 mod extent;
 mod far;
 mod figures;
@@ -37,6 +38,7 @@ mod zeros;
 mod zones;
 
 pub use check::check_ledger;
+pub use exports::Exports;
 pub use grid::{Grid, find_grid};
 pub use halves::check_halves;
 pub use order::animals_in_order;

@@ -1,5 +1,6 @@
 // A table, and what was asked of it.
 
+use crate::exports::Exports;
 use range_plane::Scale;
 use split_filters::Filters;
 use split_reading::Zone;
@@ -27,6 +28,7 @@ pub struct TimesRead<'a> {
 /// A table's titles and columns, and what was asked of it.
 #[derive(Clone, Copy)]
 pub struct Sheet<'a> {
+    pub exports: Exports<'a>,
     pub titles: &'a [&'a [u8]],
     pub columns: &'a Columns<Global>,
     pub unit: Scale,

@@ -244,7 +244,7 @@ fn tell_last(
         return Err(nothing_left(alloc));
     }
     tell_unfit(alloc, said, herd)?;
-    ask_far_fixes(alloc, said, herd, sheet.unit)?;
+    ask_far_fixes(alloc, said, herd, sheet)?;
     if !grid.is_projected {
         check_metres(alloc, said, herd, sheet.unit)?;
     }

@@ -54,7 +54,14 @@ fn with_filters<'a>(alloc: Global, command: Command<'a>) -> Result<Command<'a>, 
         .arg(text_option(alloc, "every", "LENGTH"))
 }
 
-// The program with its options and the export.
+// The exports.
+fn exports_argument<'a>(alloc: Global) -> Arg<'a> {
+    Arg::new(alloc, "EXPORT")
+        .value_name("EXPORT")
+        .action(ArgAction::Append)
+}
+
+// The program with its options and the exports.
 fn whole_command<'a>(alloc: Global) -> Result<Command<'a>, AllocError> {
     let command = Command::new(alloc, "homerange-split")
         .version(VERSION)
@@ -66,7 +73,7 @@ fn whole_command<'a>(alloc: Global) -> Result<Command<'a>, AllocError> {
         .arg(flag(alloc, "mark"))?
         .arg(flag(alloc, "machine"))?
         .arg(flag(alloc, "skip-unnamed"))?
-        .arg(Arg::new(alloc, "EXPORT").value_name("EXPORT"))
+        .arg(exports_argument(alloc))
 }
 
 // What `clap` finds in the words, of which the first is the program's name.

@@ -19,10 +19,12 @@ which records the export, the options, and what was left out or changed.
 Standard error says that too. A table that cannot be read as it is meant is
 refused, and then there is no folder.
 
-Usage: homerange-split [OPTIONS] EXPORT
+Usage: homerange-split [OPTIONS] EXPORT...
 
 Arguments:
-  EXPORT  The export: text with a line of titles, or GPX
+  EXPORT...  The export: text with a line of titles, or GPX; - is standard
+             input. Several with the same titles are one table, and an animal may
+             be in more than one
 
 Options:
       --into <FOLDER>          Folder to make [default: tracks]

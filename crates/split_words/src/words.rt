@@ -21,8 +21,8 @@ use std::alloc::Global;
 /// What the words of the command line say.
 #[derive(Drop)]
 pub struct Words<'a> {
-    /// The path of the export.
-    pub export: &'a str,
+    /// The paths of the exports, one at least, and none twice.
+    pub exports: Vec<&'a str>,
     /// The path of the folder to make.
     pub into: &'a str,
     pub unit: Scale,
@@ -53,25 +53,39 @@ pub struct Words<'a> {
     pub given: Vec<OptionGiven<'a>>,
 }
 
-// The export.
-fn export_of<'a>(alloc: Global, value: Option<&'a str>) -> Result<&'a str, WordFault> {
-    match value {
-        Some(export) => Ok(export),
-        None => {
-            let words = "no export is named: name its file, as by homerange-split export.csv";
-            Err(refused(alloc, Kind::Option, words))
-        }
+// Refuses a path that stands twice.
+fn refuse_twice(alloc: Global, before: &[&str], path: &str) -> Result<(), WordFault> {
+    if !before.iter().any(|other| *other == path) {
+        return Ok(());
     }
+    match format!(in alloc; "{path} is named twice: name each export once") {
+        Ok(words) => Err(refused(alloc, Kind::Option, &words)),
+        Err(_) => Err(WordFault::OutOfMemory),
+    }
+}
+
+// The exports.
+fn exports_of<'a>(alloc: Global, matches: &ArgMatches<'a>) -> Result<Vec<&'a str>, WordFault> {
+    let Some(paths) = matches.get_strs("EXPORT") else {
+        let words = "no export is named: name its file, as by homerange-split export.csv";
+        return Err(refused(alloc, Kind::Option, words));
+    };
+    let mut exports: Vec<&str> = Vec::new(alloc);
+    for path in paths {
+        refuse_twice(alloc, &exports, path)?;
+        exports.push(path)?;
+    }
+    Ok(exports)
 }
 
 // What the matches say.
 fn words_in<'a>(alloc: Global, matches: &ArgMatches<'a>) -> Result<Words<'a>, WordFault> {
-    let export = export_of(alloc, matches.get_str("EXPORT"))?;
+    let exports = exports_of(alloc, matches)?;
     let unit = unit_of(alloc, matches.get_str("unit"))?;
     let into = folder_of(alloc, matches.get_str("into"))?;
     let texts = texts_of(alloc, matches)?;
     Ok(Words {
-        export,
+        exports,
         unit,
         into,
         name: name_of(alloc, matches.get_str("name"))?,
@@ -91,6 +105,22 @@ fn words_in<'a>(alloc: Global, matches: &ArgMatches<'a>) -> Result<Words<'a>, Wo
 }
 
 impl<'a> Words<'a> {
+    /// The path of the first export.
+    pub fn first_export(&self) -> &'a str {
+        match self.exports.first() {
+            Some(path) => path,
+            None => "",
+        }
+    }
+
+    /// The path of the export, where there is one alone; else nothing.
+    pub fn only_export(&self) -> &'a str {
+        match self.exports.as_slice() {
+            [path] => path,
+            _ => "",
+        }
+    }
+
     /// The name of the time zone by whose clock times are read that name none.
     pub fn clock_name(&self) -> &'a str {
         self.zone_name.unwrap_or("UTC")
@@ -107,7 +137,7 @@ impl<'a> Words<'a> {
     }
 }
 
-/// Reads the words of the command line, of which the first is the program's name: options, and the export.
+/// Reads the words of the command line, of which the first is the program's name: options, and the exports.
 ///
 /// # Errors
 ///

@@ -6,7 +6,7 @@ use range_plane::{OutOfMemory, Scale};
 use split_filters::Filters;
 use split_reading::{Ledger, Row, Told, ToldFix, Zone};
 use split_refusal::Refusal;
-use split_said::{Grid, Said, Sheet, TimesRead, Wanted, check_ledger, tell_files};
+use split_said::{Exports, Grid, Said, Sheet, TimesRead, Wanted, check_ledger, tell_files};
 use split_times::Moment;
 use split_titles::{Columns, Named, find_columns};
 use split_tracks::{Entry, Fate, tracks_of};
@@ -71,12 +71,18 @@ const NOT_WANTED: Wanted<'static> = Wanted {
     until: b"",
 };
 
+const ONE_EXPORT: Exports<'static> = Exports {
+    names: &[],
+    counts: &[],
+};
+
 // The titles of a table with all that is needed.
 const TITLES: [&[u8]; 4] = [b"animal", b"time", b"easting", b"northing"];
 
 // The sheet of a table.
 fn sheet_of<'a>(titles: &'a [&'a [u8]], columns: &'a Columns<Global>, unit: Scale) -> Sheet<'a> {
     Sheet {
+        exports: ONE_EXPORT,
         titles,
         columns,
         unit,
@@ -119,10 +125,10 @@ fn row_of(animal: u32) -> Row {
         sensor: 0,
         told: Told::Fix(ToldFix {
             moment: Moment {
-                is_twice: false,
                 second: 0,
                 nanosecond: 0,
             },
+            is_twice: false,
             metres: Some((0, 0)),
             degrees: None,
             zone: None,
@@ -139,6 +145,7 @@ fn ledger_of(alloc: Global, names: &[&[u8]]) -> Result<Ledger, OutOfMemory> {
     let mut ledger = Ledger {
         names: IndexSet::new(alloc),
         sensors: IndexSet::new(alloc),
+        lasts: Vec::new(alloc),
         rows: Vec::new(alloc),
     };
     let _is_new = ledger.sensors.insert(Vec::new(alloc))?;

@@ -13,6 +13,8 @@ mod refused_cells;
 #[cfg(test)]
 mod said;
 #[cfg(test)]
+mod said_of_grids;
+#[cfg(test)]
 mod words;
 #[cfg(test)]
 mod words_of_makers;

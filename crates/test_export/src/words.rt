@@ -67,7 +67,7 @@ fn an_export_alone_has_defaults(rt: HostRuntime) -> Result<(), Fail> {
         assert!(rt; false);
         return Ok(());
     };
-    assert!(rt; found.export == "foxes.csv");
+    assert!(rt; found.only_export() == "foxes.csv");
     assert!(rt; found.into == "tracks");
     assert!(rt; found.unit == Scale::Metre);
     assert!(rt; found.zone == None);
@@ -115,7 +115,7 @@ fn words_say_each_option(rt: HostRuntime) -> Result<(), Fail> {
         number: 5,
         is_south: true,
     };
-    assert!(rt; found.export == "foxes.csv" && found.into == "out");
+    assert!(rt; found.only_export() == "foxes.csv" && found.into == "out");
     assert!(rt; found.unit == Scale::Decimetre && found.zone == Some(zone));
     assert!(rt; found.columns.animal.as_slice() == [b"who".as_slice()].as_slice());
     assert!(rt; found.columns.time.as_slice() == [b"when".as_slice()].as_slice());
@@ -247,7 +247,6 @@ fn words_that_are_not_the_programs_are_refused(rt: HostRuntime) -> Result<(), Fa
     let alloc = rt.alloc();
     let cases = [
         ["a.csv", "--longitude", "x"].as_slice(),
-        &["a.csv", "b.csv"],
         &["a.csv", "--zone"],
         &["a.csv", "--mark=1"],
         &["a.csv", "--unit", "m", "--unit", "m"],
@@ -266,6 +265,28 @@ fn is_narrow(text: &str) -> bool {
 }
 
 #[test]
+fn exports_are_taken_in_their_order(rt: HostRuntime) -> Result<(), Fail> {
+    let alloc = rt.alloc();
+    let words = words_of(alloc, &["b.csv", "--into", "out", "a.csv", "-"])?;
+    let Ok(found) = read_words(alloc, &words) else {
+        return Err(Fail::from("refused"));
+    };
+    let exports = ["b.csv", "a.csv", "-"];
+    assert!(&rt; found.exports.as_slice() == exports.as_slice(), "three");
+    assert!(&rt;
+        found.first_export() == "b.csv" && found.only_export() == "",
+        "not one"
+    );
+    let words = words_of(alloc, &["a.csv", "b.csv", "a.csv"])?;
+    let Err(WordFault::Refused(refusal)) = read_words(alloc, &words) else {
+        return Err(Fail::from("taken"));
+    };
+    let expected = b"a.csv is named twice: name each export once".as_slice();
+    assert!(&rt; refusal.text.as_slice() == expected, "twice");
+    Ok(())
+}
+
+#[test]
 fn help_and_the_version_are_told(rt: HostRuntime) -> Result<(), Fail> {
     let alloc = rt.alloc();
     let words = words_of(alloc, &["--help"])?;
@@ -274,7 +295,7 @@ fn help_and_the_version_are_told(rt: HostRuntime) -> Result<(), Fail> {
             assert!(rt; is_narrow(text.as_str()));
             assert!(rt;
                 text.as_str()
-                    .contains("Usage: homerange-split [OPTIONS] EXPORT\n")
+                    .contains("Usage: homerange-split [OPTIONS] EXPORT...\n")
             );
         }
         _ => assert!(rt; false),

@@ -15,6 +15,8 @@ mod folder_on_disk;
 #[cfg(test)]
 mod iso_texts;
 #[cfg(test)]
+mod joined;
+#[cfg(test)]
 mod names;
 #[cfg(test)]
 mod order;

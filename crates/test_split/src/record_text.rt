@@ -3,7 +3,7 @@
 
 use range_plane::Scale;
 use split_reading::Zone;
-use split_record::{Left, OptionGiven, Record, TrackMade, record_text, sum_of};
+use split_record::{ExportRead, Left, OptionGiven, Record, TrackMade, record_text, sum_of};
 use split_tracks::Reason;
 use std::process::Abort;
 use std::test::Fail;
@@ -18,8 +18,10 @@ const BOAR: [u8; 64] = *b"12070a74d292604b939978fc0de24a5e02e6293ecac4af595a0e2c
 
 // A record with no line that may be missing.
 const LEAST: Record<'static> = Record {
-    export: b"x",
-    sum: EXPORT,
+    exports: &[ExportRead {
+        name: b"x",
+        sum: EXPORT,
+    }],
     unit: Scale::Metre,
     zone: None,
     shift: (0, 0),
@@ -32,8 +34,10 @@ const LEAST: Record<'static> = Record {
 
 // One with all kinds of lines.
 const FULL: Record<'static> = Record {
-    export: b"foxes.csv",
-    sum: EXPORT,
+    exports: &[ExportRead {
+        name: b"foxes.csv",
+        sum: EXPORT,
+    }],
     unit: Scale::Decimetre,
     zone: Some(Zone {
         number: 33,
@@ -128,9 +132,39 @@ fn a_record_has_its_lines_in_their_order(rt: HostRuntime) -> Result<(), Fail> {
 }
 
 #[test]
+fn each_export_has_its_lines(rt: HostRuntime) -> Result<(), Fail> {
+    let record = Record {
+        exports: &[
+            ExportRead {
+                name: b"2023.csv",
+                sum: VIXEN,
+            },
+            ExportRead {
+                name: b"2024.csv",
+                sum: BOAR,
+            },
+        ],
+        ..LEAST
+    };
+    let text = record_text(rt.alloc(), &record)?;
+    let expected = b"export,2023.csv\n\
+        sha256,9cf90bef112438f2194b5265ced5b68a45f8ab7fde95c8b65e9072a0e16cc96c\n\
+        export,2024.csv\n\
+        sha256,12070a74d292604b939978fc0de24a5e02e6293ecac4af595a0e2c997a41bdb9\n\
+        unit,m\n\
+        zone,none\n\
+        tool,t\n";
+    assert!(&rt; text.as_slice() == expected.as_slice(), "two exports");
+    Ok(())
+}
+
+#[test]
 fn no_text_forges_a_line(rt: HostRuntime) -> Result<(), Fail> {
     let record = Record {
-        export: b"a\ntool,x",
+        exports: &[ExportRead {
+            name: b"a\ntool,x",
+            sum: EXPORT,
+        }],
         zone: Some(Zone {
             number: 7,
             is_south: true,

@@ -350,6 +350,9 @@ test_that("a record that is none is refused", {
     writeLines(c(good, bad), path)
     expect_error(read_record(path), "line 4 is '.*', which does not fit there", class = "homerange_text_error")
   }
+  two <- c("export,a.csv", paste0("sha256,", strrep("a", 64)), "export,b.csv", paste0("sha256,", strrep("b", 64)))
+  writeLines(c(two, good), path)
+  expect_error(read_record(path), "its tracks are of several exports", class = "homerange_text_error")
   writeLines(good[-1], path)
   expect_error(read_record(path), "has no line 'unit'", class = "homerange_text_error")
   writeLines(c("sha256,0", good), path)

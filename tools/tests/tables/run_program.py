@@ -1,7 +1,7 @@
 #!/usr/bin/env python3
 """run_program.py PROGRAM: whether homerange-split makes of each table of this folder the tracks that are wanted, or refuses it,
 and says and writes what records.txt has of it, but for the lines of rules that are newer. Behind them come the rules that
-run_rules.py has, and whether its presets are those of collars.csv."""
+run_rules.py has, those of several exports of run_several.py, and whether its presets are those of collars.csv."""
 import hashlib
 import os
 import re
@@ -15,6 +15,7 @@ sys.dont_write_bytecode = True
 from cases import cases, difference
 from run_presets import faults as preset_faults
 from run_rules import faults
+from run_several import faults as several_faults
 
 HERE = Path(__file__).resolve().parent
 # What records.txt has not, since its reader did not say it: whole lines, and what stands behind the box in the line of columns.
@@ -110,7 +111,7 @@ def main():
         found = list(cases(room / "tables", "text"))
         with ThreadPoolExecutor(4) as pool:
             results = list(pool.map(lambda case: check(case, program, room / "made", records), found))
-    own = [*faults(program), *preset_faults()]
+    own = [*faults(program), *several_faults(program), *preset_faults()]
     bad = [(case.name, fault) for case, fault in zip(found, results) if fault] + [(name, fault) for name, fault in own if fault]
     for name, fault in bad:
         print(f"{name}: {fault}")

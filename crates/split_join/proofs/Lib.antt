@@ -1,0 +1,2 @@
+pub mod JoinedFacts
+pub mod PlaceFacts
