@@ -48,7 +48,7 @@ copy() {
     while read -r crate _; do
         crate=crates/${crate%:}
         mkdir -p "$room/copy/$crate" || return
-        for part in src specs proofs stdin stdout; do
+        for part in src specs proofs args data status stdin stdout; do
             [ ! -e "$top/$crate/$part" ] || cp -R "$top/$crate/$part" "$room/copy/$crate" || return
         done
     done <"$room/copy/crates.txt"

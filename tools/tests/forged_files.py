@@ -258,7 +258,7 @@ def of_record(name, *wanted, old, new, count=1):
 
 forgery.sealed("tracks of the record change places", "split again the export comes to the same tracks and to another record than split.txt",
                file="tracks/split.txt", old="^(track,Bor,.*\n)(track,.*\n)", new=r"\2\1")
-forgery.sealed("a coding that is no character set", "split: encoding: punycode is no character set: name that of the table",
+forgery.sealed("a coding that is no character set", "split: encoding: punycode is none of utf-8, ascii, ",
                file="tracks/split.txt", old="^zone,33N", new="zone,33N\noption,encoding,punycode")
 forgery.sealed("a text in an option", "not known: whether what was typed in is right: the option na and the name of the export",
                "another record than split.txt|another track", file="tracks/split.txt", old="^zone,33N", new="zone,33N\noption,na,false")

@@ -69,6 +69,7 @@ if is_split_here "the guide's commands for exports"; then
         cp export.csv dog.gpx
         case $command in
             *Tier*) printf '%s\n' Tier,Datum,Uhrzeit,Laenge,Breite a,1.5.2024,12:30,15.8,46.3 >export.csv ;;
+            *2024.csv) cp examples/export.csv 2023.csv && head -n 4 examples/export.csv >2024.csv ;;
         esac
         rm -rf tracks
         holds "the guide's $command" sh -c "$command"

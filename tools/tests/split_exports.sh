@@ -39,7 +39,7 @@ says '1 outliers off the grid: left out'
 {
     printf '\357\273\277'
     printf '%s\r\n' 'individual.local.identifier;timestamp;utm.easting;utm.northing;utm.zone' \
-        'Jäger "Q";2024-05-01 00:30;562000,31;5134000,74;33N' '' 'Jäger "Q";2024-05-01 01:00;562001;5134002,5;33N'
+        '"Jäger ""Q""";2024-05-01 00:30;562000,31;5134000,74;33N' '' '"Jäger ""Q""";2024-05-01 01:00;562001;5134002,5;33N'
 } | split_to 0
 makes 'Jäger _Q_.csv' <<END
 animal,second,easting,northing
@@ -54,7 +54,7 @@ says "column 6 'visible' and column 7 'visible' both fit visible: rename one"
 printf '%s\r\n' 'individual-local-identifier, timestamp,utm-easting,utm-northing,utm-zone,visible ' \
     '"a' 'b",2024-05-01 00:00:00,1,2,33N,true' '"c 5""",2024-05-01 00:00:00,1,2,33N,true' \
     '"c 5""",2024-05-01 00:00:00,1,2,33N,false' | split_to 0
-for name in a_b 'c 5_'; do
+for name in a__b 'c 5_'; do
     printf '%s\n' animal,second,easting,northing "$name,$(stamp '2024-05-01 00:00:00'),1,2" | makes "$name.csv"
 done
 
@@ -124,4 +124,4 @@ printf '%s\n' animal,second,easting,northing "a,$second,10,2001" "a,$second,0,10
 halves | sed '/16777216/d; s/-0.5,/-0.04,/' | split_to 0 --unit dm
 printf '%s\n' animal,second,easting,northing "a,$second,105,20005" "a,$second,0,105" | makes a.csv
 printf '%s\n' "$head_line" 'a,2024-05-01 00:30:00,1,16777216.5,33N,' | split_to 1
-says 'record 1: 1.00 east and 16777216.50 north is off the grid, which goes from 0 to 16777216 metres'
+says 'record 1: 1.00 east and 16777217.00 north is off the grid, which goes from 0 to 16777216 metres'

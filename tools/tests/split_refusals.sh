@@ -27,7 +27,7 @@ refuses 'fixes lie in several zones (33N 2, 32N 1): name the zone' "$head_line" 
     'a,2024-05-01 00:30:00,1,2,33N,' 'b,2024-05-01 00:30:00,1,2,32N,'
 refuses 'fixes lie in several zones (33N 1, 33S 1): name the zone' "$head_line" 'a,2024-05-01 00:30:00,1,2,33N,' \
     'a,2024-05-01 00:30:00,1,2,33S,'
-refuses 'record 1: -52.30 east and 2000.00 north is off the grid' "$head_line" 'a,2024-05-01 00:30:00,-52.3,2000,33N,'
+refuses 'record 1: -52.00 east and 2000.00 north is off the grid' "$head_line" 'a,2024-05-01 00:30:00,-52.3,2000,33N,'
 refuses "animals 'a/b' and 'a_b' would both be named a_b" "$head_line" 'a/b,2024-05-01 00:30:00,1,2,33N,' \
     'a_b,2024-05-01 00:30:00,1,2,33N,' 'a_b,2024-05-01 00:30:00,1,2,33N,'
 refuses 'a quote has no end' "$head_line" 'a,2024-05-01 00:30:00,1,2,33N,"tall' 'b,2024-05-01 00:30:00,1,2,33N,'
@@ -41,4 +41,4 @@ says '--name: a name without control characters is wanted'
     echo 'a,?,562000,5134000'
 } | split_to 1
 says "record 100000: time is '?' and not a time"
-refuses "the table has '<?xml version=" "<?xml version=\"1.0\"?>$(printf '<trkpt>%.0s' 1 2 3 4 5 6 7 8 9)"
+refuses "the table has '<?xml version=" "<?xml version='1.0'?>$(printf '<trkpt>%.0s' 1 2 3 4 5 6 7 8 9)"

@@ -1,5 +1,5 @@
 -- On which grid the fixes of a table are.
-use Rattle.std.specs.Prelude.{◌≡◌, ◌⊎◌, ℤ, pos, Bool, true, false, ◌&&◌, not, List, map, None, is_some, if◌then◌else◌}
+use Rattle.std.specs.Prelude.{◌≡◌, ◌⊎◌, ℤ, pos, Bool, true, ◌&&◌, not, List, map, None, is_some, if◌then◌else◌}
 use Rattle.range_plane.specs.declared.scale.Scale.{Scale}
 use Rattle.split_reading.specs.declared.ledger.Row.{Row}
 use Rattle.split_titles.specs.declared.columns.Columns.{Columns}

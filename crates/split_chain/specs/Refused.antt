@@ -1,5 +1,5 @@
 -- Why an export is refused, as far as that can be told.
-use Rattle.std.specs.Prelude.{◌≡◌, ◌⊎◌, ℕ, List, Option, Some, None}
+use Rattle.std.specs.Prelude.{◌⊎◌, ℕ, List, Option, Some, None}
 use Rattle.split_export.specs.Export.{IsExport, IsExportFault}
 use Rattle.split_export.specs.declared.asked.Asked.{Asked}
 use Rattle.split_export.specs.declared.export.Export.{Export}

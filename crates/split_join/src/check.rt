@@ -6,7 +6,7 @@ ghost use Rattle.split_join.specs.Joined.{AreNext, AreParts, IsJoined, IsPart, P
 
 use crate::fault::{JoinFault, fault_of};
 use csv::ByteRecord;
-use split_table::Table;
+use split_table::{Table, TableFault};
 use std::alloc::Global;
 
 // Whether two records have the same fields.
@@ -89,6 +89,14 @@ fn pass_texts(alloc: Global, whole: &mut Table<'_>, texts: &[&[u8]]) -> Result<V
     Ok(counts)
 }
 
+// Why the table of all is not read.
+fn unread(fault: TableFault) -> JoinFault {
+    match fault {
+        TableFault::OutOfMemory => JoinFault::OutOfMemory,
+        _ => JoinFault::NotOne,
+    }
+}
+
 /// How many records each of these texts has in the table of all.
 ///
 /// # Errors
@@ -97,8 +105,9 @@ fn pass_texts(alloc: Global, whole: &mut Table<'_>, texts: &[&[u8]]) -> Result<V
 pub(crate) fn counts_in(alloc: Global, all: &[u8], texts: &[&[u8]]) -> Result<Vec<u32>, JoinFault>
     ensures { IfOk result (λ counts. IsJoined texts.now all.now counts.items) }
 {
-    let Ok(mut whole) = Table::new(alloc, all) else {
-        return Err(JoinFault::NotOne);
+    let mut whole = match Table::new(alloc, all) {
+        Ok(whole) => whole,
+        Err(fault) => return Err(unread(fault)),
     };
     let counts = pass_texts(alloc, &mut whole, texts)?;
     match whole.advance() {

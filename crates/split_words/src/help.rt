@@ -23,8 +23,8 @@ Usage: homerange-split [OPTIONS] EXPORT...
 
 Arguments:
   EXPORT...  The export: text with a line of titles, or GPX; - is standard
-             input. Several with the same titles are one table, and an animal may
-             be in more than one
+             input. Several with the same titles are one table; an animal may
+             be in several
 
 Options:
       --into <FOLDER>          Folder to make [default: tracks]

@@ -2,6 +2,7 @@
 // package for Python.
 
 use crate::said::{Asked, IN_DECIMETRES, IN_ZONE, PLAIN, UTM, expect, expect_utm};
+use split_titles::Named;
 use std::test::Fail;
 
 #[test]
