@@ -18,9 +18,9 @@ name_crate() {
     esac
 }
 
-# The lines of crates.txt for a program and the crates that it stands on, in their order there.
+# The lines of crates.txt for a program, homerange if left out, and the crates that it stands on, in their order there.
 program_crates() {
-    name_crate "$1"
+    name_crate "${1:-homerange}"
     awk -v program="$crate" '
         function add(name,   names, count, i) {
             if (name in wanted) return
@@ -34,11 +34,12 @@ program_crates() {
     ' "$top/crates.txt"
 }
 
-# Puts into $sum one SHA-256 checksum of those lines, and of the name and the content of each source of those crates.
+# Puts into $sum one SHA-256 checksum of those lines for a program, homerange if left out, and of the name and the content of each
+# source of those crates.
 sum_sources() {
     sum=$(
         # Before the change of folder, since $top may be relative.
-        lines=$(program_crates "$1")
+        lines=$(program_crates "${1:-homerange}")
         cd "$top" || exit 1
         set --
         while read -r name _; do

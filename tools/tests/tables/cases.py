@@ -1,4 +1,5 @@
 """Reads the cases that unpack.py wrote, and compares with them what a front end made."""
+import sys
 from pathlib import Path
 
 LISTS = {"animal", "time", "na", "sensor", "argos-class", "fix-type"}
@@ -50,3 +51,13 @@ def report(results):
         print(f"{name}: {fault}")
     print(f"{len(results) - len(bad)} of {len(results)} tables")
     return 1 if bad or not results else 0
+
+
+def finish(found):
+    """Prints how cases do not come to what is wanted, of their names and faults, which are None where they do, and the counts; and
+    ends the run."""
+    bad = [(name, fault) for name, fault in found if fault]
+    for name, fault in bad:
+        print(f"{name}: {fault[:600]}")
+    print(f"{len(found) - len(bad)} passed, {len(bad)} failed")
+    sys.exit(bool(bad))

@@ -12,7 +12,7 @@ from concurrent.futures import ThreadPoolExecutor
 from pathlib import Path
 
 sys.dont_write_bytecode = True
-from cases import cases, difference
+from cases import cases, difference, finish
 from run_presets import faults as preset_faults
 from run_rules import faults
 from run_several import faults as several_faults
@@ -112,11 +112,7 @@ def main():
         with ThreadPoolExecutor(4) as pool:
             results = list(pool.map(lambda case: check(case, program, room / "made", records), found))
     own = [*faults(program), *several_faults(program), *preset_faults()]
-    bad = [(case.name, fault) for case, fault in zip(found, results) if fault] + [(name, fault) for name, fault in own if fault]
-    for name, fault in bad:
-        print(f"{name}: {fault}")
-    print(f"{len(found) + len(own) - len(bad)} passed, {len(bad)} failed")
-    sys.exit(bool(bad))
+    finish([*((case.name, fault) for case, fault in zip(found, results)), *own])
 
 
 if __name__ == "__main__":

@@ -7,6 +7,9 @@ import sys
 import tempfile
 from pathlib import Path
 
+sys.dont_write_bytecode = True
+from cases import finish
+
 TITLES = "animal,second,easting,northing"
 FAR = "".join(f"v,{at},{500000 + 10 * at},{5000000 + 7 * at}\n" for at in range(9)) + "v,9,505000,5000000\nv,10,500010,5000003\n"
 KILOMETRES = "".join(f"v,{at},{500 + at % 3},{5000 + at % 2}\n" for at in range(10))
@@ -142,12 +145,7 @@ def faults(program):
 
 
 def main():
-    found = list(faults(str(Path(sys.argv[1]).resolve())))
-    bad = [(name, fault) for name, fault in found if fault]
-    for name, fault in bad:
-        print(f"{name}: {fault}")
-    print(f"{len(found) - len(bad)} passed, {len(bad)} failed")
-    sys.exit(bool(bad))
+    finish(list(faults(str(Path(sys.argv[1]).resolve()))))
 
 
 if __name__ == "__main__":

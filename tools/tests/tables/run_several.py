@@ -12,6 +12,7 @@ import tempfile
 from pathlib import Path
 
 sys.dont_write_bytecode = True
+from cases import finish
 from definition import made_of
 from random_tables import Table, first_difference, lines_of, record_of, sized_seeds, wanted_record
 
@@ -153,12 +154,7 @@ def faults(program):
 
 
 def main():
-    found = list(faults(str(Path(sys.argv[1]).resolve())))
-    bad = [(name, fault) for name, fault in found if fault]
-    for name, fault in bad:
-        print(f"{name}: {fault[:600]}")
-    print(f"{len(found) - len(bad)} passed, {len(bad)} failed")
-    sys.exit(bool(bad))
+    finish(list(faults(str(Path(sys.argv[1]).resolve()))))
 
 
 if __name__ == "__main__":
