@@ -1,28 +1,32 @@
 // From the bytes of an export to the files of its tracks.
 
-ghost use Rattle.std.specs.Prelude.{◌≡◌, IfErr, IfOk, length, map};
+ghost use Rattle.std.specs.Prelude.{◌≡◌, IfErr, IfOk, Ok, length, map};
 ghost use Rattle.split_chain.specs.Chain.{AreFilesAt, AreFilesBy, AreFilesOf, AreMade, IsSplit, tracks_with};
 ghost use Rattle.split_chain.specs.Refused.{IsRefused};
 ghost use Rattle.split_counts.specs.Counts.{left_counts};
 ghost use Rattle.split_export.specs.Export.{bytes_of};
 ghost use Rattle.split_export.specs.Files.{entries_of_all, filed, files_of};
+ghost use Rattle.split_fates.specs.Fates.{fates_of};
+ghost use Rattle.split_names.specs.Names.{file_names};
 ghost use Rattle.split_reading.specs.Words.{texts};
 
 use crate::placed::{choice_of, grid_of, moved_by, place};
 use crate::read::{read, refuse_maker, refuse_other_animals, shown};
-use crate::steps::{counts_by, fates_by, leave_out_by, names_by, tracks_by};
+use crate::steps::{counts_by, fates_by, fixes_by, leave_out_by, names_by, tracks_by};
 use crate::times::form_of_times;
 use crate::wish::Wish;
+use indexmap::IndexSet;
 use range_plane::OutOfMemory;
 use split_counts::count_of;
 use split_export::{Asked, Export, TrackFile, make_files};
 use split_fates::Choice;
-use split_reading::{Ledger, Row};
+use split_reading::{Ledger, Progress, Row};
 use split_refusal::Refusal;
 use split_said::{
     Grid, Said, Sheet, TimesRead, Wanted, animals_in_order, check_halves, check_ledger, tell_every,
     tell_files, tell_speed, tell_tracks,
 };
+use split_table::TableText;
 use split_titles::Columns;
 use split_tracks::{Entry, Fate, Reason};
 use std::alloc::Global;
@@ -51,20 +55,22 @@ struct Made {
 // A table that was read, whose rows are placed on a grid.
 #[derive(Clone, Copy)]
 struct Look<'a> {
-    bytes: &'a [u8],
+    text: &'a TableText<'a>,
     sheet: &'a Sheet<'a>,
     wish: &'a Wish<'a>,
-    ledger: &'a Ledger,
+    // The names of animals in the table.
+    animals: &'a IndexSet<Vec<u8>>,
     grid: &'a Grid,
     // By how many metres rounding moves a fix at most, of fixes that are projected.
     projected: Option<f64>,
 }
 
-// The fates of records, and the names of animals.
+// The fates of records, the names of the animals' files, and how many fixes each animal has before any filter.
 #[derive(Drop)]
 struct Fated {
     fates: Vec<Fate>,
     names: Vec<Vec<u8>>,
+    fixes: Vec<usize>,
 }
 
 // The tracks of records, the animals that have a record in theirs, and how many records are left out.
@@ -78,7 +84,7 @@ struct Filtered {
 // Says what there is to say of tracks before filters look at them.
 fn tell(alloc: Global, said: &mut Said, look: &Look<'_>, fated: &Fated) -> Result<(), Refusal> {
     let tracks = tracks_by(alloc, &fated.fates, &fated.names)?;
-    let moved = moved_by(alloc, look.bytes, look.sheet, &fated.fates, look.projected)?;
+    let moved = moved_by(alloc, look.text, look.sheet, &fated.fates, look.projected)?;
     tell_tracks(
         alloc,
         said,
@@ -125,11 +131,11 @@ fn check_left(
     alloc: Global,
     said: &mut Said,
     look: &Look<'_>,
-    names: &[Vec<u8>],
+    fated: &Fated,
     counts: &[usize],
 ) -> Result<(), Refusal> {
-    check_halves(alloc, names, &look.ledger.rows, counts)?;
-    match tell_left(alloc, said, look.wish, counts, names.len()) {
+    check_halves(alloc, &fated.names, &fated.fixes, counts)?;
+    match tell_left(alloc, said, look.wish, counts, fated.names.len()) {
         Ok(()) => Ok(()),
         Err(_) => Err(Refusal::out_of_memory(alloc)),
     }
@@ -175,13 +181,13 @@ fn filtered_tracks(
 {
     let tracks = tracks_by(alloc, &fated.fates, &fated.names)?;
     let counts = counts_by(alloc, &fated.fates, &fated.names)?;
-    check_left(alloc, said, look, &fated.names, &counts)?;
+    check_left(alloc, said, look, fated, &counts)?;
     tell_files(
         alloc,
         said,
         look.sheet,
         look.grid,
-        look.ledger,
+        look.animals,
         &fated.fates,
         &tracks,
         &fated.names,
@@ -211,7 +217,7 @@ fn make_filtered(
         order,
         counts,
     } = filtered_tracks(alloc, said, look, &fated)?;
-    let Fated { fates, names } = fated;
+    let Fated { fates, names, .. } = fated;
     drop(fates);
     let files = files_by(alloc, choice, &names, &tracks)?;
     Ok(Made {
@@ -221,14 +227,39 @@ fn make_filtered(
     })
 }
 
-// The files of the tracks of a table, and the animals that have a record in theirs.
-fn make(alloc: Global, said: &mut Said, look: &Look<'_>, choice: &Choice) -> Result<Made, Refusal>
-    ensures { IfOk result (λ made. AreFilesBy look.now.wish.now choice.now (texts look.now.ledger.now.names)
-        look.now.ledger.now.rows.items (map filed made.files.items) made.counts.items) }
+// What becomes of the records of such rows, and the names of their animals' files. The rows go: they take more memory than all
+// that is made of them.
+fn fated_by(
+    alloc: Global,
+    choice: &Choice,
+    animals: &IndexSet<Vec<u8>>,
+    rows: Vec<Row>,
+) -> Result<Fated, Refusal>
+    ensures fates { IfOk result (λ fated. fates_of choice.now rows.items ≡ Ok fated.fates.items) }
+    ensures names { IfOk result (λ fated. file_names (texts animals.now) ≡ Ok (bytes_of fated.names.items)) }
 {
-    let fates = fates_by(alloc, choice, &look.ledger.rows)?;
-    let names = names_by(alloc, look.ledger)?;
-    let mut fated = Fated { fates, names };
+    let fates = fates_by(alloc, choice, &rows)?;
+    let names = names_by(alloc, animals)?;
+    let fixes = fixes_by(alloc, &rows, &names)?;
+    Ok(Fated {
+        fates,
+        names,
+        fixes,
+    })
+}
+
+// The files of the tracks of a table with such rows, and the animals that have a record in theirs.
+fn make(
+    alloc: Global,
+    said: &mut Said,
+    look: &Look<'_>,
+    choice: &Choice,
+    rows: Vec<Row>,
+) -> Result<Made, Refusal>
+    ensures { IfOk result (λ made. AreFilesBy look.now.wish.now choice.now (texts look.now.animals.now)
+        rows.items (map filed made.files.items) made.counts.items) }
+{
+    let mut fated = fated_by(alloc, choice, look.animals, rows)?;
     tell(alloc, said, look, &fated)?;
     leave_out_by(
         alloc,
@@ -249,12 +280,12 @@ fn make(alloc: Global, said: &mut Said, look: &Look<'_>, choice: &Choice) -> Res
 fn check(
     alloc: Global,
     said: &mut Said,
-    bytes: &[u8],
+    text: &TableText<'_>,
     sheet: &Sheet<'_>,
     ledger: &Ledger,
 ) -> Result<Grid, Refusal> {
     check_ledger(alloc, said, sheet, ledger)?;
-    grid_of(alloc, said, bytes, sheet, ledger)
+    grid_of(alloc, said, text, sheet, ledger)
 }
 
 // The split of a table whose rows are placed.
@@ -263,23 +294,18 @@ fn split_placed(
     said: Said,
     look: &Look<'_>,
     columns: &Columns<Global>,
+    rows: Vec<Row>,
 ) -> Result<Split, Refusal>
-    ensures { IfOk result (λ split. AreFilesAt look.now.wish.now look.now.sheet.now.unit columns.now (texts look.now.ledger.now.names)
-        look.now.ledger.now.rows.items (map filed split.files.items) split.counts.items) }
+    ensures { IfOk result (λ split. AreFilesAt look.now.wish.now look.now.sheet.now.unit columns.now (texts look.now.animals.now)
+        rows.items (map filed split.files.items) split.counts.items) }
 {
     let mut said = said;
-    let choice = choice_of(
-        columns,
-        &look.ledger.rows,
-        look.grid,
-        look.sheet.unit,
-        look.wish,
-    );
+    let choice = choice_of(columns, &rows, look.grid, look.sheet.unit, look.wish);
     let Made {
         files,
         order,
         counts,
-    } = make(alloc, &mut said, look, &choice)?;
+    } = make(alloc, &mut said, look, &choice, rows)?;
     Ok(Split {
         files,
         order,
@@ -292,54 +318,55 @@ fn split_placed(
 // The split of a table.
 fn split_sheet(
     alloc: Global,
-    bytes: &[u8],
+    text: &TableText<'_>,
     sheet: &Sheet<'_>,
     wish: &Wish<'_>,
     columns: &Columns<Global>,
-    ledger: &mut Ledger,
+    ledger: Ledger,
 ) -> Result<Split, Refusal>
-    ensures { IfOk result (λ split. AreFilesOf wish.now sheet.now.unit columns.now ledger.old
+    ensures { IfOk result (λ split. AreFilesOf wish.now sheet.now.unit columns.now ledger
         (map filed split.files.items) split.counts.items) }
 {
     let mut said = Said::new(alloc);
-    let grid = check(alloc, &mut said, bytes, sheet, ledger)?;
-    let projected = place(
-        &mut ledger.rows,
-        columns,
-        &grid,
-        sheet.unit,
-        wish.keeps_marks,
-    );
+    let grid = check(alloc, &mut said, text, sheet, &ledger)?;
+    let Ledger { names, rows, .. } = ledger;
+    let mut rows = rows;
+    let projected = place(&mut rows, columns, &grid, sheet.unit, wish.keeps_marks);
     let look = Look {
-        bytes,
+        text,
         sheet,
         wish,
-        ledger,
+        animals: &names,
         grid: &grid,
         projected,
     };
-    split_placed(alloc, said, &look, columns)
+    split_placed(alloc, said, &look, columns, rows)
 }
 
 // The split of an export.
 fn split_read(
     alloc: Global,
-    bytes: &[u8],
     asked: &Asked<'_>,
     wish: &Wish<'_>,
     form: &[u8],
-    export: &mut Export,
+    export: Export<'_>,
 ) -> Result<Split, Refusal>
-    ensures { IfOk result (λ split. AreFilesOf wish.now asked.now.unit export.old.columns export.old.ledger
+    ensures { IfOk result (λ split. AreFilesOf wish.now asked.now.unit export.columns export.ledger
         (map filed split.files.items) split.counts.items) }
 {
-    let Ok(titles) = shown(alloc, &export.titles) else {
+    let Export {
+        text,
+        titles,
+        columns,
+        ledger,
+    } = export;
+    let Ok(titles) = shown(alloc, &titles) else {
         return Err(Refusal::out_of_memory(alloc));
     };
     let sheet = Sheet {
         exports: wish.exports,
         titles: &titles,
-        columns: &export.columns,
+        columns: &columns,
         unit: asked.unit,
         zone: wish.zone,
         name: asked.name,
@@ -356,35 +383,29 @@ fn split_read(
         },
         keeps_marks: wish.keeps_marks,
     };
-    split_sheet(
-        alloc,
-        bytes,
-        &sheet,
-        wish,
-        &export.columns,
-        &mut export.ledger,
-    )
+    split_sheet(alloc, &text, &sheet, wish, &columns, ledger)
 }
 
 /// Splits the bytes of an export at this path into the files of its tracks, and says what was guessed, left out, sorted, shifted
-/// or rounded.
+/// or rounded. While records are read it tells how far it is.
 ///
 /// # Errors
 ///
 /// Why the export is refused.
-pub fn split_export(
+pub fn split_export<P: Progress>(
     alloc: Global,
     bytes: &[u8],
     path: &[u8],
     asked: &Asked<'_>,
     wish: &Wish<'_>,
+    progress: &mut P,
 ) -> Result<Split, Refusal>
     ensures split { IfOk result (λ split. IsSplit wish.now asked.now bytes.now split.files.items split.counts.items) }
     ensures refused { IfErr result (IsRefused asked.now bytes.now) }
 {
-    let mut export = read(alloc, bytes, path, asked, wish.needs_time, wish.clock_name)?;
+    let export = read(alloc, bytes, path, asked, wish, progress)?;
     refuse_maker(alloc, asked, &export)?;
     refuse_other_animals(alloc, bytes, path, &export)?;
     let form = form_of_times(alloc, bytes, asked, wish, &export)?;
-    split_read(alloc, bytes, asked, wish, &form, &mut export)
+    split_read(alloc, asked, wish, &form, export)
 }

@@ -11,6 +11,7 @@ use split_fates::{Choice, own_shift, project_rows};
 use split_reading::{Ledger, Row};
 use split_refusal::Refusal;
 use split_said::{Grid, Said, Sheet, find_grid};
+use split_table::TableText;
 use split_titles::Columns;
 use split_tracks::Fate;
 use std::alloc::Global;
@@ -19,16 +20,18 @@ use std::alloc::Global;
 // before thousands.
 fn unrounded(
     alloc: Global,
-    bytes: &[u8],
+    text: &TableText<'_>,
     sheet: &Sheet<'_>,
     ledger: &Ledger,
 ) -> Result<Option<(f64, f64)>, Refusal> {
     let Some(metres) = sheet.columns.metres else {
         return Ok(None);
     };
-    match look_at_metres(alloc, bytes, metres, &ledger.rows) {
+    match look_at_metres(alloc, text, metres, &ledger.rows) {
         Ok(look) => match look.grouped {
-            Some((record, column)) => Err(grouped_refusal(alloc, bytes, record, column)),
+            Some((record, column)) => {
+                Err(grouped_refusal(alloc, text.bytes(), record, column))
+            }
             None => Ok(look.unrounded),
         },
         Err(_) => Err(Refusal::out_of_memory(alloc)),
@@ -43,11 +46,11 @@ fn unrounded(
 pub(crate) fn grid_of(
     alloc: Global,
     said: &mut Said,
-    bytes: &[u8],
+    text: &TableText<'_>,
     sheet: &Sheet<'_>,
     ledger: &Ledger,
 ) -> Result<Grid, Refusal> {
-    let unrounded = unrounded(alloc, bytes, sheet, ledger)?;
+    let unrounded = unrounded(alloc, text, sheet, ledger)?;
     find_grid(alloc, said, sheet, ledger, unrounded)
 }
 
@@ -110,7 +113,7 @@ pub(crate) fn choice_of(
 /// Memory ran out.
 pub(crate) fn moved_by(
     alloc: Global,
-    bytes: &[u8],
+    text: &TableText<'_>,
     sheet: &Sheet<'_>,
     fates: &[Fate],
     projected: Option<f64>,
@@ -121,7 +124,7 @@ pub(crate) fn moved_by(
     let Some(metres) = sheet.columns.metres else {
         return Ok(0.0);
     };
-    match most_moved(alloc, bytes, metres, sheet.unit, fates) {
+    match most_moved(alloc, text, metres, sheet.unit, fates) {
         Ok(moved) => Ok(moved),
         Err(_) => Err(Refusal::out_of_memory(alloc)),
     }

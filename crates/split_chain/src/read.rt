@@ -5,11 +5,12 @@ ghost use Rattle.split_chain.specs.Refused.{IsOfFault, record_of, record_of_read
 ghost use Rattle.split_export.specs.Export.{IsExport};
 ghost use Rattle.split_refusal.specs.Refused.{Names};
 
+use crate::wish::Wish;
 use range_plane::OutOfMemory;
 use split_export::{
     Asked, Export, ExportFault, NotTaken, fields_of_record, part_alike, read_export, titles_of,
 };
-use split_reading::{CellFault, ReadingFault};
+use split_reading::{CellFault, Progress, ReadingFault};
 use split_refusal::{
     Kind, RecordShown, Refusal, refused_cell, refused_day, refused_grouped, refused_table,
     refused_text, refused_titles,
@@ -240,7 +241,7 @@ fn refused_maker(alloc: Global, maker: &str) -> Refusal {
 pub(crate) fn refuse_maker(
     alloc: Global,
     asked: &Asked<'_>,
-    export: &Export,
+    export: &Export<'_>,
 ) -> Result<(), Refusal> {
     let named = &asked.named;
     if !export.columns.time.is_empty() || named.lon.is_some() || named.easting.is_some() {
@@ -255,26 +256,33 @@ pub(crate) fn refuse_maker(
     }
 }
 
-/// Reads the table of an export. `option` is the one that needs a time, if one does, and `clock` the name of the zone by whose clock
-/// times are read.
+/// Reads the table of an export, and tells how far it is.
 ///
 /// # Errors
 ///
 /// Why it is refused.
-pub(crate) fn read(
+pub(crate) fn read<'t, P: Progress>(
     alloc: Global,
-    bytes: &[u8],
+    bytes: &'t [u8],
     path: &[u8],
     asked: &Asked<'_>,
-    option: &str,
-    clock: &str,
-) -> Result<Export, Refusal>
+    wish: &Wish<'_>,
+    progress: &mut P,
+) -> Result<Export<'t>, Refusal>
     ensures export { IfOk result (IsExport asked.now bytes.now) }
     ensures fault { IfErr result (IsOfFault asked.now bytes.now) }
 {
-    match read_export(alloc, bytes, asked) {
+    match read_export(alloc, bytes, asked, progress) {
         Ok(export) => Ok(export),
-        Err(fault) => Err(export_refusal(alloc, bytes, path, asked, option, clock, fault)),
+        Err(fault) => Err(export_refusal(
+            alloc,
+            bytes,
+            path,
+            asked,
+            wish.needs_time,
+            wish.clock_name,
+            fault,
+        )),
     }
 }
 
@@ -287,14 +295,14 @@ pub(crate) fn refuse_other_animals(
     alloc: Global,
     bytes: &[u8],
     path: &[u8],
-    export: &Export,
+    export: &Export<'_>,
 ) -> Result<(), Refusal> {
     let [taken] = export.columns.animal.as_slice() else {
         return Ok(());
     };
     let count = export.ledger.rows.len();
     for other in export.columns.other_animals.iter() {
-        match part_alike(alloc, bytes, count, *taken, *other) {
+        match part_alike(alloc, &export.text, count, *taken, *other) {
             Ok(true) => {}
             Ok(false) => {
                 let fault = TitleFault::OneRole {

@@ -10,13 +10,15 @@ ghost use Rattle.split_names.specs.Names.{file_names};
 ghost use Rattle.split_reading.specs.Words.{texts};
 
 use crate::read::shown;
+use indexmap::IndexSet;
 use range_plane::Scale;
 use split_counts::left_counts;
 use split_fates::{Choice, FatesFault, fates_of};
 use split_names::{NamesFault, file_names};
 use split_pace::{Filter, leave_out};
-use split_reading::{Ledger, Row, Told};
+use split_reading::{Row, Told};
 use split_refusal::{Refusal, refused_names, refused_no_place, refused_off_grid};
+use split_said::fix_counts;
 use split_tracks::{Entry, Fate, tracks_of};
 use std::alloc::Global;
 
@@ -66,13 +68,32 @@ fn names_refusal(alloc: Global, names: &[Vec<u8>], fault: NamesFault) -> Refusal
 /// # Errors
 ///
 /// Why the table is refused.
-pub(crate) fn names_by(alloc: Global, ledger: &Ledger) -> Result<Vec<Vec<u8>>, Refusal>
-    ensures { IfOk result (λ own. file_names (texts ledger.now.names) ≡ Ok (bytes_of own.items)) }
+pub(crate) fn names_by(
+    alloc: Global,
+    animals: &IndexSet<Vec<u8>>,
+) -> Result<Vec<Vec<u8>>, Refusal>
+    ensures { IfOk result (λ own. file_names (texts animals.now) ≡ Ok (bytes_of own.items)) }
 {
-    let names = ledger.names.as_slice();
+    let names = animals.as_slice();
     match file_names(alloc, names) {
         Ok(own) => Ok(own),
         Err(fault) => Err(names_refusal(alloc, names, fault)),
+    }
+}
+
+/// How many fixes rows have of each animal, of as many animals as there are names.
+///
+/// # Errors
+///
+/// Memory ran out.
+pub(crate) fn fixes_by(
+    alloc: Global,
+    rows: &[Row],
+    names: &[Vec<u8>],
+) -> Result<Vec<usize>, Refusal> {
+    match fix_counts(alloc, rows, names.len()) {
+        Ok(counts) => Ok(counts),
+        Err(_) => Err(Refusal::out_of_memory(alloc)),
     }
 }
 

@@ -4,36 +4,31 @@ use crate::read::{day_refusal, untimed_refusal};
 use crate::wish::Wish;
 use range_plane::OutOfMemory;
 use split_export::{Asked, Export, TimesLook, column_of_times, look_at_times, rules_of};
-use split_reading::Row;
 use split_refusal::Refusal;
-use split_titles::Columns;
 use std::alloc::Global;
 
 // The zone that every clock without a name is of.
 const UTC: &str = "UTC";
 
 // Refuses a table without a column of the time one of whose columns has times.
-fn refuse_unread_times(alloc: Global, bytes: &[u8], export: &Export) -> Result<(), Refusal> {
-    match column_of_times(alloc, bytes, export.ledger.rows.len()) {
+fn refuse_unread_times(alloc: Global, export: &Export<'_>) -> Result<(), Refusal> {
+    match column_of_times(alloc, &export.text, export.ledger.rows.len()) {
         Ok(Some(column)) => Err(untimed_refusal(alloc, &export.titles, column)),
         Ok(None) => Ok(()),
         Err(_) => Err(Refusal::out_of_memory(alloc)),
     }
 }
 
-// Looks at the times of a table of so many titles with such columns; none where there are no rules for it.
+// Looks at the times of an export; none where there are no rules for it.
 fn look_by(
     alloc: Global,
-    bytes: &[u8],
-    columns: &Columns<Global>,
-    width: usize,
-    rows: &[Row],
+    export: &Export<'_>,
     asked: &Asked<'_>,
 ) -> Result<Option<TimesLook>, Refusal> {
-    let Ok(rules) = rules_of(columns, width, false, asked) else {
+    let Ok(rules) = rules_of(&export.columns, export.titles.len(), false, asked) else {
         return Ok(None);
     };
-    match look_at_times(alloc, bytes, &rules, rows) {
+    match look_at_times(alloc, &export.text, &rules, &export.ledger.rows) {
         Ok(look) => Ok(Some(look)),
         Err(_) => Err(Refusal::out_of_memory(alloc)),
     }
@@ -75,22 +70,13 @@ pub(crate) fn form_of_times(
     bytes: &[u8],
     asked: &Asked<'_>,
     wish: &Wish<'_>,
-    export: &Export,
+    export: &Export<'_>,
 ) -> Result<Vec<u8>, Refusal> {
     if export.columns.time.is_empty() {
-        refuse_unread_times(alloc, bytes, export)?;
+        refuse_unread_times(alloc, export)?;
         return Ok(Vec::new(alloc));
     }
-    let width = export.titles.len();
-    let found = look_by(
-        alloc,
-        bytes,
-        &export.columns,
-        width,
-        &export.ledger.rows,
-        asked,
-    )?;
-    let Some(look) = found else {
+    let Some(look) = look_by(alloc, export, asked)? else {
         return Ok(Vec::new(alloc));
     };
     if let Some(record) = look.day {

@@ -4,13 +4,15 @@ use crate::clock::clock_of;
 use crate::command_line::command_words;
 use crate::machine::{MACHINE, machine_record};
 use crate::run::run;
+use crate::screen::Screen;
 use crate::stop::{Stop, say, tell};
 use split_clock::Clock;
 use split_refusal::{Kind, Refusal};
 use split_words::{WordFault, Words, read_words};
 use std::alloc::Global;
 use std::env::Env;
-use std::io::{Read, Write};
+use std::io::{IsTerminal, Read, Write};
+use std::rt;
 use std::rt::Files;
 
 // Says why there is no folder of an export at this path as a record of CSV, and gives the status of the program.
@@ -73,15 +75,21 @@ fn copy_of(alloc: Global, refusal: &Refusal) -> Refusal {
 }
 
 // Does what words ask for that were read, and answers what is said of it.
-fn done<R: Files + AllocGlobal, I: Read, W: Write>(
+fn done<R: Files + rt::Clock + AllocGlobal, I: Read, W: Write, X: Write + IsTerminal>(
     rt: &R,
     read: &Result<(Words<'_>, Clock), WordFault>,
     input: &mut I,
     out: &mut W,
+    errors: &mut X,
 ) -> Result<Vec<Vec<u8>>, Stop> {
     let alloc = rt.alloc();
     match read {
-        Ok((words, clock)) => run(rt, words, clock, input),
+        Ok((words, clock)) => {
+            let mut screen = Screen::new(rt, errors);
+            let done = run(rt, words, clock, input, &mut screen);
+            screen.clear();
+            done
+        }
         Err(WordFault::Help(text) | WordFault::Version(text)) => {
             reply(alloc, text.as_str(), out)?;
             Ok(Vec::new(alloc))
@@ -107,7 +115,7 @@ fn read_all<'a, R: Files + AllocGlobal>(
 }
 
 // Does what the words ask for, and says what is said of it.
-fn obey<R: Files + AllocGlobal, I: Read, W: Write, X: Write>(
+fn obey<R: Files + rt::Clock + AllocGlobal, I: Read, W: Write, X: Write + IsTerminal>(
     rt: &R,
     words: &[String],
     input: &mut I,
@@ -116,7 +124,7 @@ fn obey<R: Files + AllocGlobal, I: Read, W: Write, X: Write>(
 ) -> u8 {
     let alloc = rt.alloc();
     let read = read_all(rt, words);
-    match done(rt, &read, input, out) {
+    match done(rt, &read, input, out, errors) {
         Ok(lines) => {
             for line in lines.iter() {
                 say(alloc, line, errors);
@@ -130,9 +138,17 @@ fn obey<R: Files + AllocGlobal, I: Read, W: Write, X: Write>(
     }
 }
 
-/// Does what the words of the environment's command line ask for, where `-` is an export that is read from `input`, and gives the status with which the program ends: 0 where
-/// tracks, the help or the version were written, and else that of the refusal, of which one line on `errors` says why, or with `--machine` one record of CSV.
-pub fn answer<R: Files + AllocGlobal, E: Env, I: Read, W: Write, X: Write>(
+/// Does what the words of the environment's command line ask for, where `-` is an export that is read from `input`, and gives the
+/// status with which the program ends: 0 where tracks, the help or the version were written, and else that of the refusal, of which
+/// one line on `errors` says why, or with `--machine` one record of CSV. Where `errors` is a terminal it shows how far it is once a
+/// second has passed.
+pub fn answer<
+    R: Files + rt::Clock + AllocGlobal,
+    E: Env,
+    I: Read,
+    W: Write,
+    X: Write + IsTerminal,
+>(
     rt: &R,
     environment: &E,
     input: &mut I,

@@ -10,6 +10,7 @@ mod machine;
 mod read;
 mod record;
 mod run;
+mod screen;
 mod several;
 mod stop;
 mod text;

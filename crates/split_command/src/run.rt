@@ -3,6 +3,7 @@
 use crate::folder::{refuse_there, write_tracks};
 use crate::read::{Exports, read_exports};
 use crate::record::{name_of, record_of};
+use crate::screen::Screen;
 use crate::several::{join_exports, placed};
 use crate::stop::Stop;
 use crate::text::{table_in, text_of};
@@ -11,11 +12,13 @@ use range_plane::{OutOfMemory, Scale};
 use split_chain::{Split, Wish, split_export};
 use split_clock::Clock;
 use split_export::Asked;
+use split_reading::Progress;
 use split_refusal::{Kind, Refusal};
 use split_titles::Named;
 use split_words::{Choices, NamedColumns, Words};
 use std::alloc::Global;
-use std::io::Read;
+use std::io::{IsTerminal, Read, Write};
+use std::rt;
 use std::rt::Files;
 
 // The columns that the words name, where filters look at some.
@@ -71,7 +74,7 @@ struct Source<'a> {
 }
 
 // Splits a table, of which the words ask this.
-fn split_asked<'a>(
+fn split_asked<'a, P: Progress>(
     alloc: Global,
     source: Source<'a>,
     words: &Words<'a>,
@@ -79,6 +82,7 @@ fn split_asked<'a>(
     named: Named<'a>,
     choices: &'a Choices<'a>,
     clock: &'a Clock,
+    progress: &mut P,
 ) -> Result<Split, Refusal> {
     let filters = choices.filters();
     let exports = split_said::Exports {
@@ -104,11 +108,12 @@ fn split_asked<'a>(
         words.first_export().as_bytes(),
         &asked,
         &wish,
+        progress,
     )
 }
 
 // The same, where the words name such columns.
-fn split_named<'a>(
+fn split_named<'a, P: Progress>(
     alloc: Global,
     source: Source<'a>,
     words: &Words<'a>,
@@ -116,17 +121,19 @@ fn split_named<'a>(
     columns: &'a NamedColumns<'a>,
     choices: &'a Choices<'a>,
     clock: &'a Clock,
+    progress: &mut P,
 ) -> Result<Split, Refusal> {
     let named = named_of(columns, choices);
-    split_asked(alloc, source, words, missing, named, choices, clock)
+    split_asked(alloc, source, words, missing, named, choices, clock, progress)
 }
 
 // The same, with all that the words ask.
-fn split_source(
+fn split_source<P: Progress>(
     alloc: Global,
     source: Source<'_>,
     words: &Words<'_>,
     clock: &Clock,
+    progress: &mut P,
 ) -> Result<Split, Refusal> {
     split_named(
         alloc,
@@ -136,15 +143,17 @@ fn split_source(
         &words.columns,
         &words.choices,
         clock,
+        progress,
     )
 }
 
 // Splits the text of one export.
-fn split_text(
+fn split_text<P: Progress>(
     alloc: Global,
     text: &[u8],
     words: &Words<'_>,
     clock: &Clock,
+    progress: &mut P,
 ) -> Result<Split, Refusal> {
     let source = Source {
         table: table_in(alloc, text, words)?,
@@ -152,19 +161,20 @@ fn split_text(
         names: &[],
         counts: &[],
     };
-    split_source(alloc, source, words, clock)
+    split_source(alloc, source, words, clock, progress)
 }
 
 // Splits the bytes of one export.
-fn split_one(
+fn split_one<P: Progress>(
     alloc: Global,
     bytes: &[u8],
     words: &Words<'_>,
     clock: &Clock,
+    progress: &mut P,
 ) -> Result<Split, Refusal> {
     match text_of(alloc, words.first_export(), bytes, words.text)? {
-        Some(text) => split_text(alloc, &text, words, clock),
-        None => split_text(alloc, bytes, words, clock),
+        Some(text) => split_text(alloc, &text, words, clock, progress),
+        None => split_text(alloc, bytes, words, clock, progress),
     }
 }
 
@@ -178,11 +188,12 @@ fn names_of<'a>(alloc: Global, paths: &[&'a str]) -> Result<Vec<&'a [u8]>, OutOf
 }
 
 // Splits the bytes of several exports, as those of one table.
-fn split_several(
+fn split_several<P: Progress>(
     alloc: Global,
     all: &[Vec<u8>],
     words: &Words<'_>,
     clock: &Clock,
+    progress: &mut P,
 ) -> Result<Split, Refusal> {
     let joined = join_exports(alloc, words, all)?;
     let Ok(names) = names_of(alloc, &words.exports) else {
@@ -194,22 +205,23 @@ fn split_several(
         names: &names,
         counts: &joined.counts,
     };
-    match split_source(alloc, source, words, clock) {
+    match split_source(alloc, source, words, clock, progress) {
         Ok(split) => Ok(split),
         Err(refusal) => Err(placed(alloc, refusal, &words.exports, &joined.counts)),
     }
 }
 
 // Splits the bytes of all exports.
-fn split_all(
+fn split_all<P: Progress>(
     alloc: Global,
     all: &[Vec<u8>],
     words: &Words<'_>,
     clock: &Clock,
+    progress: &mut P,
 ) -> Result<Split, Refusal> {
     match all {
-        [one] => split_one(alloc, one, words, clock),
-        _ => split_several(alloc, all, words, clock),
+        [one] => split_one(alloc, one, words, clock, progress),
+        _ => split_several(alloc, all, words, clock, progress),
     }
 }
 
@@ -245,21 +257,23 @@ fn say_last(alloc: Global, words: &Words<'_>, split: &mut Split) -> Result<(), O
 }
 
 /// Splits the exports that the words name, whose times are those of this clock, and writes the folder of its tracks. Answers what is
-/// said of that.
+/// said of that. The screen shows how far it is.
 ///
 /// # Errors
 ///
 /// Why there is no folder.
-pub(crate) fn run<R: Files + AllocGlobal, I: Read>(
+pub(crate) fn run<R: Files + rt::Clock + AllocGlobal, I: Read, X: Write + IsTerminal>(
     rt: &R,
     words: &Words<'_>,
     clock: &Clock,
     input: &mut I,
+    screen: &mut Screen<'_, R, X>,
 ) -> Result<Vec<Vec<u8>>, Stop> {
     let alloc = rt.alloc();
     refuse_there(rt, words.into)?;
     let Exports { all, sums } = read_exports(rt, words, input)?;
-    let mut split = split_all(alloc, &all, words, clock)?;
+    screen.count_lines(&all);
+    let mut split = split_all(alloc, &all, words, clock, screen)?;
     let Ok(record) = record_of(alloc, &sums, words, &split) else {
         return Err(Stop::from(Refusal::out_of_memory(alloc)));
     };

@@ -31,11 +31,11 @@ as_many : (own : List (Vec ℕ Global)) (titles : Record) → bytes_of own ≡ t
 as_many own titles is = sym (length-map own (λ text. text.items)) ∙ ap length is
 
 -- a table is read whose records have a ledger by its columns
-pub exported : (asked : Asked) (commas : Bool) (titles : Record) (left : Option (List Record)) (own : Vec (Vec ℕ Global) Global) (columns : Columns Global) (ledger : Ledger)
+pub exported : (asked : Asked) (commas : Bool) (text : List ℕ) (titles : Record) (left : Option (List Record)) (own : Vec (Vec ℕ Global) Global) (columns : Columns Global) (ledger : Ledger)
     → bytes_of own.items ≡ titles → IfSome left (IsLedgerBy columns (length own.items) commas asked ledger) → AreTimely ledger.rows.items
-    → IfSome left (λ records. IsOfTable asked commas (with_titles titles records) (record { titles = own; columns = columns; ledger = ledger }))
-exported asked commas titles None own columns ledger is is_ledger timely = tt
-exported asked commas titles (Some records) own columns ledger is (rules, are_rules, is_ledger) timely = record {
+    → IfSome left (λ records. IsOfTable asked commas (with_titles titles records) (record { text = text; titles = own; columns = columns; ledger = ledger }))
+exported asked commas text titles None own columns ledger is is_ledger timely = tt
+exported asked commas text titles (Some records) own columns ledger is (rules, are_rules, is_ledger) timely = record {
   titles = is;
   rules = rules;
   are_rules = subst (λ (width : ℕ). AreRules columns width commas asked rules) (as_many own.items titles is) are_rules;

@@ -53,7 +53,8 @@ pub record IsOfTable (asked : Asked) (commas : Bool) (table : Titled) (export : 
 
 -- an export is that of these bytes, which are the text of a table
 abbrev pub IsExport : Asked → List ℕ → Export → Type 0
-IsExport asked bytes export = (text_fault bytes ≡ None) × IsTableWith (λ table. IsOfTable asked (has_commas asked bytes) table export) (table_of bytes)
+IsExport asked bytes export =
+    (text_fault bytes ≡ None) × (export.text ≡ bytes) × IsTableWith (λ table. IsOfTable asked (has_commas asked bytes) table export) (table_of bytes)
 
 -- there are no rules for some columns
 abbrev pub IsNotTaken : Asked → NotTaken → Type 0

@@ -12,8 +12,8 @@ use crate::rules::{NotTaken, rules_of};
 use crate::text::{TextFault, text_fault};
 use csv::ByteRecord;
 use range_plane::OutOfMemory;
-use split_reading::{Ledger, ReadingFault, read_records};
-use split_table::{Table, TableFault, separator_of, without_mark};
+use split_reading::{Ledger, Progress, ReadingFault, read_records};
+use split_table::{Table, TableFault, TableText, separator_of, without_mark};
 use split_titles::{Columns, TitleFault, find_columns};
 use std::alloc::Global;
 
@@ -29,7 +29,9 @@ pub enum ExportFault<'a> {
 
 /// The table of an export, read.
 #[derive(Drop)]
-pub struct Export {
+pub struct Export<'t> {
+    /// The text of which it is, for a second look.
+    pub text: TableText<'t>,
     pub titles: Vec<Vec<u8>>,
     pub columns: Columns<Global>,
     pub ledger: Ledger,
@@ -94,13 +96,14 @@ fn columns_of<'a>(
 }
 
 // The ledger of the records of a table with these titles, by these columns.
-fn ledger_by<'b>(
+fn ledger_by<'b, P: Progress>(
     alloc: Global,
     table: &mut Table<'_>,
     columns: &Columns<Global>,
     titles: &[Vec<u8>],
     has_commas: bool,
     asked: &Asked<'_>,
+    progress: &mut P,
 ) -> Result<Ledger, ExportFault<'b>>
     ensures ledger { IfOk result (λ ledger. IfSome table.old.left (IsLedgerBy columns.now (length titles.now) has_commas asked.now ledger)) }
     ensures timely { IfOk result (λ ledger. AreTimely ledger.rows.items) }
@@ -110,7 +113,7 @@ fn ledger_by<'b>(
         Ok(rules) => rules,
         Err(fault) => return Err(ExportFault::NotTaken(fault)),
     };
-    match read_records(alloc, table, &rules) {
+    match read_records(alloc, table, &rules, progress) {
         Ok(ledger) => Ok(ledger),
         Err(fault) => Err(ExportFault::Reading(fault)),
     }
@@ -125,16 +128,19 @@ fn has_commas(text: &[u8], asked: &Asked<'_>) -> bool
 }
 
 // Reads the table of a text of which no record was read.
-fn read_table<'a>(
+fn read_table<'t, 'a, P: Progress>(
     alloc: Global,
-    text: &[u8],
+    text: TableText<'t>,
+    has_commas: bool,
     table: &mut Table<'_>,
     asked: &Asked<'a>,
-) -> Result<Export, ExportFault<'a>>
+    progress: &mut P,
+) -> Result<Export<'t>, ExportFault<'a>>
+    ensures text { IfOk result (λ export. export.text ≡ text) }
     ensures export { IfOk result (λ export. IfSome table.old.left
-        (λ records. IsOfTable asked.now (has_commas asked.now text.now) (with_titles table.old.titles records) export)) }
+        (λ records. IsOfTable asked.now has_commas (with_titles table.old.titles records) export)) }
     ensures fault { IfErr result (λ fault. IfSome table.old.left
-        (λ records. IsTableFault asked.now (has_commas asked.now text.now) (with_titles table.old.titles records) fault)) }
+        (λ records. IsTableFault asked.now has_commas (with_titles table.old.titles records) fault)) }
 {
     let titles = match own_fields(alloc, table.titles()) {
         Ok(titles) => titles,
@@ -145,14 +151,10 @@ fn read_table<'a>(
         Err(fault) => return Err(ExportFault::Titles(fault)),
     };
     match ledger_by(
-        alloc,
-        table,
-        &columns,
-        &titles,
-        has_commas(text, asked),
-        asked,
+        alloc, table, &columns, &titles, has_commas, asked, progress,
     ) {
         Ok(ledger) => Ok(Export {
+            text,
             titles,
             columns,
             ledger,
@@ -161,25 +163,31 @@ fn read_table<'a>(
     }
 }
 
-/// Reads the table of an export.
+/// Reads the table of an export, and tells how far it is.
 ///
 /// # Errors
 ///
 /// Why it cannot be read. Of all records with a fault the first is named.
-pub fn read_export<'a>(
+pub fn read_export<'t, 'a, P: Progress>(
     alloc: Global,
-    text: &[u8],
+    text: &'t [u8],
     asked: &Asked<'a>,
-) -> Result<Export, ExportFault<'a>>
+    progress: &mut P,
+) -> Result<Export<'t>, ExportFault<'a>>
     ensures export { IfOk result (IsExport asked.now text.now) }
     ensures fault { IfErr result (IsExportFault asked.now text.now) }
 {
     if let Some(fault) = text_fault(text) {
         return Err(ExportFault::Text(fault));
     }
-    let mut table = match Table::new(alloc, text) {
+    let own = match TableText::new(text) {
+        Ok(own) => own,
+        Err(fault) => return Err(ExportFault::Table(fault)),
+    };
+    let mut table = match own.table(alloc) {
         Ok(table) => table,
         Err(fault) => return Err(ExportFault::Table(fault)),
     };
-    read_table(alloc, text, &mut table, asked)
+    let commas = has_commas(text, asked);
+    read_table(alloc, own, commas, &mut table, asked, progress)
 }

@@ -3,12 +3,12 @@
 use csv::ByteRecord;
 use indexmap::IndexSet;
 use range_plane::{OutOfMemory, Scale};
+use split_fates::metres_moved;
 use split_reading::{Row, Told};
-use split_table::{Table, TableFault};
+use split_table::{Table, TableFault, TableText};
 use split_titles::Pair;
 use split_tracks::Fate;
 use std::alloc::Global;
-use std::num::nearest_i64_to_f64;
 
 // How many bytes of a number with a comma are read as metres: more digits than they have tell no two apart.
 const NUMBER_BYTES: usize = 40;
@@ -214,12 +214,12 @@ fn with_next(
 /// Memory ran out.
 pub fn look_at_metres(
     alloc: Global,
-    text: &[u8],
+    text: &TableText<'_>,
     metres: Pair,
     rows: &[Row],
 ) -> Result<Look, TableFault> {
     let mut seen = Seen::new();
-    let mut table = Table::new(alloc, text)?;
+    let mut table = text.table(alloc)?;
     for (index, row) in rows.iter().enumerate() {
         let record = u32::try_from(index).unwrap_or(u32::MAX).saturating_add(1);
         seen = with_next(&mut table, metres, seen, record, row)?;
@@ -230,22 +230,13 @@ pub fn look_at_metres(
     Ok(seen.look(metres))
 }
 
-// How far rounding to whole units moves a coordinate, in metres.
-fn moved(text: &[u8], unit: Scale, units: i64) -> f64 {
-    let scale = match unit {
-        Scale::Metre => 1.0,
-        Scale::Decimetre => 10.0,
-    };
-    nearest_i64_to_f64(units) / scale - metres_in(text)
-}
-
 // How far a record moves that becomes this.
 fn moved_record(fields: &ByteRecord, metres: Pair, unit: Scale, fate: &Fate) -> f64 {
     match *fate {
         Fate::InTrack { entry, .. } => {
-            let east = moved(cell(fields, metres.first), unit, entry.easting);
-            let north = moved(cell(fields, metres.second), unit, entry.northing);
-            east.hypot(north)
+            let east = metres_in(cell(fields, metres.first));
+            let north = metres_in(cell(fields, metres.second));
+            metres_moved((entry.easting, entry.northing), (east, north), unit)
         }
         Fate::LeftOut { .. } => 0.0,
     }
@@ -258,13 +249,13 @@ fn moved_record(fields: &ByteRecord, metres: Pair, unit: Scale, fate: &Fate) -> 
 /// Memory ran out.
 pub fn most_moved(
     alloc: Global,
-    text: &[u8],
+    text: &TableText<'_>,
     metres: Pair,
     unit: Scale,
     fates: &[Fate],
 ) -> Result<f64, TableFault> {
     let mut most = 0.0;
-    let mut table = Table::new(alloc, text)?;
+    let mut table = text.table(alloc)?;
     for fate in fates {
         if !table.advance()? {
             return Ok(most);
@@ -337,12 +328,12 @@ fn add_next(
 /// Memory ran out.
 pub fn part_alike(
     alloc: Global,
-    text: &[u8],
+    text: &TableText<'_>,
     count: usize,
     first: usize,
     second: usize,
 ) -> Result<bool, TableFault> {
-    let mut table = Table::new(alloc, text)?;
+    let mut table = text.table(alloc)?;
     let mut sides = Sides {
         ones: IndexSet::new(alloc),
         others: IndexSet::new(alloc),

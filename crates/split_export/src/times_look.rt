@@ -1,7 +1,7 @@
 // A second look at the times of a table: by which forms they are read, and whether numbers may be days with hours.
 
 use split_reading::{Row, Rules, Told, time_text};
-use split_table::{Table, TableFault};
+use split_table::{Table, TableFault, TableText};
 use split_times::{DayOrders, Forms, orders_in};
 use std::alloc::Global;
 
@@ -113,11 +113,11 @@ fn look(
 /// Memory ran out.
 pub fn look_at_times(
     alloc: Global,
-    text: &[u8],
+    text: &TableText<'_>,
     rules: &Rules<'_, '_>,
     rows: &[Row],
 ) -> Result<TimesLook, TableFault> {
-    let mut table = Table::new(alloc, text)?;
+    let mut table = text.table(alloc)?;
     let Seen {
         first,
         orders,

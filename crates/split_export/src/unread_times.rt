@@ -1,7 +1,7 @@
 // Whether a column that is not read has the times of a table without a column of the time.
 
 use csv::ByteRecord;
-use split_table::{Table, TableFault};
+use split_table::{TableFault, TableText};
 use split_times::iso_time;
 use std::alloc::Global;
 
@@ -43,10 +43,10 @@ fn with_record(columns: &mut [Texts], fields: &ByteRecord) {
 /// Memory ran out.
 pub fn column_of_times(
     alloc: Global,
-    text: &[u8],
+    text: &TableText<'_>,
     count: usize,
 ) -> Result<Option<usize>, TableFault> {
-    let mut table = Table::new(alloc, text)?;
+    let mut table = text.table(alloc)?;
     let width = table.titles().len();
     let Ok(mut columns) = vec![in alloc; Texts::Missing; width] else {
         return Err(TableFault::OutOfMemory);

@@ -12,5 +12,5 @@ pub use choice::Choice;
 pub use fates::{FatesFault, fates_of, row_reason};
 pub use laws::tracks_may_be_written;
 pub use marked::{MarkedFault, marked_fixes};
-pub use projected::project_rows;
+pub use projected::{metres_moved, project_rows};
 pub use shift::{Extent, extent_of, own_shift, shift_of, widened};

@@ -26,6 +26,13 @@ fn moved(units: i64, metres: f64, unit: Scale) -> f64 {
     nearest_i64_to_f64(units) / scale - metres
 }
 
+/// By how many metres a fix moves that is so many metres east and north and gets these whole units.
+pub fn metres_moved(units: (i64, i64), metres: (f64, f64), unit: Scale) -> f64 {
+    let east = moved(units.0, metres.0, unit);
+    let north = moved(units.1, metres.1, unit);
+    (east * east + north * north).sqrt()
+}
+
 // Longitude and latitude in a zone, in whole units; none where there are none, or they have no place in it.
 fn place_in(degrees: Option<(i64, i64)>, zone: Zone, unit: Scale) -> Option<Rounded> {
     let (longitude, latitude) = degrees?;
@@ -39,7 +46,7 @@ fn place_in(degrees: Option<(i64, i64)>, zone: Zone, unit: Scale) -> Option<Roun
     Some(Rounded {
         easting,
         northing,
-        moved: moved(easting, east, unit).hypot(moved(northing, north, unit)),
+        moved: metres_moved((easting, northing), (east, north), unit),
     })
 }
 

@@ -38,6 +38,12 @@ fn moved_by(on: Transverse, coefficients: &[f64; 6]) -> Complex {
     }
 }
 
+// The length of a way that goes so far one way and so far at a right angle to it. Neither is great enough for its square to be
+// none, nor are both so small.
+fn length(one: f64, other: f64) -> f64 {
+    (one * one + other * other).sqrt()
+}
+
 // The latitude on the Gaussian sphere of a latitude on the ellipsoid, in radians.
 fn latitude_on_sphere(latitude: f64) -> f64 {
     let (sine, cosine) = (2.0 * latitude).sin_cos();
@@ -49,7 +55,7 @@ fn latitude_on_sphere(latitude: f64) -> f64 {
 fn position_on_sphere(latitude: f64, east: f64) -> Transverse {
     let north = latitude.sin();
     let outward = latitude.cos() * east.cos();
-    let reciprocal = 1.0 / north.hypot(outward);
+    let reciprocal = 1.0 / length(north, outward);
     let tangent = east.sin() * latitude.cos() * reciprocal;
     let twice_square = 2.0 * reciprocal * reciprocal;
     let along = outward * twice_square;
@@ -96,6 +102,6 @@ pub(crate) fn place_of_position(position: Complex) -> (f64, f64) {
     let on_sphere = position_from_ellipsoid(position);
     let (north, along) = on_sphere.real.sin_cos();
     let outward = on_sphere.imaginary.sinh();
-    let latitude = north.atan2(outward.hypot(along));
+    let latitude = north.atan2(length(outward, along));
     (outward.atan2(along), latitude_on_ellipsoid(latitude))
 }

@@ -8,6 +8,7 @@ ghost use Rattle.split_table.specs.Table.{TakesRecord};
 
 use crate::fault::ReadingFault;
 use crate::moment::{When, time_text};
+use crate::progress::{Progress, tell_count};
 use crate::rules::Rules;
 use crate::told::{Told, name_in, sensor_in, told_in};
 use crate::words::number_of;
@@ -189,15 +190,16 @@ fn read_next(
     }
 }
 
-/// Reads the records of a table that are left, each by the same rules.
+/// Reads the records of a table that are left, each by the same rules, and tells how far it is.
 ///
 /// # Errors
 ///
 /// A record has a fault, and the first that has one is named; there are too many records; or memory ran out.
-pub fn read_records(
+pub fn read_records<P: Progress>(
     alloc: Global,
     table: &mut Table<'_>,
     rules: &Rules<'_, '_>,
+    progress: &mut P,
 ) -> Result<Ledger, ReadingFault>
     ensures ledger { IfOk result (λ ledger. IfSome table.old.left (IsLedger rules.now ledger)) }
     ensures timely { IfOk result (λ ledger. AreTimely ledger.rows.items) }
@@ -213,7 +215,10 @@ pub fn read_records(
     let mut count = 0u32;
     'records: loop {
         match read_next(alloc, table, &mut ledger, &mut buffer, count, rules) {
-            Ok(true) => count += 1,
+            Ok(true) => {
+                count += 1;
+                tell_count(progress, count);
+            }
             Ok(false) => return Ok(ledger),
             Err(fault) => return Err(fault),
         }

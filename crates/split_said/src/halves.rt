@@ -43,8 +43,16 @@ fn animal_of(row: &Row) -> Option<usize> {
     usize::try_from(row.animal?).ok()
 }
 
-// How many fixes each animal has, of so many animals.
-fn fix_counts(alloc: Global, rows: &[Row], animals: usize) -> Result<Vec<usize>, OutOfMemory> {
+/// How many fixes each animal has, of so many animals.
+///
+/// # Errors
+///
+/// Memory ran out.
+pub fn fix_counts(
+    alloc: Global,
+    rows: &[Row],
+    animals: usize,
+) -> Result<Vec<usize>, OutOfMemory> {
     let mut counts = vec![in alloc; 0usize; animals]?;
     for row in rows {
         if let Some(animal) = animal_of(row) {
@@ -116,8 +124,7 @@ fn check_animal(
 }
 
 // The same of each animal.
-fn check(alloc: Global, names: &[Vec<u8>], rows: &[Row], counts: &[usize]) -> Result<(), Stop> {
-    let fixes = fix_counts(alloc, rows, names.len())?;
+fn check(alloc: Global, names: &[Vec<u8>], fixes: &[usize], counts: &[usize]) -> Result<(), Stop> {
     for (animal, count) in fixes.iter().enumerate() {
         check_animal(alloc, names, counts, animal, *count)?;
     }
@@ -125,7 +132,8 @@ fn check(alloc: Global, names: &[Vec<u8>], rows: &[Row], counts: &[usize]) -> Re
 }
 
 /// Refuses a filter by dilution of precision, type or speed that leaves out more than half of the fixes of an animal: it is more
-/// likely that the value is wrong, or one fix, than that so many are. `counts` are those of records that are left out.
+/// likely that the value is wrong, or one fix, than that so many are. `fixes` are those of [`fix_counts`], and `counts` those of
+/// records that are left out.
 ///
 /// # Errors
 ///
@@ -133,10 +141,10 @@ fn check(alloc: Global, names: &[Vec<u8>], rows: &[Row], counts: &[usize]) -> Re
 pub fn check_halves(
     alloc: Global,
     names: &[Vec<u8>],
-    rows: &[Row],
+    fixes: &[usize],
     counts: &[usize],
 ) -> Result<(), Refusal> {
-    match check(alloc, names, rows, counts) {
+    match check(alloc, names, fixes, counts) {
         Ok(()) => Ok(()),
         Err(stop) => Err(refusal_of(alloc, stop)),
     }

@@ -40,7 +40,7 @@ mod zones;
 pub use check::check_ledger;
 pub use exports::Exports;
 pub use grid::{Grid, find_grid};
-pub use halves::check_halves;
+pub use halves::{check_halves, fix_counts};
 pub use order::animals_in_order;
 pub use pace::{tell_every, tell_speed};
 pub use said::Said;

@@ -13,8 +13,8 @@ use crate::sheet::Sheet;
 use crate::stop::{Stop, nothing_left, refusal_of};
 use crate::times::tell_times;
 use crate::words::{push, push_number, push_quoted};
+use indexmap::IndexSet;
 use range_plane::{FIX_LIMIT, OutOfMemory, Scale};
-use split_reading::Ledger;
 use split_refusal::Refusal;
 use split_tracks::{Entry, Fate, Reason};
 use std::alloc::{AllocError, Global};
@@ -85,11 +85,11 @@ fn tell_moved(alloc: Global, said: &mut Said, unit: Scale, moved: f64) -> Result
 // The names of animals without a track, in their order.
 fn names_without_track<'a>(
     alloc: Global,
-    ledger: &'a Ledger,
+    animals: &'a IndexSet<Vec<u8>>,
     tracks: &[Vec<Entry>],
 ) -> Result<Vec<&'a [u8]>, OutOfMemory> {
     let mut names: Vec<&[u8]> = Vec::new(alloc);
-    for (name, track) in ledger.names.iter().zip(tracks) {
+    for (name, track) in animals.iter().zip(tracks) {
         if track.is_empty() {
             names.push(name.as_slice())?;
         }
@@ -102,10 +102,10 @@ fn names_without_track<'a>(
 fn tell_no_file(
     alloc: Global,
     said: &mut Said,
-    ledger: &Ledger,
+    animals: &IndexSet<Vec<u8>>,
     tracks: &[Vec<Entry>],
 ) -> Result<(), OutOfMemory> {
-    for name in names_without_track(alloc, ledger, tracks)?.iter() {
+    for name in names_without_track(alloc, animals, tracks)?.iter() {
         let mut text = Vec::new(alloc);
         push(&mut text, "no fix of ")?;
         push_quoted(&mut text, name)?;
@@ -160,12 +160,12 @@ fn tell_unfit(alloc: Global, said: &mut Said, herd: &Herd<'_>) -> Result<(), Out
 fn tell_names(
     alloc: Global,
     said: &mut Said,
-    ledger: &Ledger,
+    animals: &IndexSet<Vec<u8>>,
     herd: &Herd<'_>,
 ) -> Result<(), OutOfMemory> {
     for animal in herd.order {
         let own = herd.name(*animal);
-        if let Some(name) = ledger.names.get_index(*animal as usize) {
+        if let Some(name) = animals.get_index(*animal as usize) {
             if name.as_slice() != own {
                 let mut text = Vec::new(alloc);
                 push(&mut text, "animal ")?;
@@ -236,10 +236,10 @@ fn tell_last(
     said: &mut Said,
     sheet: &Sheet<'_>,
     grid: &Grid,
-    ledger: &Ledger,
+    animals: &IndexSet<Vec<u8>>,
     herd: &Herd<'_>,
 ) -> Result<(), Stop> {
-    tell_no_file(alloc, said, ledger, herd.tracks)?;
+    tell_no_file(alloc, said, animals, herd.tracks)?;
     if herd.tracks.iter().all(|track| !has_used(track)) {
         return Err(nothing_left(alloc));
     }
@@ -250,13 +250,14 @@ fn tell_last(
     }
     tell_columns(alloc, said, sheet, grid.zone, herd)?;
     tell_not_read(alloc, said, sheet)?;
-    tell_names(alloc, said, ledger, herd)?;
+    tell_names(alloc, said, animals, herd)?;
     Ok(())
 }
 
 /// Says what there is to say of the tracks of a table that are written: animals without a file, tracks that the program refuses,
 /// fixes that lie far from the others of their animal, coordinates that can hardly be metres, the columns that were taken and
-/// those that were not, and names that are others in files. The parameters are those of [`tell_tracks`].
+/// those that were not, and names that are others in files. `animals` are the names in the table; the other parameters are those
+/// of [`tell_tracks`].
 ///
 /// # Errors
 ///
@@ -266,7 +267,7 @@ pub fn tell_files(
     said: &mut Said,
     sheet: &Sheet<'_>,
     grid: &Grid,
-    ledger: &Ledger,
+    animals: &IndexSet<Vec<u8>>,
     fates: &[Fate],
     tracks: &[Vec<Entry>],
     names: &[Vec<u8>],
@@ -279,7 +280,7 @@ pub fn tell_files(
         names,
         order: &order,
     };
-    match tell_last(alloc, said, sheet, grid, ledger, &herd) {
+    match tell_last(alloc, said, sheet, grid, animals, &herd) {
         Ok(()) => Ok(()),
         Err(stop) => Err(refusal_of(alloc, stop)),
     }

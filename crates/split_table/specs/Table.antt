@@ -40,6 +40,10 @@ table_with separator text = table_by (quote_fault_of separator text) (records (c
 unfoldable pub table_of : List ℕ → Result Titled TableFault
 table_of text = table_with (separator_of (strip_bom text)) (strip_bom text)
 
+-- the quotes of a text have no fault, whose fields stand between such separators
+abbrev pub HasNoFault : ℕ → List ℕ → Type 0
+HasNoFault separator text = (separator ≡ separator_of (strip_bom text)) × (quote_fault_of separator (strip_bom text) ≡ None)
+
 -- the records of a text from this state on
 abbrev pub records_of : Config → State → List ℕ → List Record
 records_of cfg state text = records_from cfg (length text + 1) state text

@@ -9,4 +9,4 @@ mod table;
 
 pub use laws::plain_records_are_lines;
 pub use separator::separator_of;
-pub use table::{Table, TableFault, without_mark};
+pub use table::{Table, TableFault, TableText, without_mark};

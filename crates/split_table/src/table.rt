@@ -1,6 +1,6 @@
 // A table of text: its titles, and its records in turn. No other file reads by the crate that splits records.
 
-ghost use Rattle.std.specs.Prelude.{◌≡◌, IfErr, IfOk, None, false};
+ghost use Rattle.std.specs.Prelude.{◌≡◌, Err, IfErr, IfOk, None, false};
 ghost use Rattle.csv.specs.Reading.{records, strip_bom};
 ghost use Rattle.csv.specs.Records.{fields_of};
 ghost use Rattle.split_table.specs.Quotes.{config_by};
@@ -24,6 +24,24 @@ pub enum TableFault {
     OpenQuote { record: u64 },
     /// There is no line that is not blank.
     NoTitles,
+}
+
+/// A text whose quotes stand as they have to: it is looked at once, and its table read as often as one likes.
+#[derive(Drop)]
+pub struct TableText<'a> {
+    text: &'a [u8],
+    separator: u8,
+}
+
+impl<'a> Model for TableText<'a> {
+    ghost use Rattle.std.specs.Prelude.{List, ℕ};
+    ghost use Rattle.split_table.specs.Table.{HasNoFault};
+
+    ghost Value = { List ℕ };
+
+    ghost view = { λ a. a.text.now };
+
+    ghost invariant = { λ a. HasNoFault a.separator a.text.now };
 }
 
 /// The titles of a table, and the records below them that are left.
@@ -94,6 +112,46 @@ fn table_with(alloc: Global, text: &[u8], separator: u8) -> Result<Table<'_>, Ta
     }
 }
 
+impl<'a> TableText<'a> {
+    /// A text in UTF-8, where its quotes stand as they have to: as [`Table::new`] says.
+    ///
+    /// # Errors
+    ///
+    /// They stand otherwise.
+    #[tactic(auto, unfolding(crate::specs::Table::table_of))]
+    pub fn new(text: &'a [u8]) -> Result<TableText<'a>, TableFault>
+        ensures text { IfOk result (λ own. own ≡ text.entry.now) }
+        ensures fault { IfErr result (λ fault. table_of text.entry.now ≡ Err fault) }
+    {
+        let rest = without_mark(text);
+        let separator = separator_of(rest);
+        match quote_fault(rest, separator) {
+            Some(fault) => Err(fault),
+            None => Ok(TableText { text, separator }),
+        }
+    }
+
+    /// Its bytes.
+    pub fn bytes(&self) -> &'a [u8]
+        ensures { result.now ≡ self.now }
+    {
+        self.text
+    }
+
+    /// Its table.
+    ///
+    /// # Errors
+    ///
+    /// It has no line of titles, or memory ran out.
+    #[tactic(auto, unfolding(crate::specs::Table::table_of))]
+    pub fn table(&self, alloc: Global) -> Result<Table<'a>, TableFault>
+        ensures table { IfOk result (IsTable (table_of self.now)) }
+        ensures fault { IfErr result (IsRefused (table_of self.now)) }
+    {
+        table_with(alloc, self.text, self.separator)
+    }
+}
+
 impl<'a> Table<'a> {
     /// The table of a text in UTF-8, which may begin with a byte order mark. Fields stand between semicolons, if one stands
     /// before the first comma of the line of titles, between tabs, if that line has neither, or between commas. Lines end
@@ -102,16 +160,13 @@ impl<'a> Table<'a> {
     /// # Errors
     ///
     /// The quotes of the text stand otherwise, it has no line of titles, or memory ran out.
-    #[tactic(auto, unfolding(crate::specs::Table::table_of))]
     pub fn new(alloc: Global, text: &'a [u8]) -> Result<Table<'a>, TableFault>
         ensures table { IfOk result (IsTable (table_of text.entry.now)) }
         ensures fault { IfErr result (IsRefused (table_of text.entry.now)) }
     {
-        let rest = without_mark(text);
-        let separator = separator_of(rest);
-        match quote_fault(rest, separator) {
-            Some(fault) => Err(fault),
-            None => table_with(alloc, text, separator),
+        match TableText::new(text) {
+            Ok(text) => text.table(alloc),
+            Err(fault) => Err(fault),
         }
     }
 
