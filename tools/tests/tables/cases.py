@@ -14,7 +14,7 @@ class Case:
         self.only = (self.lines("only") or [""])[0]
         self.options = dict(line.partition(" ")[::2] for line in self.lines("call"))
         self.names = dict(line.split("\t") for line in self.lines("names"))
-        self.said = self.lines("said")
+        self.said, self.silent = self.lines("said"), self.lines("silent")
         self.shift = tuple(map(int, (self.lines("shift") or ["0,0"])[0].split(",")))
         self.tracks = {path.stem: path.read_bytes() for path in folder.glob("tracks/*.csv")}
 

@@ -138,6 +138,13 @@ def long(name, count, ill=None, end=""):
     return name, text.encode(), [], [] if refusal else lines, refusal
 
 
+def seconds_of_a_minute(name, count):
+    """A table of so many seconds that go from 0 to 59 and begin anew, refused where they are more."""
+    lines = [f"v,{at % 60},{1000 + at},2000" for at in range(count)]
+    refusal = "- time" if count > 60 else None
+    return name, ("animal,second,easting,northing\n" + "".join(f"{line}\n" for line in lines)).encode(), [], [] if refusal else lines, refusal
+
+
 def generated():
     """All these tables: the name, the bytes, the call, the tracks' lines, and the refusal, of which one is None."""
     return [*map(drawn, range(50)), wide(), herd(), movebank(), long("a_long_table", 9000),
@@ -147,4 +154,4 @@ def generated():
 def generated_texts():
     """The tables that can be given as texts alone."""
     open_quote = long("a_long_table_with_an_open_quote", 6000, end='"a,6000,1,1\n')
-    return [(*open_quote[:3], [], "- text")]
+    return [(*open_quote[:3], [], "- text"), seconds_of_a_minute("seconds_of_a_minute", 61), seconds_of_a_minute("sixty_seconds", 60)]

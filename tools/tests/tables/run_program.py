@@ -1,7 +1,8 @@
 #!/usr/bin/env python3
-"""run_program.py PROGRAM: whether homerange-split makes of each table of this folder the tracks that are wanted, or refuses it,
-and says and writes what records.txt has of it, but for the lines of rules that are newer. Behind them come the rules that
-run_rules.py has, those of several exports of run_several.py, and whether its presets are those of collars.csv."""
+"""run_program.py PROGRAM: whether homerange-split makes of each table of this folder the tracks that are wanted, or refuses it
+as it is wanted, in a Turkish locale, and says and writes what records.txt has of it, but for the lines of rules that are newer. Behind
+them come the rules that run_rules.py has, those of several exports of run_several.py, and whether its presets are those of collars.csv."""
+import csv
 import hashlib
 import os
 import re
@@ -22,6 +23,7 @@ HERE = Path(__file__).resolve().parent
 MORE_LINES = re.compile(r"(?:not read: .*|all [0-9,]+ fixes lie within .*|[0-9,]+ of [0-9,]+ fixes of .* m from the others: .*"
                         r"|animals .* differ in the form of letters alone: are they one\?)")
 MORE_OF_COLUMNS = re.compile(r"(columns: .* box [0-9.]+ by [0-9.]+ km)(?: near [0-9.]+ [EW] [0-9.]+ [NS])?(?:,? from .*)?")
+TURKISH = dict(os.environ, LC_ALL="tr_TR.UTF-8")  # in which the small letter of I is another one than in ASCII
 OTHER_KINDS = ("export", "sha256", "tool")  # of lines of a record that records.txt has not
 # Tables that this program refuses, of which the cases have tracks: a quote inside a field, two columns for the animal that part the records
 # otherwise, a time of ISO among seconds, a filter that leaves out more than half of an animal's fixes, and an encoding named beside GPX, which names its own.
@@ -50,14 +52,20 @@ def words(case):
     return [word for name, value in case.options.items() for word in ([f"--{name}", value] if value else [f"--{name}"])]
 
 
-def check_refusal(case, run, into):
-    """How the end of the program is not the refusal that is wanted."""
+def check_refusal(case, run, told, into):
+    """How the end of the program is not the refusal that is wanted, nor what --machine tells of it."""
     record, kind = case.refusal(False)
     lines = run.stderr.decode().splitlines()
     if run.returncode not in (1, 2) or into.exists() or len(lines) != 1:
         return f"status {run.returncode} where it is to be refused as {kind}: {lines}"
     found = re.match("split: (?:record ([0-9]+): )?.", lines[0])
-    return None if found and (found[1] or "-") == record else f"says {lines[0]!r}, and record {record} is wanted"
+    if not found or (found[1] or "-") != record:
+        return f"says {lines[0]!r}, and record {record} is wanted"
+    rows = list(csv.reader(told.stderr.decode().splitlines()))
+    if told.returncode != run.returncode or len(rows) != 1 or rows[0][0] != kind or (rows[0][2] or "-") != record:
+        return f"--machine tells {rows}, and {kind} of record {record} is wanted"
+    silent = [text for text in case.said if text not in lines[0]]
+    return f"says {lines[0]!r}, and not {silent[0]!r}" if silent else None
 
 
 def older_lines(lines):
@@ -83,14 +91,16 @@ def check_tracks(case, run, into, wanted):
     if [f"sha256,{hashlib.sha256(case.table.read_bytes()).hexdigest()}"] != [line for line in record if line.startswith("sha256,")]:
         return "has another checksum of the table"
     silent = [text for text in case.said if not any(text in line for line in said)]
-    return difference(case.tracks, found) or (f"{silent[0]!r} is not said" if silent else None)
+    odd = [line for line in said if any(text in line for text in case.silent)]
+    return difference(case.tracks, found) or (f"{silent[0]!r} is not said" if silent else f"{odd[0]!r} is said" if odd else None)
 
 
 def check(case, program, room, records):
     """How the program does not do what is wanted of it with a case; None where it does."""
     folder = room / case.name
     folder.mkdir(parents=True)
-    found = subprocess.run([program, *words(case), "--", str(case.table.resolve())], capture_output=True, cwd=folder)
+    call = [*words(case), "--", str(case.table.resolve())]
+    found = subprocess.run([program, *call], capture_output=True, cwd=folder, env=TURKISH)
     lines = found.stderr.decode().splitlines()
     if case.name in STRICTER:
         is_refused = found.returncode in (1, 2) and len(lines) == 1 and STRICTER[case.name] in lines[0] and not (folder / "tracks").exists()
@@ -99,7 +109,8 @@ def check(case, program, room, records):
         tracks = {path.name: path.read_bytes().partition(b"\n")[2] for path in (folder / "tracks").glob("*.csv")}
         return None if found.returncode == 0 and tracks == READ[case.name] else f"status {found.returncode}: {tracks}"
     if case.refusal(False):
-        return check_refusal(case, found, folder / "tracks")
+        told = subprocess.run([program, "--machine", *call], capture_output=True, cwd=folder)
+        return check_refusal(case, found, told, folder / "tracks")
     return check_tracks(case, found, folder / "tracks", records.get(case.name, []))
 
 
