@@ -10,7 +10,7 @@ TOP is the folder of the repository; its sources are the files of crates/*/src a
 - a clause of a contract: `run`, clause `report`, or `judge`, clauses `lost` and `judged`, with or without `, in
   `range_run`` behind it. A function of this name has to have it.
 - a name of a crate, below **range_run** up to the next empty line, or in the last cell of a table's row that has
-  `range_run`. It has to be a word of the sources of a crate that is named there.
+  `range_run`. It has to be a word of the sources of a crate that is named there, or one of its must-fail edits.
 
 Prints each quote that is not found, with its line. The last line says how many were; the status is 0 where all were, and
 1 where one was not, or where a page quotes nothing.
@@ -41,6 +41,8 @@ class Sources:
         self.words = {}
         for file, text in self.texts.items():
             self.words.setdefault(file.split("/")[1], set()).update(re.findall(r"\w+", text))
+        for edit in top.glob("crates/*/must-fail/*.edit"):
+            self.words.setdefault(edit.parts[-3], set()).add(edit.stem)
 
     def has_code(self, file, code):
         """Whether the pieces of a quote stand in the file one after the other, or in some file where none is named."""

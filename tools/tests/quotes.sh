@@ -22,6 +22,8 @@ pub fn wake() -> u32
     1
 }
 END
+mkdir quotes/crates/den/must-fail
+echo 'file: src/fox.rt' >quotes/crates/den/must-fail/fox_is_never_hungry.edit
 printf '%s\n' '-- a fox is red' 'IsRed : Fox → Type 0' 'IsRed fox = fox.coat ≡ red' >quotes/crates/den/specs/Fox.antt
 cat >quotes/crates/sett/src/badger.rt <<'END'
 pub fn dig(depth: u32) -> u32 {
@@ -141,6 +143,12 @@ missed 3 'a name of another crate' <<'END'
 **den**
 - `sleep` is what a fox does.
 - `dig` is not.
+END
+found 2 'edits' <<'END'
+| A fox wakes. | `wake`, clause `hungry`, in `den` | `fox_is_never_hungry` |
+END
+missed 1 'an edit of another crate' <<'END'
+| A badger eats. | `eat`, clause `full`, in `sett` | `fox_is_never_hungry` |
 END
 missed 1 'a name of another crate in a table' <<'END'
 | `sett` | a badger | `dig`, `sleep` |
