@@ -26,7 +26,7 @@ Architecture: amd64
 Maintainer: Cemavolin maintainers <maintainers@users.noreply.cemavolin.example>
 Section: science
 Priority: optional
-Depends: libc6 (>= 2.35), python3 (>= 3.11)
+Depends: libc6 (>= 2.34), python3 (>= 3.11)
 Recommends: python3-geopandas, python3-matplotlib, python3-pandas, python3-pyproj
 Installed-Size: {{size}}
 Description: home ranges of tagged animals, by a proved program

@@ -96,7 +96,7 @@ find_made() {
     [ "${HOMERANGE_BUILD:-0}" != 1 ] && is_of_sum "$1" "$top/release" || return
     program=$top/release/$1
     release_runs "$1" && return
-    echo "$1: the release does not run on this machine (it wants Linux on x86-64-v2 with glibc 2.34, or 2.35 for homerange-split)" >&2
+    echo "$1: the release does not run on this machine (it wants Linux on x86-64-v2 with glibc 2.34)" >&2
     return 1
 }
 

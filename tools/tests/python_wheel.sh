@@ -21,11 +21,10 @@ else
     holds 'it is of the machines of the program' [ -f wheel/dist/homerange-1.0.0-py3-none-manylinux_2_34_x86_64.whl ]
     holds 'nothing is left beside the package' is_clean
     if is_here objdump 'the C library that the release needs'; then
-        for pair in homerange:GLIBC_2.34 homerange-split:GLIBC_2.35; do
-            file=${pair%:*} most=${pair#*:}
+        for file in homerange homerange-split; do
             needed=$(objdump -T "$top/release/$file" | grep -o 'GLIBC_[0-9.]*' | sort -V | tail -n 1)
-            later=$(printf '%s\n' "$most" "$needed" | sort -V | tail -n 1)
-            holds "$file of the release needs no later C library" [ "${needed:+$later}" = "$most" ]
+            later=$(printf '%s\n' GLIBC_2.34 "$needed" | sort -V | tail -n 1)
+            holds "$file of the release needs no later C library" [ "${needed:+$later}" = GLIBC_2.34 ]
         done
     fi
     cp -r "$top/python" wheel/bare/

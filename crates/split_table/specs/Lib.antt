@@ -1,3 +1,4 @@
+pub mod Beside
 pub mod Laws
 pub mod Quotes
 pub mod Separator

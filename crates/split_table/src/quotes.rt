@@ -1,11 +1,13 @@
 // Whether the quotes of a table stand as they have to.
 
-ghost use Rattle.std.specs.Prelude.{◌≡◌, true, MatchOption};
+ghost use Rattle.std.specs.Prelude.{◌≡◌, ◌+◌, ◌<◌, true, not, None, length, IsTrue, MatchOption};
 ghost use Rattle.csv.specs.Machine.{in_field, is_end};
 ghost use Rattle.split_table.specs.Separator.{PartsFields};
+ghost use Rattle.split_table.specs.Beside.{MayBegin, MayEnd};
 ghost use Rattle.split_table.specs.Quotes.{Moves, config_by, ends_record, is_start, is_stray, quote_fault_of, settled, state_of};
 
 use crate::table::TableFault;
+use memchr::memchr_iter;
 
 // Where in a record the next byte stands.
 #[derive(Clone, Copy)]
@@ -84,12 +86,55 @@ fn ends_record(place: Place, next: Place) -> bool
     is_start(next) && !is_start(place)
 }
 
-// The first fault of the quotes of a text.
+// Whether a byte may stand before the first quote of a field, and behind its last one.
+fn may_adjoin(byte: u8, separator: u8) -> bool
+    ensures { result ≡ not (is_stray separator (state_of Place.QuoteEnd) byte) }
+{
+    byte == b'"' || byte == separator || byte == b'\n' || byte == b'\r'
+}
+
+// Whether a quote may begin a field here, by what stands before it.
+fn may_begin(text: &[u8], place: usize, separator: u8) -> bool
+    requires { place < length text.now }
+    ensures { IsTrue result → MayBegin separator text.now place }
+{
+    place == 0 || may_adjoin(text[place - 1], separator)
+}
+
+// Whether a quote may end a field here, by what stands behind it.
+fn may_end(text: &[u8], place: usize, separator: u8) -> bool
+    requires { place < length text.now }
+    ensures { IsTrue result → MayEnd separator text.now (place + 1) }
+{
+    place + 1 == text.len() || may_adjoin(text[place + 1], separator)
+}
+
+// Whether the bytes beside the quotes of a text show that each stands as it has to. Where they do not, that says nothing.
+// Of two quotes that stand for one, the first is taken to end the field, and the second to begin it again.
+fn quotes_stand(text: &[u8], separator: u8) -> bool
+    ensures { IsTrue result → quote_fault_of separator text.now ≡ None }
+{
+    let mut is_open = false;
+    for place in memchr_iter(b'"', text) {
+        let stands = if is_open {
+            may_end(text, place, separator)
+        } else {
+            may_begin(text, place, separator)
+        };
+        if !stands {
+            return false;
+        }
+        is_open = !is_open;
+    }
+    !is_open
+}
+
+// The first fault of the quotes of a text. Only where the bytes beside them leave a doubt is each byte gone through.
 pub(crate) fn quote_fault(text: &[u8], separator: u8) -> Option<TableFault>
     requires { PartsFields separator }
     ensures { result ≡ quote_fault_of separator text.now }
 {
-    if !text.contains(&b'"') {
+    if quotes_stand(text, separator) {
         return None;
     }
     let mut place = Place::RecordStart;

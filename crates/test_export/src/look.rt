@@ -3,6 +3,7 @@
 use range_plane::Scale;
 use split_export::{fields_of_record, look_at_metres, most_moved, part_alike, titles_of};
 use split_reading::{Row, Told, ToldFix};
+use split_table::TableText;
 use split_times::Moment;
 use split_titles::Pair;
 use split_tracks::{Entry, Fate};
@@ -46,11 +47,11 @@ fn the_first_unrounded_fix_is_found(rt: HostRuntime) -> Result<(), Fail> {
         (b"a,x,y\nb,1,2000\nb,3.5,4000\n", Some((1.0, 2000.0))),
         (b"a;x;y\nb;1,25;2000\nb;3;4000\n", Some((1.25, 2000.0))),
     ] {
-        let look = look_at_metres(rt.alloc(), text, METRES, &rows)?;
+        let look = look_at_metres(rt.alloc(), &TableText::new(text)?, METRES, &rows)?;
         assert!(&rt; look.unrounded == expected, "{text:?}");
     }
     let text = b"a,x,y\nb,1.5,2000\nb,3,4000\n";
-    let look = look_at_metres(rt.alloc(), text, METRES, &[row(false), row(true)])?;
+    let look = look_at_metres(rt.alloc(), &TableText::new(text)?, METRES, &[row(false), row(true)])?;
     assert!(&rt; look.unrounded.is_none(), "one that is not used");
     Ok(())
 }
@@ -69,7 +70,7 @@ fn signs_that_may_stand_before_thousands_are_found(rt: HostRuntime) -> Result<()
         (b"a,x,y\nb,1561.234,5\nb,12,5\n", None),
         (b"a,x,y\nb,561,234\nb,12,5\n", None),
     ] {
-        let look = look_at_metres(rt.alloc(), text, METRES, &rows)?;
+        let look = look_at_metres(rt.alloc(), &TableText::new(text)?, METRES, &rows)?;
         assert!(&rt; look.grouped == expected, "{text:?}");
     }
     Ok(())
@@ -90,7 +91,7 @@ fn rounding_moves_by_the_longest_way(rt: HostRuntime) -> Result<(), Fail> {
     let text = b"a;x;y\nb;1,3;2,4\nb;5;6,1\n";
     let moved = most_moved(
         rt.alloc(),
-        text,
+        &TableText::new(text)?,
         METRES,
         Scale::Metre,
         &[fate(1, 2), fate(5, 6)],
@@ -98,7 +99,7 @@ fn rounding_moves_by_the_longest_way(rt: HostRuntime) -> Result<(), Fail> {
     assert!(&rt; 0.499_999 < moved && moved < 0.500_001, "{moved}");
     let moved = most_moved(
         rt.alloc(),
-        text,
+        &TableText::new(text)?,
         METRES,
         Scale::Decimetre,
         &[fate(13, 24), fate(50, 61)],
@@ -109,12 +110,12 @@ fn rounding_moves_by_the_longest_way(rt: HostRuntime) -> Result<(), Fail> {
 
 #[test]
 fn columns_part_records_alike_or_not(rt: HostRuntime) -> Result<(), Fail> {
-    let text = b"a,b,c\n1,x,1\n2,y,1\n1,x,2\n";
+    let text = TableText::new(b"a,b,c\n1,x,1\n2,y,1\n1,x,2\n")?;
     for (first, second, are_alike) in [(0, 1, true), (0, 2, false), (2, 1, false)] {
-        let alike = part_alike(rt.alloc(), text, 3, first, second)?;
+        let alike = part_alike(rt.alloc(), &text, 3, first, second)?;
         assert!(&rt; alike == are_alike, "{first} {second}");
     }
-    assert!(&rt; part_alike(rt.alloc(), text, 2, 1, 0)?, "of two records");
+    assert!(&rt; part_alike(rt.alloc(), &text, 2, 1, 0)?, "of two records");
     Ok(())
 }
 

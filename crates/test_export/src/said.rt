@@ -5,7 +5,7 @@ use range_plane::Scale;
 use split_fates::{Choice, fates_of};
 use split_filters::Filters;
 use split_names::file_names;
-use split_reading::{Ledger, Rules, Zone, read_records};
+use split_reading::{Ledger, Progress, Rules, Zone, read_records};
 use split_refusal::Refusal;
 use split_said::{
     Exports, Said, Sheet, TimesRead, Wanted, check_ledger, find_grid, tell_files, tell_tracks,
@@ -154,7 +154,7 @@ fn tell(
     if let Err(refusal) = tell_tracks(alloc, said, sheet, &grid, &fates, &tracks, &names, moved) {
         return Ok(Err(refusal));
     }
-    Ok(tell_files(alloc, said, sheet, &grid, ledger, &fates, &tracks, &names))
+    Ok(tell_files(alloc, said, sheet, &grid, &ledger.names, &fates, &tracks, &names))
 }
 
 // A line, without what the package for Python does not say in it; none where it does not say it at all.
@@ -230,6 +230,14 @@ fn sheet_of<'a>(
     }
 }
 
+// Who hears nothing.
+#[derive(Drop)]
+struct Silent;
+
+impl Progress for Silent {
+    fn hear(&mut self, _records: u32) {}
+}
+
 // What is said of a table.
 fn told_of(alloc: Global, text: &str, asked: &Asked) -> Result<Vec<u8>, Fail> {
     let mut table = Table::new(alloc, text.as_bytes())?;
@@ -243,7 +251,7 @@ fn told_of(alloc: Global, text: &str, asked: &Asked) -> Result<Vec<u8>, Fail> {
     }
     let columns = find_columns(alloc, &shown, &asked.named)?;
     let rules = rules_of(&columns, shown.len(), asked);
-    let ledger = read_records(alloc, &mut table, &rules)?;
+    let ledger = read_records(alloc, &mut table, &rules, &mut Silent)?;
     let nothing: Vec<&[u8]> = Vec::new(alloc);
     let sheet = sheet_of(&shown, &columns, &nothing, asked);
     let mut said = Said::new(alloc);

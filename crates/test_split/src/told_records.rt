@@ -2,7 +2,9 @@
 
 use crate::sheets::Sheet;
 use indexmap::IndexSet;
-use split_reading::{CellFault, Ledger, ReadingFault, Row, Told, ToldFix, Zone, read_records};
+use split_reading::{
+    CellFault, Ledger, Progress, ReadingFault, Row, Told, ToldFix, Zone, read_records,
+};
 use split_table::Table;
 use split_times::Moment;
 use split_tracks::Reason;
@@ -97,11 +99,19 @@ fn ledger_words(alloc: Global, ledger: &Ledger) -> Result<Vec<u8>, AllocError> {
     Ok(text)
 }
 
+// Who hears nothing.
+#[derive(Drop)]
+struct Silent;
+
+impl Progress for Silent {
+    fn hear(&mut self, _records: u32) {}
+}
+
 // The ledger of such records below the titles, or why they have none.
 fn read(alloc: Global, sheet: &Sheet, records: &str) -> Result<Result<Ledger, ReadingFault>, Fail> {
     let text = format!(in alloc; "{}\n{records}", sheet.titles)?;
     let mut table = Table::new(alloc, text.as_bytes())?;
-    Ok(read_records(alloc, &mut table, &sheet.rules))
+    Ok(read_records(alloc, &mut table, &sheet.rules, &mut Silent))
 }
 
 // Checks what such records say.

@@ -1,12 +1,9 @@
 use Rattle.std.proofs.Common.{◌≡◌, ◌∙◌, ◌+◌, sym, ap, refl, drop, drop_of_length-le, get_or, arith}
 use Rattle.std.proofs.lemmas.List.{drop_more}
 use Rattle.split_table.specs.Quotes.{ended_with, ends_record, quote_fault_from, quote_fault_of, state_of}
-use Rattle.split_table.proofs.QuoteFacts.{moved, not_quoted, opens, strays, unquoted}
+use Rattle.split_table.proofs.QuoteFacts.{moved, not_quoted, opens, strays}
 use Rattle.split_table.proofs.quotes.quote_fault.Goals as goal
 use Rattle.split_table.proofs.quotes.quote_fault.Goals.{then-ends_record, else-ends_record}
-
-pub returns-then-not-contains : goal.returns-then-not-contains
-returns-then-not-contains c = unquoted c.args.separator c.args.text.now (sym c.contains.ensures.value ∙ c.if-not-contains.true)
 
 pub loop-byte-preserved : goal.loop-byte-preserved
 loop-byte-preserved c =
