@@ -15,6 +15,7 @@ use split_refusal::{
     Kind, RecordShown, Refusal, refused_cell, refused_day, refused_grouped, refused_table,
     refused_text, refused_titles,
 };
+use split_times::DayOrders;
 use split_titles::{Columns, Role, TitleFault, maker_of, trimmed};
 use std::alloc::Global;
 
@@ -44,8 +45,8 @@ fn title_refusal(alloc: Global, bytes: &[u8], path: &[u8], fault: TitleFault<'_>
 #[derive(Clone, Copy)]
 enum RecordFault {
     Cell(CellFault),
-    // All times of its column may be days with hours.
-    Day,
+    // All numbers of its column of times may be days with hours, in these orders.
+    Day(DayOrders),
 }
 
 // The refusal of a record, of which this is shown.
@@ -54,7 +55,7 @@ fn shown_refusal(alloc: Global, fault: RecordFault, shown: &RecordShown<'_>) -> 
 {
     match fault {
         RecordFault::Cell(fault) => refused_cell(alloc, fault, shown),
-        RecordFault::Day => refused_day(alloc, shown),
+        RecordFault::Day(orders) => refused_day(alloc, shown, orders),
     }
 }
 
@@ -65,9 +66,8 @@ fn fields_refusal<'a>(
     number: u32,
     titles: &'a [&'a [u8]],
     fields: &'a [&'a [u8]],
-    animal: &'a [usize],
-    time: &'a [usize],
-    clock: &'a str,
+    columns: &'a Columns<Global>,
+    wish: &Wish<'a>,
 ) -> Refusal
     ensures { Names (Some number) result }
 {
@@ -75,9 +75,10 @@ fn fields_refusal<'a>(
         number,
         titles,
         fields,
-        animal,
-        time,
-        clock,
+        animal: &columns.animal,
+        time: &columns.time,
+        forms: wish.forms,
+        clock: wish.clock_name,
     };
     shown_refusal(alloc, fault, &shown)
 }
@@ -89,7 +90,7 @@ fn record_refusal(
     record: u32,
     fault: RecordFault,
     columns: &Columns<Global>,
-    clock: &str,
+    wish: &Wish<'_>,
 ) -> Refusal
     ensures { Names (Some «record») result }
 {
@@ -100,28 +101,23 @@ fn record_refusal(
         return Refusal::out_of_memory(alloc);
     };
     match (shown(alloc, &titles), shown(alloc, &fields)) {
-        (Ok(titles), Ok(fields)) => fields_refusal(
-            alloc,
-            fault,
-            record,
-            &titles,
-            &fields,
-            &columns.animal,
-            &columns.time,
-            clock,
-        ),
+        (Ok(titles), Ok(fields)) => {
+            fields_refusal(alloc, fault, record, &titles, &fields, columns, wish)
+        }
         _ => Refusal::out_of_memory(alloc),
     }
 }
 
-/// The refusal of a record whose time may be a day with hours, as all of its column.
+/// The refusal of a record whose time may be a day with hours in one of these orders, as all numbers of its column.
 pub(crate) fn day_refusal(
     alloc: Global,
     bytes: &[u8],
     record: u32,
+    orders: DayOrders,
     columns: &Columns<Global>,
+    wish: &Wish<'_>,
 ) -> Refusal {
-    record_refusal(alloc, bytes, record, RecordFault::Day, columns, "UTC")
+    record_refusal(alloc, bytes, record, RecordFault::Day(orders), columns, wish)
 }
 
 /// The refusal of a table without a column of the time, of which one with another title has times.
@@ -152,7 +148,7 @@ fn reading_refusal(
     bytes: &[u8],
     fault: ReadingFault,
     asked: &Asked<'_>,
-    clock: &str,
+    wish: &Wish<'_>,
 ) -> Refusal
     ensures { Names (record_of_reading fault) result }
 {
@@ -171,7 +167,7 @@ fn reading_refusal(
                 record,
                 RecordFault::Cell(fault),
                 &columns,
-                clock,
+                wish,
             ),
             None => Refusal::out_of_memory(alloc),
         },
@@ -196,8 +192,7 @@ fn export_refusal(
     bytes: &[u8],
     path: &[u8],
     asked: &Asked<'_>,
-    option: &str,
-    clock: &str,
+    wish: &Wish<'_>,
     fault: ExportFault<'_>,
 ) -> Refusal
     ensures { Names (record_of fault.entry) result }
@@ -206,8 +201,8 @@ fn export_refusal(
         ExportFault::Text(fault) => refused_text(alloc, fault, path),
         ExportFault::Table(fault) => refused_table(alloc, fault, path),
         ExportFault::Titles(fault) => title_refusal(alloc, bytes, path, fault),
-        ExportFault::NotTaken(NotTaken::NoTime) => refused_no_time(alloc, option),
-        ExportFault::Reading(fault) => reading_refusal(alloc, bytes, fault, asked, clock),
+        ExportFault::NotTaken(NotTaken::NoTime) => refused_no_time(alloc, wish.needs_time),
+        ExportFault::Reading(fault) => reading_refusal(alloc, bytes, fault, asked, wish),
     }
 }
 
@@ -274,15 +269,7 @@ pub(crate) fn read<'t, P: Progress>(
 {
     match read_export(alloc, bytes, asked, progress) {
         Ok(export) => Ok(export),
-        Err(fault) => Err(export_refusal(
-            alloc,
-            bytes,
-            path,
-            asked,
-            wish.needs_time,
-            wish.clock_name,
-            fault,
-        )),
+        Err(fault) => Err(export_refusal(alloc, bytes, path, asked, wish, fault)),
     }
 }
 

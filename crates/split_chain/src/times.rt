@@ -5,14 +5,26 @@ use crate::wish::Wish;
 use range_plane::OutOfMemory;
 use split_export::{Asked, Export, TimesLook, column_of_times, look_at_times, rules_of};
 use split_refusal::Refusal;
+use split_titles::not_read;
 use std::alloc::Global;
 
 // The zone that every clock without a name is of.
 const UTC: &str = "UTC";
 
-// Refuses a table without a column of the time one of whose columns has times.
-fn refuse_unread_times(alloc: Global, export: &Export<'_>) -> Result<(), Refusal> {
-    match column_of_times(alloc, &export.text, export.ledger.rows.len()) {
+// Refuses a table without a column of the time where one that is not read has times.
+fn refuse_unread_times(
+    alloc: Global,
+    asked: &Asked<'_>,
+    export: &Export<'_>,
+) -> Result<(), Refusal> {
+    let width = export.titles.len();
+    let Ok(rules) = rules_of(&export.columns, width, false, asked) else {
+        return Ok(());
+    };
+    let Ok(others) = not_read(alloc, &export.columns, width) else {
+        return Err(Refusal::out_of_memory(alloc));
+    };
+    match column_of_times(alloc, &export.text, &rules, &others, export.ledger.rows.len()) {
         Ok(Some(column)) => Err(untimed_refusal(alloc, &export.titles, column)),
         Ok(None) => Ok(()),
         Err(_) => Err(Refusal::out_of_memory(alloc)),
@@ -73,14 +85,21 @@ pub(crate) fn form_of_times(
     export: &Export<'_>,
 ) -> Result<Vec<u8>, Refusal> {
     if export.columns.time.is_empty() {
-        refuse_unread_times(alloc, export)?;
+        refuse_unread_times(alloc, asked, export)?;
         return Ok(Vec::new(alloc));
     }
     let Some(look) = look_by(alloc, export, asked)? else {
         return Ok(Vec::new(alloc));
     };
-    if let Some(record) = look.day {
-        return Err(day_refusal(alloc, bytes, record, &export.columns));
+    if let Some((record, orders)) = look.day {
+        return Err(day_refusal(
+            alloc,
+            bytes,
+            record,
+            orders,
+            &export.columns,
+            wish,
+        ));
     }
     match form_words(alloc, wish, &look.forms) {
         Ok(words) => Ok(words),

@@ -2,19 +2,21 @@
 
 use split_reading::{Row, Rules, Told, time_text};
 use split_table::{Table, TableFault, TableText};
-use split_times::{DayOrders, Forms, orders_in};
+use split_times::{DayOrders, Forms, number_moment, orders_in};
 use std::alloc::Global;
 
 /// What a second look at the times of a table finds.
 #[derive(Drop)]
 pub struct TimesLook {
-    /// The first record with a time, where all times are numbers which may be days with hours in one order, such as 2024050112.
-    pub day: Option<u32>,
+    /// The first record whose time is a number, where all such may be days with hours in one order, as 2024050112 may; and the
+    /// orders that are left.
+    pub day: Option<(u32, DayOrders)>,
     /// Which of the forms is the first of a time, by their places; forms that are not here are not.
     pub forms: Vec<bool>,
 }
 
-// What is seen of the records so far.
+// What is seen of the records so far: the first whose time is a number, the orders in which all numbers are days with hours, and
+// the forms that are used.
 #[derive(Drop)]
 struct Seen {
     first: Option<u32>,
@@ -36,6 +38,14 @@ fn note_form(used: &mut Vec<bool>, form: usize) -> Result<(), TableFault> {
     Ok(())
 }
 
+// Whether the time of a record, if it is a number, may be a day with hours.
+fn may_be_day(row: &Row) -> bool {
+    match row.told {
+        Told::Fix(fix) => DayOrders::of(fix.moment).is_any(),
+        Told::LeftOut(_) => false,
+    }
+}
+
 impl Seen {
     // Nothing of no record.
     fn new(alloc: Global) -> Seen {
@@ -46,6 +56,14 @@ impl Seen {
         }
     }
 
+    // Adds the time of a record, where it is a number: other texts say nothing of what numbers are.
+    fn add_number(&mut self, record: u32, text: &[u8]) {
+        if number_moment(text).is_ok() {
+            self.first = self.first.or(Some(record));
+            self.orders = self.orders.both(orders_in(text));
+        }
+    }
+
     // Adds the time of a record.
     fn add(
         &mut self,
@@ -53,22 +71,19 @@ impl Seen {
         text: &[u8],
         forms: Option<Forms<'_>>,
     ) -> Result<(), TableFault> {
-        self.first = self.first.or(Some(record));
-        match forms {
-            Some(forms) => match forms.time(text) {
-                Ok(found) => note_form(&mut self.forms, found.form),
-                Err(_) => Ok(()),
-            },
-            None => {
-                self.orders = self.orders.both(orders_in(text));
-                Ok(())
-            }
+        let Some(forms) = forms else {
+            self.add_number(record, text);
+            return Ok(());
+        };
+        match forms.time(text) {
+            Ok(found) => note_form(&mut self.forms, found.form),
+            Err(_) => Ok(()),
         }
     }
 
     // Whether no record can change what is found.
-    fn is_whole(&self, forms: Option<Forms<'_>>) -> bool {
-        forms.is_none() && !self.orders.is_any()
+    fn is_whole(&self) -> bool {
+        !self.orders.is_any()
     }
 }
 
@@ -94,7 +109,7 @@ fn look(
     let mut seen = Seen::new(alloc);
     let mut buffer = Vec::new(alloc);
     for (index, row) in rows.iter().enumerate() {
-        if seen.is_whole(rules.forms) || !table.advance()? {
+        if seen.is_whole() || !table.advance()? {
             return Ok(seen);
         }
         if let Told::Fix(_) = row.told {
@@ -104,6 +119,11 @@ fn look(
         }
     }
     Ok(seen)
+}
+
+// Whether the texts of times say more than records do: which forms they have, or whether numbers may be days with hours.
+fn has_more(rules: &Rules<'_, '_>, rows: &[Row]) -> bool {
+    rules.forms.is_some() || !rules.is_second && rows.iter().any(may_be_day)
 }
 
 /// Looks at the times of a text whose records say this by the rules.
@@ -118,14 +138,15 @@ pub fn look_at_times(
     rows: &[Row],
 ) -> Result<TimesLook, TableFault> {
     let mut table = text.table(alloc)?;
+    let rows = if has_more(rules, rows) { rows } else { &[] };
     let Seen {
         first,
         orders,
         forms,
     } = look(alloc, &mut table, rules, rows)?;
-    let is_day = rules.forms.is_none() && !rules.is_second && orders.is_any();
-    Ok(TimesLook {
-        day: if is_day { first } else { None },
-        forms,
-    })
+    let day = match first {
+        Some(record) if orders.is_any() => Some((record, orders)),
+        _ => None,
+    };
+    Ok(TimesLook { day, forms })
 }

@@ -17,5 +17,5 @@ below_titles number = if nat_lt 0 number && nat_lt number (2 ^ 32) then Some num
 abbrev pub record_of_table : TableFault → Option ℕ
 record_of_table faults.OutOfMemory = None
 record_of_table (faults.StrayQuote number) = below_titles number
-record_of_table (faults.OpenQuote number) = None
+record_of_table (faults.OpenQuote number) = below_titles number
 record_of_table faults.NoTitles = None

@@ -17,10 +17,6 @@ const NO_NUMBER: &str = " and not a number of up to 12 digits";
 
 const NO_MARK: &str = " and not true or false (or 1 or 0): write those, or rename the column";
 
-const MAY_BE_DAY: &str =
-    ", which may be seconds since 1970 or a day with hours, as all of the table: name the form of days, as by --time-format \
-                          %Y%m%d%H, or write times such as 2024-05-01 00:30:04";
-
 const NO_TRUTH: &str = " and neither true nor false: write those, or rename the column";
 
 // That a record has so many fields, and others are wanted.
@@ -71,12 +67,17 @@ pub struct RecordShown<'a> {
     pub animal: &'a [usize],
     /// The columns of the time.
     pub time: &'a [usize],
+    /// The forms of times, as they were named, with `|` between; empty where none was.
+    pub forms: &'a str,
     /// The name of the zone by whose clock times are read.
     pub clock: &'a str,
 }
 
 // The titles of some columns, and what a record has there, each with blanks between.
-fn joined(alloc: Global, shown: &RecordShown<'_>) -> Result<(Vec<u8>, Vec<u8>), OutOfMemory> {
+pub(crate) fn joined(
+    alloc: Global,
+    shown: &RecordShown<'_>,
+) -> Result<(Vec<u8>, Vec<u8>), OutOfMemory> {
     let mut titles = Vec::new(alloc);
     let mut cells = Vec::new(alloc);
     for (at, column) in shown.time.iter().enumerate() {
@@ -95,14 +96,14 @@ fn joined(alloc: Global, shown: &RecordShown<'_>) -> Result<(Vec<u8>, Vec<u8>), 
 fn sentence_of_time(
     alloc: Global,
     fault: CellFault,
-    clock: &str,
+    shown: &RecordShown<'_>,
     field: Field<'_>,
 ) -> Result<Option<Sentence>, OutOfMemory> {
     let sentence = match fault {
         CellFault::NoTime => missing_time(alloc, field)?,
-        CellFault::Time { fault } => time_sentence(alloc, field, fault)?,
+        CellFault::Time { fault } => time_sentence(alloc, field, fault, shown.forms)?,
         CellFault::Number { fault } => number_sentence(alloc, field, fault)?,
-        CellFault::Clock { fault } => clock_sentence(alloc, field, fault, clock)?,
+        CellFault::Clock { fault } => clock_sentence(alloc, field, fault, shown.clock)?,
         CellFault::NotSecond => second_sentence(alloc, field)?,
         _ => return Ok(None),
     };
@@ -150,7 +151,7 @@ fn sentence_of(
         title: &title,
         cell: &cell,
     };
-    match sentence_of_time(alloc, fault, shown.clock, field)? {
+    match sentence_of_time(alloc, fault, shown, field)? {
         Some(sentence) => Ok(sentence),
         None => sentence_of_cell(alloc, fault, shown),
     }
@@ -178,26 +179,6 @@ pub fn refused_grouped(
     let field = field_at(titles, fields, Some(column));
     match grouped_sentence(alloc, field) {
         Ok(sentence) => Refusal::whole(alloc, sentence.kind, Some(record), &sentence.text),
-        Err(_no_memory) => Refusal::out_of_memory(alloc),
-    }
-}
-
-// That a time may be a day with hours.
-fn day_sentence(alloc: Global, shown: &RecordShown<'_>) -> Result<Sentence, OutOfMemory> {
-    let (title, cell) = joined(alloc, shown)?;
-    let field = Field {
-        title: &title,
-        cell: &cell,
-    };
-    field_sentence(alloc, Kind::Time, field, MAY_BE_DAY)
-}
-
-/// The refusal of a record whose time may be a day with hours, as all others of its table.
-pub fn refused_day(alloc: Global, shown: &RecordShown<'_>) -> Refusal
-    ensures { Names (Some shown.now.number) result }
-{
-    match day_sentence(alloc, shown) {
-        Ok(sentence) => Refusal::whole(alloc, sentence.kind, Some(shown.number), &sentence.text),
         Err(_no_memory) => Refusal::out_of_memory(alloc),
     }
 }

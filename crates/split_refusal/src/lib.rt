@@ -2,6 +2,7 @@
 #![tactic(auto)]
 
 mod cells;
+mod days;
 mod digits;
 mod forms;
 mod grid;
@@ -15,7 +16,8 @@ mod times;
 mod titles;
 mod zones;
 
-pub use cells::{RecordShown, refused_cell, refused_day, refused_grouped};
+pub use cells::{RecordShown, refused_cell, refused_grouped};
+pub use days::refused_day;
 pub use grid::{refused_no_place, refused_off_grid};
 pub use kind::Kind;
 pub use names::refused_names;

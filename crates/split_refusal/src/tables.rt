@@ -41,21 +41,27 @@ fn number_of(record: u64) -> Option<u32>
     }
 }
 
-// The refusal of a quote that stands where none may.
-fn refused_quote(alloc: Global, record: u64, path: &[u8]) -> Refusal
+// What is said of a quote that stands where none may, and of one without an end.
+const STRAY_QUOTE: &str =
+    "a quote stands inside a field, or something behind it: quotes stand around a whole field, and are doubled inside it";
+
+const OPEN_QUOTE: &str =
+    "a quote has no end: quotes stand around a whole field, and are doubled inside it";
+
+// A path, and words about its line of titles.
+fn about_titles(alloc: Global, path: &[u8], words: &str) -> Result<Sentence, OutOfMemory> {
+    let mut sentence = about(alloc, Kind::Text, path, ": in the line of titles ")?;
+    push(&mut sentence.text, words)?;
+    Ok(sentence)
+}
+
+// The refusal of a quote in a record.
+fn refused_quote(alloc: Global, record: u64, path: &[u8], words: &str) -> Refusal
     ensures { Names (below_titles «record») result }
 {
-    let words =
-        "a quote stands inside a field, or something behind it: quotes stand around a whole field, and are \
-                 doubled inside it";
     match number_of(record) {
         Some(number) => Refusal::new(alloc, Kind::Text, Some(number), words.as_bytes()),
-        None => {
-            let words =
-                ": in the line of titles a quote stands inside a field, or something behind it: quotes stand \
-                         around a whole field, and are doubled inside it";
-            refusal_of(alloc, None, about(alloc, Kind::Text, path, words))
-        }
+        None => refusal_of(alloc, None, about_titles(alloc, path, words)),
     }
 }
 
@@ -65,11 +71,8 @@ pub fn refused_table(alloc: Global, fault: TableFault, path: &[u8]) -> Refusal
 {
     match fault {
         TableFault::OutOfMemory => Refusal::out_of_memory(alloc),
-        TableFault::StrayQuote { record } => refused_quote(alloc, record, path),
-        TableFault::OpenQuote { .. } => {
-            let sentence = about(alloc, Kind::Text, path, ": a quote has no end");
-            refusal_of(alloc, None, sentence)
-        }
+        TableFault::StrayQuote { record } => refused_quote(alloc, record, path, STRAY_QUOTE),
+        TableFault::OpenQuote { record } => refused_quote(alloc, record, path, OPEN_QUOTE),
         TableFault::NoTitles => {
             let sentence = about(alloc, Kind::Empty, path, " has no line of titles");
             refusal_of(alloc, None, sentence)

@@ -133,12 +133,32 @@ pub(crate) fn missing_time(alloc: Global, field: Field<'_>) -> Result<Sentence, 
     sentence(alloc, field, Why::Missing)
 }
 
-// Why a field in a column of times is none.
+// That a field has none of the forms that are named, between which `|` stands.
+fn form_sentence(alloc: Global, field: Field<'_>, forms: &str) -> Result<Sentence, OutOfMemory> {
+    let mut text = Vec::new(alloc);
+    push_field(&mut text, field, " and not a time of the form ")?;
+    for (place, form) in forms.split('|').enumerate() {
+        if place > 0 {
+            push(&mut text, " or ")?;
+        }
+        push(&mut text, form)?;
+    }
+    Ok(Sentence {
+        kind: Kind::Time,
+        text,
+    })
+}
+
+// Why a field in a column of times is none. Their forms are named, or empty where they are those of ISO.
 pub(crate) fn time_sentence(
     alloc: Global,
     field: Field<'_>,
     fault: TimeFault,
+    forms: &str,
 ) -> Result<Sentence, OutOfMemory> {
+    if fault == TimeFault::NotTime && !forms.is_empty() && !is_missing(field.cell) {
+        return form_sentence(alloc, field, forms);
+    }
     sentence(alloc, field, why_no_time(field.cell, fault))
 }
 

@@ -7,8 +7,12 @@ use crate::kind::Kind;
 use crate::push::push;
 use crate::refusal::{Refusal, Sentence, refusal_of};
 use range_plane::OutOfMemory;
-use split_titles::{FaultKind, TitleFault, fault_text};
+use split_titles::{FaultKind, PassedOver, TitleFault, fault_text};
 use std::alloc::Global;
+
+// What is said behind a column that may have marks: by which titles marks are read.
+const MARKS: &str =
+    " (a fix is not used where 'visible' is false, or 'manually-marked-outlier' is true)";
 
 // The kind of a fault.
 fn kind_of(fault: TitleFault) -> Kind {
@@ -34,6 +38,13 @@ fn sentence_of(
     }
     let words = fault_text(alloc, fault, titles)?;
     text.extend_from_slice(&words)?;
+    if let TitleFault::PassedOver {
+        what: PassedOver::Mark,
+        ..
+    } = fault
+    {
+        push(&mut text, MARKS)?;
+    }
     Ok(Sentence {
         kind: kind_of(fault),
         text,

@@ -4,7 +4,8 @@ use range_plane::Scale;
 use split_export::{column_of_times, look_at_times};
 use split_filters::Filters;
 use split_reading::{Row, Rules, Told, ToldFix};
-use split_times::{Forms, Moment};
+use split_table::TableText;
+use split_times::{DayOrders, Forms, Moment};
 use split_titles::{Marks, Pair};
 use split_tracks::Reason;
 use std::test::Fail;
@@ -50,25 +51,27 @@ const RULES: Rules<'static, 'static> = Rules {
     skips_unnamed: false,
 };
 
-// A record that tells of a fix.
-const FIX: Row = Row {
-    animal: Some(0),
-    sensor: 0,
-    told: Told::Fix(ToldFix {
-        moment: Moment {
-            second: 0,
-            nanosecond: 0,
-        },
-        is_twice: false,
-        metres: Some((1, 2)),
-        degrees: None,
-        zone: None,
-        is_used: true,
-        is_of_sensor: true,
-        has_class: false,
-        left_for: None,
-    }),
-};
+// A record that tells of a fix of this second.
+fn fix(second: u64) -> Row {
+    Row {
+        animal: Some(0),
+        sensor: 0,
+        told: Told::Fix(ToldFix {
+            moment: Moment {
+                second,
+                nanosecond: 0,
+            },
+            is_twice: false,
+            metres: Some((1, 2)),
+            degrees: None,
+            zone: None,
+            is_used: true,
+            is_of_sensor: true,
+            has_class: false,
+            left_for: None,
+        }),
+    }
+}
 
 // A record without coordinates.
 const NO_FIX: Row = Row {
@@ -77,43 +80,88 @@ const NO_FIX: Row = Row {
     told: Told::LeftOut(Reason::Coordinates),
 };
 
+// Both orders in which a year stands first.
+const YEAR_FIRST: DayOrders = DayOrders {
+    year_month_day_hour: true,
+    year_day_month_hour: true,
+    day_month_year_hour: false,
+    month_day_year_hour: false,
+    short_year_month_day_hour_minute: false,
+    day_month_short_year_hour_minute: false,
+    month_day_short_year_hour_minute: false,
+    month_day_hour_minute_second: false,
+    day_month_hour_minute_second: false,
+};
+
 #[test]
 fn numbers_that_may_all_be_days_are_found(rt: HostRuntime) -> Result<(), Fail> {
-    for (text, rows, expected) in [
-        // 1 and 2 May 2024, 12 and 13 o'clock.
+    // 12 o'clock of 1 May 2024 or of 5 January, and 13 o'clock of 2 May or of 5 February.
+    let (first, second) = (fix(2_024_050_112), fix(2_024_050_213));
+    // 20 o'clock of 15 November 2024, which has no month 15.
+    let late = fix(2_024_111_520);
+    let month_second = DayOrders {
+        year_day_month_hour: false,
+        ..YEAR_FIRST
+    };
+    // A second of 2024 that is no day with hours, since it would have the hour 61.
+    let sure = fix(1_714_523_561);
+    // Midnight of 2 May 2024.
+    let iso = fix(1_714_608_000);
+    for (bytes, rows, expected) in [
         (
             b"a,t,x,y\nf,2024050112,1,2\nf,2024050213,1,2\n".as_slice(),
-            [FIX, FIX],
-            Some(1),
+            [first, second],
+            Some((1, YEAR_FIRST)),
         ),
-        // The second has no hour 61: seconds of 2024.
         (
-            b"a,t,x,y\nf,1714521612,1,2\nf,1714523561,1,2\n",
-            [FIX, FIX],
+            b"a,t,x,y\nf,2024050112,1,2\nf,2024111520,1,2\n",
+            [first, late],
+            Some((1, month_second)),
+        ),
+        (
+            b"a,t,x,y\nf,2024050112,1,2\nf,1714523561,1,2\n",
+            [first, sure],
             None,
         ),
         // Where the first has no place, the second alone counts.
         (
             b"a,t,x,y\nf,1714523561,,\nf,2024050213,1,2\n",
-            [NO_FIX, FIX],
-            Some(2),
+            [NO_FIX, second],
+            Some((2, YEAR_FIRST)),
         ),
-        // A text of ISO is no such number.
+        // A text of ISO does not tell what the number is, before it or behind it.
         (
             b"a,t,x,y\nf,2024050112,1,2\nf,2024-05-02,1,2\n",
-            [FIX, FIX],
+            [first, iso],
+            Some((1, YEAR_FIRST)),
+        ),
+        (
+            b"a,t,x,y\nf,2024-05-02,1,2\nf,2024050112,1,2\n",
+            [iso, first],
+            Some((2, YEAR_FIRST)),
+        ),
+        // Texts of ISO are no numbers, whatever seconds they are: 2034-02-20 12:15:12 is the second 2024050512.
+        (
+            b"a,t,x,y\nf,2034-02-20 12:15:12,1,2\nf,2024-05-02,1,2\n",
+            [fix(2_024_050_512), iso],
             None,
         ),
     ] {
-        let look = look_at_times(rt.alloc(), text, &RULES, &rows)?;
-        assert!(&rt; look.day == expected, "{text:?}");
+        let text = TableText::new(bytes)?;
+        let look = look_at_times(rt.alloc(), &text, &RULES, &rows)?;
+        assert!(&rt; look.day == expected, "{bytes:?}");
     }
+    Ok(())
+}
+
+#[test]
+fn seconds_of_ones_own_are_no_days(rt: HostRuntime) -> Result<(), Fail> {
     let seconds = Rules {
         is_second: true,
         ..RULES
     };
-    let text = b"a,second,x,y\nf,2024050112,1,2\n";
-    let look = look_at_times(rt.alloc(), text, &seconds, &[FIX])?;
+    let text = TableText::new(b"a,second,x,y\nf,2024050112,1,2\n")?;
+    let look = look_at_times(rt.alloc(), &text, &seconds, &[fix(2_024_050_112)])?;
     assert!(&rt; look.day.is_none(), "seconds of one's own");
     Ok(())
 }
@@ -124,13 +172,13 @@ fn forms_that_are_used_are_found(rt: HostRuntime) -> Result<(), Fail> {
         forms: Some(Forms::new(b"%d.%m.%Y|%Y/%m/%d|%Y-%m-%d")?),
         ..RULES
     };
-    let text = b"a,t,x,y\nf,2024-05-01,1,2\nf,2.5.2024,1,2\n";
-    let look = look_at_times(rt.alloc(), text, &rules, &[FIX, FIX])?;
+    let text = TableText::new(b"a,t,x,y\nf,2024-05-01,1,2\nf,2.5.2024,1,2\n")?;
+    let look = look_at_times(rt.alloc(), &text, &rules, &[fix(1), fix(2)])?;
     assert!(&rt;
         look.forms.as_slice() == [true, false, true].as_slice(),
         "the first and the last"
     );
-    let look = look_at_times(rt.alloc(), text, &rules, &[NO_FIX, FIX])?;
+    let look = look_at_times(rt.alloc(), &text, &rules, &[NO_FIX, fix(2)])?;
     assert!(&rt;
         look.forms.as_slice() == [true].as_slice(),
         "the first alone"
@@ -140,22 +188,53 @@ fn forms_that_are_used_are_found(rt: HostRuntime) -> Result<(), Fail> {
 
 #[test]
 fn a_column_of_times_is_found(rt: HostRuntime) -> Result<(), Fail> {
-    for (text, count, expected) in [
+    let rules = Rules {
+        time: &[],
+        missing: &[b"-9999".as_slice(), b"2024-05-03".as_slice()],
+        ..RULES
+    };
+    for (bytes, columns, count, expected) in [
         (
             b"a,x,when\nf,1,2024-05-01 00:30\nf,2,\nf,3,2024-05-02\n".as_slice(),
+            [1, 2].as_slice(),
             3,
             Some(2),
         ),
         (
             b"born,x,when\n2020-01-01,1,2024-05-01\n,2,2024-05-02\n",
+            &[0, 1, 2],
             2,
             Some(0),
         ),
-        (b"a,x,when\nf,1,2024-05-01\nf,2,soon\n", 2, None),
-        (b"a,x,when\nf,1,\nf,2,NA\n", 2, None),
+        // The first column is read.
+        (
+            b"born,x,when\n2020-01-01,1,2024-05-01\n,2,2024-05-02\n",
+            &[2],
+            2,
+            Some(2),
+        ),
+        (
+            b"born,x,when\n2020-01-01,1,soon\n,2,2024-05-02\n",
+            &[2],
+            2,
+            None,
+        ),
+        // A word that is named is missing, and so is a day that is named.
+        (
+            b"a,x,when\nf,1,-9999\nf,2,2024-05-02\n",
+            &[2],
+            2,
+            Some(2),
+        ),
+        (b"a,x,when\nf,1,2024-05-03\nf,2,NA\n", &[2], 2, None),
+        (b"a,x,when\nf,1,-999\nf,2,2024-05-02\n", &[2], 2, None),
+        (b"a,x,when\nf,1,2024-05-01\nf,2,soon\n", &[2], 2, None),
+        (b"a,x,when\nf,1,\nf,2,NA\n", &[2], 2, None),
+        (b"a,x,when\nf,1,2024-05-01\n", &[], 1, None),
     ] {
-        let found = column_of_times(rt.alloc(), text, count)?;
-        assert!(&rt; found == expected, "{text:?}");
+        let text = TableText::new(bytes)?;
+        let found = column_of_times(rt.alloc(), &text, &rules, columns, count)?;
+        assert!(&rt; found == expected, "{bytes:?}");
     }
     Ok(())
 }

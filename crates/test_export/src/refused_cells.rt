@@ -11,8 +11,8 @@ use split_refusal::{
     refused_table, refused_text, refused_titles, refused_zone,
 };
 use split_table::TableFault;
-use split_times::{TextFault as TimeTextFault, text_time};
-use split_titles::TitleFault;
+use split_times::{DayOrders, TextFault as TimeTextFault, TimeFault, text_time};
+use split_titles::{PassedOver, TitleFault};
 use std::alloc::{AllocError, Global};
 use std::process::Abort;
 use std::test::Fail;
@@ -49,6 +49,7 @@ fn refused_in(alloc: Global, fault: CellFault, titles: &[&[u8]], fields: &[&[u8]
         fields,
         animal: &[0],
         time: &[1],
+        forms: "",
         clock: "UTC",
     };
     refused_cell(alloc, fault, &shown)
@@ -365,6 +366,7 @@ fn times_of_clocks_and_of_several_columns_are_refused(rt: HostRuntime) -> Result
         fields: &[b"f", b"2024-03-31", b"02:30"],
         animal: &[0],
         time: &[1, 2],
+        forms: "",
         clock: "Europe/Ljubljana",
     };
     let passed = CellFault::Clock {
@@ -390,15 +392,6 @@ fn times_of_clocks_and_of_several_columns_are_refused(rt: HostRuntime) -> Result
         Kind::Time,
         expected,
     )?;
-    let expected =
-        "record 7: day hour is '2024-03-31 02:30', which may be seconds since 1970 or a day with hours, as all of the table: name the form of days, as by --time-format %Y%m%d%H, or write times such as 2024-05-01 00:30:04";
-    expect_line(
-        &rt,
-        alloc,
-        &refused_day(alloc, &shown),
-        Kind::Time,
-        expected,
-    )?;
     let expected = "record 7: there is no day hour";
     expect_line(
         &rt,
@@ -406,6 +399,134 @@ fn times_of_clocks_and_of_several_columns_are_refused(rt: HostRuntime) -> Result
         &refused_cell(alloc, CellFault::NoTime, &shown),
         Kind::Time,
         expected,
+    )
+}
+
+// The refusal of record 2 with this time, whose forms are those, in a table of Movebank.
+fn refused_under(
+    alloc: Global,
+    forms: &str,
+    text: &str,
+    fault: TimeFault,
+) -> Result<Refusal, Fail> {
+    let titles = fields_of(alloc, MOVEBANK)?;
+    let fields = [b"f".as_slice(), text.as_bytes(), b"1", b"2", b"33N"];
+    let shown = RecordShown {
+        number: 2,
+        titles: &titles,
+        fields: &fields,
+        animal: &[0],
+        time: &[1],
+        forms,
+        clock: "UTC",
+    };
+    Ok(refused_cell(alloc, CellFault::Time { fault }, &shown))
+}
+
+// What is no time of a form that is named may be one otherwise.
+#[test]
+fn times_of_no_form_are_refused(rt: HostRuntime) -> Result<(), Fail> {
+    let alloc = rt.alloc();
+    for (forms, text, fault, expected) in [
+        (
+            "%Y-%m-%d",
+            "2024-05-01 10:00",
+            TimeFault::NotTime,
+            "record 2: timestamp is '2024-05-01 10:00' and not a time of the form %Y-%m-%d",
+        ),
+        (
+            "%d.%m.%Y|%Y/%m/%d|%d %b",
+            "2024-02-30",
+            TimeFault::NotTime,
+            "record 2: timestamp is '2024-02-30' and not a time of the form %d.%m.%Y or %Y/%m/%d or %d %b",
+        ),
+        (
+            "%Y-%m-%d",
+            " ",
+            TimeFault::NotTime,
+            "record 2: there is no timestamp",
+        ),
+        (
+            "%H:%M:%S",
+            "10:00:00.1234567890",
+            TimeFault::MoreThanNineDecimals,
+            "record 2: timestamp is '10:00:00.1234567890', which has more than nine decimals: write nine at most",
+        ),
+        (
+            "",
+            "2024-02-30",
+            TimeFault::NotTime,
+            "record 2: timestamp is '2024-02-30', which is no time",
+        ),
+    ] {
+        let refusal = refused_under(alloc, forms, text, fault)?;
+        expect_line(&rt, alloc, &refusal, Kind::Time, expected)?;
+    }
+    Ok(())
+}
+
+// Checks the refusal of a number that may be a day with hours, as all others of its column that are in these orders.
+fn expect_day(
+    rt: &impl Abort,
+    alloc: Global,
+    orders: DayOrders,
+    expected: &str,
+) -> Result<(), Fail> {
+    let shown = RecordShown {
+        number: 7,
+        titles: &[b"id", b" day", b"hour"],
+        fields: &[b"f", b"20240501", b"12"],
+        animal: &[0],
+        time: &[1, 2],
+        forms: "",
+        clock: "UTC",
+    };
+    let refusal = refused_day(alloc, &shown, orders);
+    expect_line(rt, alloc, &refusal, Kind::Time, expected)
+}
+
+// The remedy names each form that is left for the whole column. A form has a year: an order without one has no form.
+#[test]
+fn days_with_hours_are_refused(rt: HostRuntime) -> Result<(), Fail> {
+    let alloc = rt.alloc();
+    let none = DayOrders::none();
+    let first = DayOrders {
+        year_month_day_hour: true,
+        ..none
+    };
+    expect_day(
+        &rt,
+        alloc,
+        first,
+        "record 7: day hour is '20240501 12', which may be seconds since 1970 or a day with hours, as all numbers of the column: name the form of days, as by --time-format %Y%m%d%H, or write times such as 2024-05-01 00:30:04",
+    )?;
+    let two = DayOrders {
+        day_month_year_hour: true,
+        month_day_hour_minute_second: true,
+        ..first
+    };
+    expect_day(
+        &rt,
+        alloc,
+        two,
+        "record 7: day hour is '20240501 12', which may be seconds since 1970 or a day with hours, as all numbers of the column: name the form of days, as by --time-format %Y%m%d%H or %d%m%Y%H, or write times such as 2024-05-01 00:30:04",
+    )?;
+    expect_day(
+        &rt,
+        alloc,
+        DayOrders::all(),
+        "record 7: day hour is '20240501 12', which may be seconds since 1970 or a day with hours, as all numbers of the column: name the form of days, as by --time-format %Y%m%d%H or %Y%d%m%H or %d%m%Y%H or %m%d%Y%H or %y%m%d%H%M or %d%m%y%H%M or %m%d%y%H%M, or write times such as 2024-05-01 00:30:04",
+    )?;
+    let yearless = DayOrders {
+        month_day_hour_minute_second: true,
+        day_month_hour_minute_second: true,
+        ..none
+    };
+    expect_day(
+        &rt,
+        alloc,
+        yearless,
+        "record 7: day hour is '20240501 12', which may be seconds since 1970 or a day with hours, as all numbers of the column: write times such as 2024-05-01 00:30:04",
     )
 }
 
@@ -477,6 +598,7 @@ fn files_are_refused(rt: HostRuntime) -> Result<(), Fail> {
     let alloc = rt.alloc();
     let path = b"t.csv".as_slice();
     let open = TableFault::OpenQuote { record: 3 };
+    let open_title = TableFault::OpenQuote { record: 0 };
     // The package for Python takes these.
     let stray = TableFault::StrayQuote { record: 3 };
     let first = TableFault::StrayQuote { record: 0 };
@@ -499,7 +621,12 @@ fn files_are_refused(rt: HostRuntime) -> Result<(), Fail> {
         (
             refused_table(alloc, open, path),
             Kind::Text,
-            "t.csv: a quote has no end",
+            "record 3: a quote has no end: quotes stand around a whole field, and are doubled inside it",
+        ),
+        (
+            refused_table(alloc, open_title, path),
+            Kind::Text,
+            "t.csv: in the line of titles a quote has no end: quotes stand around a whole field, and are doubled inside it",
         ),
         (
             refused_table(alloc, stray, path),
@@ -534,6 +661,18 @@ fn titles_are_refused(rt: HostRuntime) -> Result<(), Fail> {
         &refusal,
         Kind::Columns,
         "there are no columns of usual titles for easting and northing, or longitude and latitude: name them, as by --easting X and --northing Y, or --lon X and --lat Y; the table has 'animal', 'second', 'easting'",
+    )?;
+    let passed = TitleFault::PassedOver {
+        at: 2,
+        what: PassedOver::Mark,
+    };
+    let refusal = refused_titles(alloc, passed, &[b"id", b"t", b"Outlier"], b"t.csv");
+    expect_line(
+        &rt,
+        alloc,
+        &refusal,
+        Kind::Columns,
+        "column 3 'Outlier' may have marks, but is not read: rename or remove it (a fix is not used where 'visible' is false, or 'manually-marked-outlier' is true)",
     )?;
     let many: Vec<&[u8]> = (0..16_385).map(|_place| b"a".as_slice()).collect(alloc)?;
     let refusal = refused_titles(alloc, TitleFault::TooManyColumns, &many, b"t.csv");
