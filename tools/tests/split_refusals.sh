@@ -30,7 +30,7 @@ refuses 'fixes lie in several zones (33N 1, 33S 1): name the zone' "$head_line" 
 refuses 'record 1: -52.00 east and 2000.00 north is off the grid' "$head_line" 'a,2024-05-01 00:30:00,-52.3,2000,33N,'
 refuses "animals 'a/b' and 'a_b' would both be named a_b" "$head_line" 'a/b,2024-05-01 00:30:00,1,2,33N,' \
     'a_b,2024-05-01 00:30:00,1,2,33N,' 'a_b,2024-05-01 00:30:00,1,2,33N,'
-refuses 'a quote has no end' "$head_line" 'a,2024-05-01 00:30:00,1,2,33N,"tall' 'b,2024-05-01 00:30:00,1,2,33N,'
+refuses 'record 1: a quote has no end' "$head_line" 'a,2024-05-01 00:30:00,1,2,33N,"tall' 'b,2024-05-01 00:30:00,1,2,33N,'
 refuses 'no fix is left' "$head_line" 'a,2024-05-01 00:30:00,,,33N,'
 printf '%s\n' 'time,x,y' '2024-05-01,1,2' | split_to 2 --name ''
 says '--name: a name without control characters is wanted'

@@ -150,9 +150,7 @@ fn read_table<'t, 'a, P: Progress>(
         Ok(columns) => columns,
         Err(fault) => return Err(ExportFault::Titles(fault)),
     };
-    match ledger_by(
-        alloc, table, &columns, &titles, has_commas, asked, progress,
-    ) {
+    match ledger_by(alloc, table, &columns, &titles, has_commas, asked, progress) {
         Ok(ledger) => Ok(Export {
             text,
             titles,

@@ -57,7 +57,7 @@ REFUSED = [
     ("other signs between fields", [], [ONE, TWO.replace(b",", b";")], "two.csv", None, "its fields do not stand between the same signs as those of one.csv"),
     ("a fault of the second", [], [ONE, TWO.replace(b"1020", b"x")], "two.csv", 2, "easting is 'x' and not a number"),
     ("a fault of the third", [], [ONE, TWO, f"{TITLES}\nfox,500,1,2\nfox,x,1,2\n".encode()], "three.csv", 2, "second is 'x'"),
-    ("a quote that the next would close", [], [ONE + b'fox,"70,1,2\n', TWO + b'fox,1,1,2"\n'], None, None, "one.csv: a quote has no end"),
+    ("a quote that the next would close", [], [ONE + b'fox,"70,1,2\n', TWO + b'fox,1,1,2"\n'], "one.csv", 4, "a quote has no end"),
     ("a stray quote", [], [ONE, TWO + b'fox,1,a"b,2\n'], "two.csv", 3, "a quote stands inside a field"),
     ("bytes that are none of UTF-8", [], [ONE, TWO + b"\xe9"], None, None, "two.csv is no text in UTF-8"),
     ("the same bytes", [], [ONE, TWO, ONE], None, None, "three.csv is one.csv once more, byte for byte: name each export once"),
