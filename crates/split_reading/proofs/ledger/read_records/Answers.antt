@@ -5,7 +5,7 @@ use Rattle.split_reading.proofs.LedgerFacts.{begins}
 use Rattle.split_reading.proofs.ledger.read_records.Goals as goal
 
 pub records-init : goal.records-init
-records-init c =
+records-init g c =
     let names : texts c.new.result ≡ [] = ap (λ l. map (λ k. k.items) l) c.new.ensures.empty in
     let sensors : texts c.new-2.result ≡ [] = ap (λ l. map (λ k. k.items) l) c.new-2.ensures.empty in
     record {
