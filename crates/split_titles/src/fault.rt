@@ -51,6 +51,8 @@ pub enum TitleFault<'a> {
     },
     /// No usual title is that of coordinates.
     NoCoordinates,
+    /// Classes of Argos are asked for, and no usual title is that of them.
+    NoArgosClass,
     /// DOP is asked for, and no usual title is that of one.
     NoDop,
     /// Types of fixes are asked for, and no usual title is that of them.
@@ -98,6 +100,7 @@ impl<'a> TitleFault<'a> {
             TitleFault::TooManyColumns
             | TitleFault::NoColumn { .. }
             | TitleFault::NoCoordinates
+            | TitleFault::NoArgosClass
             | TitleFault::NoDop
             | TitleFault::NoFixType
             | TitleFault::PassedOver { .. } => Some(FaultKind::Columns),

@@ -5,13 +5,15 @@ ghost use Rattle.split_titles.specs.Columns.{AreMarksWithin, AreWithin, HasUsage
 
 use crate::columns::{Columns, Marks};
 use crate::fault::TitleFault;
-use crate::lookup::{is_usual, named_or_usual, named_place, next_place, one_of, usual};
+use crate::lookup::{
+    first_of, is_usual, named_or_usual, named_place, next_place, one_of, require, usual,
+};
 use crate::named::{Named, Role};
 use crate::passed_over::refuse_passed_over;
 use crate::places::find_places;
 use crate::plain::comes_to;
 use crate::usual::{
-    ALGORITHM_OUTLIER, ANIMALS, ARGOS_CLASSES, COLUMN_LIMIT, DOPS, FIX_TYPES, Family,
+    ALGORITHM_OUTLIER, ANIMALS, ARGOS_CLASSES, CLOCK_PARTS, COLUMN_LIMIT, DOPS, FIX_TYPES, Family,
     IMPORT_OUTLIER, MANUAL_OUTLIER, MANUAL_VALID, SECOND, SENSOR, SENSOR_NUMBER, TIMES, USE,
     UTM_ZONE, VISIBLE,
 };
@@ -46,7 +48,8 @@ fn listed<A: Allocator>(alloc: A, place: Option<usize>) -> Result<Vec<usize, A>,
     Ok(places)
 }
 
-// The column of the animal by its usual title: that of Movebank or of the coordinates' own family, or the only one.
+// The column of the animal by its usual title: that of Movebank or of the coordinates' own family, or else the first. Others
+// have to part the records as it does, which `other_animals` is for.
 fn usual_animal<'a>(
     titles: &[&[u8]],
     family: Option<Family>,
@@ -63,7 +66,7 @@ fn usual_animal<'a>(
             return Ok(own);
         }
     }
-    one_of(titles, &ANIMALS, Role::Animal)
+    first_of(titles, &ANIMALS)
 }
 
 // The columns of the animal.
@@ -97,6 +100,28 @@ fn usual_time<'a>(titles: &[&[u8]], family: Option<Family>) -> Result<Option<usi
     one_of(titles, &TIMES, Role::Time)
 }
 
+// Refuses seconds as the time beside a column of minutes or hours: they may be those of a minute.
+fn refuse_parts<'a>(titles: &[&[u8]], time: Option<usize>) -> Result<(), TitleFault<'a>>
+    requires { IsWithin (length titles.now) time }
+{
+    let Some(first) = time else {
+        return Ok(());
+    };
+    if !comes_to(titles[first], SECOND.as_bytes()) {
+        return Ok(());
+    }
+    for (second, title) in titles.iter().enumerate() {
+        if is_usual(title, &CLOCK_PARTS) {
+            return Err(TitleFault::OneRole {
+                first,
+                second,
+                role: Role::Time,
+            });
+        }
+    }
+    Ok(())
+}
+
 // The columns of the time.
 fn time_columns<'a, A: Allocator>(
     alloc: A,
@@ -107,7 +132,9 @@ fn time_columns<'a, A: Allocator>(
     ensures { IfOk result (λ places. All (λ at. at < length titles.now) places.items) }
 {
     if named.time.is_empty() {
-        Ok(listed(alloc, usual_time(titles, family)?)?)
+        let time = usual_time(titles, family)?;
+        refuse_parts(titles, time)?;
+        Ok(listed(alloc, time)?)
     } else {
         named_columns(alloc, titles, named.time, Role::Time)
     }
@@ -187,7 +214,7 @@ fn find_sensor<'a>(titles: &[&[u8]]) -> Result<(Option<usize>, bool), TitleFault
     Ok((by_number, by_number.is_some()))
 }
 
-// The column that an option asks for, where it is there.
+// The column that an option asks for, where it is there. One that is named has to be there, also where nothing asks for it.
 fn asked_for<'a>(
     is_asked: bool,
     titles: &[&[u8]],
@@ -198,23 +225,12 @@ fn asked_for<'a>(
     ensures { IfOk result (IsWithin (length titles.now)) }
 {
     if is_asked {
-        named_or_usual(titles, named, usuals, role)
-    } else {
-        Ok(None)
+        return named_or_usual(titles, named, usuals, role);
     }
-}
-
-// Refuses that an option asks for a column which is not there.
-fn require<'a>(
-    is_asked: bool,
-    place: Option<usize>,
-    fault: TitleFault<'a>,
-) -> Result<(), TitleFault<'a>> {
-    if is_asked && place.is_none() {
-        Err(fault)
-    } else {
-        Ok(())
+    if let Some(wanted) = named {
+        let _at = named_place(titles, wanted, role)?;
     }
+    Ok(None)
 }
 
 /// The columns of a table of these titles that are read, where these were named.

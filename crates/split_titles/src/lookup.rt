@@ -1,6 +1,6 @@
 // Columns are looked for by titles.
 
-ghost use Rattle.std.specs.Prelude.{◌<◌, IfOk, IfSome, length};
+ghost use Rattle.std.specs.Prelude.{◌<◌, ℕ, IfOk, IfSome, length};
 ghost use Rattle.split_titles.specs.Columns.{IfPairWithin, IsWithin};
 
 use crate::columns::Pair;
@@ -100,6 +100,31 @@ pub(crate) fn one_of<'a>(
     }
 }
 
+// The earlier of two places, as far as they are there.
+fn earlier(one: Option<usize>, other: Option<usize>) -> Option<usize>
+    ensures { (width : ℕ) → IsWithin width one → IsWithin width other → IsWithin width result }
+{
+    match (one, other) {
+        (Some(at), Some(place)) => Some(at.min(place)),
+        (Some(at), None) => Some(at),
+        (None, place) => place,
+    }
+}
+
+// The first of the columns of these usual titles.
+pub(crate) fn first_of<'a>(
+    titles: &[&[u8]],
+    usuals: &[&'static str],
+) -> Result<Option<usize>, TitleFault<'a>>
+    ensures { IfOk result (IsWithin (length titles.now)) }
+{
+    let mut found: Option<usize> = None;
+    for title in usuals {
+        found = earlier(found, usual(titles, title)?);
+    }
+    Ok(found)
+}
+
 // The column of the first of titles between `|` that is there.
 pub(crate) fn first_place(titles: &[&[u8]], wanted: &[u8]) -> Option<usize>
     ensures { IsWithin (length titles.now) result }
@@ -145,4 +170,17 @@ pub(crate) fn named_or_usual<'a>(
 // Whether a title comes to one of these.
 pub(crate) fn is_usual(own: &[u8], usuals: &[&str]) -> bool {
     usuals.iter().any(|title| comes_to(own, title.as_bytes()))
+}
+
+// Refuses that an option asks for a column which is not there.
+pub(crate) fn require<'a>(
+    is_asked: bool,
+    place: Option<usize>,
+    fault: TitleFault<'a>,
+) -> Result<(), TitleFault<'a>> {
+    if is_asked && place.is_none() {
+        Err(fault)
+    } else {
+        Ok(())
+    }
 }

@@ -15,6 +15,8 @@ pub struct Named<'a> {
     pub argos: Option<&'a [u8]>,
     pub dop: Option<&'a [u8]>,
     pub fix: Option<&'a [u8]>,
+    /// Whether the option `--argos-class` is there, and fixes without a class are none of those that it takes.
+    pub has_argos_class: bool,
     /// Whether the option `--max-dop` is there, without which no DOP is read.
     pub has_max_dop: bool,
     /// Whether the option `--fix-type` is there, without which no type of fixes is read.

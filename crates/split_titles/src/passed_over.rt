@@ -2,7 +2,7 @@
 
 use crate::columns::{Columns, is_read};
 use crate::fault::{PassedOver, TitleFault};
-use crate::lookup::is_usual;
+use crate::lookup::{is_usual, require};
 use crate::named::{Named, Role};
 use crate::usual::{ODD_CLASSES, ODD_MARKS, UTM_ZONE};
 use std::alloc::Allocator;
@@ -17,7 +17,7 @@ fn unread<A: Allocator>(titles: &[&[u8]], columns: &Columns<A>, usuals: &[&str])
     None
 }
 
-// Refuses a column that may have classes of Argos, unless one was named.
+// Refuses a column that may have classes of Argos, unless one was named, and that an option asks for one where none is.
 fn refuse_classes<'a, A: Allocator>(
     titles: &[&[u8]],
     named: &Named<'a>,
@@ -27,7 +27,11 @@ fn refuse_classes<'a, A: Allocator>(
         return Ok(());
     }
     let Some(at) = unread(titles, columns, &ODD_CLASSES) else {
-        return Ok(());
+        return require(
+            named.has_argos_class,
+            columns.argos,
+            TitleFault::NoArgosClass,
+        );
     };
     match columns.argos {
         Some(first) => Err(TitleFault::OneRole {

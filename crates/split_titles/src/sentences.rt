@@ -5,7 +5,7 @@ ghost use Rattle.std.specs.Prelude.{◌≤◌, length};
 use crate::fault::{PassedOver, TitleFault};
 use crate::named::Role;
 use crate::plain::trimmed;
-use crate::usual::{COLUMN_LIMIT, DOPS, FIX_TYPES, UTM_EASTING, UTM_NORTHING};
+use crate::usual::{ARGOS_CLASSES, COLUMN_LIMIT, DOPS, FIX_TYPES, UTM_EASTING, UTM_NORTHING};
 use itoa::Buffer;
 use range_plane::OutOfMemory;
 use std::alloc::{AllocError, Allocator};
@@ -292,6 +292,9 @@ fn push_fault<A: Allocator>(
         ),
         TitleFault::NoColumn { role, wanted } => push_no_column(text, titles, role, wanted),
         TitleFault::NoCoordinates => push_no_coordinates(text, titles),
+        TitleFault::NoArgosClass => {
+            push_no_usual(text, "--argos-class", &ARGOS_CLASSES, Role::Argos)
+        }
         TitleFault::NoDop => push_no_usual(text, "--max-dop", &DOPS, Role::Dop),
         TitleFault::NoFixType => push_no_usual(text, "--fix-type", &FIX_TYPES, Role::FixType),
         TitleFault::OneTitle {

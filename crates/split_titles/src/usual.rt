@@ -50,6 +50,8 @@ pub(crate) const TIMES: [&str; 9] = [
     "acquisition-time",
     "tracked-at",
 ];
+// Titles of other parts of a time, of which a column of seconds may be one too.
+pub(crate) const CLOCK_PARTS: [&str; 2] = ["minute", "hour"];
 // Longitude and latitude of Movebank.
 pub(crate) const LOCATION: (&str, &str) = ("location-long", "location-lat");
 

@@ -64,10 +64,6 @@ fn two_columns_of_one_role_are_refused(rt: HostRuntime) -> Result<(), Fail> {
         &NOTHING,
         &[
             (
-                "id,individual,timestamp,utm-easting,utm-northing,utm-zone",
-                "ambiguous: column 1 'id' and column 2 'individual' both fit the animal: name one, as by --animal id",
-            ),
-            (
                 "id,date,timestamp,x,y",
                 "ambiguous: column 3 'timestamp' and column 2 'date' both fit the time: name one, as by --time timestamp",
             ),
@@ -125,6 +121,14 @@ fn seconds_beside_another_time_are_refused(rt: HostRuntime) -> Result<(), Fail> 
             (
                 "id,second,time,x,y",
                 "ambiguous: column 2 'second' and column 3 'time' both fit the time: name one, as by --time second",
+            ),
+            (
+                "animal,second,minute,easting,northing",
+                "ambiguous: column 2 'second' and column 3 'minute' both fit the time: name one, as by --time second",
+            ),
+            (
+                "id,HOUR,Second,x,y",
+                "ambiguous: column 3 'Second' and column 2 'HOUR' both fit the time: name one, as by --time Second",
             ),
         ],
     )
@@ -358,6 +362,32 @@ fn all_names_are_looked_for(rt: HostRuntime) -> Result<(), Fail> {
         )],
     )?;
     let named = Named {
+        dop: Some(b"nope"),
+        ..NOTHING
+    };
+    expect_told(
+        &rt,
+        rt.alloc(),
+        &named,
+        &[(
+            "id,date,x,y",
+            "columns: --dop: there is no column 'nope'; the table has 'id', 'date', 'x', 'y'",
+        )],
+    )?;
+    let named = Named {
+        fix: Some(b"nope"),
+        ..NOTHING
+    };
+    expect_told(
+        &rt,
+        rt.alloc(),
+        &named,
+        &[(
+            "id,date,x,y",
+            "columns: --fix: there is no column 'nope'; the table has 'id', 'date', 'x', 'y'",
+        )],
+    )?;
+    let named = Named {
         argos: Some(b"lc"),
         ..NOTHING
     };
@@ -440,6 +470,44 @@ fn pairs_that_cannot_be_right_are_refused(rt: HostRuntime) -> Result<(), Fail> {
             "animal,second,easting,northing,lon,lat",
             "option: easting and northing, or lon and lat: name one pair of the two",
         )],
+    )
+}
+
+#[test]
+fn classes_that_are_asked_for_are_there(rt: HostRuntime) -> Result<(), Fail> {
+    let named = Named {
+        has_argos_class: true,
+        ..NOTHING
+    };
+    expect_told(
+        &rt,
+        rt.alloc(),
+        &named,
+        &[
+            (
+                "id,date,x,y",
+                "columns: --argos-class: no column has a usual title for it (argos-lc, argos-class, loc. quality, location-quality, location-class): name it, as by --argos COLUMN",
+            ),
+            (
+                "id,date,x,y,lc",
+                "columns: column 5 'lc' may have Argos classes: name it, as by --argos lc, or rename or remove it",
+            ),
+            (
+                "id,date,x,y,argos:lc",
+                "animal 0; time 1; metres 2 3; argos 4",
+            ),
+        ],
+    )?;
+    let named = Named {
+        has_argos_class: true,
+        argos: Some(b"lc"),
+        ..NOTHING
+    };
+    expect_told(
+        &rt,
+        rt.alloc(),
+        &named,
+        &[("id,date,x,y,lc", "animal 0; time 1; metres 2 3; argos 4")],
     )
 }
 

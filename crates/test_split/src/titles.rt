@@ -348,6 +348,35 @@ fn other_usual_titles_of_the_animal_are_listed(rt: HostRuntime) -> Result<(), Fa
 }
 
 #[test]
+fn the_first_title_of_the_animal_is_taken_where_no_family_decides(
+    rt: HostRuntime,
+) -> Result<(), Fail> {
+    expect_told(
+        &rt,
+        rt.alloc(),
+        &NOTHING,
+        &[
+            (
+                "id,individual,timestamp,lon,lat",
+                "animal 0; time 2; degrees 3 4; others 1",
+            ),
+            (
+                "individual,timestamp,id,longitude,latitude",
+                "animal 0; time 1; degrees 3 4; others 2",
+            ),
+            (
+                "height,track-id,animal_id,timestamp,utm-easting,utm-northing,utm-zone",
+                "animal 1; time 3; metres 4 5; utm; zone 6; others 2; unread 0",
+            ),
+            (
+                "Id,animal,ID,timestamp,lon,lat",
+                "ambiguous: column 1 'Id' and column 3 'ID' both fit id: rename one",
+            ),
+        ],
+    )
+}
+
+#[test]
 fn named_columns_are_taken(rt: HostRuntime) -> Result<(), Fail> {
     let named = Named {
         animal: &[b"Tier"],
@@ -509,8 +538,8 @@ fn named_columns_of_filters_are_taken(rt: HostRuntime) -> Result<(), Fail> {
         )],
     )?;
     let named = Named {
-        dop: Some(b"none"),
-        fix: Some(b"none"),
+        dop: Some(b"dop"),
+        fix: Some(b"x"),
         ..NOTHING
     };
     expect_told(
