@@ -33,6 +33,7 @@ fn named_of<'a>(columns: &'a NamedColumns<'a>, choices: &Choices<'_>) -> Named<'
         argos: columns.argos,
         dop: columns.dop,
         fix: columns.fix,
+        has_argos_class: choices.takes_classes(),
         has_max_dop: choices.most_dop.is_some(),
         has_fix_type: !choices.types.is_empty(),
     }

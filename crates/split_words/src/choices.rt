@@ -49,6 +49,11 @@ impl<'a> Choices<'a> {
         }
     }
 
+    /// Whether only fixes with a class of Argos are taken.
+    pub fn takes_classes(&self) -> bool {
+        !self.classes.is_empty() && self.classes.iter().all(|class| !class.is_empty())
+    }
+
     /// The name of an option that needs a time; empty where none was given.
     pub fn needs_time(&self) -> &'static str {
         if self.since_words.is_some() {

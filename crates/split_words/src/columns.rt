@@ -27,6 +27,21 @@ fn title_of<'a>(value: Option<&'a str>) -> Option<&'a [u8]> {
     value.map(str::as_bytes)
 }
 
+// The title of a column that one option alone reads: that of a preset only where this option is there, and else the one that
+// was given, which the table then has to have all the same.
+fn title_for<'a>(
+    matches: &ArgMatches<'a>,
+    option: &str,
+    value: Option<&'a str>,
+    given: Option<&'a str>,
+) -> Option<&'a [u8]> {
+    if matches.get_str(option).is_some() {
+        title_of(value)
+    } else {
+        title_of(given)
+    }
+}
+
 // The columns that options name, with such values of those that presets have.
 pub(crate) fn columns_of<'a>(
     alloc: Global,
@@ -41,7 +56,7 @@ pub(crate) fn columns_of<'a>(
         lon: title_of(texts.lon),
         lat: title_of(texts.lat),
         argos: title_of(texts.argos),
-        dop: title_of(texts.dop),
-        fix: title_of(texts.fix),
+        dop: title_for(matches, "max-dop", texts.dop, matches.get_str("dop")),
+        fix: title_for(matches, "fix-type", texts.fix, matches.get_str("fix")),
     })
 }

@@ -4,6 +4,7 @@ use crate::fault::{WordFault, refused};
 use range_plane::Scale;
 use split_reading::{Zone, zone_of};
 use split_refusal::{Kind, refused_zone};
+use split_titles::trimmed;
 use std::alloc::{AllocError, Global};
 
 // What stands for a folder that is not named.
@@ -53,7 +54,7 @@ pub(crate) fn zone_in(alloc: Global, value: Option<&str>) -> Result<Option<Zone>
     }
 }
 
-// The words of a list, between which commas stand.
+// The words of a list, between which commas stand, without blanks beside them.
 pub(crate) fn list_of<'a>(
     alloc: Global,
     value: Option<&'a str>,
@@ -61,7 +62,7 @@ pub(crate) fn list_of<'a>(
     let mut words: Vec<&[u8]> = Vec::new(alloc);
     if let Some(text) = value {
         for word in text.split(',') {
-            words.push(word.as_bytes())?;
+            words.push(trimmed(word.as_bytes()))?;
         }
     }
     Ok(words)

@@ -175,6 +175,48 @@ fn words_say_which_fixes_are_taken(rt: HostRuntime) -> Result<(), Fail> {
 }
 
 #[test]
+fn blanks_may_stand_beside_the_words_of_a_list(rt: HostRuntime) -> Result<(), Fail> {
+    let alloc = rt.alloc();
+    let texts = [
+        "a.csv",
+        "--sensor= gps , none",
+        "--argos-class=3, 2, ",
+        "--fix-type=3D fix , 2D",
+        "--na=N/A, -9999 ,no fix",
+    ];
+    let words = words_of(alloc, &texts)?;
+    let Ok(found) = read_words(alloc, &words) else {
+        assert!(rt; false);
+        return Ok(());
+    };
+    let choices = &found.choices;
+    assert!(rt; choices.sensors.as_slice() == [b"gps".as_slice(), b""].as_slice());
+    assert!(rt; choices.classes.as_slice() == [b"3".as_slice(), b"2", b""].as_slice());
+    assert!(rt; choices.types.as_slice() == [b"3D fix".as_slice(), b"2D"].as_slice());
+    assert!(rt; found.missing.as_slice() == [b"N/A".as_slice(), b"-9999", b"no fix"].as_slice());
+    Ok(())
+}
+
+#[test]
+fn classes_are_taken_where_fixes_without_one_are_not(rt: HostRuntime) -> Result<(), Fail> {
+    let alloc = rt.alloc();
+    let cases = [
+        (["a.csv"].as_slice(), false),
+        (&["a.csv", "--argos-class=3"], true),
+        (&["a.csv", "--argos-class=3,none"], false),
+        (&["a.csv", "--argos-class=none"], false),
+    ];
+    for (texts, expected) in cases {
+        let words = words_of(alloc, texts)?;
+        match &read_words(alloc, &words) {
+            Ok(found) => assert!(rt; found.choices.takes_classes() == expected, "{texts:?}"),
+            Err(_) => assert!(rt; false, "{texts:?}"),
+        }
+    }
+    Ok(())
+}
+
+#[test]
 fn options_that_cannot_be_right_are_refused(rt: HostRuntime) -> Result<(), Fail> {
     let cases = [
         (

@@ -83,7 +83,8 @@ fn a_maker_stands_for_its_columns(rt: HostRuntime) -> Result<(), Fail> {
         ("gpx", "animal,;time,;-;-;lon;lat;-;-;-;"),
     ];
     for (maker, expected) in cases {
-        expect_columns(&rt, rt.alloc(), &["a.csv", "--from", maker], expected)?;
+        let texts = ["a.csv", "--from", maker, "--max-dop=5", "--fix-type=3D"];
+        expect_columns(&rt, rt.alloc(), &texts, expected)?;
     }
     Ok(())
 }
@@ -93,15 +94,15 @@ fn columns_that_are_named_go_before_those_of_a_maker(rt: HostRuntime) -> Result<
     let cases = [
         (
             ["a.csv", "--from=eobs", "--easting=x", "--northing=y"].as_slice(),
-            "tag-serial-number,;timestamp-of-fix,;x;y;-;-;-;type-of-fix;-;",
+            "tag-serial-number,;timestamp-of-fix,;x;y;-;-;-;-;-;",
         ),
         (
-            &["a.csv", "--from=eobs", "--easting=x", "--lon=l"],
+            &["a.csv", "--from=eobs", "--easting=x", "--lon=l", "--fix-type=3D"],
             "tag-serial-number,;timestamp-of-fix,;x;-;l;-;-;type-of-fix;-;",
         ),
         (
-            &["a.csv", "--from=eobs", "--lon=l"],
-            "tag-serial-number,;timestamp-of-fix,;-;-;l;latitude;-;type-of-fix;-;",
+            &["a.csv", "--from=eobs", "--lon=l", "--max-dop=5"],
+            "tag-serial-number,;timestamp-of-fix,;-;-;l;latitude;-;-;-;",
         ),
         (
             &["a.csv", "--from=eobs", "--northing=y", "--fix="],
