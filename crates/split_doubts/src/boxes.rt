@@ -1,6 +1,6 @@
 // The box of the used fixes of tracks.
 
-ghost use Rattle.std.specs.Prelude.{◌≡◌, map};
+ghost use Rattle.std.specs.Prelude.{◌≡◌, None, map};
 ghost use Rattle.split_doubts.specs.Boxes.{ends, extent_of_tracks, great_axis, is_great, is_small_box, span, with_entry, with_track};
 
 use crate::axis::{Axis, units_per_metre};
@@ -9,8 +9,8 @@ use split_fates::{Extent, widened};
 use split_tracks::Entry;
 use std::alloc::Allocator;
 
-// A small box of fewer fixes is not asked about.
-const LEAST_FIXES: usize = 10;
+/// A small box of fewer fixes is not asked about.
+pub const LEAST_FIXES: usize = 10;
 
 // A small box is narrower than so many metres.
 const SMALL: u64 = 20;
@@ -38,6 +38,13 @@ fn with_track(extent: Option<Extent>, track: &[Entry]) -> Option<Extent>
         whole = with_entry(whole, entry);
     }
     whole
+}
+
+/// The extent of the used fixes of a track; none where no fix is used.
+pub fn extent_of_track(track: &[Entry]) -> Option<Extent>
+    ensures { result ≡ with_track None track.now }
+{
+    with_track(None, track)
 }
 
 /// The extent of the used fixes of tracks; none where no fix is used.

@@ -7,5 +7,7 @@ mod far;
 mod gap;
 
 pub use axis::Axis;
-pub use boxes::{ends, extent_of_tracks, great_axis, is_small_box, span};
+pub use boxes::{
+    LEAST_FIXES, ends, extent_of_track, extent_of_tracks, great_axis, is_small_box, span,
+};
 pub use far::{FarFixes, far_fixes};

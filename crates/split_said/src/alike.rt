@@ -68,6 +68,11 @@ fn letters_of(alloc: Global, name: &[u8]) -> Result<Vec<u8>, OutOfMemory> {
     }
 }
 
+// What a name has in common with those that differ in the form of letters, and in blanks or capitals too.
+fn likeness_of_letters(alloc: Global, name: &[u8]) -> Result<Vec<u8>, OutOfMemory> {
+    likeness(alloc, &letters_of(alloc, name)?)
+}
+
 // That two names are alike, and what they differ in.
 fn alike_text(
     alloc: Global,
@@ -104,10 +109,25 @@ fn first_of<'a>(
 struct Known<'a> {
     by_likeness: IndexMap<Vec<u8>, &'a [u8]>,
     by_letters: IndexMap<Vec<u8>, &'a [u8]>,
+    by_both: IndexMap<Vec<u8>, &'a [u8]>,
+}
+
+// Says that a name may be meant as one with the first that it is like, if there is one, and what they differ in.
+fn tell_first(
+    alloc: Global,
+    said: &mut Said,
+    first: Option<&[u8]>,
+    name: &[u8],
+    what: &str,
+) -> Result<(), OutOfMemory> {
+    match first {
+        Some(first) => said.say(alloc, &alike_text(alloc, first, name, what)?),
+        None => Ok(()),
+    }
 }
 
 // Says which names before this one may be meant as one with it: the first from which it differs in blanks or capitals, and the
-// first from which it differs in the form of letters, if that is another one.
+// first from which it differs in the form of letters, if that is another one; or else the first from which it differs in both.
 fn tell_name<'a>(
     alloc: Global,
     said: &mut Said,
@@ -115,22 +135,17 @@ fn tell_name<'a>(
     name: &'a [u8],
 ) -> Result<(), OutOfMemory> {
     let alike = first_of(&mut known.by_likeness, likeness(alloc, name)?, name)?;
-    if let Some(first) = alike {
-        said.say(
-            alloc,
-            &alike_text(alloc, first, name, "blanks or capitals")?,
-        )?;
-    }
     let same = first_of(&mut known.by_letters, letters_of(alloc, name)?, name)?;
-    match same {
-        Some(first) if alike != same => {
-            said.say(
-                alloc,
-                &alike_text(alloc, first, name, "the form of letters")?,
-            )
-        }
-        _ => Ok(()),
+    let both = first_of(&mut known.by_both, likeness_of_letters(alloc, name)?, name)?;
+    tell_first(alloc, said, alike, name, "blanks or capitals")?;
+    if alike != same {
+        tell_first(alloc, said, same, name, "the form of letters")?;
     }
+    if alike.is_none() && same.is_none() {
+        let what = "the form of letters and in blanks or capitals";
+        tell_first(alloc, said, both, name, what)?;
+    }
+    Ok(())
 }
 
 // Says which names may be meant as one, each with the first that it is like.
@@ -142,6 +157,7 @@ pub(crate) fn tell_alike(
     let mut known = Known {
         by_likeness: IndexMap::new(alloc),
         by_letters: IndexMap::new(alloc),
+        by_both: IndexMap::new(alloc),
     };
     for name in names.iter() {
         tell_name(alloc, said, &mut known, name)?;

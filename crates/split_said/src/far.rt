@@ -11,6 +11,19 @@ use split_doubts::{Axis, FarFixes, far_fixes};
 use split_tracks::Entry;
 use std::alloc::{AllocError, Global};
 
+// A distance of so many metres or more is said in kilometres.
+const IN_KILOMETRES: u64 = 10_000;
+
+// Appends a distance: in metres, and a great one in whole kilometres, the nearest.
+fn push_distance(text: &mut Vec<u8>, metres: u64) -> Result<(), AllocError> {
+    if metres < IN_KILOMETRES {
+        push_grouped(text, metres)?;
+        return push(text, " m");
+    }
+    push_grouped(text, metres.saturating_add(500) / 1000)?;
+    push(text, " km")
+}
+
 // That fixes of an animal lie far from its others.
 fn far_text(
     alloc: Global,
@@ -25,8 +38,8 @@ fn far_text(
     push(&mut text, " fixes of ")?;
     text.extend_from_slice(name)?;
     push(&mut text, " lie ")?;
-    push_grouped(&mut text, far.metres)?;
-    push(&mut text, " m from the others: records ")?;
+    push_distance(&mut text, far.metres)?;
+    push(&mut text, " from the others: records ")?;
     push_records(&mut text, &far.records, exports)?;
     push(&mut text, ": are they hers?")?;
     Ok(text)
@@ -54,8 +67,19 @@ fn are_same(one: &Option<FarFixes<Global>>, other: &Option<FarFixes<Global>>) ->
     }
 }
 
-// Asks about the fixes of a track that lie far from its others: those by their eastings, and those by their northings, unless
-// they are the same.
+// Of fixes that lie far along one axis and along the other, those that lie farther.
+fn farther<'a>(
+    one: &'a Option<FarFixes<Global>>,
+    other: &'a Option<FarFixes<Global>>,
+) -> &'a Option<FarFixes<Global>> {
+    match (one, other) {
+        (Some(first), Some(second)) if first.metres < second.metres => other,
+        _ => one,
+    }
+}
+
+// Asks about the fixes of a track that lie far from its others: those by their eastings, and those by their northings. Where
+// they are the same it asks once, by the axis along which they lie farther.
 fn ask_far_of(
     alloc: Global,
     said: &mut Said,
@@ -64,11 +88,12 @@ fn ask_far_of(
     sheet: &Sheet<'_>,
 ) -> Result<(), OutOfMemory> {
     let by_easting = far_fixes(alloc, Axis::Easting, track, sheet.unit)?;
-    ask_far(alloc, said, name, &by_easting, &sheet.exports)?;
     let by_northing = far_fixes(alloc, Axis::Northing, track, sheet.unit)?;
     if are_same(&by_easting, &by_northing) {
-        return Ok(());
+        let far = farther(&by_easting, &by_northing);
+        return ask_far(alloc, said, name, far, &sheet.exports);
     }
+    ask_far(alloc, said, name, &by_easting, &sheet.exports)?;
     ask_far(alloc, said, name, &by_northing, &sheet.exports)
 }
 

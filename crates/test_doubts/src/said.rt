@@ -46,6 +46,7 @@ const NO_NAMES: Named<'static> = Named {
     argos: None,
     dop: None,
     fix: None,
+    has_argos_class: false,
     has_max_dop: false,
     has_fix_type: false,
 };
@@ -392,10 +393,64 @@ columns: animal, time, easting, northing; 2 animals, box 9.200 by 7.000 km, from
         &[b"Bor"],
         &both,
         PLAIN,
-        "1 of 3 fixes of Bor lie 1,234,557 m from the others: records 1: are they hers?
+        "1 of 3 fixes of Bor lie 1,235 km from the others: records 1: are they hers?
 columns: animal, time, easting, northing; 1 animals, box 1234.567 by 2.000 km, from 1970-01-01 to 1970-01-01
 ",
     )
+}
+
+#[test]
+fn fixes_that_are_far_along_both_axes_are_asked_about_once(rt: HostRuntime) -> Result<(), Fail> {
+    let alloc = rt.alloc();
+    let of_latitude_0 = [
+        (0, 1, 500_000, 5_080_000, true),
+        (0, 2, 514_102, 0, true),
+        (0, 3, 500_010, 5_080_010, true),
+    ];
+    expect(
+        &rt,
+        alloc,
+        &TITLES,
+        &[b"Bor"],
+        &of_latitude_0,
+        PLAIN,
+        "1 of 3 fixes of Bor lie 5,080 km from the others: records 2: are they hers?
+columns: animal, time, easting, northing; 1 animals, box 14.102 by 5080.010 km, from 1970-01-01 to 1970-01-01
+",
+    )
+}
+
+#[test]
+fn great_distances_are_told_in_kilometres(rt: HostRuntime) -> Result<(), Fail> {
+    let alloc = rt.alloc();
+    for (east, expected) in [
+        (
+            9999,
+            "1 of 3 fixes of Bor lie 9,999 m from the others: records 3: are they hers?",
+        ),
+        (
+            10_000,
+            "1 of 3 fixes of Bor lie 10 km from the others: records 3: are they hers?",
+        ),
+        (
+            10_499,
+            "1 of 3 fixes of Bor lie 10 km from the others: records 3: are they hers?",
+        ),
+        (
+            1_234_500,
+            "1 of 3 fixes of Bor lie 1,235 km from the others: records 3: are they hers?",
+        ),
+    ] {
+        let fixes = [
+            (0, 1, 100, 100, true),
+            (0, 2, 100, 100, true),
+            (0, 3, 100_i64.saturating_add(east), 100, true),
+        ];
+        let told = told_of(alloc, &TITLES, &[b"Bor"], &fixes, PLAIN)?;
+        let is_met = first_line(&told) == expected.as_bytes();
+        assert!(&rt; is_met, "{east}");
+    }
+    Ok(())
 }
 
 // The first line of a text.
@@ -500,6 +555,47 @@ fn a_small_box_is_asked_about(rt: HostRuntime) -> Result<(), Fail> {
     Ok(())
 }
 
+// Ten fixes of each of two animals that live far from each other, and three of a third one that goes far. Those of the first go so
+// far east.
+fn herd(alloc: Global, east: i64) -> Result<Vec<Fix>, OutOfMemory> {
+    let mut fixes = Vec::new(alloc);
+    for second in 0..9 {
+        fixes.push((0, second, 100, 100, true))?;
+        fixes.push((1, second, 900, 900, true))?;
+    }
+    fixes.push((0, 9, 100_i64.saturating_add(east), 103, true))?;
+    fixes.push((1, 9, 905, 904, true))?;
+    fixes.push((2, 0, 500, 500, true))?;
+    fixes.push((2, 1, 600, 500, true))?;
+    fixes.push((2, 2, 700, 500, true))?;
+    Ok(fixes)
+}
+
+#[test]
+fn small_boxes_of_a_herd_are_asked_about(rt: HostRuntime) -> Result<(), Fail> {
+    let alloc = rt.alloc();
+    let names: [&[u8]; 3] = [b"Vesna", b"Bor", b"Mila"];
+    for (east, expected) in [
+        (
+            3,
+            "the fixes of each animal that has 10 or more lie within 5 by 4 m: are they in metres?",
+        ),
+        (
+            19,
+            "the fixes of each animal that has 10 or more lie within 19 by 4 m: are they in metres?",
+        ),
+        (
+            20,
+            "columns: animal, time, easting, northing; 3 animals, box 0.805 by 0.804 km, from 1970-01-01 to 1970-01-01",
+        ),
+    ] {
+        let told = told_of(alloc, &TITLES, &names, &herd(alloc, east)?, PLAIN)?;
+        let is_met = first_line(&told) == expected.as_bytes();
+        assert!(&rt; is_met, "{east}");
+    }
+    Ok(())
+}
+
 #[test]
 fn great_coordinates_are_refused(rt: HostRuntime) -> Result<(), Fail> {
     let alloc = rt.alloc();
@@ -578,7 +674,8 @@ fn a_name_may_be_like_two_others(rt: HostRuntime) -> Result<(), Fail> {
         &rt,
         alloc,
         &[b"\xEF\xAC\x81n", b"FIN", b"fin"],
-        "animals 'FIN' and 'fin' differ in blanks or capitals alone: are they one?
+        "animals '\u{FB01}n' and 'FIN' differ in the form of letters and in blanks or capitals alone: are they one?
+animals 'FIN' and 'fin' differ in blanks or capitals alone: are they one?
 animals '\u{FB01}n' and 'fin' differ in the form of letters alone: are they one?
 ",
     )?;
@@ -589,4 +686,58 @@ animals '\u{FB01}n' and 'fin' differ in the form of letters alone: are they one?
         "animals ' A' and '\u{A0}A' differ in blanks or capitals alone: are they one?
 ",
     )
+}
+
+#[test]
+fn names_that_differ_in_more_ways_are_asked_about(rt: HostRuntime) -> Result<(), Fail> {
+    let alloc = rt.alloc();
+    expect_alike(
+        &rt,
+        alloc,
+        &[
+            b"\xEF\xBC\xB6esna",
+            b"vesna ",
+            b"ZO\xC3\x8B",
+            b"zoe\xCC\x88",
+            b"Bor",
+            b"\xEF\xBC\xA2or\xE3\x80\x80",
+        ],
+        "animals '\u{FF36}esna' and 'vesna ' differ in the form of letters and in blanks or capitals alone: are they one?
+animals 'ZO\u{CB}' and 'zoe\u{308}' differ in the form of letters and in blanks or capitals alone: are they one?
+animals 'Bor' and '\u{FF22}or\u{3000}' differ in the form of letters and in blanks or capitals alone: are they one?
+",
+    )
+}
+
+#[test]
+fn names_with_an_end_of_a_line_are_refused(rt: HostRuntime) -> Result<(), Fail> {
+    let alloc = rt.alloc();
+    let (of_lf, of_cr): (&[u8], &[u8]) = (b"Vesna,0\nBor", b"Vesna\r");
+    for (names, expected) in [
+        (
+            [b"Bor".as_slice(), of_lf, of_cr].as_slice(),
+            "name: the name of animal 'Vesna,0\\x0aBor' has an end of a line: is a quote missing?",
+        ),
+        (
+            &[of_cr],
+            "name: the name of animal 'Vesna\\x0d' has an end of a line: is a quote missing?",
+        ),
+    ] {
+        expect_alike(&rt, alloc, names, expected)?;
+    }
+    Ok(())
+}
+
+#[test]
+fn the_first_record_of_a_name_with_an_end_of_a_line_is_named(rt: HostRuntime) -> Result<(), Fail> {
+    let alloc = rt.alloc();
+    let columns = find_columns(alloc, &TITLES, &NO_NAMES)?;
+    let sheet = sheet_of(&TITLES, &columns, Scale::Metre);
+    let ledger = ledger_of(alloc, &[b"Bor", b"Mila", b"Vesna\n"])?;
+    let mut said = Said::new(alloc);
+    match check_ledger(alloc, &mut said, &sheet, &ledger) {
+        Err(refusal) => assert!(&rt; refusal.record == Some(5)),
+        Ok(()) => assert!(&rt; false),
+    }
+    Ok(())
 }

@@ -51,6 +51,7 @@ pub(crate) const PLAIN: Asked = Asked {
         argos: None,
         dop: None,
         fix: None,
+        has_argos_class: false,
         has_max_dop: false,
         has_fix_type: false,
     },
@@ -159,7 +160,7 @@ fn tell(
 
 // A line, without what the package for Python does not say in it; none where it does not say it at all.
 fn old_part(line: &str) -> Option<&str> {
-    if line.starts_with("not read: ") || line.contains(" m from the others: ") {
+    if line.starts_with("not read: ") || line.contains(" from the others: ") {
         return None;
     }
     match line.split_once(" km") {
