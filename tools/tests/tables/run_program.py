@@ -20,8 +20,9 @@ from run_several import faults as several_faults
 
 HERE = Path(__file__).resolve().parent
 # What records.txt has not, since its reader did not say it: whole lines, and what stands behind the box in the line of columns.
-MORE_LINES = re.compile(r"(?:not read: .*|all [0-9,]+ fixes lie within .*|[0-9,]+ of [0-9,]+ fixes of .* m from the others: .*"
-                        r"|animals .* differ in the form of letters alone: are they one\?)")
+MORE_LINES = re.compile(r"(?:not read: .*|all [0-9,]+ fixes lie within .*|the fixes of each animal that has 10 or more lie within .*"
+                        r"|[0-9,]+ of [0-9,]+ fixes of .* k?m from the others: .*"
+                        r"|animals .* differ in the form of letters(?: and in blanks or capitals)? alone: are they one\?)")
 MORE_OF_COLUMNS = re.compile(r"(columns: .* box [0-9.]+ by [0-9.]+ km)(?: near [0-9.]+ [EW] [0-9.]+ [NS])?(?:,? from .*)?")
 TURKISH = dict(os.environ, LC_ALL="tr_TR.UTF-8")  # in which the small letter of I is another one than in ASCII
 OTHER_KINDS = ("export", "sha256", "tool")  # of lines of a record that records.txt has not
