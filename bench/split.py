@@ -1,6 +1,6 @@
 """Times homerange-split beside R that reads and projects, over exports of several sizes.
 
-An export has Movebank's 17 columns with longitude and latitude, or 5 columns in metres, and 1 animal or 1,000. R, a
+An export has Movebank's 17 columns with longitude and latitude, or 5 columns in metres, and 1 animal, 1,000 or 10,000. R, a
 script of bench/field, only reads by `data.table::fread`, projects by `sf::st_transform`, sorts and writes one file. Both
 take turns, and a row has the medians: seconds from start to end and of the processor, microseconds of the processor for
 each record, and the most MB held, of which nothing is known below what this script holds.
@@ -23,8 +23,9 @@ import timing
 
 SCRIPT = programs.TOP / "bench" / "field" / "fread_tracks.R"
 START = datetime.datetime(2024, 5, 1)
-SIZES = (1_000, 10_000, 100_000, 1_000_000)
-ANIMALS = (1, 1_000)
+SIZES = (100, 1_000, 10_000, 100_000, 1_000_000, 10_000_000)
+USUAL = 1_000_000
+ANIMALS = (1, 1_000, 10_000)
 MOVEBANK = (
     "event-id,visible,timestamp,location-long,location-lat,gps:dop,gps:satellite-count,height-above-msl,"
     "external-temperature,tag-voltage,import-marked-outlier,sensor-type,individual-taxon-canonical-name,tag-local-identifier,"
@@ -117,7 +118,7 @@ def read_options():
     parser = argparse.ArgumentParser(description=__doc__.split("\n\n")[0])
     parser.add_argument("--program", type=pathlib.Path, help="the built program; if left out it is built by rt")
     parser.add_argument("--turns", type=timing.one_or_more, default=3, help="how often each is run [default: 3]")
-    parser.add_argument("--most", type=timing.one_or_more, default=SIZES[-1], help="records of the greatest export")
+    parser.add_argument("--most", type=timing.one_or_more, default=USUAL, help=f"records of the greatest export [default: {USUAL}]")
     return parser.parse_args()
 
 

@@ -29,9 +29,7 @@ fn unrounded(
     };
     match look_at_metres(alloc, text, metres, &ledger.rows) {
         Ok(look) => match look.grouped {
-            Some((record, column)) => {
-                Err(grouped_refusal(alloc, text.bytes(), record, column))
-            }
+            Some((record, column)) => { Err(grouped_refusal(alloc, text.bytes(), record, column)) }
             None => Ok(look.unrounded),
         },
         Err(_) => Err(Refusal::out_of_memory(alloc)),

@@ -117,7 +117,14 @@ pub(crate) fn day_refusal(
     columns: &Columns<Global>,
     wish: &Wish<'_>,
 ) -> Refusal {
-    record_refusal(alloc, bytes, record, RecordFault::Day(orders), columns, wish)
+    record_refusal(
+        alloc,
+        bytes,
+        record,
+        RecordFault::Day(orders),
+        columns,
+        wish,
+    )
 }
 
 /// The refusal of a table without a column of the time, of which one with another title has times.

@@ -68,10 +68,7 @@ fn names_refusal(alloc: Global, names: &[Vec<u8>], fault: NamesFault) -> Refusal
 /// # Errors
 ///
 /// Why the table is refused.
-pub(crate) fn names_by(
-    alloc: Global,
-    animals: &IndexSet<Vec<u8>>,
-) -> Result<Vec<Vec<u8>>, Refusal>
+pub(crate) fn names_by(alloc: Global, animals: &IndexSet<Vec<u8>>) -> Result<Vec<Vec<u8>>, Refusal>
     ensures { IfOk result (λ own. file_names (texts animals.now) ≡ Ok (bytes_of own.items)) }
 {
     let names = animals.as_slice();

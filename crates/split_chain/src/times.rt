@@ -24,7 +24,13 @@ fn refuse_unread_times(
     let Ok(others) = not_read(alloc, &export.columns, width) else {
         return Err(Refusal::out_of_memory(alloc));
     };
-    match column_of_times(alloc, &export.text, &rules, &others, export.ledger.rows.len()) {
+    match column_of_times(
+        alloc,
+        &export.text,
+        &rules,
+        &others,
+        export.ledger.rows.len(),
+    ) {
         Ok(Some(column)) => Err(untimed_refusal(alloc, &export.titles, column)),
         Ok(None) => Ok(()),
         Err(_) => Err(Refusal::out_of_memory(alloc)),
@@ -92,14 +98,7 @@ pub(crate) fn form_of_times(
         return Ok(Vec::new(alloc));
     };
     if let Some((record, orders)) = look.day {
-        return Err(day_refusal(
-            alloc,
-            bytes,
-            record,
-            orders,
-            &export.columns,
-            wish,
-        ));
+        return Err(day_refusal(alloc, bytes, record, orders, &export.columns, wish));
     }
     match form_words(alloc, wish, &look.forms) {
         Ok(words) => Ok(words),

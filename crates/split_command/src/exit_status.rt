@@ -142,13 +142,7 @@ fn obey<R: Files + rt::Clock + AllocGlobal, I: Read, W: Write, X: Write + IsTerm
 /// status with which the program ends: 0 where tracks, the help or the version were written, and else that of the refusal, of which
 /// one line on `errors` says why, or with `--machine` one record of CSV. Where `errors` is a terminal it shows how far it is once a
 /// second has passed.
-pub fn answer<
-    R: Files + rt::Clock + AllocGlobal,
-    E: Env,
-    I: Read,
-    W: Write,
-    X: Write + IsTerminal,
->(
+pub fn answer<R: Files + rt::Clock + AllocGlobal, E: Env, I: Read, W: Write, X: Write + IsTerminal>(
     rt: &R,
     environment: &E,
     input: &mut I,

@@ -125,7 +125,9 @@ fn split_named<'a, P: Progress>(
     progress: &mut P,
 ) -> Result<Split, Refusal> {
     let named = named_of(columns, choices);
-    split_asked(alloc, source, words, missing, named, choices, clock, progress)
+    split_asked(
+        alloc, source, words, missing, named, choices, clock, progress,
+    )
 }
 
 // The same, with all that the words ask.

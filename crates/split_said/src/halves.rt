@@ -48,11 +48,7 @@ fn animal_of(row: &Row) -> Option<usize> {
 /// # Errors
 ///
 /// Memory ran out.
-pub fn fix_counts(
-    alloc: Global,
-    rows: &[Row],
-    animals: usize,
-) -> Result<Vec<usize>, OutOfMemory> {
+pub fn fix_counts(alloc: Global, rows: &[Row], animals: usize) -> Result<Vec<usize>, OutOfMemory> {
     let mut counts = vec![in alloc; 0usize; animals]?;
     for row in rows {
         if let Some(animal) = animal_of(row) {

@@ -206,7 +206,14 @@ fn told_of(
     let files = owned(alloc, names)?;
     let mut said = Said::new(alloc);
     let end = tell_files(
-        alloc, &mut said, &sheet, &grid, &ledger.names, &fates, &tracks, &files,
+        alloc,
+        &mut said,
+        &sheet,
+        &grid,
+        &ledger.names,
+        &fates,
+        &tracks,
+        &files,
     );
     Ok(lines_of(alloc, &said, &end)?)
 }

@@ -51,7 +51,12 @@ fn the_first_unrounded_fix_is_found(rt: HostRuntime) -> Result<(), Fail> {
         assert!(&rt; look.unrounded == expected, "{text:?}");
     }
     let text = b"a,x,y\nb,1.5,2000\nb,3,4000\n";
-    let look = look_at_metres(rt.alloc(), &TableText::new(text)?, METRES, &[row(false), row(true)])?;
+    let look = look_at_metres(
+        rt.alloc(),
+        &TableText::new(text)?,
+        METRES,
+        &[row(false), row(true)],
+    )?;
     assert!(&rt; look.unrounded.is_none(), "one that is not used");
     Ok(())
 }

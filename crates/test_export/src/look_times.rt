@@ -220,12 +220,7 @@ fn a_column_of_times_is_found(rt: HostRuntime) -> Result<(), Fail> {
             None,
         ),
         // A word that is named is missing, and so is a day that is named.
-        (
-            b"a,x,when\nf,1,-9999\nf,2,2024-05-02\n",
-            &[2],
-            2,
-            Some(2),
-        ),
+        (b"a,x,when\nf,1,-9999\nf,2,2024-05-02\n", &[2], 2, Some(2)),
         (b"a,x,when\nf,1,2024-05-03\nf,2,NA\n", &[2], 2, None),
         (b"a,x,when\nf,1,-999\nf,2,2024-05-02\n", &[2], 2, None),
         (b"a,x,when\nf,1,2024-05-01\nf,2,soon\n", &[2], 2, None),

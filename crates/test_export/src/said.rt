@@ -155,7 +155,16 @@ fn tell(
     if let Err(refusal) = tell_tracks(alloc, said, sheet, &grid, &fates, &tracks, &names, moved) {
         return Ok(Err(refusal));
     }
-    Ok(tell_files(alloc, said, sheet, &grid, &ledger.names, &fates, &tracks, &names))
+    Ok(tell_files(
+        alloc,
+        said,
+        sheet,
+        &grid,
+        &ledger.names,
+        &fates,
+        &tracks,
+        &names,
+    ))
 }
 
 // A line, without what the package for Python does not say in it; none where it does not say it at all.

@@ -97,7 +97,13 @@ fn columns_that_are_named_go_before_those_of_a_maker(rt: HostRuntime) -> Result<
             "tag-serial-number,;timestamp-of-fix,;x;y;-;-;-;-;-;",
         ),
         (
-            &["a.csv", "--from=eobs", "--easting=x", "--lon=l", "--fix-type=3D"],
+            &[
+                "a.csv",
+                "--from=eobs",
+                "--easting=x",
+                "--lon=l",
+                "--fix-type=3D",
+            ],
             "tag-serial-number,;timestamp-of-fix,;x;-;l;-;-;type-of-fix;-;",
         ),
         (
