@@ -1,5 +1,5 @@
 -- What holds of a table that was opened holds of that of its text.
-use Rattle.std.proofs.Common.{◌≡◌, ◌∙◌, ℕ, Bool, List, Option, Some, None, Result, Ok, Err, IfSome, Vec, Global, length, ap, inr, subst, sym}
+use Rattle.std.proofs.Common.{◌≡◌, ◌∙◌, ℕ, Bool, List, Option, Some, None, Result, Ok, Err, IfErr, IfSome, Vec, Global, length, ap, inr, subst, sym}
 use Rattle.std.specs.Bool.{⊤}
 use Rattle.std.proofs.lemmas.List.{length-map}
 use Rattle.split_reading.specs.Ledger.{AreTimely}
@@ -8,6 +8,7 @@ use Rattle.split_export.specs.Export.{IsColumnsFault, IsExportFault, IsFaultBy, 
 use Rattle.split_export.specs.Rules.{AreRules}
 use Rattle.split_export.specs.Text.{text_fault}
 use Rattle.split_export.specs.declared.asked.Asked.{Asked}
+use Rattle.split_export.specs.declared.export.Export.{Export}
 use Rattle.split_export.specs.declared.export.ExportFault.{ExportFault}
 use Rattle.split_export.specs.declared.export.ExportFault.TheVariants as faults
 use Rattle.split_table.specs.Table.{IsTable, Titled, table_of}
@@ -68,3 +69,12 @@ of_bytes asked bytes table (faults.Table why) none is h = absurd (no_table (tabl
 of_bytes asked bytes table (faults.Titles why) none is h = (none, of_table (λ t. ⊤) (table_of bytes) table is h)
 of_bytes asked bytes table (faults.NotTaken why) none is h = (none, of_table (λ t. IsTableFault asked (has_commas asked bytes) t (faults.NotTaken why)) (table_of bytes) table is h)
 of_bytes asked bytes table (faults.Reading why) none is h = (none, of_table (λ t. IsTableFault asked (has_commas asked bytes) t (faults.Reading why)) (table_of bytes) table is h)
+
+-- why a table is not read is why its bytes are not read, where it was opened by a text that has them
+pub of_read : (asked : Asked) (bytes own : List ℕ) (commas : Bool) (table : TableLeft) (found : Result Export ExportFault)
+    → text_fault bytes ≡ None → own ≡ bytes → commas ≡ has_commas asked bytes → IsTable (table_of own) table
+    → IfErr found (λ fault. IfSome table.left (λ records. IsTableFault asked commas (with_titles table.titles records) fault)) → IfErr found (IsExportFault asked bytes)
+of_read asked bytes own commas table (Ok export) none is_own is_comma is h = tt
+of_read asked bytes own commas table (Err fault) none is_own is_comma is h =
+    of_bytes asked bytes table fault none (subst (λ (l : List ℕ). IsTable (table_of l) table) is_own is)
+    (subst (λ (b : Bool). IfSome table.left (λ records. IsTableFault asked b (with_titles table.titles records) fault)) is_comma h)

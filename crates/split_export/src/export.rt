@@ -136,7 +136,7 @@ fn read_table<'t, 'a, P: Progress>(
     asked: &Asked<'a>,
     progress: &mut P,
 ) -> Result<Export<'t>, ExportFault<'a>>
-    ensures text { IfOk result (λ export. export.text ≡ text) }
+    ensures text { IfOk result (λ export. export.text ≡ text.entry) }
     ensures export { IfOk result (λ export. IfSome table.old.left
         (λ records. IsOfTable asked.now has_commas (with_titles table.old.titles records) export)) }
     ensures fault { IfErr result (λ fault. IfSome table.old.left
