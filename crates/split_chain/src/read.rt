@@ -66,8 +66,10 @@ fn fields_refusal<'a>(
     number: u32,
     titles: &'a [&'a [u8]],
     fields: &'a [&'a [u8]],
-    columns: &'a Columns<Global>,
-    wish: &Wish<'a>,
+    animal: &'a [usize],
+    time: &'a [usize],
+    forms: &'a str,
+    clock: &'a str,
 ) -> Refusal
     ensures { Names (Some number) result }
 {
@@ -75,10 +77,10 @@ fn fields_refusal<'a>(
         number,
         titles,
         fields,
-        animal: &columns.animal,
-        time: &columns.time,
-        forms: wish.forms,
-        clock: wish.clock_name,
+        animal,
+        time,
+        forms,
+        clock,
     };
     shown_refusal(alloc, fault, &shown)
 }
@@ -90,7 +92,8 @@ fn record_refusal(
     record: u32,
     fault: RecordFault,
     columns: &Columns<Global>,
-    wish: &Wish<'_>,
+    forms: &str,
+    clock: &str,
 ) -> Refusal
     ensures { Names (Some «record») result }
 {
@@ -101,9 +104,17 @@ fn record_refusal(
         return Refusal::out_of_memory(alloc);
     };
     match (shown(alloc, &titles), shown(alloc, &fields)) {
-        (Ok(titles), Ok(fields)) => {
-            fields_refusal(alloc, fault, record, &titles, &fields, columns, wish)
-        }
+        (Ok(titles), Ok(fields)) => fields_refusal(
+            alloc,
+            fault,
+            record,
+            &titles,
+            &fields,
+            &columns.animal,
+            &columns.time,
+            forms,
+            clock,
+        ),
         _ => Refusal::out_of_memory(alloc),
     }
 }
@@ -123,7 +134,8 @@ pub(crate) fn day_refusal(
         record,
         RecordFault::Day(orders),
         columns,
-        wish,
+        wish.forms,
+        wish.clock_name,
     )
 }
 
@@ -174,7 +186,8 @@ fn reading_refusal(
                 record,
                 RecordFault::Cell(fault),
                 &columns,
-                wish,
+                wish.forms,
+                wish.clock_name,
             ),
             None => Refusal::out_of_memory(alloc),
         },
