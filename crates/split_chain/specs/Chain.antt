@@ -1,5 +1,5 @@
 -- From the bytes of an export to the files of its tracks.
-use Rattle.std.specs.Prelude.{◌≡◌, ℕ, List, length, map, option_map, Option, Some, None, Ok}
+use Rattle.std.specs.Prelude.{◌≡◌, ◌<◌, ◌^◌, ℕ, List, length, map, option_map, Option, Some, None, Ok}
 use Rattle.range_plane.specs.declared.scale.Scale.{Scale}
 use Rattle.split_reading.specs.Words.{texts}
 use Rattle.split_reading.specs.declared.ledger.Ledger.{Ledger}
@@ -43,8 +43,10 @@ filtered_by (Some filter) animals fates = without filter animals fates
 abbrev pub filtered : Wish → Scale → ℕ → List Fate → List Fate
 filtered wish unit animals fates = filtered_by (every_filter wish) animals (filtered_by (speed_filter wish unit) animals fates)
 
--- files are those of records with these fates, of animals whose files have these names, and counts those of what is left out
+-- files are those of records with these fates, of animals whose files have these names and are fewer than there are numbers of 32
+-- bits, and counts those of what is left out
 pub record AreMade (choice : Choice) (names : List (List ℕ)) (fates : List Fate) (files : List Filed) (counts : List ℕ) : Type 0 where
+  pub few : length names < 2 ^ 32
   pub are_files : files ≡ files_of choice names (tracks_with names fates)
   pub are_counts : counts ≡ left_counts (length names) fates
 

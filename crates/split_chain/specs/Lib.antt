@@ -1,3 +1,4 @@
 pub mod Chain
+pub mod Laws
 pub mod Placed
 pub mod Refused

@@ -1,6 +1,6 @@
 // From the bytes of an export to the files of its tracks.
 
-ghost use Rattle.std.specs.Prelude.{◌≡◌, IfErr, IfOk, Ok, length, map};
+ghost use Rattle.std.specs.Prelude.{◌≡◌, ◌<◌, ◌^◌, IfErr, IfOk, Ok, length, map};
 ghost use Rattle.split_chain.specs.Chain.{AreFilesAt, AreFilesBy, AreFilesOf, AreMade, IsSplit, tracks_with};
 ghost use Rattle.split_chain.specs.Refused.{IsRefused};
 ghost use Rattle.split_counts.specs.Counts.{left_counts};
@@ -176,6 +176,7 @@ fn filtered_tracks(
     ensures tracks { IfOk result (λ filtered. entries_of_all filtered.tracks.items
         ≡ tracks_with (bytes_of fated.now.names.items) fated.now.fates.items) }
     ensures count { IfOk result (λ filtered. length fated.now.names.items ≡ length filtered.tracks.items) }
+    ensures few { IfOk result (λ filtered. length (bytes_of fated.now.names.items) < 2 ^ 32) }
     ensures counts { IfOk result (λ filtered. filtered.counts.items
         ≡ left_counts (length (bytes_of fated.now.names.items)) fated.now.fates.items) }
 {
@@ -351,7 +352,7 @@ fn split_read(
     form: &[u8],
     export: Export<'_>,
 ) -> Result<Split, Refusal>
-    ensures { IfOk result (λ split. AreFilesOf wish.now asked.now.unit export.columns export.ledger
+    ensures { IfOk result (λ split. AreFilesOf wish.now asked.now.unit export.entry.columns export.entry.ledger
         (map filed split.files.items) split.counts.items) }
 {
     let Export {

@@ -3,6 +3,7 @@
 #![tactic(auto)]
 
 mod chain;
+mod laws;
 mod placed;
 mod read;
 mod steps;
@@ -10,4 +11,5 @@ mod times;
 mod wish;
 
 pub use chain::{Split, split_export};
+pub use laws::splits_are_read_back;
 pub use wish::Wish;

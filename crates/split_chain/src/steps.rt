@@ -1,6 +1,6 @@
 // The steps from what records say to tracks, or their refusals.
 
-ghost use Rattle.std.specs.Prelude.{◌≡◌, IfOk, Ok, OnOk, length, map};
+ghost use Rattle.std.specs.Prelude.{◌≡◌, ◌<◌, ◌^◌, IfOk, Ok, OnOk, length, map};
 ghost use Rattle.split_chain.specs.Chain.{filtered_by, tracks_with};
 ghost use Rattle.split_counts.specs.Counts.{left_counts};
 ghost use Rattle.split_export.specs.Export.{bytes_of};
@@ -106,6 +106,7 @@ pub(crate) fn tracks_by(
 ) -> Result<Vec<Vec<Entry>>, Refusal>
     ensures tracks { IfOk result (λ tracks. entries_of_all tracks.items ≡ tracks_with (bytes_of names.now) fates.now) }
     ensures count { IfOk result (λ tracks. length names.now ≡ length tracks.items) }
+    ensures few { IfOk result (λ tracks. length (bytes_of names.now) < 2 ^ 32) }
 {
     let Ok(animals) = u32::try_from(names.len()) else {
         return Err(Refusal::out_of_memory(alloc));

@@ -154,4 +154,4 @@ def generated():
 def generated_texts():
     """The tables that can be given as texts alone."""
     open_quote = long("a_long_table_with_an_open_quote", 6000, end='"a,6000,1,1\n')
-    return [(*open_quote[:3], [], "- text"), seconds_of_a_minute("seconds_of_a_minute", 61), seconds_of_a_minute("sixty_seconds", 60)]
+    return [(*open_quote[:3], [], "6001 text"), seconds_of_a_minute("seconds_of_a_minute", 61), seconds_of_a_minute("sixty_seconds", 60)]
