@@ -47,16 +47,16 @@ Jäger _Q_,$(stamp '2024-05-01 00:30:00'),562000,5134001
 Jäger _Q_,$(stamp '2024-05-01 01:00:00'),562001,5134003
 END
 
-# Titles with blanks beside them, a title twice, and names with a line break and a quote.
+# Titles with blanks beside them, a title twice, a name with an end of a line, which is refused, and one with a quote.
 printf '%s\r\n' 'individual-local-identifier, timestamp,utm-easting,utm-northing,utm-zone,visible ,visible' \
     '"a' 'b",2024-05-01 00:00:00,1,2,33N,true,false' '"c 5""",2024-05-01 00:00:00,1,2,33N,true,false' | split_to 1
 says "column 6 'visible' and column 7 'visible' both fit visible: rename one"
 printf '%s\r\n' 'individual-local-identifier, timestamp,utm-easting,utm-northing,utm-zone,visible ' \
-    '"a' 'b",2024-05-01 00:00:00,1,2,33N,true' '"c 5""",2024-05-01 00:00:00,1,2,33N,true' \
-    '"c 5""",2024-05-01 00:00:00,1,2,33N,false' | split_to 0
-for name in a__b 'c 5_'; do
-    printf '%s\n' animal,second,easting,northing "$name,$(stamp '2024-05-01 00:00:00'),1,2" | makes "$name.csv"
-done
+    '"a' 'b",2024-05-01 00:00:00,1,2,33N,true' | split_to 1
+says "record 1: the name of animal 'a\x0d\x0ab' has an end of a line: is a quote missing?"
+printf '%s\r\n' 'individual-local-identifier, timestamp,utm-easting,utm-northing,utm-zone,visible ' \
+    '"c 5""",2024-05-01 00:00:00,1,2,33N,true' '"c 5""",2024-05-01 00:00:00,1,2,33N,false' | split_to 0
+printf '%s\n' animal,second,easting,northing "c 5_,$(stamp '2024-05-01 00:00:00'),1,2" | makes 'c 5_.csv'
 
 # Names: slash, comma, quote, apostrophe, NA, export, 34 bytes; T..Z; more than 32 bits of seconds.
 split_to 0 <<END

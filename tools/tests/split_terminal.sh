@@ -17,7 +17,7 @@ shown() {
     late_export "$seconds" | "$@" "$splitter" --into "$work/late" - 2>&1
 }
 
-shown 1.2 python3 "$tools/tests/on_terminal.py" >terminal
+shown 4 python3 "$tools/tests/on_terminal.py" >terminal
 holds 'it ends well on a terminal' [ -f "$work/late/fox.csv" ]
 # A terminal's line may go on at its begin; what is shown last is overwritten there.
 tr '\r' '\n' <terminal >lines
@@ -26,5 +26,5 @@ holds 'it takes that away again' [ "$(grep -A 1 'records are read' lines | tail 
 holds 'what it says comes behind that' [ "$(tail -n 1 terminal | tr -d '\r')" = "split: 70000 fixes of 1 animals are in $work/late, in m" ]
 shown 0 python3 "$tools/tests/on_terminal.py" >terminal
 holds 'it shows nothing within a second' [ "$(grep -c 'are read$' terminal)" -eq 0 ]
-shown 1.2 env >plain
+shown 4 env >plain
 holds 'it shows nothing without a terminal' [ "$(grep -c 'are read' plain)" -eq 0 ]
