@@ -24,7 +24,6 @@ MORE_LINES = re.compile(r"(?:not read: .*|all [0-9,]+ fixes lie within .*|the fi
                         r"|[0-9,]+ of [0-9,]+ fixes of .* k?m from the others: .*"
                         r"|animals .* differ in the form of letters(?: and in blanks or capitals)? alone: are they one\?)")
 MORE_OF_COLUMNS = re.compile(r"(columns: .* box [0-9.]+ by [0-9.]+ km)(?: near [0-9.]+ [EW] [0-9.]+ [NS])?(?:,? from .*)?")
-TURKISH = dict(os.environ, LC_ALL="tr_TR.UTF-8")  # in which the small letter of I is another one than in ASCII
 OTHER_KINDS = ("export", "sha256", "tool")  # of lines of a record that records.txt has not
 # Tables that this program refuses, of which the cases have tracks: a quote inside a field, two columns for the animal that part the records
 # otherwise, a time of ISO among seconds, a filter that leaves out more than half of an animal's fixes, and an encoding named beside GPX, which names its own.
@@ -101,7 +100,7 @@ def check(case, program, room, records):
     folder = room / case.name
     folder.mkdir(parents=True)
     call = [*words(case), "--", str(case.table.resolve())]
-    found = subprocess.run([program, *call], capture_output=True, cwd=folder, env=TURKISH)
+    found = subprocess.run([program, *call], capture_output=True, cwd=folder)
     lines = found.stderr.decode().splitlines()
     if case.name in STRICTER:
         is_refused = found.returncode in (1, 2) and len(lines) == 1 and STRICTER[case.name] in lines[0] and not (folder / "tracks").exists()
