@@ -10,8 +10,8 @@ use std::alloc::Allocator;
 /// How many reasons there are.
 pub const REASONS: usize = 14;
 
-// The place of a reason among all.
-fn reason_place(reason: Reason) -> usize
+/// The place of a reason among all, in the order in which a record's first is found: below [`REASONS`].
+pub fn reason_place(reason: Reason) -> usize
     ensures { result ≡ reason_place reason }
 {
     match reason {

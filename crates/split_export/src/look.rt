@@ -13,6 +13,10 @@ use std::alloc::Global;
 // How many bytes of a number with a comma are read as metres: more digits than they have tell no two apart.
 const NUMBER_BYTES: usize = 40;
 
+// A fix that moves by so much of a unit moves by as much as any, in two digits: each axis moves by at most half a unit, and a fix
+// so by at most 0.7072 of one.
+const FULL_MOVE: f64 = 0.7051;
+
 // The field of a record in a column; one that is not there is empty.
 fn cell(fields: &ByteRecord, column: usize) -> &[u8] {
     fields.get(column).unwrap_or(b"")
@@ -242,7 +246,15 @@ fn moved_record(fields: &ByteRecord, metres: Pair, unit: Scale, fate: &Fate) -> 
     }
 }
 
-/// By how many metres rounding to whole units moves a fix at most, of a text whose records become this.
+// From how many metres on no fix moves by more, in two digits.
+fn full_move(unit: Scale) -> f64 {
+    match unit {
+        Scale::Metre => FULL_MOVE,
+        Scale::Decimetre => FULL_MOVE / 10.0,
+    }
+}
+
+/// By how many metres rounding to whole units moves a fix at most, in two digits, of a text whose records become this.
 ///
 /// # Errors
 ///
@@ -257,7 +269,7 @@ pub fn most_moved(
     let mut most = 0.0;
     let mut table = text.table(alloc)?;
     for fate in fates {
-        if !table.advance()? {
+        if most >= full_move(unit) || !table.advance()? {
             return Ok(most);
         }
         let own = moved_record(table.current(), metres, unit, fate);

@@ -3,7 +3,7 @@
 use crate::animals::check_animals;
 use crate::clocks::tell_clock;
 use crate::exports::tell_exports;
-use crate::left::{count_left, tell_filters};
+use crate::left::{LeftCounts, tell_filters};
 use crate::rows::taken_fix;
 use crate::said::Said;
 use crate::seconds::check_seconds;
@@ -23,20 +23,20 @@ fn empty_text(alloc: Global) -> Result<Vec<u8>, AllocError> {
 }
 
 // Says how many records are none of an animal at a place.
-fn tell_unread(
-    alloc: Global,
-    said: &mut Said,
-    sheet: &Sheet<'_>,
-    rows: &[Row],
-) -> Result<(), OutOfMemory> {
-    let unnamed = count_left(sheet, rows, Reason::Animal);
-    said.say_counted(alloc, unnamed, b"records have no animal: left out")?;
-    let unplaced = count_left(sheet, rows, Reason::Coordinates);
-    said.say_counted(alloc, unplaced, b"records have no coordinates: left out")?;
-    let zeros = count_left(sheet, rows, Reason::Zero);
+fn tell_unread(alloc: Global, said: &mut Said, left: &LeftCounts) -> Result<(), OutOfMemory> {
     said.say_counted(
         alloc,
-        zeros,
+        left.count(Reason::Animal),
+        b"records have no animal: left out",
+    )?;
+    said.say_counted(
+        alloc,
+        left.count(Reason::Coordinates),
+        b"records have no coordinates: left out",
+    )?;
+    said.say_counted(
+        alloc,
+        left.count(Reason::Zero),
         b"records have longitude and latitude 0: left out",
     )
 }
@@ -94,13 +94,14 @@ fn check(alloc: Global, said: &mut Said, sheet: &Sheet<'_>, ledger: &Ledger) -> 
     tell_exports(alloc, said, &sheet.exports)?;
     check_animals(alloc, said, sheet, ledger)?;
     check_seconds(alloc, sheet, ledger)?;
-    tell_unread(alloc, said, sheet, &ledger.rows)?;
+    let left = LeftCounts::of(sheet, &ledger.rows);
+    tell_unread(alloc, said, &left)?;
     tell_no_columns(alloc, said, sheet)?;
     tell_clock(alloc, said, sheet, &ledger.rows)?;
-    check_sensors(alloc, said, sheet, ledger)?;
+    check_sensors(alloc, said, sheet, ledger, &left)?;
     tell_outliers(alloc, said, sheet, &ledger.rows)?;
-    check_classes(alloc, said, sheet, ledger)?;
-    tell_filters(alloc, said, sheet, &ledger.rows)?;
+    check_classes(alloc, said, sheet, ledger, &left)?;
+    tell_filters(alloc, said, sheet, &left)?;
     if ledger.rows.iter().all(|row| taken_fix(row).is_none()) {
         return Err(nothing_left(alloc));
     }

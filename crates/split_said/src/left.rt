@@ -4,6 +4,7 @@ use crate::said::Said;
 use crate::sheet::Sheet;
 use crate::words::{push, push_decimal};
 use range_plane::OutOfMemory;
+use split_counts::{REASONS, reason_place};
 use split_fates::row_reason;
 use split_reading::Row;
 use split_tracks::Reason;
@@ -12,25 +13,53 @@ use std::alloc::{AllocError, Global};
 // How many trillionths one has.
 const TRILLION: u64 = 1_000_000_000_000;
 
-// How many records are left out for a reason that is known before the grid is.
-pub(crate) fn count_left(sheet: &Sheet<'_>, rows: &[Row], reason: Reason) -> usize {
-    rows.iter()
-        .filter(|row| row_reason(row, sheet.keeps_marks) == Some(reason))
-        .count()
+// How many records are left out for each reason that is known before the grid is, by the place of the reason.
+#[derive(Clone, Copy)]
+pub(crate) struct LeftCounts {
+    counts: [usize; REASONS],
+}
+
+impl LeftCounts {
+    // Those of rows.
+    pub(crate) fn of(sheet: &Sheet<'_>, rows: &[Row]) -> LeftCounts {
+        let mut left = LeftCounts {
+            counts: [0; REASONS],
+        };
+        for row in rows {
+            if let Some(reason) = row_reason(row, sheet.keeps_marks) {
+                left.add(reason);
+            }
+        }
+        left
+    }
+
+    // Counts a record that is left out for a reason.
+    fn add(&mut self, reason: Reason) {
+        if let Some(count) = self.counts.get_mut(reason_place(reason)) {
+            *count = count.saturating_add(1);
+        }
+    }
+
+    // How many are left out for a reason.
+    pub(crate) fn count(&self, reason: Reason) -> usize {
+        match self.counts.get(reason_place(reason)) {
+            Some(count) => *count,
+            None => 0,
+        }
+    }
 }
 
 // Says how many records are left out for a reason, in these words.
 pub(crate) fn tell_left(
     alloc: Global,
     said: &mut Said,
-    sheet: &Sheet<'_>,
-    rows: &[Row],
+    left: &LeftCounts,
     reason: Reason,
     words: Vec<u8>,
 ) -> Result<(), OutOfMemory> {
     let mut text = words;
     push(&mut text, ": left out")?;
-    said.say_counted(alloc, count_left(sheet, rows, reason), &text)
+    said.say_counted(alloc, left.count(reason), &text)
 }
 
 // Words and a value.
@@ -45,14 +74,14 @@ fn tell_quality(
     alloc: Global,
     said: &mut Said,
     sheet: &Sheet<'_>,
-    rows: &[Row],
+    left: &LeftCounts,
 ) -> Result<(), OutOfMemory> {
     if let Some(most) = sheet.filters.most_dop {
         let text = words_of(alloc, "fixes have no DOP", b"")?;
-        tell_left(alloc, said, sheet, rows, Reason::NoDop, text)?;
+        tell_left(alloc, said, left, Reason::NoDop, text)?;
         let mut text = words_of(alloc, "fixes have a DOP above ", b"")?;
         push_decimal(&mut text, most.unsigned_abs(), TRILLION)?;
-        tell_left(alloc, said, sheet, rows, Reason::Dop, text)?;
+        tell_left(alloc, said, left, Reason::Dop, text)?;
     }
     if !sheet.filters.types.is_empty() {
         let text = words_of(
@@ -60,7 +89,7 @@ fn tell_quality(
             "fixes are of other fix types than ",
             sheet.wanted.types,
         )?;
-        tell_left(alloc, said, sheet, rows, Reason::Type, text)?;
+        tell_left(alloc, said, left, Reason::Type, text)?;
     }
     Ok(())
 }
@@ -70,16 +99,16 @@ pub(crate) fn tell_filters(
     alloc: Global,
     said: &mut Said,
     sheet: &Sheet<'_>,
-    rows: &[Row],
+    left: &LeftCounts,
 ) -> Result<(), OutOfMemory> {
-    tell_quality(alloc, said, sheet, rows)?;
+    tell_quality(alloc, said, sheet, left)?;
     if sheet.filters.since.is_some() {
         let text = words_of(alloc, "fixes are before ", sheet.wanted.since)?;
-        tell_left(alloc, said, sheet, rows, Reason::Before, text)?;
+        tell_left(alloc, said, left, Reason::Before, text)?;
     }
     if sheet.filters.until.is_some() {
         let text = words_of(alloc, "fixes are after ", sheet.wanted.until)?;
-        tell_left(alloc, said, sheet, rows, Reason::After, text)?;
+        tell_left(alloc, said, left, Reason::After, text)?;
     }
     Ok(())
 }

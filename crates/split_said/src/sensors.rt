@@ -1,6 +1,6 @@
 // The sensors of fixes that are used.
 
-use crate::left::{count_left, tell_left};
+use crate::left::{LeftCounts, tell_left};
 use crate::ranked::{Ranked, push_ranked, rank, word_or_none};
 use crate::said::Said;
 use crate::sheet::Sheet;
@@ -156,29 +156,41 @@ pub(crate) fn check_sensors(
     said: &mut Said,
     sheet: &Sheet<'_>,
     ledger: &Ledger,
+    left: &LeftCounts,
 ) -> Result<(), Stop> {
     if sheet.filters.sensors.is_empty() {
+        // A table without a column of sensors has one, without a name.
+        if sheet.columns.sensor.is_none() {
+            return Ok(());
+        }
         check_one(alloc, ledger)?;
     } else {
         check_wanted(alloc, sheet, ledger)?;
-        let others = count_left(sheet, &ledger.rows, Reason::Sensor);
-        said.say_counted(alloc, others, b"records of other sensors: left out")?;
+        said.say_counted(
+            alloc,
+            left.count(Reason::Sensor),
+            b"records of other sensors: left out",
+        )?;
     }
     let sensors = ranked_sensors(alloc, ledger, &counts_of(alloc, ledger, Counted::Wanted)?)?;
     tell_sensor(alloc, said, &sensors)?;
     Ok(())
 }
 
-// Whether a row is of Argos: its fix is used, and has a class of Argos or is of its sensor.
-fn is_of_argos(ledger: &Ledger, row: &Row) -> bool {
+// The number of the sensor of Argos in a ledger.
+fn argos_in(ledger: &Ledger) -> Option<usize> {
+    ledger
+        .sensors
+        .iter()
+        .position(|sensor| sensor.as_slice() == ARGOS)
+}
+
+// Whether a row is of Argos, whose sensor has this number: its fix is used, and has a class of Argos or is of its sensor.
+fn is_of_argos(argos: Option<usize>, row: &Row) -> bool {
     let Told::Fix(fix) = row.told else {
         return false;
     };
-    let is_doppler = match ledger.sensors.get_index(row.sensor as usize) {
-        Some(sensor) => sensor.as_slice() == ARGOS,
-        None => false,
-    };
-    is_counted(Counted::Wanted, fix) && (fix.has_class || is_doppler)
+    is_counted(Counted::Wanted, fix) && (fix.has_class || argos == Some(row.sensor as usize))
 }
 
 // Refuses fixes of Argos whose classes were not named, and else says how many are of others.
@@ -187,9 +199,11 @@ pub(crate) fn check_classes(
     said: &mut Said,
     sheet: &Sheet<'_>,
     ledger: &Ledger,
+    left: &LeftCounts,
 ) -> Result<(), Stop> {
     if sheet.filters.classes.is_empty() {
-        if ledger.rows.iter().any(|row| is_of_argos(ledger, row)) {
+        let argos = argos_in(ledger);
+        if ledger.rows.iter().any(|row| is_of_argos(argos, row)) {
             return Err(refused(alloc, Kind::Argos, None, argos_text(alloc)));
         }
         return Ok(());
@@ -197,6 +211,6 @@ pub(crate) fn check_classes(
     let mut text = Vec::new(alloc);
     push(&mut text, "fixes are of other Argos classes than ")?;
     text.extend_from_slice(sheet.wanted.classes)?;
-    tell_left(alloc, said, sheet, &ledger.rows, Reason::Class, text)?;
+    tell_left(alloc, said, left, Reason::Class, text)?;
     Ok(())
 }

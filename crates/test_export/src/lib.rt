@@ -1,5 +1,5 @@
-//! Tests of the crates that say why a table is refused and what is said of one, of the words of `homerange-split`, and of the
-//! counts of what is left out, against worked ones.
+//! Tests of the second look at a table, of the words of `homerange-split`, and of the counts of what is left out, against worked
+//! ones.
 #![tactic(auto)]
 
 #[cfg(test)]
@@ -8,12 +8,6 @@ mod counts;
 mod look;
 #[cfg(test)]
 mod look_times;
-#[cfg(test)]
-mod refused_cells;
-#[cfg(test)]
-mod said;
-#[cfg(test)]
-mod said_of_grids;
 #[cfg(test)]
 mod words;
 #[cfg(test)]

@@ -4,10 +4,8 @@ use range_plane::Scale;
 use split_encoding::Encoding;
 use split_pace::Speed;
 use split_reading::Zone;
-use split_refusal::Kind;
-use split_words::{VERSION, WordFault, Words, read_words};
+use split_words::{WordFault, Words, read_words};
 use std::alloc::{AllocError, Global};
-use std::process::Abort;
 use std::test::Fail;
 
 // The program's name and words behind it.
@@ -37,26 +35,6 @@ pub(crate) fn given_text(alloc: Global, words: &Words<'_>) -> Result<Vec<u8>, Al
         tell_given(&mut text, given.name, given.value)?;
     }
     Ok(text)
-}
-
-// Checks that words are refused, of this kind and with this line.
-pub(crate) fn expect_refused(
-    rt: &impl Abort,
-    alloc: Global,
-    texts: &[&str],
-    expected: (Kind, &str),
-) -> Result<(), Fail> {
-    let words = words_of(alloc, texts)?;
-    let (kind, sentence) = expected;
-    match &read_words(alloc, &words) {
-        Err(WordFault::Refused(refusal)) => {
-            let line = refusal.line(alloc)?;
-            assert!(rt; refusal.kind == kind, "{texts:?}");
-            assert!(rt; line.as_slice() == sentence.as_bytes(), "{texts:?}");
-        }
-        _ => assert!(rt; false, "{texts:?}"),
-    }
-    Ok(())
 }
 
 #[test]
@@ -217,96 +195,6 @@ fn classes_are_taken_where_fixes_without_one_are_not(rt: HostRuntime) -> Result<
 }
 
 #[test]
-fn options_that_cannot_be_right_are_refused(rt: HostRuntime) -> Result<(), Fail> {
-    let cases = [
-        (
-            ["a.csv", "--unit", "km"].as_slice(),
-            (Kind::Option, "--unit: km is neither m nor dm"),
-        ),
-        (
-            &["a.csv", "--into", ""],
-            (Kind::Option, "into: the folder has no name"),
-        ),
-        (
-            &["a.csv", "--name="],
-            (
-                Kind::Option,
-                "--name: a name without control characters is wanted",
-            ),
-        ),
-        (
-            &["a.csv", "--zone", "33T"],
-            (
-                Kind::Zone,
-                "33T is no zone as 33N: T is a band, and the zone is 33N",
-            ),
-        ),
-        (
-            &["a.csv", "--max-dop=-1"],
-            (Kind::Option, "max-dop is '-1' and not a number from 0"),
-        ),
-        (
-            &["a.csv", "--max-speed", "1e3"],
-            (
-                Kind::Option,
-                "max-speed is '1e3' and not a number of metres a second from 0 to 1,000,000 with at most six decimals",
-            ),
-        ),
-        (
-            &["a.csv", "--every", "2d"],
-            (
-                Kind::Option,
-                "every is '2d' and not a whole number of seconds, such as 2h, 30min or 90s",
-            ),
-        ),
-        (
-            &["a.csv", "--skip-lines=-1"],
-            (Kind::Option, "skip-lines is '-1' and not a number from 0"),
-        ),
-        (
-            &["a.csv", "--encoding", "cp1253"],
-            (
-                Kind::Option,
-                "encoding: cp1253 is none of utf-8, ascii, utf-16, utf-16-le, utf-16-be, utf-32, utf-32-le, utf-32-be, latin-1, iso-8859-2, windows-1250, windows-1251, windows-1252",
-            ),
-        ),
-        (
-            &["--mark"],
-            (
-                Kind::Option,
-                "no export is named: name its file, as by homerange-split export.csv",
-            ),
-        ),
-    ];
-    for (texts, expected) in cases {
-        expect_refused(&rt, rt.alloc(), texts, expected)?;
-    }
-    Ok(())
-}
-
-#[test]
-fn words_that_are_not_the_programs_are_refused(rt: HostRuntime) -> Result<(), Fail> {
-    let alloc = rt.alloc();
-    let cases = [
-        ["a.csv", "--longitude", "x"].as_slice(),
-        &["a.csv", "--zone"],
-        &["a.csv", "--mark=1"],
-        &["a.csv", "--unit", "m", "--unit", "m"],
-    ];
-    for texts in cases {
-        let words = words_of(alloc, texts)?;
-        let found = read_words(alloc, &words);
-        assert!(rt; matches!(found, Err(WordFault::BadWords(_))), "{texts:?}");
-    }
-    Ok(())
-}
-
-// Whether each line of a text has 80 columns at most.
-fn is_narrow(text: &str) -> bool {
-    text.split('\n').all(|line| line.len() <= 80)
-}
-
-#[test]
 fn exports_are_taken_in_their_order(rt: HostRuntime) -> Result<(), Fail> {
     let alloc = rt.alloc();
     let words = words_of(alloc, &["b.csv", "--into", "out", "a.csv", "-"])?;
@@ -325,30 +213,5 @@ fn exports_are_taken_in_their_order(rt: HostRuntime) -> Result<(), Fail> {
     };
     let expected = b"a.csv is named twice: name each export once".as_slice();
     assert!(&rt; refusal.text.as_slice() == expected, "twice");
-    Ok(())
-}
-
-#[test]
-fn help_and_the_version_are_told(rt: HostRuntime) -> Result<(), Fail> {
-    let alloc = rt.alloc();
-    let words = words_of(alloc, &["--help"])?;
-    match &read_words(alloc, &words) {
-        Err(WordFault::Help(text)) => {
-            assert!(rt; is_narrow(text.as_str()));
-            assert!(rt;
-                text.as_str()
-                    .contains("Usage: homerange-split [OPTIONS] EXPORT...\n")
-            );
-        }
-        _ => assert!(rt; false),
-    }
-    let words = words_of(alloc, &["a.csv", "-V"])?;
-    match &read_words(alloc, &words) {
-        Err(WordFault::Version(text)) => {
-            let expected = format!(in alloc; "homerange-split {VERSION}\n")?;
-            assert!(rt; text.as_str() == expected.as_str());
-        }
-        _ => assert!(rt; false),
-    }
     Ok(())
 }

@@ -1,7 +1,6 @@
 // Tests of the words that stand for a maker's options. Expected titles are those of `collars.csv`.
 
-use crate::words::{expect_refused, given_text, words_of};
-use split_refusal::Kind;
+use crate::words::{given_text, words_of};
 use split_words::{NamedColumns, read_words};
 use std::alloc::Global;
 use std::process::Abort;
@@ -194,41 +193,5 @@ fn the_record_has_what_was_given(rt: HostRuntime) -> Result<(), Fail> {
     };
     let given = b"from=lotek;header=Acquisition;time=a,b;time-format=%Y %j;tz=UTC;";
     assert!(rt; given_text(alloc, &found)?.as_slice() == given.as_slice());
-    Ok(())
-}
-
-#[test]
-fn makers_that_are_none_and_options_that_gpx_has_not_are_refused(
-    rt: HostRuntime,
-) -> Result<(), Fail> {
-    let cases = [
-        (
-            ["a.csv", "--from", "Lotek"].as_slice(),
-            "from: Lotek is none of vectronic, lotek, telonics, eobs, ornitela, argos, gpx",
-        ),
-        (
-            &["a.csv", "--from="],
-            "from:  is none of vectronic, lotek, telonics, eobs, ornitela, argos, gpx",
-        ),
-        (
-            &["a.gpx", "--from=gpx", "--encoding=latin-1"],
-            "--encoding is for texts with a line of titles, and not for GPX: leave it out beside --from gpx",
-        ),
-        (
-            &["a.gpx", "--from=gpx", "--skip-lines=1"],
-            "--skip-lines is for texts with a line of titles, and not for GPX: leave it out beside --from gpx",
-        ),
-        (
-            &["a.gpx", "--from=gpx", "--header=animal"],
-            "--header is for texts with a line of titles, and not for GPX: leave it out beside --from gpx",
-        ),
-        (
-            &["a.csv", "--header="],
-            "--header: the start of the line of titles is wanted, such as 'Acquisition Time'",
-        ),
-    ];
-    for (texts, expected) in cases {
-        expect_refused(&rt, rt.alloc(), texts, (Kind::Option, expected))?;
-    }
     Ok(())
 }

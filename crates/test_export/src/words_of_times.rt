@@ -1,11 +1,10 @@
 // Tests of the words that say how times are read, and which are the first and the last that are wanted. Expected seconds
 // are those of Python's `datetime` and `zoneinfo`.
 
-use crate::words::{expect_refused, words_of};
+use crate::words::words_of;
 use split_clock::Clock;
-use split_refusal::Kind;
 use split_times::LocalTime;
-use split_words::{WordFault, bound_of, read_words};
+use split_words::{bound_of, read_words};
 use std::alloc::Global;
 use std::process::Abort;
 use std::test::Fail;
@@ -43,25 +42,6 @@ fn expect_bounds(
         assert!(rt; bound(alloc, text, clock, false, "X") == *first, "{text}");
         assert!(rt; bound(alloc, text, clock, true, "X") == *last, "{text}");
     }
-}
-
-// Checks the sentence in which a bound is refused.
-fn expect_no_bound(
-    rt: &impl Abort,
-    alloc: Global,
-    (text, is_end, zone_name): (&str, bool, &str),
-    clock: &Clock,
-    expected: &str,
-) -> Result<(), Fail> {
-    match &bound_of(alloc, text, clock, is_end, zone_name) {
-        Err(WordFault::Refused(refusal)) => {
-            let line = refusal.line(alloc)?;
-            assert!(rt; refusal.kind == Kind::Option, "{text}");
-            assert!(rt; line.as_slice() == expected.as_bytes(), "{text}");
-        }
-        _ => assert!(rt; false, "{text}"),
-    }
-    Ok(())
 }
 
 #[test]
@@ -122,38 +102,6 @@ fn bounds_are_of_utc_where_no_clock_is_named(rt: HostRuntime) -> Result<(), Fail
 }
 
 #[test]
-fn bounds_that_are_none_are_refused(rt: HostRuntime) -> Result<(), Fail> {
-    let alloc = rt.alloc();
-    let clock = central_europe(&rt, alloc);
-    let cases = [
-        (
-            ("1.5.2024", false, LJUBLJANA),
-            "'1.5.2024' is no time in Europe/Ljubljana, such as '2024-05-01' or '2024-05-01 00:30:04'",
-        ),
-        (
-            ("", true, "UTC"),
-            "'' is no time in UTC, such as '2024-05-01' or '2024-05-01 00:30:04'",
-        ),
-        (
-            ("2024-03-31 02:30", true, LJUBLJANA),
-            "'2024-03-31 02:30' is no time in Europe/Ljubljana, whose clocks passed it over",
-        ),
-        (
-            ("2024-05-01 00:00:00.1234567891", false, LJUBLJANA),
-            "'2024-05-01 00:00:00.1234567891' has more than nine decimals of a second: write at most nine",
-        ),
-        (
-            ("1970-01-01 00:30", true, LJUBLJANA),
-            "until is '1970-01-01 00:30', and no fix is before 1970: name a later time",
-        ),
-    ];
-    for (bound, expected) in cases {
-        expect_no_bound(&rt, alloc, bound, &clock, expected)?;
-    }
-    Ok(())
-}
-
-#[test]
 fn words_have_bounds_once_the_clock_is_known(rt: HostRuntime) -> Result<(), Fail> {
     let alloc = rt.alloc();
     let texts = [
@@ -201,41 +149,4 @@ fn forms_of_times_are_read(rt: HostRuntime) -> Result<(), Fail> {
     }
     assert!(rt; found.zone_name == None && found.clock_name() == "UTC");
     Ok(())
-}
-
-#[test]
-fn forms_and_zones_that_are_none_are_refused(rt: HostRuntime) -> Result<(), Fail> {
-    let alloc = rt.alloc();
-    let cases = [
-        (
-            ["a.csv", "--time-format", "%d.%m. %H:%M"].as_slice(),
-            "time-format is '%d.%m. %H:%M', which is no form of a day, such as %Y-%m-%d, %d.%m.%y, %d %b %Y or %Y %j, with %H:%M:%S or %I:%M %p",
-        ),
-        (
-            &["a.csv", "--time-format", "%Y-%m-%d|%Y-%q|x"],
-            "time-format is '%Y-%q', which is no form of a day, such as %Y-%m-%d, %d.%m.%y, %d %b %Y or %Y %j, with %H:%M:%S or %I:%M %p",
-        ),
-        (
-            &["a.csv", "--time-format="],
-            "time-format is '', which is no form of a day, such as %Y-%m-%d, %d.%m.%y, %d %b %Y or %Y %j, with %H:%M:%S or %I:%M %p",
-        ),
-        (
-            &["a.csv", "--tz=Europe/../etc"],
-            "tz='Europe/../etc' is no time zone such as 'Europe/Ljubljana'",
-        ),
-        (
-            &["a.csv", "--tz="],
-            "tz='' is no time zone such as 'Europe/Ljubljana'",
-        ),
-    ];
-    for (texts, expected) in cases {
-        expect_refused(&rt, alloc, texts, (Kind::Option, expected))?;
-    }
-    let mut long = String::from_str(alloc, "%Y-%m-%d")?;
-    for _byte in 0..248 {
-        long.push('x')?;
-    }
-    let texts = ["a.csv", "--time-format", long.as_str()];
-    let expected = "time-format has 256 bytes, and may have 255: name fewer forms, or shorter ones";
-    expect_refused(&rt, alloc, &texts, (Kind::Option, expected))
 }

@@ -1,7 +1,8 @@
 #!/usr/bin/env python3
 """run_program.py PROGRAM: whether homerange-split makes of each table of this folder the tracks that are wanted, or refuses it
 as it is wanted, in a Turkish locale, and says and writes what records.txt has of it, but for the lines of rules that are newer. Behind
-them come the rules that run_rules.py has, those of several exports of run_several.py, and whether its presets are those of collars.csv."""
+them come the rules that run_rules.py has, the words that run_words.py refuses, several exports of run_several.py, and whether its presets
+are those of collars.csv."""
 import csv
 import hashlib
 import os
@@ -17,6 +18,7 @@ from cases import cases, difference, finish
 from run_presets import faults as preset_faults
 from run_rules import faults
 from run_several import faults as several_faults
+from run_words import faults as word_faults
 
 HERE = Path(__file__).resolve().parent
 # What records.txt has not, since its reader did not say it: whole lines, and what stands behind the box in the line of columns.
@@ -122,7 +124,7 @@ def main():
         found = list(cases(room / "tables", "text"))
         with ThreadPoolExecutor(4) as pool:
             results = list(pool.map(lambda case: check(case, program, room / "made", records), found))
-    own = [*faults(program), *several_faults(program), *preset_faults()]
+    own = [*faults(program), *word_faults(program), *several_faults(program), *preset_faults()]
     finish([*((case.name, fault) for case, fault in zip(found, results)), *own])
 
 

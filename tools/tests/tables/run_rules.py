@@ -59,6 +59,10 @@ REFUSED = [
     ("a header of no line", ["--header", "Acquisition"], OWN.encode(), None, "no line begins with 'Acquisition'"),
     ("an encoding beside GPX", ["--from", "gpx", "--encoding", "latin-1"], GPX.encode(), None, "--encoding is for texts with a line of titles"),
     ("half a time", ["--time", "day,hour"], b"id,day,hour,x,y\na,2024-05-01,,1000,2000\n", 1, "there is no day hour"),
+    ("no time", [], b"id,timestamp,x,y\na,  ,1000,2000\n", 1, "there is no timestamp"),
+    ("a long cell", [], b"id,date,x,y\na,2024-05-01," + 900 * b"z" + b",1\n", 1, f"x is '{'z' * 57}... and not a number"),
+    ("a long line", [], ",".join(f"title_{at:02}_of_a_table" for at in range(40)).encode() + b"\n", None, " .. "),
+    ("more columns than a table may have", [], b"id,date,x,y" + 16381 * b",z" + b"\n", None, "has 16385 columns, and a table may have 16384"),
     ("an hour that was passed over", ["--tz", "Europe/Ljubljana"], b"id,timestamp,x,y\na,2024-03-31 02:30,1000,2000\n", 1,
      "timestamp: the clocks of Europe/Ljubljana passed over that time"),
 ]
