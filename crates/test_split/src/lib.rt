@@ -27,8 +27,6 @@ mod reading_times;
 #[cfg(test)]
 mod record_text;
 #[cfg(test)]
-mod refused_titles;
-#[cfg(test)]
 mod sheets;
 #[cfg(test)]
 mod tables;

@@ -1,8 +1,8 @@
 #!/usr/bin/env python3
 """run_program.py PROGRAM: whether homerange-split makes of each table of this folder the tracks that are wanted, or refuses it
 as it is wanted, in a Turkish locale, and says and writes what records.txt has of it, but for the lines of rules that are newer. Behind
-them come the rules that run_rules.py has, the words that run_words.py refuses, several exports of run_several.py, and whether its presets
-are those of collars.csv."""
+them come the rules that run_rules.py has, the titles and words that run_titles.py and run_words.py refuse, several exports of run_several.py,
+and whether its presets are those of collars.csv."""
 import csv
 import hashlib
 import os
@@ -18,6 +18,7 @@ from cases import cases, difference, finish
 from run_presets import faults as preset_faults
 from run_rules import faults
 from run_several import faults as several_faults
+from run_titles import faults as title_faults
 from run_words import faults as word_faults
 
 HERE = Path(__file__).resolve().parent
@@ -124,7 +125,7 @@ def main():
         found = list(cases(room / "tables", "text"))
         with ThreadPoolExecutor(4) as pool:
             results = list(pool.map(lambda case: check(case, program, room / "made", records), found))
-    own = [*faults(program), *word_faults(program), *several_faults(program), *preset_faults()]
+    own = [*faults(program), *title_faults(program), *word_faults(program), *several_faults(program), *preset_faults()]
     finish([*((case.name, fault) for case, fault in zip(found, results)), *own])
 
 

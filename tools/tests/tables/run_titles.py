@@ -1,0 +1,124 @@
+#!/usr/bin/env python3
+"""run_titles.py PROGRAM: the lines of titles that homerange-split refuses, some beside options, with the line that it says. Another
+reader of the same rules in Python, which went when the program took its place, said them, but for rules that it did not have."""
+import subprocess
+import sys
+import tempfile
+from pathlib import Path
+
+sys.dont_write_bytecode = True
+from cases import finish
+
+UTM = "individual-local-identifier,timestamp,utm-easting,utm-northing,utm-zone"
+NO_COORDINATES = ("there are no columns of usual titles for easting and northing, or longitude and latitude: name them, as by --easting X and "
+                  "--northing Y, or --lon X and --lat Y; the table has ")
+NO_MARKS = " (a fix is not used where 'visible' is false, or 'manually-marked-outlier' is true)"
+# The options, the titles, and the line.
+REFUSED = [
+    ([], "Id,ID,date,x,y", "column 1 'Id' and column 2 'ID' both fit id: rename one"),
+    ([], "id,date,x,y,x", "column 3 'x' and column 5 'x' both fit x: rename one"),
+    ([], "individual.local.identifier,timestamp,utm_easting,utm easting,utm-northing,utm-zone",
+     "column 3 'utm_easting' and column 4 'utm easting' both fit utm-easting: rename one"),
+    ([], "animal,second,easting,northing,Visible,VISIBLE", "column 5 'Visible' and column 6 'VISIBLE' both fit visible: rename one"),
+    ([], "animal,second,easting,northing,use,use", "column 5 'use' and column 6 'use' both fit use: rename one"),
+    ([], f"{UTM},Location.Lat,location_lat", "column 6 'Location.Lat' and column 7 'location_lat' both fit location-lat: rename one"),
+    ([], "id,Date,DATE,time,time,x,y", "column 2 'Date' and column 3 'DATE' both fit date: rename one"),
+    ([], "id,date,x,y,sensor-type,sensor-type", "column 5 'sensor-type' and column 6 'sensor-type' both fit sensor-type: rename one"),
+    ([], f"{UTM},UTM Zone,utm-zone", "column 5 'utm-zone' and column 7 'utm-zone' both fit utm-zone: rename one"),
+    ([], "id,date,x,y,argos lc,argos:lc", "column 5 'argos lc' and column 6 'argos:lc' both fit argos-lc: rename one"),
+    ([], "id,date,timestamp,x,y", "column 3 'timestamp' and column 2 'date' both fit the time: name one, as by --time timestamp"),
+    ([], "id,date, Time ,x,y", "column 2 'date' and column 3 'Time' both fit the time: name one, as by --time date"),
+    ([], "id,Date Time,time,lon,lat", "column 3 'time' and column 2 'Date Time' both fit the time: name one, as by --time time"),
+    ([], "id,date,x,y,easting,northing", "column 5 'easting' and column 3 'x' both fit the easting: name one, as by --easting easting"),
+    ([], "id,time,lon,lat,Longi tude,longitude,latitude",
+     "column 6 'longitude' and column 3 'lon' both fit the longitude: name one, as by --lon longitude"),
+    ([], "id,time,lon,latitude,lat,long", "column 3 'lon' and column 6 'long' both fit the longitude: name one, as by --lon lon"),
+    ([], "animal,second,timestamp,easting,northing",
+     "column 3 'timestamp' and column 2 'second' both fit the time: name one, as by --time timestamp"),
+    ([], "animal,Second,easting,northing,date", "column 2 'Second' and column 5 'date' both fit the time: name one, as by --time Second"),
+    ([], "individual-local-identifier,timestamp,second,utm-easting,utm-northing,utm-zone",
+     "column 2 'timestamp' and column 3 'second' both fit the time: name one, as by --time timestamp"),
+    ([], "id,SECOND,x_,y_,t_", "column 2 'SECOND' and column 5 't_' both fit the time: name one, as by --time SECOND"),
+    ([], "animal,Date Time,second,easting,northing", "column 3 'second' and column 2 'Date Time' both fit the time: name one, as by --time second"),
+    ([], "id,second,time,x,y", "column 2 'second' and column 3 'time' both fit the time: name one, as by --time second"),
+    ([], "animal,second,minute,easting,northing", "column 2 'second' and column 3 'minute' both fit the time: name one, as by --time second"),
+    ([], "id,HOUR,Second,x,y", "column 3 'Second' and column 2 'HOUR' both fit the time: name one, as by --time Second"),
+    ([], "id,date,x,y,lc", "column 5 'lc' may have Argos classes: name it, as by --argos lc, or rename or remove it"),
+    ([], f"{UTM}, Argos Loc Class",
+     "column 6 'Argos Loc Class' may have Argos classes: name it, as by --argos 'Argos Loc Class', or rename or remove it"),
+    ([], "animal,second,easting,northing,CLASS", "column 5 'CLASS' may have Argos classes: name it, as by --argos CLASS, or rename or remove it"),
+    ([], "id,date,x,y,class,argos-lc", "column 6 'argos-lc' and column 5 'class' both fit the Argos class: name one, as by --argos argos-lc"),
+    ([], "id,date,x,y,location-class,argos-lc",
+     "column 6 'argos-lc' and column 5 'location-class' both fit the Argos class: name one, as by --argos argos-lc"),
+    ([], "id,date,x,y,outlier", f"column 5 'outlier' may have marks, but is not read: rename or remove it{NO_MARKS}"),
+    ([], "animal,second,easting,northing,Event_Visible,visible",
+     f"column 5 'Event_Visible' may have marks, but is not read: rename or remove it{NO_MARKS}"),
+    ([], f"{UTM},manually-marked-outlier, valid ", f"column 7 'valid' may have marks, but is not read: rename or remove it{NO_MARKS}"),
+    ([], "animal,second,easting,northing,utm-zone", "column 5 'utm-zone' is read beside utm-easting and utm-northing alone: rename or remove it"),
+    ([], "id,date,x,y,UTM zone", "column 5 'UTM zone' is read beside utm-easting and utm-northing alone: rename or remove it"),
+    ([], "individual-local-identifier,timestamp,location-long,location-lat,utm.zone",
+     "column 5 'utm.zone' is read beside utm-easting and utm-northing alone: rename or remove it"),
+    ([], "animal,second,Ost,Nord", f"{NO_COORDINATES}'animal', 'second', 'Ost', 'Nord'"),
+    ([], "id,date,lat,x", f"{NO_COORDINATES}'id', 'date', 'lat', 'x'"),
+    ([], "aaaaaaaaaaaaaaaaaaaaaaaaaaaaaaaaaaaaaaaaaaaaaaaaaaaaaaaaaaaaa,éééééééééééééééééééééééééééééééééééééééééééééééééééééééééééé,xxxxxxxxxxxxxxxxxxxxxxxxxxxxxxxxxxxxxxxxxxxxxxxxxxxxxxxx€€€€€",
+     f"{NO_COORDINATES}'aaaaaaaaaaaaaaaaaaaaaaaaaaaaaaaaaaaaaaaaaaaaaaaaaaaaaaaaa..., 'éééééééééééééééééééééééééééééééééééééééééééééééééééééééééééé', 'xxxxxxxxxxxxxxxxxxxxxxxxxxxxxxxxxxxxxxxxxxxxxxxxxxxxxxxx€..."),
+    ([], ",".join(f"c{at}" for at in range(45)), NO_COORDINATES + ", ".join(f"'c{at}'" for at in range(40))),
+    (["--animal", "Animal"], "id,date,x,y", "--animal: there is no column 'Animal'; the table has 'id', 'date', 'x', 'y'"),
+    (["--animal", "id", "--time", "a b|c|"], "id,date,x,y", "--time: there is no column 'a b or c or '; the table has 'id', 'date', 'x', 'y'"),
+    (["--time", "date", "--easting", "Ost", "--northing", "y"], "id,date,x,y",
+     "--easting: there is no column 'Ost'; the table has 'id', 'date', 'x', 'y'"),
+    (["--easting", "easting", "--northing", "none", "--lon", "lon"], "animal,second,easting,northing,lon,lat",
+     "--northing: there is no column 'none'; the table has 'animal', 'second', 'easting', 'northing', 'lon', 'lat'"),
+    (["--lon", "länge", "--lat", "y"], "id,date,x,y", "--lon: there is no column 'länge'; the table has 'id', 'date', 'x', 'y'"),
+    (["--lon", "x", "--lat", "Y"], "id,date,x,y", "--lat: there is no column 'Y'; the table has 'id', 'date', 'x', 'y'"),
+    (["--dop", "gps dop", "--max-dop", "5"], "id,date,x,y,hdop",
+     "--dop: there is no column 'gps dop'; the table has 'id', 'date', 'x', 'y', 'hdop'"),
+    (["--fix", "f", "--fix-type", "3D"], "id,date,x,y", "--fix: there is no column 'f'; the table has 'id', 'date', 'x', 'y'"),
+    (["--dop", "nope"], "id,date,x,y", "--dop: there is no column 'nope'; the table has 'id', 'date', 'x', 'y'"),
+    (["--fix", "nope"], "id,date,x,y", "--fix: there is no column 'nope'; the table has 'id', 'date', 'x', 'y'"),
+    (["--argos", "lc"], "id,date,x,y", "--argos: there is no column 'lc'; the table has 'id', 'date', 'x', 'y'"),
+    (["--easting", "northing", "--northing", " northing"], "animal,second,easting,northing", "easting and northing are one column"),
+    (["--easting", "easting"], "animal,second,easting,northing", "easting and northing: name both, or none"),
+    (["--lat", "easting"], "animal,second,easting,northing", "lon and lat: name both, or none"),
+    (["--lon", "a", "--lat", "a"], "a,b", "lon and lat are one column"),
+    (["--easting", "easting", "--northing", "northing", "--lon", "lon", "--lat", "lat"], "animal,second,easting,northing,lon,lat",
+     "easting and northing, or lon and lat: name one pair of the two"),
+    (["--argos-class", "3"], "id,date,x,y",
+     "--argos-class: no column has a usual title for it (argos-lc, argos-class, loc. quality, location-quality, location-class): name it, as by --argos COLUMN"),
+    (["--argos-class", "3"], "id,date,x,y,lc", "column 5 'lc' may have Argos classes: name it, as by --argos lc, or rename or remove it"),
+    (["--max-dop", "5"], "id,date,x,y",
+     "--max-dop: no column has a usual title for it (gps-dop, dop, gps-hdop, hdop, pdop): name it, as by --dop COLUMN"),
+    (["--fix-type", "3D"], "id,date,x,y,dop",
+     "--fix-type: no column has a usual title for it (gps-fix-type, fix-type, fixtype, fix-status, fixstatus, type-of-fix): name it, as by --fix COLUMN"),
+    (["--max-dop", "5", "--fix-type", "3D"], "id,date,x,y",
+     "--max-dop: no column has a usual title for it (gps-dop, dop, gps-hdop, hdop, pdop): name it, as by --dop COLUMN"),
+    (["--max-dop", "5"], "id,date,x,y,hdop,GPS DOP", "column 6 'GPS DOP' and column 5 'hdop' both fit the DOP: name one, as by --dop 'GPS DOP'"),
+    (["--fix-type", "3D"], "id,date,x,y,fix-status,fix-type",
+     "column 6 'fix-type' and column 5 'fix-status' both fit the fix type: name one, as by --fix fix-type"),
+    (["--max-dop", "5"], "id,date,x,y,Dop,DOP", "column 5 'Dop' and column 6 'DOP' both fit dop: rename one"),
+    (["--easting", "utm-northing", "--northing", "utm-easting"], UTM,
+     "column 5 'utm-zone' is read beside utm-easting and utm-northing alone: rename or remove it"),
+]
+
+
+def fault(program, options, titles, line):
+    """How the program does not refuse a table of these titles, which has no record, with this line."""
+    with tempfile.TemporaryDirectory() as name:
+        (Path(name) / "table.csv").write_text(f"{titles}\n", encoding="utf-8")
+        found = subprocess.run([program, *options, "table.csv"], capture_output=True, cwd=name, text=True)
+        is_refused = found.returncode in (1, 2) and found.stderr == f"split: {line}\n" and not (Path(name) / "tracks").exists()
+    return None if is_refused else f"status {found.returncode}: {found.stderr!r}"
+
+
+def faults(program):
+    """Each case with how the program does not do what it wants; None where it does."""
+    for options, titles, line in REFUSED:
+        yield f"titles {' '.join([*options, titles])}", fault(program, options, titles, line)
+
+
+def main():
+    finish(list(faults(str(Path(sys.argv[1]).resolve()))))
+
+
+if __name__ == "__main__":
+    main()
