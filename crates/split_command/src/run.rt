@@ -175,7 +175,7 @@ fn split_one<P: Progress>(
     clock: &Clock,
     progress: &mut P,
 ) -> Result<Split, Refusal> {
-    match text_of(alloc, words.first_export(), bytes, words.text)? {
+    match text_of(alloc, words.first_export(), bytes, words)? {
         Some(text) => split_text(alloc, &text, words, clock, progress),
         None => split_text(alloc, bytes, words, clock, progress),
     }

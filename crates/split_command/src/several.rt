@@ -137,7 +137,7 @@ fn own_texts(
 ) -> Result<Vec<Option<Vec<u8>>>, Refusal> {
     let mut own = Vec::new(alloc);
     for (path, bytes) in words.exports.iter().zip(all) {
-        let text = text_of(alloc, path, bytes, words.text)?;
+        let text = text_of(alloc, path, bytes, words)?;
         if own.push(text).is_err() {
             return Err(Refusal::out_of_memory(alloc));
         }

@@ -3,7 +3,7 @@
 use split_encoding::{DecodeFault, Encoding, decode, encoding_of};
 use split_gpx::{GpxCause, GpxFault, declared_encoding, table_of_gpx};
 use split_refusal::{Kind, Refusal};
-use split_words::{TextWords, Words};
+use split_words::Words;
 use std::alloc::{AllocError, Global};
 
 // The refusal of a path, for what these words say of it.
@@ -69,6 +69,17 @@ fn gpx_refusal(alloc: Global, path: &str, fault: GpxFault) -> Refusal {
             alloc,
             format!(in alloc; "{path} is no GPX"),
         ),
+        GpxFault::NoPoints => refused(
+            alloc,
+            format!(in alloc; "{path} has no track point: waypoints and routes are not read"),
+        ),
+        GpxFault::NoName { track } => refused(
+            alloc,
+            format!(in alloc;
+                "{path}: track {track} has no name, which is that of its animal: write one into it, or name the animal of all tracks, where \
+                 none has a name, as by --name fox"
+            ),
+        ),
         GpxFault::Refused { line, cause } => {
             let words = cause_words(cause);
             refused(
@@ -97,10 +108,15 @@ fn gpx_encoding(alloc: Global, path: &str, bytes: &[u8]) -> Result<Encoding, Ref
 }
 
 // The table of GPX.
-fn gpx_table(alloc: Global, path: &str, bytes: &[u8]) -> Result<Vec<u8>, Refusal> {
+fn gpx_table(
+    alloc: Global,
+    path: &str,
+    bytes: &[u8],
+    are_of_one: bool,
+) -> Result<Vec<u8>, Refusal> {
     let encoding = gpx_encoding(alloc, path, bytes)?;
     let text = decoded(alloc, path, bytes, encoding)?;
-    match table_of_gpx(alloc, &text) {
+    match table_of_gpx(alloc, &text, are_of_one) {
         Ok(table) => Ok(table),
         Err(fault) => Err(gpx_refusal(alloc, path, fault)),
     }
@@ -188,12 +204,12 @@ pub(crate) fn text_of(
     alloc: Global,
     path: &str,
     bytes: &[u8],
-    words: TextWords,
+    words: &Words<'_>,
 ) -> Result<Option<Vec<u8>>, Refusal> {
-    if words.is_gpx {
-        return Ok(Some(gpx_table(alloc, path, bytes)?));
+    if words.text.is_gpx {
+        return Ok(Some(gpx_table(alloc, path, bytes, words.name.is_some())?));
     }
-    match words.encoding {
+    match words.text.encoding {
         Encoding::Utf8 => Ok(None),
         encoding => Ok(Some(decoded(alloc, path, bytes, encoding)?)),
     }

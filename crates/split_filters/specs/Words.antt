@@ -1,5 +1,5 @@
 -- Words of tables.
-use Rattle.std.specs.Prelude.{ℕ, Bool, ◌||◌, if◌then◌else◌, codes, List}
+use Rattle.std.specs.Prelude.{ℕ, Bool, if◌then◌else◌, codes, List}
 use Rattle.std.specs.Borrow.{Bor}
 use Rattle.std.specs.List.{list_any}
 use Rattle.std.specs.Str.{bytes_eq}
@@ -18,9 +18,3 @@ sensor_name word =
     else if bytes_eq word (codes "2365682") then codes "natural-mark"
     else if bytes_eq word (codes "3886361") then codes "solar-geolocator"
     else word
-
--- whether a word is a class of Argos
-abbrev pub is_argos_class : List ℕ → Bool
-is_argos_class word =
-    bytes_eq word (codes "3") || bytes_eq word (codes "2") || bytes_eq word (codes "1") || bytes_eq word (codes "0")
-    || bytes_eq word (codes "A") || bytes_eq word (codes "B") || bytes_eq word (codes "Z") || bytes_eq word (codes "G")

@@ -1,7 +1,7 @@
-// Words of tables: those of a list, sensors and Argos classes.
+// Words of tables: those of a list, and sensors.
 
 ghost use Rattle.std.specs.Prelude.{◌≡◌};
-ghost use Rattle.split_filters.specs.Words.{is_among, is_argos_class, sensor_name};
+ghost use Rattle.split_filters.specs.Words.{is_among, sensor_name};
 
 /// The sensor of fixes of Argos.
 pub const ARGOS: &[u8] = b"argos-doppler-shift";
@@ -37,11 +37,4 @@ pub fn sensor_name(word: &[u8]) -> &[u8]
     } else {
         word
     }
-}
-
-/// Whether a word is a class of Argos.
-pub fn is_argos_class(word: &[u8]) -> bool
-    ensures { result ≡ is_argos_class word.now }
-{
-    matches!(word, b"3" | b"2" | b"1" | b"0" | b"A" | b"B" | b"Z" | b"G")
 }

@@ -72,8 +72,8 @@ fn push_markup<'a>(table: &mut Vec<u8>, text: &'a [u8]) -> Result<&'a [u8], Allo
     }
 }
 
-// Writes the text of an element as a cell.
-fn push_text(table: &mut Vec<u8>, text: &[u8]) -> Result<(), AllocError> {
+/// Writes the text of an element as in a cell, without the quotes around it.
+pub(crate) fn push_text(table: &mut Vec<u8>, text: &[u8]) -> Result<(), AllocError> {
     let mut rest = text;
     for _ in 0..text.len() {
         rest = match rest {

@@ -6,7 +6,7 @@ use crate::markup::{Markup, Tag};
 use crate::references::left_from_bad_reference;
 use crate::signs::{local_name, without_blanks};
 use crate::stop::{Stop, refused};
-use crate::tracks::{Point, TITLES, Track};
+use crate::tracks::{Point, TITLES, TITLES_OF_ONE, Track};
 use memchr::memmem;
 use std::alloc::{AllocError, Global};
 
@@ -23,20 +23,38 @@ pub(crate) struct Document<'a> {
     /// What follows the tag of the name or the time whose text is read.
     content: Option<&'a [u8]>,
     track: Track<'a>,
-    table: Vec<u8>,
+    /// How many tracks began.
+    tracks: usize,
+    /// The records of tracks with a name, and of those without.
+    named: Vec<u8>,
+    nameless: Vec<u8>,
+    /// How many tracks without a name have points, and which is the first of them.
+    nameless_tracks: usize,
+    first_nameless: usize,
+}
+
+// The titles and the records of a table.
+fn table_with(alloc: Global, titles: &[u8], records: &[u8]) -> Result<Vec<u8>, AllocError> {
+    let mut table = titles.to_vec(alloc)?;
+    table.extend_from_slice(records)?;
+    Ok(table)
 }
 
 impl<'a> Document<'a> {
-    /// A document of which nothing was read, with a table of titles alone.
-    pub(crate) fn new(alloc: Global) -> Result<Document<'a>, AllocError> {
-        Ok(Document {
+    /// A document of which nothing was read.
+    pub(crate) fn new(alloc: Global) -> Document<'a> {
+        Document {
             alloc,
             open: Vec::new(alloc),
             has_begun: false,
             content: None,
             track: Track::new(alloc),
-            table: TITLES.to_vec(alloc)?,
-        })
+            tracks: 0,
+            named: Vec::new(alloc),
+            nameless: Vec::new(alloc),
+            nameless_tracks: 0,
+            first_nameless: 0,
+        }
     }
 
     // Whether what is read next is in an element.
@@ -123,13 +141,36 @@ impl<'a> Document<'a> {
         Ok(())
     }
 
+    // Writes the records of a track that ends.
+    fn write_track(&mut self) -> Result<(), Stop> {
+        self.tracks = self.tracks.saturating_add(1);
+        match self.track.animal_cell(self.alloc)? {
+            Some(animal) => self.track.write(&mut self.named, Some(&animal))?,
+            None => {
+                if !self.track.points.is_empty() {
+                    self.count_nameless();
+                }
+                self.track.write(&mut self.nameless, None)?;
+            }
+        }
+        Ok(())
+    }
+
+    // Counts a track with points and without a name.
+    fn count_nameless(&mut self) {
+        if self.nameless_tracks == 0 {
+            self.first_nameless = self.tracks;
+        }
+        self.nameless_tracks = self.nameless_tracks.saturating_add(1);
+    }
+
     // Ends the innermost element, by a tag of this name that begins a rest of the text.
     fn end(&mut self, name: &[u8], rest: &[u8]) -> Result<(), Stop> {
         self.end_text(rest.len());
         match self.open.pop() {
             Some(open) if open.name == name => {
                 if open.element == Element::Track {
-                    self.track.write(self.alloc, &mut self.table)?;
+                    self.write_track()?;
                 }
                 Ok(())
             }
@@ -172,14 +213,26 @@ impl<'a> Document<'a> {
         }
     }
 
-    /// The table of a document whose text has ended.
-    pub(crate) fn finish(self) -> Result<Vec<u8>, Stop> {
+    /// The table of a document whose text has ended. Tracks without a name are of one animal, which no column has, where there is
+    /// one such track alone or all are known to be of one.
+    pub(crate) fn finish(self, are_of_one: bool) -> Result<Vec<u8>, Stop> {
         if self.is_inside() {
             return Err(refused(&[], GpxCause::Unclosed));
         }
         if !self.has_begun {
             return Err(Stop::NotGpx);
         }
-        Ok(self.table)
+        if self.nameless.is_empty() && self.named.is_empty() {
+            return Err(Stop::NoPoints);
+        }
+        if self.nameless.is_empty() {
+            return Ok(table_with(self.alloc, TITLES, &self.named)?);
+        }
+        if !self.named.is_empty() || self.nameless_tracks > 1 && !are_of_one {
+            return Err(Stop::NoName {
+                track: self.first_nameless,
+            });
+        }
+        Ok(table_with(self.alloc, TITLES_OF_ONE, &self.nameless)?)
     }
 }

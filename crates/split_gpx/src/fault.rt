@@ -29,6 +29,10 @@ pub enum GpxFault {
     NotUtf8,
     /// It has no element, or its outermost element is not `gpx`.
     NotGpx,
+    /// It has no track point.
+    NoPoints,
+    /// This track has points and no name, of several. Tracks are counted from 1.
+    NoName { track: usize },
     /// What begins in this line is refused. Lines are counted from 1.
     Refused { line: usize, cause: GpxCause },
 }

@@ -8,6 +8,9 @@ use std::alloc::{AllocError, AllocFailed};
 pub(crate) enum Stop {
     OutOfMemory,
     NotGpx,
+    NoPoints,
+    /// This track has no name, of several.
+    NoName { track: usize },
     /// What begins where this many bytes of the text are left is refused.
     Refused { left: usize, cause: GpxCause },
 }
@@ -49,6 +52,8 @@ impl Stop {
         match self {
             Stop::OutOfMemory => GpxFault::OutOfMemory,
             Stop::NotGpx => GpxFault::NotGpx,
+            Stop::NoPoints => GpxFault::NoPoints,
+            Stop::NoName { track } => GpxFault::NoName { track },
             Stop::Refused { left, cause } => GpxFault::Refused {
                 line: line_of(text, left),
                 cause,

@@ -1,13 +1,12 @@
 // A track and its points, as they stand in the text.
 
-use crate::cells::{push_text_cell, push_value_cell};
+use crate::cells::{push_text, push_text_cell, push_value_cell};
+use crate::signs::is_blank;
 use std::alloc::{AllocError, Global};
 
-// The name of a track that has none.
-const NO_NAME: &[u8] = b"\"animal\"";
-
-/// The titles of the table.
+/// The titles of the table, whose records have an animal or none.
 pub(crate) const TITLES: &[u8] = b"\"animal\",\"time\",\"lon\",\"lat\"\n";
+pub(crate) const TITLES_OF_ONE: &[u8] = b"\"time\",\"lon\",\"lat\"\n";
 
 /// A point, with what it has.
 #[derive(Clone, Copy)]
@@ -24,9 +23,8 @@ pub(crate) struct Track<'a> {
     pub(crate) points: Vec<Point<'a>>,
 }
 
-// Writes the record of a point, behind the cell of its animal.
+// Writes the cells of a point.
 fn push_point(table: &mut Vec<u8>, point: &Point<'_>) -> Result<(), AllocError> {
-    table.push(b',')?;
     push_text_cell(table, point.time.unwrap_or_default())?;
     table.push(b',')?;
     push_value_cell(table, point.longitude.unwrap_or_default())?;
@@ -36,20 +34,40 @@ fn push_point(table: &mut Vec<u8>, point: &Point<'_>) -> Result<(), AllocError> 
     Ok(())
 }
 
-// The cell of a track's animal.
-fn animal_cell(alloc: Global, name: &[u8]) -> Result<Vec<u8>, AllocError> {
-    let mut cell = Vec::new(alloc);
-    push_text_cell(&mut cell, name)?;
-    if cell.as_slice() == b"\"\"".as_slice() {
-        return NO_NAME.to_vec(alloc);
+// A name in one line: without blanks at its ends, and with one in place of those among which a line ends.
+fn in_one_line(alloc: Global, name: &[u8]) -> Result<Vec<u8>, AllocError> {
+    let mut line = Vec::new(alloc);
+    let mut blanks = Vec::new(alloc);
+    for byte in name {
+        if is_blank(*byte) {
+            blanks.push(*byte)?;
+            continue;
+        }
+        if !line.is_empty() {
+            line.extend_from_slice(if ends_line(&blanks) { b" " } else { &blanks })?;
+        }
+        blanks.clear();
+        line.push(*byte)?;
     }
-    Ok(cell)
+    Ok(line)
 }
 
-// Writes records whose animal has this cell.
-fn push_points(table: &mut Vec<u8>, animal: &[u8], points: &[Point<'_>]) -> Result<(), AllocError> {
+// Whether a line ends among blanks.
+fn ends_line(blanks: &[u8]) -> bool {
+    blanks.iter().any(|byte| *byte == b'\n' || *byte == b'\r')
+}
+
+// Writes records whose animal has this cell; of tracks without a name there is none.
+fn push_points(
+    table: &mut Vec<u8>,
+    animal: Option<&[u8]>,
+    points: &[Point<'_>],
+) -> Result<(), AllocError> {
     for point in points {
-        table.extend_from_slice(animal)?;
+        if let Some(animal) = animal {
+            table.extend_from_slice(animal)?;
+            table.push(b',')?;
+        }
         push_point(table, point)?;
     }
     Ok(())
@@ -64,10 +82,28 @@ impl<'a> Track<'a> {
         }
     }
 
-    /// Writes the records of the points, and forgets the track.
-    pub(crate) fn write(&mut self, alloc: Global, table: &mut Vec<u8>) -> Result<(), AllocError> {
-        let animal = animal_cell(alloc, self.name.unwrap_or_default())?;
-        push_points(table, animal.as_slice(), self.points.as_slice())?;
+    /// The cell of the animal, which is the track's name in one line; none where it has no name.
+    pub(crate) fn animal_cell(&self, alloc: Global) -> Result<Option<Vec<u8>>, AllocError> {
+        let mut text = Vec::new(alloc);
+        push_text(&mut text, self.name.unwrap_or_default())?;
+        let name = in_one_line(alloc, &text)?;
+        if name.is_empty() {
+            return Ok(None);
+        }
+        let mut cell = Vec::new(alloc);
+        cell.push(b'"')?;
+        cell.extend_from_slice(&name)?;
+        cell.push(b'"')?;
+        Ok(Some(cell))
+    }
+
+    /// Writes the records of the points, whose animal has this cell, if it has one, and forgets the track.
+    pub(crate) fn write(
+        &mut self,
+        table: &mut Vec<u8>,
+        animal: Option<&[u8]>,
+    ) -> Result<(), AllocError> {
+        push_points(table, animal, self.points.as_slice())?;
         self.name = None;
         self.points.clear();
         Ok(())

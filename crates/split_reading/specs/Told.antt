@@ -1,7 +1,7 @@
 -- What a record says: its fix, or why it is left out, or its first fault.
 use Rattle.std.specs.Prelude.{⊤, [], ◌∷◌, ℕ, ℤ, Bool, ◌==◌, ◌&&◌, not, if◌then◌else◌, List, length, Option, Some, None, is_some, Result, Ok, Err}
 use Rattle.split_filters.specs.Filters.{is_of_sensor, left_for}
-use Rattle.split_filters.specs.Words.{is_argos_class, sensor_name}
+use Rattle.split_filters.specs.Words.{sensor_name}
 use Rattle.split_clock.specs.declared.twice.ClockMoment.{ClockMoment}
 use Rattle.split_times.specs.declared.moment.Moment.{Moment}
 use Rattle.split_tracks.specs.declared.fate.Reason.{Reason}
@@ -61,7 +61,7 @@ fix_at rules position is_used time zone left_for fields = record {
   zone = zone_or_at zone position.degrees;
   is_used = is_used;
   is_of_sensor = is_of_sensor rules.filters (sensor_in rules fields);
-  has_class = is_argos_class (word_in rules rules.class fields);
+  has_class = not (length (word_in rules rules.class fields) == 0);
   left_for = left_for;
 }
 

@@ -14,7 +14,7 @@ use crate::rules::Rules;
 use crate::zone::{Zone, zone_in, zone_or_at};
 use csv::ByteRecord;
 use split_clock::ClockMoment;
-use split_filters::{is_argos_class, is_of_sensor, left_for, sensor_name};
+use split_filters::{is_of_sensor, left_for, sensor_name};
 use split_times::Moment;
 use split_tracks::Reason;
 
@@ -133,7 +133,7 @@ fn fix_at(
         zone: zone_or_at(zone, at.degrees),
         is_used,
         is_of_sensor: is_of_sensor(&rules.filters, sensor_in(fields, rules)),
-        has_class: is_argos_class(word_in(fields, rules.class, rules)),
+        has_class: !word_in(fields, rules.class, rules).is_empty(),
         left_for,
     }
 }

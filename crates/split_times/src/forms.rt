@@ -17,7 +17,8 @@ pub const FORM_LIMIT: usize = 255;
 /// for one of two, which from 69 on is of 1969 to 1999; `%m` for a month and `%d` for its day, in one digit or two, `%b`
 /// for `Jan` to `Dec`, and `%j` for the day of the year in at most three; `%H` for an hour from 0 to 23, `%I` for one from
 /// 1 to 12 with `%p` for `am` or `pm`; `%M` for a minute and `%S` for a second, which may have decimals behind a point.
-/// Any other byte stands for itself. Capitals do not matter.
+/// Signs of digits that stand side by side, as in `%H%M`, have all their digits. Any other byte stands for itself. Capitals do
+/// not matter.
 #[derive(Clone, Copy)]
 pub struct Forms<'a> {
     text: &'a [u8],

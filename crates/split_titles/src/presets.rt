@@ -111,7 +111,7 @@ pub const PRESETS: [Preset; 7] = [
     Preset {
         maker: GPX,
         header: None,
-        animal: Some("animal"),
+        animal: None,
         time: "time",
         time_format: None,
         lon: "lon",

@@ -79,7 +79,7 @@ fn a_maker_stands_for_its_columns(rt: HostRuntime) -> Result<(), Fail> {
             "argos",
             "Platform ID No.,;Loc. date,;-;-;Longitude;Latitude;-;-;Loc. quality;",
         ),
-        ("gpx", "animal,;time,;-;-;lon;lat;-;-;-;"),
+        ("gpx", ";time,;-;-;lon;lat;-;-;-;"),
     ];
     for (maker, expected) in cases {
         let texts = ["a.csv", "--from", maker, "--max-dop=5", "--fix-type=3D"];

@@ -113,7 +113,7 @@ fn repeated(
 
 // Asserts that such a text is refused.
 fn assert_refused(rt: &impl Abort, alloc: Global, text: &[u8], line: usize, cause: GpxCause) {
-    let table = table_of_gpx(alloc, text);
+    let table = table_of_gpx(alloc, text, false);
     assert!(rt;
         table == Err(GpxFault::Refused { line, cause }),
         "{cause:?}"
@@ -123,7 +123,7 @@ fn assert_refused(rt: &impl Abort, alloc: Global, text: &[u8], line: usize, caus
 #[test]
 fn what_is_not_as_xml_has_it_is_told_by_its_line(rt: HostRuntime) {
     for (text, line, cause) in REFUSED {
-        let table = table_of_gpx(rt.alloc(), text.as_bytes());
+        let table = table_of_gpx(rt.alloc(), text.as_bytes(), false);
         assert!(rt; table == Err(GpxFault::Refused { line, cause }), "{text:?}");
     }
 }
@@ -131,7 +131,7 @@ fn what_is_not_as_xml_has_it_is_told_by_its_line(rt: HostRuntime) {
 #[test]
 fn a_text_without_the_element_is_no_gpx(rt: HostRuntime) {
     for text in OTHERS {
-        let table = table_of_gpx(rt.alloc(), text.as_bytes());
+        let table = table_of_gpx(rt.alloc(), text.as_bytes(), false);
         assert!(rt; table == Err(GpxFault::NotGpx), "{text:?}");
     }
 }
@@ -139,7 +139,7 @@ fn a_text_without_the_element_is_no_gpx(rt: HostRuntime) {
 #[test]
 fn bytes_that_are_not_utf_8_are_no_gpx(rt: HostRuntime) {
     for bytes in [b"<gpx>\xE4</gpx>".as_slice(), b"\xFF\xFE<\0"] {
-        let table = table_of_gpx(rt.alloc(), bytes);
+        let table = table_of_gpx(rt.alloc(), bytes, false);
         assert!(rt; table == Err(GpxFault::NotUtf8), "{bytes:?}");
     }
 }
@@ -149,7 +149,10 @@ fn elements_may_be_in_each_other_up_to_a_hundred(rt: HostRuntime) -> Result<(), 
     let alloc = rt.alloc();
     let most = repeated(alloc, b"<gpx>", b"<a>", 98, b"<a/>")?;
     let whole = repeated(alloc, most.as_slice(), b"</a>", 98, b"</gpx>")?;
-    assert!(rt; table_of_gpx(alloc, whole.as_slice()).is_ok(), "a hundred");
+    assert!(rt;
+        table_of_gpx(alloc, whole.as_slice(), false) == Err(GpxFault::NoPoints),
+        "a hundred"
+    );
     let more = repeated(alloc, b"<gpx>\n", b"<a>", 100, b"")?;
     assert_refused(&rt, alloc, more.as_slice(), 2, GpxCause::TooDeep);
     Ok(())
@@ -178,12 +181,12 @@ fn what_is_great_is_read_soon(rt: HostRuntime) -> Result<(), Fail> {
     let alloc = rt.alloc();
     let attributes = repeated(alloc, b"<gpx ", b"b='c' ", MILLION, b"/>")?;
     assert!(rt;
-        table_of_gpx(alloc, attributes.as_slice()).is_ok(),
+        table_of_gpx(alloc, attributes.as_slice(), false) == Err(GpxFault::NoPoints),
         "attributes"
     );
     let attribute = repeated(alloc, b"<gpx a='", b"&amp; 12345", MILLION, b"'/>")?;
     assert!(rt;
-        table_of_gpx(alloc, attribute.as_slice()).is_ok(),
+        table_of_gpx(alloc, attribute.as_slice(), false) == Err(GpxFault::NoPoints),
         "an attribute"
     );
     let elements = repeated(
@@ -194,7 +197,7 @@ fn what_is_great_is_read_soon(rt: HostRuntime) -> Result<(), Fail> {
         b"</gpx>",
     )?;
     assert!(rt;
-        table_of_gpx(alloc, elements.as_slice()).is_ok(),
+        table_of_gpx(alloc, elements.as_slice(), false) == Err(GpxFault::NoPoints),
         "elements"
     );
     let name = repeated(
@@ -204,6 +207,9 @@ fn what_is_great_is_read_soon(rt: HostRuntime) -> Result<(), Fail> {
         MILLION / 10,
         b"</name></trk></gpx>",
     )?;
-    assert!(rt; table_of_gpx(alloc, name.as_slice()).is_ok(), "a name");
+    assert!(rt;
+        table_of_gpx(alloc, name.as_slice(), false) == Err(GpxFault::NoPoints),
+        "a name"
+    );
     Ok(())
 }

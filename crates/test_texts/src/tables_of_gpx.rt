@@ -41,8 +41,8 @@ const SEVERAL: &str = "<?xml version='1.0' encoding='UTF-8' standalone='no'?>\n\
     </g:trk>\n\
     <g:trk/>\n\
     <g:trk><g:trkseg><g:trkpt lat='17' lon='18'></g:trkpt></g:trkseg><g:name>late</g:name></g:trk>\n\
-    <g:trk><g:name/><g:name>b</g:name><g:trkseg><g:trkpt/></g:trkseg></g:trk>\n\
-    <g:trk><g:trkseg><g:trkpt lat='19' lon='20'/></g:trkseg></g:trk>\n\
+    <g:trk><g:name>\n\t old\n boar </g:name><g:name>b</g:name><g:trkseg><g:trkpt/></g:trkseg></g:trk>\n\
+    <g:trk><g:name>c  d</g:name><g:trkseg><g:trkpt lat='19' lon='20'/></g:trkseg></g:trk>\n\
     </g:gpx>\n\
     <!-- end --> <?end?>\n";
 
@@ -51,8 +51,8 @@ const TABLE_OF_SEVERAL: &str = "\"animal\",\"time\",\"lon\",\"lat\"\n\
     \"vixen\",\"\",\"10\",\"9\"\n\
     \"vixen\",\"\",\"14\",\"\"\n\
     \"late\",\"\",\"18\",\"17\"\n\
-    \"animal\",\"\",\"\",\"\"\n\
-    \"animal\",\"\",\"20\",\"19\"\n";
+    \"old boar\",\"\",\"\",\"\"\n\
+    \"c  d\",\"\",\"20\",\"19\"\n";
 
 // Signs that are written otherwise in XML or in CSV, and ends of lines.
 const SIGNS: &str =
@@ -69,12 +69,11 @@ const TABLE_OF_SIGNS: &str = "\"animal\",\"time\",\"lon\",\"lat\"\n\
     w\n\
     v\",\" 2 3 4 5 6\n\
     \"\"'\",\"10\"\n\
-    \"old \"\"boar\"\"\n\
-    \",\"\",\">\",\"\"\"1\"\"\"\n";
+    \"old \"\"boar\"\"\",\"\",\">\",\"\"\"1\"\"\"\n";
 
 // Asserts that the table of a text is this one.
 fn assert_table(rt: &impl Abort, alloc: Global, text: &str, table: &str) {
-    match table_of_gpx(alloc, text.as_bytes()) {
+    match table_of_gpx(alloc, text.as_bytes(), false) {
         Ok(found) => {
             let found = str::from_utf8(found.as_slice()).unwrap_or_default();
             assert!(rt; found == table, "{found}");
@@ -99,8 +98,7 @@ fn signs_are_read_as_xml_and_written_as_csv(rt: HostRuntime) {
 }
 
 #[test]
-fn without_points_there_are_titles_alone(rt: HostRuntime) {
-    let titles = "\"animal\",\"time\",\"lon\",\"lat\"\n";
+fn without_points_it_is_refused(rt: HostRuntime) {
     for text in [
         "<gpx/>",
         "\u{FEFF}<gpx/>",
@@ -109,15 +107,44 @@ fn without_points_there_are_titles_alone(rt: HostRuntime) {
         "<gpx><wpt lat='1' lon='2'/><trk><name>a</name><trkseg/></trk></gpx>",
         "<gpx><gpx><trk><trkseg><trkpt/></trkseg></trk></gpx></gpx>",
     ] {
-        assert_table(&rt, rt.alloc(), text, titles);
+        let table = table_of_gpx(rt.alloc(), text.as_bytes(), true);
+        assert!(rt; table == Err(GpxFault::NoPoints), "{text}");
     }
+}
+
+#[test]
+fn of_tracks_without_a_name_one_alone_is_an_animal(rt: HostRuntime) {
+    let alloc = rt.alloc();
+    let one =
+        b"<gpx><trk/><trk><name> </name><trkseg><trkpt lat='1' lon='2'/></trkseg></trk></gpx>";
+    let table = table_of_gpx(alloc, one.as_slice(), false);
+    let expected = b"\"time\",\"lon\",\"lat\"\n\"\",\"2\",\"1\"\n".as_slice();
+    assert!(rt;
+        table.is_ok_and(|table| table.as_slice() == expected),
+        "one"
+    );
+    let two =
+        b"<gpx><trk><trkseg><trkpt lat='1' lon='2'/></trkseg></trk><trk><trkseg><trkpt/></trkseg></trk></gpx>";
+    let table = table_of_gpx(alloc, two.as_slice(), false);
+    assert!(rt; table == Err(GpxFault::NoName { track: 1 }), "two");
+    assert!(rt;
+        table_of_gpx(alloc, two.as_slice(), true).is_ok(),
+        "of one animal"
+    );
+    let other =
+        b"<gpx><trk><name>a</name><trkseg><trkpt/></trkseg></trk><trk><trkseg><trkpt/></trkseg></trk></gpx>";
+    let table = table_of_gpx(alloc, other.as_slice(), true);
+    assert!(rt;
+        table == Err(GpxFault::NoName { track: 2 }),
+        "beside a name"
+    );
 }
 
 // The table of GPX in the encoding that it names.
 fn table_by_name(alloc: Global, bytes: &[u8]) -> Option<Result<Vec<u8>, GpxFault>> {
     let name = declared_encoding(bytes).unwrap_or(b"utf-8");
     let text = decode(alloc, bytes, encoding_of(name)?).ok()?;
-    Some(table_of_gpx(alloc, text.as_slice()))
+    Some(table_of_gpx(alloc, text.as_slice(), false))
 }
 
 // A track of one point, in Latin-1.
@@ -136,11 +163,7 @@ fn a_text_is_read_in_the_encoding_that_it_names(rt: HostRuntime) -> Result<(), F
         "Latin-1"
     );
     let table = table_by_name(rt.alloc(), UTF_16).ok_or("no text")?;
-    let titles = b"\"animal\",\"time\",\"lon\",\"lat\"\n".as_slice();
-    assert!(rt;
-        table.is_ok_and(|table| table.as_slice() == titles),
-        "UTF-16"
-    );
+    assert!(rt; table == Err(GpxFault::NoPoints), "UTF-16");
     Ok(())
 }
 

@@ -59,12 +59,26 @@ fn texts_have_the_times_that_python_has(rt: HostRuntime) {
 fn a_sign_takes_fewer_digits_where_the_rest_needs_them(rt: HostRuntime) {
     for (form, text, second) in [
         ("%Y%m%d%H%M%S", "20240501003004", 1_714_523_404),
-        ("%d%m%Y", "1052024", 1_715_299_200),
-        ("%d%m%Y", "152024", 1_714_521_600),
         ("%H:%M:%S.%d.%m.%Y", "00:30:04.01.05.2024", 1_714_523_404),
     ] {
         expect(&rt, form, text, at(second, 0, 0));
     }
+}
+
+#[test]
+fn signs_side_by_side_have_all_their_digits(rt: HostRuntime) {
+    for (form, text) in [
+        ("%d%m%Y", "1052024"),
+        ("%d%m%y", "10524"),
+        ("%Y-%m-%d %H%M", "2024-05-01 130"),
+        ("%Y-%m-%d %H%M%S", "2024-05-01 00304"),
+        ("%Y%j", "202436"),
+    ] {
+        expect(&rt, form, text, Err(TimeFault::NotTime));
+    }
+    let second = 1_714_521_600;
+    expect(&rt, "%d%m%y", "010524", at(second, 0, 0));
+    expect(&rt, "%Y%j", "2024122", at(second, 0, 0));
 }
 
 #[test]
