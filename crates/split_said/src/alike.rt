@@ -49,23 +49,65 @@ fn before_blanks(text: &[u8]) -> &[u8] {
     rest
 }
 
-// What a name has in common with those that are alike: its small letters, without blanks beside them. One that is no UTF-8
-// is like itself alone.
+// A text with one blank in place of several.
+fn with_single_blanks(alloc: Global, text: &[u8]) -> Result<Vec<u8>, AllocError> {
+    let mut single = Vec::new(alloc);
+    for byte in text {
+        if *byte != b' ' || !single.ends_with(b" ") {
+            single.push(*byte)?;
+        }
+    }
+    Ok(single)
+}
+
+// What a name has in common with those that are alike: its small letters, without blanks beside them and with one between them
+// in place of several. One that is no UTF-8 is like itself alone.
 fn likeness(alloc: Global, name: &[u8]) -> Result<Vec<u8>, OutOfMemory> {
-    let own = before_blanks(behind_blanks(name));
-    match str::from_utf8(own) {
+    let own = with_single_blanks(alloc, before_blanks(behind_blanks(name)))?;
+    match str::from_utf8(&own) {
         Ok(text) => Ok(text.to_lowercase(alloc)?.into_bytes()),
-        Err(_no_text) => Ok(Vec::from_slice(alloc, own)?),
+        Err(_no_text) => Ok(own),
     }
 }
 
-// What a name has in common with those that differ in the form of letters alone: its normal form of compatibility, NFKC. One
-// that is no UTF-8 is like itself alone.
+// Whether a character takes no place: a break of words or lines, a joiner, or the mark of a byte order.
+fn is_unseen(character: char) -> bool {
+    matches!(
+        character,
+        '\u{AD}' | '\u{200B}' | '\u{200C}' | '\u{200D}' | '\u{2060}' | '\u{FEFF}'
+    )
+}
+
+// A text without characters that take no place.
+fn without_unseen(alloc: Global, text: &str) -> Result<String, OutOfMemory> {
+    let mut seen = String::new(alloc);
+    for character in text.chars() {
+        if !is_unseen(character) {
+            seen.push(character)?;
+        }
+    }
+    Ok(seen)
+}
+
+// What a name has in common with those that differ in the form of letters alone: its normal form of compatibility, NFKC, without
+// characters that take no place. One that is no UTF-8 is like itself alone.
 fn letters_of(alloc: Global, name: &[u8]) -> Result<Vec<u8>, OutOfMemory> {
     match str::from_utf8(name) {
-        Ok(text) => Ok(to_nfkc(alloc, text)?.into_bytes()),
+        Ok(text) => Ok(to_nfkc(alloc, without_unseen(alloc, text)?.as_str())?.into_bytes()),
         Err(_no_text) => Ok(Vec::from_slice(alloc, name)?),
     }
+}
+
+// A number without the zeros at its start, and without decimals that are zeros; any other text as it is.
+fn number_of(text: &[u8]) -> &[u8] {
+    let end = text.iter().position(|byte| *byte == b'.');
+    let (whole, decimals) = text.split_at(end.unwrap_or(text.len()));
+    let are_zeros = decimals.iter().skip(1).all(|byte| *byte == b'0');
+    if whole.is_empty() || !are_zeros || !whole.iter().all(u8::is_ascii_digit) {
+        return text;
+    }
+    let first = whole.iter().position(|byte| *byte != b'0');
+    whole.get(first.unwrap_or(whole.len())..).unwrap_or(text)
 }
 
 // What a name has in common with those that differ in the form of letters, and in blanks or capitals too.
@@ -110,6 +152,7 @@ struct Known<'a> {
     by_likeness: IndexMap<Vec<u8>, &'a [u8]>,
     by_letters: IndexMap<Vec<u8>, &'a [u8]>,
     by_both: IndexMap<Vec<u8>, &'a [u8]>,
+    by_number: IndexMap<Vec<u8>, &'a [u8]>,
 }
 
 // Says that a name may be meant as one with the first that it is like, if there is one, and what they differ in.
@@ -127,7 +170,8 @@ fn tell_first(
 }
 
 // Says which names before this one may be meant as one with it: the first from which it differs in blanks or capitals, and the
-// first from which it differs in the form of letters, if that is another one; or else the first from which it differs in both.
+// first from which it differs in the form of letters, if that is another one; or else the first from which it differs in both;
+// and the first that is the same number, with other zeros.
 fn tell_name<'a>(
     alloc: Global,
     said: &mut Said,
@@ -137,6 +181,9 @@ fn tell_name<'a>(
     let alike = first_of(&mut known.by_likeness, likeness(alloc, name)?, name)?;
     let same = first_of(&mut known.by_letters, letters_of(alloc, name)?, name)?;
     let both = first_of(&mut known.by_both, likeness_of_letters(alloc, name)?, name)?;
+    let number = Vec::from_slice(alloc, number_of(name))?;
+    let equal = first_of(&mut known.by_number, number, name)?;
+    tell_first(alloc, said, equal, name, "zeros")?;
     tell_first(alloc, said, alike, name, "blanks or capitals")?;
     if alike != same {
         tell_first(alloc, said, same, name, "the form of letters")?;
@@ -158,6 +205,7 @@ pub(crate) fn tell_alike(
         by_likeness: IndexMap::new(alloc),
         by_letters: IndexMap::new(alloc),
         by_both: IndexMap::new(alloc),
+        by_number: IndexMap::new(alloc),
     };
     for name in names.iter() {
         tell_name(alloc, said, &mut known, name)?;

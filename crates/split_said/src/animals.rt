@@ -6,6 +6,7 @@ use crate::said::Said;
 use crate::sheet::{Sheet, title_at};
 use crate::stop::{Stop, refused};
 use crate::words::{push, push_number};
+use crate::words_missing::{ask_missing, has_lost_digits};
 use range_plane::OutOfMemory;
 use split_reading::{Ledger, Row};
 use split_refusal::Kind;
@@ -73,21 +74,44 @@ fn first_record(ledger: &Ledger, animal: u32) -> Option<u32> {
     }
 }
 
-// Refuses a name with an end of a line, which has records of its own where a quote is missing.
-fn refuse_line_ends(alloc: Global, ledger: &Ledger) -> Result<(), Stop> {
+// That a name is a number without all its digits.
+fn lost_digits_text(alloc: Global, name: &[u8]) -> Result<Vec<u8>, AllocError> {
+    let mut text = Vec::new(alloc);
+    push(&mut text, "the name of animal ")?;
+    push_shown(&mut text, name)?;
+    push(
+        &mut text,
+        " is a number that has lost digits: write its column as text, before a spreadsheet opens it",
+    )?;
+    Ok(text)
+}
+
+// What is wrong with a name, if anything is.
+fn name_fault(alloc: Global, name: &[u8]) -> Option<Result<Vec<u8>, AllocError>> {
+    if has_line_end(name) {
+        Some(line_end_text(alloc, name))
+    } else if has_lost_digits(name) {
+        Some(lost_digits_text(alloc, name))
+    } else {
+        None
+    }
+}
+
+// Refuses a name with an end of a line, which has records of its own where a quote is missing, and one that is a number without
+// all its digits, which others may have too.
+fn refuse_names(alloc: Global, ledger: &Ledger) -> Result<(), Stop> {
     for (animal, name) in ledger.names.iter().enumerate() {
-        if has_line_end(name) {
+        if let Some(text) = name_fault(alloc, name) {
             let animal = u32::try_from(animal).unwrap_or(u32::MAX);
             let record = first_record(ledger, animal);
-            let text = line_end_text(alloc, name);
             return Err(refused(alloc, Kind::Name, record, text));
         }
     }
     Ok(())
 }
 
-// Refuses names with an end of a line, and a column of the animal that has another one in each row; says where most have, and
-// which names are alike.
+// Refuses names that cannot be right, and a column of the animal that has another one in each row; says where most have, which
+// names may be none, and which are alike.
 pub(crate) fn check_animals(
     alloc: Global,
     said: &mut Said,
@@ -97,8 +121,9 @@ pub(crate) fn check_animals(
     let Some(column) = sheet.columns.animal.first() else {
         return Ok(());
     };
-    refuse_line_ends(alloc, ledger)?;
+    refuse_names(alloc, ledger)?;
     let counts = record_counts(alloc, ledger)?;
+    ask_missing(alloc, said, &ledger.names, &counts)?;
     let animals = counts.len();
     if animals < 2 {
         return Ok(());

@@ -20,17 +20,52 @@ fn most_degrees(unit: Scale) -> (u64, u64) {
     }
 }
 
-// Whether all fixes that are used lie within 180 by 90 of the corner.
-fn are_near_corner(rows: &[Row], unit: Scale) -> bool {
-    let (longitude, latitude) = most_degrees(unit);
-    for row in rows {
-        if let Some((east, north)) = taken_metres(row) {
-            if east.unsigned_abs() > longitude || north.unsigned_abs() > latitude {
-                return false;
-            }
+// How many fixes there are, how many of them may be degrees, and how many lie within 180 by 90 of the corner.
+#[derive(Clone, Copy)]
+struct Counts {
+    all: usize,
+    may_be: usize,
+    near: usize,
+}
+
+impl Counts {
+    // The counts with a fix of these metres. Longitudes may also go round to 360.
+    fn with(self, east: i64, north: i64, unit: Scale) -> Counts {
+        let (longitude, latitude) = most_degrees(unit);
+        let is_within = north.unsigned_abs() <= latitude;
+        let may_be = is_within && east.unsigned_abs() <= longitude.saturating_mul(2);
+        let is_near = is_within && east.unsigned_abs() <= longitude;
+        Counts {
+            all: self.all.saturating_add(1),
+            may_be: self.may_be.saturating_add(usize::from(may_be)),
+            near: self.near.saturating_add(usize::from(is_near)),
         }
     }
-    true
+
+    // Whether all fixes lie near the corner.
+    fn are_all_near(self) -> bool {
+        self.near == self.all
+    }
+
+    // Whether more than half may be degrees.
+    fn may_most_be(self) -> bool {
+        self.may_be > self.all / 2
+    }
+}
+
+// The counts of the fixes that are used.
+fn counts_of(rows: &[Row], unit: Scale) -> Counts {
+    let mut counts = Counts {
+        all: 0,
+        may_be: 0,
+        near: 0,
+    };
+    for row in rows {
+        if let Some((east, north)) = taken_metres(row) {
+            counts = counts.with(east, north, unit);
+        }
+    }
+    counts
 }
 
 // How many trillionths a degree has.
@@ -49,15 +84,20 @@ fn degrees_text(
     alloc: Global,
     titles: (&[u8], &[u8]),
     first: (f64, f64),
+    are_all: bool,
 ) -> Result<Vec<u8>, AllocError> {
     let mut text = Vec::new(alloc);
-    push(&mut text, "all of ")?;
+    push(&mut text, if are_all { "all of " } else { "most of " })?;
     text.extend_from_slice(titles.0)?;
     push(&mut text, " and ")?;
     text.extend_from_slice(titles.1)?;
     push(
         &mut text,
-        " lie within 180 by 90, as longitude and latitude do: say so by ",
+        if are_all {
+            " lie within 180 by 90, as longitude and latitude do: say so by "
+        } else {
+            " lie within 360 by 90, as longitude and latitude do: say so by "
+        },
     )?;
     push_option(&mut text, "--lon", titles.0)?;
     push(&mut text, " ")?;
@@ -68,8 +108,8 @@ fn degrees_text(
     Ok(text)
 }
 
-// Refuses degrees in the columns of metres, or asks about them, where these have homerange's own titles. Whole numbers are
-// no degrees.
+// Refuses columns of metres most of which may be degrees, or asks about them, where they have homerange's own titles and all lie
+// near the corner. Whole numbers are no degrees.
 pub(crate) fn check_degrees(
     alloc: Global,
     said: &mut Said,
@@ -81,7 +121,8 @@ pub(crate) fn check_degrees(
     let Some(first) = first else {
         return Ok(());
     };
-    if !are_near_corner(rows, sheet.unit) {
+    let counts = counts_of(rows, sheet.unit);
+    if !counts.may_most_be() || sheet.columns.is_own && !counts.are_all_near() {
         return Ok(());
     }
     if sheet.columns.is_own {
@@ -95,6 +136,6 @@ pub(crate) fn check_degrees(
         title_at(sheet, metres.first),
         title_at(sheet, metres.second),
     );
-    let text = degrees_text(alloc, titles, first);
+    let text = degrees_text(alloc, titles, first, counts.are_all_near());
     Err(refused(alloc, Kind::Degrees, None, text))
 }

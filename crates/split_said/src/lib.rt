@@ -33,7 +33,9 @@ mod stop;
 mod times;
 mod tracks;
 mod utm;
+mod utm_beside;
 mod words;
+mod words_missing;
 mod zeros;
 mod zones;
 

@@ -5,7 +5,7 @@ use crate::rows::{kept_fix, record_at};
 use crate::said::Said;
 use crate::sheet::Sheet;
 use crate::stop::{Stop, nothing_left, refused};
-use crate::words::{push, push_zone, push_zone_option};
+use crate::words::{push, push_decimal, push_zone, push_zone_option};
 use crate::zones::{Zoned, first_zone, ranked_zones, zone_counts};
 use split_reading::{Row, Zone};
 use split_refusal::Kind;
@@ -28,6 +28,74 @@ fn check_degrees_are_there(alloc: Global, sheet: &Sheet<'_>, rows: &[Row]) -> Re
         }
         None => Ok(()),
     }
+}
+
+// The greatest longitude, once round, and the greatest latitude, in trillionths of a degree.
+const MOST_LONGITUDE: u64 = 360_000_000_000_000;
+
+const MOST_LATITUDE: u64 = 90_000_000_000_000;
+
+// How many trillionths a degree has.
+const TRILLION: u64 = 1_000_000_000_000;
+
+// The longitude and latitude of a fix that is kept and that are those of no place.
+fn no_place(row: &Row, keeps_marks: bool) -> Option<(i64, i64)> {
+    let (longitude, latitude) = kept_fix(row, keeps_marks)?.degrees?;
+    let is_place = longitude.unsigned_abs() <= MOST_LONGITUDE
+        && latitude.unsigned_abs() <= MOST_LATITUDE;
+    if is_place {
+        None
+    } else {
+        Some((longitude, latitude))
+    }
+}
+
+// Appends degrees.
+fn push_degrees(text: &mut Vec<u8>, degrees: i64) -> Result<(), AllocError> {
+    if degrees < 0 {
+        push(text, "-")?;
+    }
+    push_decimal(text, degrees.unsigned_abs(), TRILLION)
+}
+
+// That a longitude and a latitude are those of no place.
+fn no_place_text(
+    alloc: Global,
+    longitude: i64,
+    latitude: i64,
+    is_swapped: bool,
+) -> Result<Vec<u8>, AllocError> {
+    let mut text = Vec::new(alloc);
+    push(&mut text, "there is no place of longitude ")?;
+    push_degrees(&mut text, longitude)?;
+    push(&mut text, " and latitude ")?;
+    push_degrees(&mut text, latitude)?;
+    if is_swapped {
+        push(
+            &mut text,
+            ": name their columns the other way, by --lon and --lat",
+        )?;
+        return Ok(text);
+    }
+    push(
+        &mut text,
+        ": a word for what is missing is named by --na, such as --na ",
+    )?;
+    push_degrees(&mut text, latitude)?;
+    Ok(text)
+}
+
+// Refuses a fix of a longitude and a latitude of which there is no place.
+fn check_places(alloc: Global, sheet: &Sheet<'_>, rows: &[Row]) -> Result<(), Stop> {
+    for (index, row) in rows.iter().enumerate() {
+        if let Some((longitude, latitude)) = no_place(row, sheet.keeps_marks) {
+            let is_swapped = longitude.unsigned_abs() <= MOST_LATITUDE
+                && latitude.unsigned_abs() <= MOST_LONGITUDE / 2;
+            let text = no_place_text(alloc, longitude, latitude, is_swapped);
+            return Err(refused(alloc, Kind::Number, Some(record_at(index)), text));
+        }
+    }
+    Ok(())
 }
 
 // Whether some of these zones are of the south, and some of the north.
@@ -70,6 +138,7 @@ pub(crate) fn projected_zone(
     rows: &[Row],
 ) -> Result<Zone, Stop> {
     check_degrees_are_there(alloc, sheet, rows)?;
+    check_places(alloc, sheet, rows)?;
     let zones = ranked_zones(alloc, &zone_counts(alloc, rows, Zoned::Degrees)?)?;
     let Some(first) = first_zone(&zones) else {
         return Err(nothing_left(alloc));

@@ -5,6 +5,7 @@ use crate::rows::{record_at, taken_fix};
 use crate::said::Said;
 use crate::sheet::Sheet;
 use crate::stop::{Stop, refused};
+use crate::utm_beside::check_beside;
 use crate::words::{push, push_option};
 use crate::zones::{Zoned, first_zone, ranked_zones, zone_counts};
 use split_reading::{Row, Zone};
@@ -35,8 +36,23 @@ fn is_unnamed(row: &Row) -> bool {
     }
 }
 
-// Appends the remedy: to name the zone of all fixes.
-fn push_remedy(text: &mut Vec<u8>, zones: &[Ranked]) -> Result<(), AllocError> {
+// Whether a fix is taken and has longitude and latitude.
+fn has_degrees(row: &Row) -> bool {
+    match taken_fix(row) {
+        Some(fix) => fix.degrees.is_some(),
+        None => false,
+    }
+}
+
+// Appends the remedy: to name the zone of all fixes, into which longitude and latitude are projected, or to make tables of single
+// zones, where there are none.
+fn push_remedy(text: &mut Vec<u8>, zones: &[Ranked], rows: &[Row]) -> Result<(), AllocError> {
+    if !rows.iter().any(has_degrees) {
+        return push(
+            text,
+            "make a table of each, since there is no longitude and latitude to project into one",
+        );
+    }
     push(text, "name the zone of all, such as ")?;
     match zones.first() {
         Some(first) => push_option(text, "--zone", &first.word),
@@ -45,20 +61,20 @@ fn push_remedy(text: &mut Vec<u8>, zones: &[Ranked]) -> Result<(), AllocError> {
 }
 
 // That fixes lie in several zones.
-fn several_text(alloc: Global, zones: &[Ranked]) -> Result<Vec<u8>, AllocError> {
+fn several_text(alloc: Global, zones: &[Ranked], rows: &[Row]) -> Result<Vec<u8>, AllocError> {
     let mut text = Vec::new(alloc);
     push(&mut text, "fixes lie in several zones (")?;
     push_ranked(&mut text, zones)?;
     push(&mut text, "): ")?;
-    push_remedy(&mut text, zones)?;
+    push_remedy(&mut text, zones, rows)?;
     Ok(text)
 }
 
 // That a fix has no metres.
-fn bare_text(alloc: Global, zones: &[Ranked]) -> Result<Vec<u8>, AllocError> {
+fn bare_text(alloc: Global, zones: &[Ranked], rows: &[Row]) -> Result<Vec<u8>, AllocError> {
     let mut text = Vec::new(alloc);
     push(&mut text, "there are no UTM coordinates: ")?;
-    push_remedy(&mut text, zones)?;
+    push_remedy(&mut text, zones, rows)?;
     Ok(text)
 }
 
@@ -83,11 +99,12 @@ fn check_one(alloc: Global, sheet: &Sheet<'_>, rows: &[Row], zones: &[Ranked]) -
         return Ok(());
     }
     if zones.len() > 1 {
-        return Err(refused(alloc, Kind::Zone, None, several_text(alloc, zones)));
+        let text = several_text(alloc, zones, rows);
+        return Err(refused(alloc, Kind::Zone, None, text));
     }
     match rows.iter().position(is_bare) {
         Some(place) => {
-            let text = bare_text(alloc, zones);
+            let text = bare_text(alloc, zones, rows);
             Err(refused(alloc, Kind::Zone, Some(record_at(place)), text))
         }
         None => Ok(()),
@@ -125,6 +142,7 @@ pub(crate) fn utm_zone(
     if zones.len() > 1 || rows.iter().any(is_bare) || zone != sheet.zone.unwrap_or(zone) {
         return Ok(None);
     }
+    check_beside(alloc, sheet, rows, zone)?;
     tell_zones(alloc, said, &zones)?;
     Ok(Some(zone))
 }
