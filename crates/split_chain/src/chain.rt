@@ -10,6 +10,7 @@ ghost use Rattle.split_fates.specs.Fates.{fates_of};
 ghost use Rattle.split_names.specs.Names.{file_names};
 ghost use Rattle.split_reading.specs.Words.{texts};
 
+use crate::passed::refuse_passed_over;
 use crate::placed::{choice_of, grid_of, moved_by, place};
 use crate::read::{read, refuse_maker, refuse_other_animals, shown};
 use crate::steps::{counts_by, fates_by, fixes_by, leave_out_by, names_by, tracks_by};
@@ -407,6 +408,7 @@ pub fn split_export<P: Progress>(
     let export = read(alloc, bytes, path, asked, wish, progress)?;
     refuse_maker(alloc, asked, &export)?;
     refuse_other_animals(alloc, bytes, path, &export)?;
+    refuse_passed_over(alloc, wish, &export)?;
     let form = form_of_times(alloc, bytes, asked, wish, &export)?;
     split_read(alloc, asked, wish, &form, export)
 }

@@ -4,6 +4,7 @@
 
 mod chain;
 mod laws;
+mod passed;
 mod placed;
 mod read;
 mod steps;

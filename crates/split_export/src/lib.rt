@@ -10,6 +10,7 @@ mod look;
 mod rules;
 mod text;
 mod times_look;
+mod unread;
 mod unread_times;
 
 pub use asked::Asked;
@@ -20,4 +21,5 @@ pub use look::{Look, fields_of_record, look_at_metres, most_moved, part_alike};
 pub use rules::{NotTaken, rules_of};
 pub use text::{TextFault, text_fault};
 pub use times_look::{TimesLook, look_at_times};
+pub use unread::{Texts, look_at_unread};
 pub use unread_times::column_of_times;

@@ -20,7 +20,7 @@ pub use fault::{FaultKind, PassedOver, TitleFault};
 pub use find::find_columns;
 pub use makers::maker_of;
 pub use named::{Named, Role};
-pub use plain::trimmed;
+pub use plain::{comes_to, trimmed};
 pub use presets::{GPX, PRESETS, Preset, preset_of};
 pub use sentences::{fault_text, push_shown, start_of_sign};
 pub use usual::COLUMN_LIMIT;

@@ -74,8 +74,9 @@ fn are_alike(text: &[u8], other: &[u8]) -> bool
     text.len() == other.len() && are_paired(text, other)
 }
 
-// Whether a title comes to another.
-pub(crate) fn comes_to(title: &[u8], other: &[u8]) -> bool
+/// Whether a title comes to another: in small letters, without blanks and tabs beside it, and with hyphens for blanks, points,
+/// colons and underscores.
+pub fn comes_to(title: &[u8], other: &[u8]) -> bool
     ensures { IsTrue result ↔ (plain title.now ≡ plain other.now) }
 {
     are_alike(trimmed(title), trimmed(other))

@@ -1,0 +1,227 @@
+// Columns that are not read, and whose texts may say where or when fixes are, or of which kind.
+
+use crate::wish::Wish;
+use split_clock::Clock;
+use split_export::{Export, Texts, look_at_unread};
+use split_reading::{Row, Told};
+use split_refusal::{Kind, Refusal};
+use split_titles::{comes_to, not_read, trimmed};
+use std::alloc::{AllocError, Global};
+
+// The seconds of a day.
+const DAY: i128 = 86_400;
+
+// The zone that every clock without a name is of.
+const UTC: &str = "UTC";
+
+// Titles of hours, of zones of time and of zones of a grid.
+const HOURS: [&[u8]; 9] = [
+    b"hour", b"hours", b"hora", b"heure", b"stunde", b"ora", b"hr", b"uhr", b"hh",
+];
+
+const OFFSETS: [&[u8]; 8] = [
+    b"utc-offset",
+    b"utcoffset",
+    b"timezone",
+    b"time-zone",
+    b"tz",
+    b"gmt-offset",
+    b"tz-offset",
+    b"timezone-offset",
+];
+
+const ZONES: [&[u8]; 12] = [
+    b"zone",
+    b"utmzone",
+    b"utm-zone-number",
+    b"zone-number",
+    b"zonenumber",
+    b"zone-letter",
+    b"zoneletter",
+    b"grid-zone",
+    b"epsg",
+    b"epsg-code",
+    b"srid",
+    b"crs",
+];
+
+// What a column that is not read says.
+#[derive(Clone, Copy)]
+enum Passed {
+    // Which half of the day it was.
+    Half,
+    // That it was south or west, of degrees without a minus.
+    Side,
+    // The Argos class.
+    Classes,
+    // The hour or the clock, of times that are days alone.
+    Clock,
+    // Of which zone times are.
+    Offset,
+    // Of which zone coordinates are.
+    Zone,
+}
+
+// Whether a title is one of these.
+fn is_one_of(title: &[u8], titles: &[&[u8]]) -> bool {
+    titles.iter().any(|own| comes_to(title, own))
+}
+
+// Whether the fix of a row, if it has one, was at midnight by a clock.
+fn is_at_midnight(row: &Row, clock: &Clock) -> bool {
+    match row.told {
+        Told::Fix(fix) => {
+            fix.moment.nanosecond == 0
+                && clock.local_second(fix.moment.second).checked_rem(DAY) == Some(0)
+        }
+        Told::LeftOut(_) => true,
+    }
+}
+
+// Whether the times of an export are days alone.
+fn are_days(export: &Export<'_>, clock: &Clock) -> bool {
+    !export.columns.time.is_empty()
+        && !export.columns.is_second
+        && export
+            .ledger
+            .rows
+            .iter()
+            .all(|row| is_at_midnight(row, clock))
+}
+
+// What is known of an export beside its columns.
+#[derive(Clone, Copy)]
+struct Known {
+    has_time: bool,
+    are_days: bool,
+    has_classes: bool,
+    has_own_metres: bool,
+    is_in_utc: bool,
+}
+
+// What is known of an export, of which this is wished.
+fn known_of(export: &Export<'_>, wish: &Wish<'_>) -> Known {
+    let columns = &export.columns;
+    Known {
+        has_time: !columns.time.is_empty() && !columns.is_second,
+        are_days: are_days(export, wish.clock),
+        has_classes: columns.argos.is_some(),
+        has_own_metres: columns.metres.is_some() && !columns.is_utm,
+        is_in_utc: wish.clock_name == UTC,
+    }
+}
+
+// What a column of this title and with such texts says that is not read, if it says something.
+fn what_is_passed(known: Known, title: &[u8], texts: &Texts) -> Option<Passed> {
+    if !texts.are_there {
+        None
+    } else if known.has_time && texts.are_halves {
+        Some(Passed::Half)
+    } else if texts.are_against() {
+        Some(Passed::Side)
+    } else if texts.are_of_argos() && !known.has_classes {
+        Some(Passed::Classes)
+    } else if known.are_days && texts.are_several && says_clock(title, texts) {
+        Some(Passed::Clock)
+    } else if known.has_time && known.is_in_utc && !texts.are_utc && is_one_of(title, &OFFSETS) {
+        Some(Passed::Offset)
+    } else if known.has_own_metres && texts.are_several && is_one_of(title, &ZONES) {
+        Some(Passed::Zone)
+    } else {
+        None
+    }
+}
+
+// Whether a column of this title has clocks, or hours.
+fn says_clock(title: &[u8], texts: &Texts) -> bool {
+    texts.are_clocks || texts.are_hours && is_one_of(title, &HOURS)
+}
+
+// Why a column may not be passed over, and the remedy.
+fn words_of(passed: Passed) -> &'static str {
+    match passed {
+        Passed::Half => {
+            "has halves of the day, and is not read: join it to the time, as by --time TIME,COLUMN with %p in --time-format, or \
+             remove it"
+        }
+        Passed::Side => {
+            "has S or W beside degrees above 0, and is not read: write those with a minus, and remove it"
+        }
+        Passed::Classes => {
+            "may have Argos classes: name it, as by --argos COLUMN, or rename or remove it where it has none"
+        }
+        Passed::Clock => {
+            "has hours, which the days of the time have not: join them, as by --time DAY,COLUMN, or remove it"
+        }
+        Passed::Offset => {
+            "says of which zone times are, and is not read: name the zone, as by --tz Europe/Ljubljana, or write the offset behind \
+             each time, and remove it"
+        }
+        Passed::Zone => {
+            "has several values: if they are zones of the coordinates, make a table of each; and else rename or remove it"
+        }
+    }
+}
+
+// The refusal of a table for such a column of this title.
+fn refusal_of(alloc: Global, column: usize, title: &[u8], passed: Passed) -> Refusal {
+    let title = str::from_utf8(trimmed(title)).unwrap_or("");
+    let number = column.saturating_add(1);
+    let text = format!(in alloc; "column {number} '{title}' {}", words_of(passed));
+    refusal_with(alloc, text)
+}
+
+// The refusal with this text.
+fn refusal_with(alloc: Global, text: Result<String, AllocError>) -> Refusal {
+    match text {
+        Ok(text) => Refusal::new(alloc, Kind::Columns, None, text.as_bytes()),
+        Err(_) => Refusal::out_of_memory(alloc),
+    }
+}
+
+// The first column that may not be passed over, of some with such texts.
+fn first_passed(
+    known: Known,
+    titles: &[Vec<u8>],
+    columns: &[usize],
+    texts: &[Texts],
+) -> Option<(usize, Passed)> {
+    for (column, own) in columns.iter().zip(texts) {
+        let title = titles.get(*column)?;
+        if let Some(what) = what_is_passed(known, title, own) {
+            return Some((*column, what));
+        }
+    }
+    None
+}
+
+/// Refuses a table of which a column that is not read may say where or when fixes are, or of which kind.
+///
+/// # Errors
+///
+/// There is such a column, or memory ran out.
+pub(crate) fn refuse_passed_over(
+    alloc: Global,
+    wish: &Wish<'_>,
+    export: &Export<'_>,
+) -> Result<(), Refusal> {
+    let Ok(columns) = not_read(alloc, &export.columns, export.titles.len()) else {
+        return Err(Refusal::out_of_memory(alloc));
+    };
+    if columns.is_empty() {
+        return Ok(());
+    }
+    let Ok(texts) = look_at_unread(alloc, &export.text, &columns, &export.ledger.rows) else {
+        return Err(Refusal::out_of_memory(alloc));
+    };
+    match first_passed(known_of(export, wish), &export.titles, &columns, &texts) {
+        Some((column, what)) => {
+            let title = match export.titles.get(column) {
+                Some(title) => title.as_slice(),
+                None => b"",
+            };
+            Err(refusal_of(alloc, column, title, what))
+        }
+        None => Ok(()),
+    }
+}

@@ -1,0 +1,216 @@
+// What the texts of columns that are not read may say of where and when fixes are, and of which kind.
+
+use csv::ByteRecord;
+use range_plane::OutOfMemory;
+use split_reading::{Row, Told};
+use split_table::{TableFault, TableText};
+use std::alloc::Global;
+
+// How many bytes of a text tell it from others.
+const TOLD_BYTES: usize = 24;
+
+/// What all texts of a column are that are not missing.
+#[derive(Clone, Copy, PartialEq, Eq, Debug)]
+pub struct Texts {
+    /// Whether there is one.
+    pub are_there: bool,
+    /// Whether they differ.
+    pub are_several: bool,
+    /// Whether all are `am` or `pm`.
+    pub are_halves: bool,
+    /// Whether all are clocks, as 10:30 and 10:30:00.
+    pub are_clocks: bool,
+    /// Whether all are whole numbers from 0 to 24.
+    pub are_hours: bool,
+    /// Whether all are zones of time that are UTC.
+    pub are_utc: bool,
+    // Whether all are `N` or `S`, and whether all are `E` or `W`.
+    are_of_latitude: bool,
+    are_of_longitude: bool,
+    // Whether one is `S` or `W` of a latitude or a longitude above 0.
+    is_against: bool,
+    // Whether all are classes of Argos, and whether numbers and letters are among them.
+    are_classes: bool,
+    has_number: bool,
+    has_letter: bool,
+    first: [u8; TOLD_BYTES],
+}
+
+// The first bytes of a text.
+fn told_bytes(text: &[u8]) -> [u8; TOLD_BYTES] {
+    let mut bytes = [0u8; TOLD_BYTES];
+    for (own, byte) in bytes.iter_mut().zip(text) {
+        *own = *byte;
+    }
+    bytes
+}
+
+// Whether a text is a half of the day.
+fn is_half(text: &[u8]) -> bool {
+    [b"am".as_slice(), b"pm", b"a.m.", b"p.m."]
+        .iter()
+        .any(|half| text.eq_ignore_ascii_case(half))
+}
+
+// Whether a text is one digit or two.
+fn is_pair(text: &[u8]) -> bool {
+    1 <= text.len() && text.len() <= 2 && text.iter().all(u8::is_ascii_digit)
+}
+
+// Whether a text is a clock: two or three pairs of digits with colons between them.
+fn is_clock(text: &[u8]) -> bool {
+    let colons = text.iter().filter(|byte| **byte == b':').count();
+    1 <= colons && colons <= 2 && text.split(|byte| *byte == b':').all(is_pair)
+}
+
+// Whether a text is an hour.
+fn is_hour(text: &[u8]) -> bool {
+    match text {
+        [b'2', last] => b'0' <= *last && *last <= b'4',
+        [b'0' | b'1', last] => last.is_ascii_digit(),
+        [only] => only.is_ascii_digit(),
+        _ => false,
+    }
+}
+
+// Whether a text is the zone of UTC, or no offset from it.
+fn is_utc(text: &[u8]) -> bool {
+    let is_nothing = text
+        .iter()
+        .all(|byte| matches!(*byte, b'0' | b':' | b'.' | b'+' | b'-'));
+    let is_name = [b"utc".as_slice(), b"gmt", b"z"]
+        .iter()
+        .any(|name| text.eq_ignore_ascii_case(name));
+    is_nothing || is_name
+}
+
+// Whether a text is one of two letters.
+fn is_side(text: &[u8], one: u8, other: u8) -> bool {
+    match text {
+        [letter] => letter.to_ascii_uppercase() == one || letter.to_ascii_uppercase() == other,
+        _ => false,
+    }
+}
+
+// Whether a letter says south or west of degrees above 0.
+fn is_against(text: &[u8], degrees: Option<(i64, i64)>) -> bool {
+    let Some((longitude, latitude)) = degrees else {
+        return false;
+    };
+    is_side(text, b'S', b'S') && latitude > 0 || is_side(text, b'W', b'W') && longitude > 0
+}
+
+impl Texts {
+    // Those of no text.
+    fn none() -> Texts {
+        Texts {
+            are_there: false,
+            are_several: false,
+            are_halves: true,
+            are_clocks: true,
+            are_hours: true,
+            are_utc: true,
+            are_of_latitude: true,
+            are_of_longitude: true,
+            is_against: false,
+            are_classes: true,
+            has_number: false,
+            has_letter: false,
+            first: [0; TOLD_BYTES],
+        }
+    }
+
+    // The same with one text more, of a record with these degrees.
+    fn with(self, text: &[u8], degrees: Option<(i64, i64)>) -> Texts {
+        if text.is_empty() || text == b"NA".as_slice() {
+            return self;
+        }
+        let first = if self.are_there {
+            self.first
+        } else {
+            told_bytes(text)
+        };
+        let is_number = matches!(text, [b'0' | b'1' | b'2' | b'3']);
+        let is_letter = matches!(text, [b'A' | b'B' | b'Z' | b'G']);
+        Texts {
+            are_there: true,
+            are_several: self.are_several || first != told_bytes(text),
+            are_halves: self.are_halves && is_half(text),
+            are_clocks: self.are_clocks && is_clock(text),
+            are_hours: self.are_hours && is_hour(text),
+            are_utc: self.are_utc && is_utc(text),
+            are_of_latitude: self.are_of_latitude && is_side(text, b'N', b'S'),
+            are_of_longitude: self.are_of_longitude && is_side(text, b'E', b'W'),
+            is_against: self.is_against || is_against(text, degrees),
+            are_classes: self.are_classes && (is_number || is_letter),
+            has_number: self.has_number || is_number,
+            has_letter: self.has_letter || is_letter,
+            first,
+        }
+    }
+
+    /// Whether they say that latitudes are south or longitudes west, which have no minus.
+    pub fn are_against(&self) -> bool {
+        self.are_there && self.is_against && (self.are_of_latitude || self.are_of_longitude)
+    }
+
+    /// Whether they are classes of Argos, numbers and letters.
+    pub fn are_of_argos(&self) -> bool {
+        self.are_classes && self.has_number && self.has_letter
+    }
+
+    // Whether a text more may change what is said of them, but that they differ.
+    fn are_open(&self) -> bool {
+        self.are_halves
+            || self.are_clocks
+            || self.are_hours
+            || self.are_of_latitude
+            || self.are_of_longitude
+            || self.are_classes
+            || !self.are_several
+    }
+}
+
+// The degrees of a row.
+fn degrees_of(row: &Row) -> Option<(i64, i64)> {
+    match row.told {
+        Told::Fix(fix) => fix.degrees,
+        Told::LeftOut(_) => None,
+    }
+}
+
+// Adds the texts that a record has in some columns.
+fn add(texts: &mut [Texts], columns: &[usize], fields: &ByteRecord, row: &Row) {
+    for (own, column) in texts.iter_mut().zip(columns) {
+        *own = own.with(fields.get(*column).unwrap_or(b""), degrees_of(row));
+    }
+}
+
+// The texts of so many columns without a record.
+fn no_texts(alloc: Global, columns: usize) -> Result<Vec<Texts>, OutOfMemory> {
+    Ok(vec![in alloc; Texts::none(); columns]?)
+}
+
+/// What the texts of some columns are, of a table whose records say this.
+///
+/// # Errors
+///
+/// Memory ran out.
+pub fn look_at_unread(
+    alloc: Global,
+    text: &TableText<'_>,
+    columns: &[usize],
+    rows: &[Row],
+) -> Result<Vec<Texts>, TableFault> {
+    let mut table = text.table(alloc)?;
+    let Ok(mut texts) = no_texts(alloc, columns.len()) else {
+        return Err(TableFault::OutOfMemory);
+    };
+    for row in rows {
+        if !texts.iter().any(Texts::are_open) || !table.advance()? {
+            return Ok(texts);
+        }
+        add(&mut texts, columns, table.current(), row);
+    }
+    Ok(texts)
+}
