@@ -11,23 +11,18 @@ use Rattle.split_export.specs.declared.export.Export.{Export}
 use Rattle.split_names.specs.Clean.{clean}
 use Rattle.split_names.specs.Names.{file_names, folded, is_among, named, numbered, same_after, told_apart}
 use Rattle.split_reading.specs.Cells.{Record}
-use Rattle.split_reading.specs.Ledger.{Written, animal_in, if_told, lasts_with, ledger_from, names_with, row_by, sensors_with, told_behind, with_name, with_row, written}
+use Rattle.split_reading.specs.Ledger.{Written, animal_in, lasts_with, ledger_from, names_with, row_by, sensors_with, told_behind, with_name, written}
 use Rattle.split_reading.specs.Told.{filled, first_filled, name_in}
 use Rattle.split_reading.specs.Words.{texts}
-use Rattle.split_reading.specs.declared.fault.CellFault.{CellFault}
-use Rattle.split_reading.specs.declared.fault.ReadingFault.{ReadingFault}
-use Rattle.split_reading.specs.declared.ledger.Row.{Row}
 use Rattle.split_reading.specs.declared.rules.Rules.{Rules}
 use Rattle.split_reading.specs.declared.told.Told.{Told}
 use Rattle.split_table.specs.Table.{Titled}
 use Rattle.split_table.specs.declared.table.TableFault.{TableFault}
 use Rattle.split_times.specs.declared.moment.Moment.{Moment}
+use Rattle.split_chain.proofs.Ledgers.{behind_record}
+use Rattle.split_chain.proofs.Results.{inner}
 
--- what two results hold is the same where they are
-pub inner : {X E : Type 0} {x y : X} → ◌≡◌ {A = Result X E} (Ok x) (Ok y) → x ≡ y
-inner e = cc e
-
--- so what is there
+-- what is there is the same where two are
 inside : {X : Type 0} {x y : X} → ◌≡◌ {A = Option X} (Some x) (Some y) → x ≡ y
 inside e = cc e
 
@@ -59,18 +54,6 @@ names_full names (Some own) all full = by (list_any (bytes_eq own) names)
     by true = all
     by false = All-push IsFull names own all (full own refl)
 
--- a ledger with a row has the names of one without it
-behind_row : (row : Row) (rest : Result Written ReadingFault) (whole : Written) → ((others : Written) → rest ≡ Ok others → All IsFull others.names) → with_row row rest ≡ Ok whole
-    → All IsFull whole.names
-behind_row row (Err fault) whole all e = absurd (cc e)
-behind_row row (Ok others) whole all e = subst (λ (l : Written). All IsFull l.names) (inner e) (all others refl)
-
--- a ledger behind a record has those of one that it comes to by what is told of the record
-behind_told : (number : ℕ) (what : Result Told CellFault) (more : Told → Result Written ReadingFault) (whole : Written) → ((told : Told) → more told ≡ Ok whole → All IsFull whole.names)
-    → if_told number what more ≡ Ok whole → All IsFull whole.names
-behind_told number (Err fault) more whole all e = absurd (cc e)
-behind_told number (Ok told) more whole all e = all told e
-
 -- so no name of a ledger is empty
 ledger_full : (rules : Rules) (count : ℕ) (names sensors : List (List ℕ)) (lasts : List (Option Moment)) (records : List Record) (whole : Written) → IsFull rules.name.now → All IsFull names
     → ledger_from rules count names sensors lasts records ≡ Ok whole → All IsFull whole.names
@@ -79,10 +62,9 @@ ledger_full rules count names sensors lasts [] whole full all e = subst (λ (l :
 ledger_full rules count names sensors lasts (fields ∷ records) whole full all e =
     let more = λ (told : Told).
     ledger_from rules (count + 1) (names_with rules names fields) (sensors_with rules sensors fields) (lasts_with lasts (animal_in rules names fields) told) records in
-    behind_told (count + 1) (told_behind rules (count + 1) names lasts fields) (λ told. with_row (row_by rules names sensors fields told) (more told)) whole
-    (λ told. behind_row (row_by rules names sensors fields told) (more told) whole
-    (λ others. ledger_full rules (count + 1) (names_with rules names fields) (sensors_with rules sensors fields) (lasts_with lasts (animal_in rules names fields) told) records others full
-    (names_full names (name_in rules rules.animal.now fields) all (λ own. name_full rules rules.animal.now fields own full))))
+    behind_record (λ l. All IsFull l.names) (count + 1) (told_behind rules (count + 1) names lasts fields) (row_by rules names sensors fields) more whole
+    (λ told others. ledger_full rules (count + 1) (names_with rules names fields) (sensors_with rules sensors fields) (lasts_with lasts (animal_in rules names fields) told) records others full
+    (names_full names (name_in rules rules.animal.now fields) all (λ own. name_full rules rules.animal.now fields own full)))
     e
 
 -- no animal of a table has an empty name, where the one name is not empty

@@ -11,11 +11,10 @@ use Rattle.split_export.specs.Laws.{track_in}
 use Rattle.split_export.specs.declared.asked.Asked.{Asked}
 use Rattle.split_export.specs.declared.export.Export.{Export}
 use Rattle.split_fates.proofs.FitTracks.{tracks_fit}
-use Rattle.split_fates.specs.Fates.{fate_of, fates_from, then_fates}
+use Rattle.split_fates.specs.Fates.{fate_of, fates_from}
 use Rattle.split_fates.specs.Marked.{fix_at}
 use Rattle.split_fates.specs.Projected.{beside_place, told_beside_place}
 use Rattle.split_fates.specs.declared.choice.Choice.{Choice}
-use Rattle.split_fates.specs.declared.fates.FatesFault.{FatesFault}
 use Rattle.split_files.proofs.ReadBack.{read_back_law}
 use Rattle.split_files.specs.Laws.{used_of}
 use Rattle.split_names.proofs.EachName.{file_names_have}
@@ -37,7 +36,9 @@ use Rattle.split_tracks.specs.declared.fate.Entry.{Entry}
 use Rattle.split_tracks.specs.declared.fate.Fate.{Fate}
 use Rattle.split_tracks.specs.declared.fate.Fate.TheVariants.{InTrack, LeftOut}
 use Rattle.split_tracks.specs.declared.fate.Reason.{Reason}
-use Rattle.split_chain.proofs.Named.{IsFull, animals_full, as_many_names, inner}
+use Rattle.split_chain.proofs.Animals.{first_and_others}
+use Rattle.split_chain.proofs.Named.{IsFull, animals_full, as_many_names}
+use Rattle.split_chain.proofs.Results.{inner}
 use Rattle.split_chain.specs.Chain.{AreFilesBy, every_filter, filtered, filtered_by, speed_filter}
 use Rattle.split_chain.specs.Laws.{IsReadBack, SplitsAreReadBack, tracks_in}
 use Rattle.split_chain.specs.Placed.{ArePlaced}
@@ -69,19 +70,6 @@ one_of_rows choice count fate fates first others = record {
   timely = All-cons (λ row. IsTimely row.told) first.row others.rows first.timely others.timely;
   are = rw (first.is, others.are) refl;
 }
-
--- the first of them, and the others
-first_and_others : (choice : Choice) (count : ℕ) (row : Row) (rows : List Row) (fates : List Fate) → fates_from choice count (row ∷ rows) ≡ Ok fates
-    → (fate : Fate) × (others : List Fate) × (fate ∷ others ≡ fates) × (fate_of choice (count + 1) row ≡ Ok fate) × (fates_from choice (count + 1) rows ≡ Ok others)
-unfolding fates_from
-first_and_others choice count row rows fates e = by (fate_of choice (count + 1) row) (fates_from choice (count + 1) rows) refl refl e
-  where
-    by : (first : Result Fate FatesFault) (rest : Result (List Fate) FatesFault) → fate_of choice (count + 1) row ≡ first → fates_from choice (count + 1) rows ≡ rest
-        → then_fates first rest ≡ Ok fates
-        → (fate : Fate) × (others : List Fate) × (fate ∷ others ≡ fates) × (fate_of choice (count + 1) row ≡ Ok fate) × (fates_from choice (count + 1) rows ≡ Ok others)
-    by (Err fault) rest f r e = absurd (cc e)
-    by (Ok fate) (Err fault) f r e = absurd (cc e)
-    by (Ok fate) (Ok others) f r e = (fate, others, inner e, f, r)
 
 -- what is left of a fate is what becomes of a record too: of this one, or of one that is left out
 row_after : (choice : Choice) (number n : ℕ) (why : Reason) (left : List ℕ) (fate : Fate) → IsOfRow choice number fate → IsOfRow choice number (fate_after why left (n, fate))

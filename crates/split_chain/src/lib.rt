@@ -12,5 +12,7 @@ mod times;
 mod wish;
 
 pub use chain::{Split, split_export};
-pub use laws::splits_are_read_back;
+pub use laws::{
+    every_record_of_a_split_has_one_place, records_of_a_split_add_up, splits_are_read_back,
+};
 pub use wish::Wish;
