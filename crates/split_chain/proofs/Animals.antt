@@ -22,13 +22,9 @@ use Rattle.split_tracks.specs.declared.fate.Fate.TheVariants.{InTrack, LeftOut}
 use Rattle.split_tracks.specs.declared.fate.Reason.{Reason}
 use Rattle.split_chain.proofs.Results.{inner}
 use Rattle.split_chain.specs.Chain.{every_filter, filtered, filtered_by, speed_filter}
+use Rattle.split_chain.specs.Laws.{animal_of}
 use Rattle.split_chain.specs.Placed.{ArePlaced}
 use Rattle.split_chain.specs.declared.wish.Wish.{Wish}
-
--- the animal of a fate, if it has one
-abbrev pub animal_of : Fate → Option ℕ
-animal_of (InTrack animal entry) = Some animal
-animal_of (LeftOut animal why) = animal
 
 -- a fate, if there is one, is of this animal
 abbrev IsOf : Option ℕ → Result Fate FatesFault → Type 0

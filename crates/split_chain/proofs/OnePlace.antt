@@ -24,12 +24,12 @@ use Rattle.split_tracks.specs.Laws.{EveryRecordHasOnePlace, IsOfAnimals, entry_o
 use Rattle.split_tracks.specs.declared.fate.Entry.{Entry}
 use Rattle.split_tracks.specs.declared.fate.Fate.{Fate}
 use Rattle.split_tracks.specs.declared.fate.Fate.TheVariants.{InTrack, LeftOut}
-use Rattle.split_chain.proofs.Animals.{animal_of, animals_of, animals_of_rows, fates_animals, filtered_animals, placed_animals}
-use Rattle.split_chain.proofs.Ledgers.{IsOfNames, ledger_of_names}
+use Rattle.split_chain.proofs.Animals.{animals_of, animals_of_rows, fates_animals, filtered_animals, placed_animals}
+use Rattle.split_chain.proofs.Ledgers.{IsOfNames, IsRowOf, ledger_of_names}
 use Rattle.split_chain.proofs.Named.{as_many_names}
 use Rattle.split_chain.proofs.Tracks.{as_many_tracks}
 use Rattle.split_chain.specs.Chain.{AreFilesBy}
-use Rattle.split_chain.specs.Laws.{EveryRecordOfASplitHasOnePlace, HaveOnePlace, RecordsOfASplitAddUp, fates_in, records_in, tracks_in}
+use Rattle.split_chain.specs.Laws.{EveryRecordOfASplitHasOnePlace, HaveOnePlace, RecordsOfASplitAddUp, animal_of, fates_in, records_in, tracks_in}
 use Rattle.split_chain.specs.declared.wish.Wish.{Wish}
 
 -- ---- the animals of a split
@@ -65,20 +65,21 @@ as_many_entries (InTrack animal entry ∷ fates) =
 as_many_entries (LeftOut animal why ∷ fates) =
     let more = sum_by-cons (λ fate. cond (is_in_track fate) 1 0) (LeftOut animal why) fates in omega (arith, more, as_many_entries fates)
 
--- the records of files of animals whose rows are of as many animals have one place
-made_one_place : EveryRecordHasOnePlace → EveryRecordIsCountedOnce → (wish : Wish) (choice : Choice) (animals : List (List ℕ)) (rows : List Row) (files : List Filed) (counts : List ℕ)
-    → All (IsOneOf (length animals)) (animals_of_rows rows) → (made : AreFilesBy wish choice animals rows files counts)
-    → HaveOnePlace (length made.names) (fates_in made) (tracks_in made) counts
-made_one_place in_tracks in_counts wish choice animals rows files counts own made =
+-- the records of files have one place, whose rows are of the animals of others, and these are so many
+made_one_place : EveryRecordHasOnePlace → EveryRecordIsCountedOnce → (wish : Wish) (choice : Choice) (animals : List (List ℕ)) (old rows : List Row) (files : List Filed) (counts : List ℕ)
+    → All (IsRowOf (length animals)) old → animals_of_rows rows ≡ animals_of_rows old → (made : AreFilesBy wish choice animals rows files counts)
+    → HaveOnePlace old (length made.names) (fates_in made) (tracks_in made) counts
+made_one_place in_tracks in_counts wish choice animals old rows files counts own same made =
     let many = length made.names in
     let fates = fates_in made in
-    let named : All (IsOneOf many) (animals_of_rows rows) =
-    subst (λ n. All (IsOneOf n) (animals_of_rows rows)) (as_many_names animals made.names made.are_names) own in
+    let of_rows : animals_of fates ≡ animals_of_rows old = made_animals wish choice animals rows files counts made ∙ same in
+    let named : All (IsRowOf many) old = subst (λ n. All (IsRowOf n) old) (as_many_names animals made.names made.are_names) own in
     let each : All (λ fate. IsOneOf many (animal_of fate)) fates =
-    All-from_map (IsOneOf many) animal_of fates (subst (All (IsOneOf many)) (sym (made_animals wish choice animals rows files counts made)) named) in
+    All-from_map (IsOneOf many) animal_of fates (subst (All (IsOneOf many)) (sym of_rows) (All-map (IsOneOf many) (λ row. row.animal) old named)) in
     let of_animals = All-weaker (λ fate. IsOneOf many (animal_of fate)) (IsOfAnimals many) (in_track_of many) fates each in
     let left_of_animals = All-weaker (λ fate. IsOneOf many (animal_of fate)) (IsLeftOfAnimals many) (left_out_of many) fates each in
     record {
+      are_of_rows = of_rows;
       are_in_tracks_of = of_animals;
       are_left_out_of = left_of_animals;
       in_tracks = (in_tracks many fates of_animals).0;
@@ -95,16 +96,12 @@ table_rows asked commas export (Err fault) is = absurd is
 pub one_place : EveryRecordHasOnePlace → EveryRecordIsCountedOnce → EveryRecordOfASplitHasOnePlace
 one_place in_tracks in_counts wish asked bytes files counts (export, is_export, of) =
     let made = of.are_files.are_files in
-    let choice = of.are_files.choice in
-    let animals = texts export.ledger.names in
+    let old = export.ledger.rows.items in
     let table = table_rows asked _ export _ is_export.2 in
-    let placed = placed_animals export.columns export.ledger.rows.items of.rows of.are_placed in
-    let own : All (IsOneOf (length animals)) (animals_of_rows of.rows) =
-    subst (All (IsOneOf (length animals))) (sym placed) (All-map (IsOneOf (length animals)) (λ row. row.animal) export.ledger.rows.items table.own) in (
-      sym (length-map (fates_in made) animal_of)
-          ∙ (ap length (made_animals wish choice animals of.rows (map filed files) counts made)
-          ∙ (ap length placed ∙ (length-map export.ledger.rows.items (λ row. row.animal) ∙ table.as_many))),
-      made_one_place in_tracks in_counts wish choice animals of.rows (map filed files) counts own made,
+    let placed = placed_animals export.columns old of.rows of.are_placed in
+    let places = made_one_place in_tracks in_counts wish of.are_files.choice (texts export.ledger.names) old of.rows (map filed files) counts table.own placed made in (
+      sym (length-map (fates_in made) animal_of) ∙ (ap length places.are_of_rows ∙ (length-map old (λ row. row.animal) ∙ table.as_many)),
+      places,
     )
 
 -- ---- files

@@ -1,5 +1,5 @@
 -- Each file of a split is read back, and each record of its table has one place in it.
-use Rattle.std.specs.Prelude.{◌≡◌, ◌≢◌, ◌+◌, ◌<◌, ◌≤◌, ℕ, ℤ, List, [], length, map, Some, None, Result, Ok, Err, All}
+use Rattle.std.specs.Prelude.{◌≡◌, ◌≢◌, ◌+◌, ◌<◌, ◌≤◌, ℕ, ℤ, List, [], length, map, Option, Some, None, Result, Ok, Err, All}
 use Rattle.std.specs.List.{AllZip, count_by, flat_map, sum, sum_by}
 use Rattle.std.specs.List.Sorted.{IsPermutation}
 use Rattle.range_fixes.specs.Reading.{reading}
@@ -14,6 +14,7 @@ use Rattle.split_table.specs.declared.table.TableFault.{TableFault}
 use Rattle.split_tracks.specs.Laws.{IsOfAnimals, entry_of, is_left_out}
 use Rattle.split_tracks.specs.declared.fate.Entry.{Entry}
 use Rattle.split_tracks.specs.declared.fate.Fate.{Fate}
+use Rattle.split_tracks.specs.declared.fate.Fate.TheVariants.{InTrack, LeftOut}
 use Rattle.split_fates.specs.Marked.{fix_at}
 use Rattle.split_fates.specs.declared.choice.Choice.{Choice}
 use Rattle.split_export.specs.Files.{Filed, filed}
@@ -56,19 +57,25 @@ records_in (Err fault) = []
 abbrev pub record_count : List ℕ → ℕ
 record_count bytes = length (records_in (table_of bytes))
 
--- each record has one place: each is of one of so many animals, or is left out and of none; tracks have the entries of all that are
--- in one, each once; and counts have all others
-pub record HaveOnePlace (animals : ℕ) (fates : List Fate) (tracks : List (List Entry)) (counts : List ℕ) : Type 0 where
+-- the animal of a fate, if it has one
+abbrev pub animal_of : Fate → Option ℕ
+animal_of (InTrack animal entry) = Some animal
+animal_of (LeftOut animal reason) = animal
+
+-- these are the fates of such rows, and each has one place: it is of the animal of its row, which is one of so many, if it has one;
+-- tracks have the entries of all that are in one, each once; and counts have all others
+pub record HaveOnePlace (rows : List Row) (animals : ℕ) (fates : List Fate) (tracks : List (List Entry)) (counts : List ℕ) : Type 0 where
+  pub are_of_rows : map animal_of fates ≡ map (λ row. row.animal) rows
   pub are_in_tracks_of : All (IsOfAnimals animals) fates
   pub are_left_out_of : All (IsLeftOfAnimals animals) fates
   pub in_tracks : IsPermutation (flat_map entry_of fates) (flat_map (λ track. track) tracks)
   pub in_counts : sum counts ≡ count_by is_left_out fates
 
--- a split has a fate of each record of its table, and each record has one place in its tracks and counts
+-- a split has a fate of each record of its table, and each has one place in its tracks and counts
 abbrev pub EveryRecordOfASplitHasOnePlace : Type 0
 EveryRecordOfASplitHasOnePlace = (wish : Wish) (asked : Asked) (bytes : List ℕ) (files : List TrackFile) (counts : List ℕ) (split : IsSplit wish asked bytes files counts)
     → let made = split.2.are_files.are_files in
-    (length (fates_in made) ≡ record_count bytes) × HaveOnePlace (length made.names) (fates_in made) (tracks_in made) counts
+    (length (fates_in made) ≡ record_count bytes) × HaveOnePlace split.0.ledger.rows.items (length made.names) (fates_in made) (tracks_in made) counts
 
 -- the records of the files of a split, and its counts, are together as many as the records of its table
 abbrev pub RecordsOfASplitAddUp : Type 0
