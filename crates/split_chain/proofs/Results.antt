@@ -6,10 +6,10 @@ pub if_ok : {X E : Type 0} {P Q : X → Type 0} (result : Result X E) → ((x : 
 if_ok (Ok x) then holds = then x holds
 if_ok (Err e) then holds = tt
 
--- what holds of each error
-pub if_err : {X E : Type 0} {Q : E → Type 0} (result : Result X E) → ((e : E) → Q e) → IfErr result Q
-if_err (Ok x) all = tt
-if_err (Err e) all = all e
+-- and of an error
+pub if_err : {X E : Type 0} {P Q : E → Type 0} (result : Result X E) → ((e : E) → P e → Q e) → IfErr result P → IfErr result Q
+if_err (Ok x) then holds = tt
+if_err (Err e) then holds = then e holds
 
 -- what two hold is the same where they are
 pub inner : {X E : Type 0} {x y : X} → ◌≡◌ {A = Result X E} (Ok x) (Ok y) → x ≡ y

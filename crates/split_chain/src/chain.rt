@@ -1,14 +1,15 @@
 // From the bytes of an export to the files of its tracks.
 
-ghost use Rattle.std.specs.Prelude.{◌≡◌, ◌<◌, ◌^◌, IfErr, IfOk, Ok, length, map};
+ghost use Rattle.std.specs.Prelude.{◌≡◌, ◌<◌, ◌^◌, ◌⊎◌, IfErr, IfOk, Ok, length, map};
 ghost use Rattle.split_chain.specs.Chain.{AreFilesAt, AreFilesBy, AreFilesOf, AreMade, IsSplit, tracks_with};
-ghost use Rattle.split_chain.specs.Refused.{IsRefused};
+ghost use Rattle.split_chain.specs.Refused.{IsOffGridAt, IsOffGridBy, IsOffGridOf, IsRefused};
 ghost use Rattle.split_counts.specs.Counts.{left_counts};
 ghost use Rattle.split_export.specs.Export.{bytes_of};
 ghost use Rattle.split_export.specs.Files.{entries_of_all, filed, files_of};
 ghost use Rattle.split_fates.specs.Fates.{fates_of};
 ghost use Rattle.split_names.specs.Names.{file_names};
 ghost use Rattle.split_reading.specs.Words.{texts};
+ghost use Rattle.split_refusal.specs.Refused.{IsOfNoFix};
 
 use crate::passed::refuse_passed_over;
 use crate::placed::{choice_of, grid_of, moved_by, place};
@@ -83,7 +84,9 @@ struct Filtered {
 }
 
 // Says what there is to say of tracks before filters look at them.
-fn tell(alloc: Global, said: &mut Said, look: &Look<'_>, fated: &Fated) -> Result<(), Refusal> {
+fn tell(alloc: Global, said: &mut Said, look: &Look<'_>, fated: &Fated) -> Result<(), Refusal>
+    ensures { IfErr result IsOfNoFix }
+{
     let tracks = tracks_by(alloc, &fated.fates, &fated.names)?;
     let moved = moved_by(alloc, look.text, look.sheet, &fated.fates, look.projected)?;
     tell_tracks(
@@ -134,7 +137,9 @@ fn check_left(
     look: &Look<'_>,
     fated: &Fated,
     counts: &[usize],
-) -> Result<(), Refusal> {
+) -> Result<(), Refusal>
+    ensures { IfErr result IsOfNoFix }
+{
     check_halves(alloc, &fated.names, &fated.fixes, counts)?;
     match tell_left(alloc, said, look.wish, counts, fated.names.len()) {
         Ok(()) => Ok(()),
@@ -150,8 +155,9 @@ fn files_by(
     tracks: &[Vec<Entry>],
 ) -> Result<Vec<TrackFile>, Refusal>
     requires { length names.now ≡ length tracks.now }
-    ensures { IfOk result (λ files. map filed files.items
+    ensures files { IfOk result (λ files. map filed files.items
         ≡ files_of choice.now (bytes_of names.now) (entries_of_all tracks.now)) }
+    ensures refused { IfErr result IsOfNoFix }
 {
     match make_files(alloc, choice, names, tracks) {
         Ok(files) => Ok(files),
@@ -160,7 +166,9 @@ fn files_by(
 }
 
 // The animals with a record in their file.
-fn order_by(alloc: Global, fates: &[Fate], animals: usize) -> Result<Vec<u32>, Refusal> {
+fn order_by(alloc: Global, fates: &[Fate], animals: usize) -> Result<Vec<u32>, Refusal>
+    ensures { IfErr result IsOfNoFix }
+{
     match animals_in_order(alloc, fates, animals) {
         Ok(order) => Ok(order),
         Err(_) => Err(Refusal::out_of_memory(alloc)),
@@ -180,6 +188,7 @@ fn filtered_tracks(
     ensures few { IfOk result (λ filtered. length (bytes_of fated.now.names.items) < 2 ^ 32) }
     ensures counts { IfOk result (λ filtered. filtered.counts.items
         ≡ left_counts (length (bytes_of fated.now.names.items)) fated.now.fates.items) }
+    ensures refused { IfErr result IsOfNoFix }
 {
     let tracks = tracks_by(alloc, &fated.fates, &fated.names)?;
     let counts = counts_by(alloc, &fated.fates, &fated.names)?;
@@ -211,8 +220,9 @@ fn make_filtered(
     choice: &Choice,
     fated: Fated,
 ) -> Result<Made, Refusal>
-    ensures { IfOk result (λ made. AreMade choice.now (bytes_of fated.names.items) fated.fates.items
+    ensures made { IfOk result (λ made. AreMade choice.now (bytes_of fated.names.items) fated.fates.items
         (map filed made.files.items) made.counts.items) }
+    ensures refused { IfErr result IsOfNoFix }
 {
     let Filtered {
         tracks,
@@ -239,6 +249,7 @@ fn fated_by(
 ) -> Result<Fated, Refusal>
     ensures fates { IfOk result (λ fated. fates_of choice.now rows.items ≡ Ok fated.fates.items) }
     ensures names { IfOk result (λ fated. file_names (texts animals.now) ≡ Ok (bytes_of fated.names.items)) }
+    ensures refused { IfErr result (λ refusal. IsOffGridBy choice.now rows.items refusal ⊎ IsOfNoFix refusal) }
 {
     let fates = fates_by(alloc, choice, &rows)?;
     let names = names_by(alloc, animals)?;
@@ -258,8 +269,9 @@ fn make(
     choice: &Choice,
     rows: Vec<Row>,
 ) -> Result<Made, Refusal>
-    ensures { IfOk result (λ made. AreFilesBy look.now.wish.now choice.now (texts look.now.animals.now)
+    ensures made { IfOk result (λ made. AreFilesBy look.now.wish.now choice.now (texts look.now.animals.now)
         rows.items (map filed made.files.items) made.counts.items) }
+    ensures refused { IfErr result (λ refusal. IsOffGridBy choice.now rows.items refusal ⊎ IsOfNoFix refusal) }
 {
     let mut fated = fated_by(alloc, choice, look.animals, rows)?;
     tell(alloc, said, look, &fated)?;
@@ -285,7 +297,9 @@ fn check(
     text: &TableText<'_>,
     sheet: &Sheet<'_>,
     ledger: &Ledger,
-) -> Result<Grid, Refusal> {
+) -> Result<Grid, Refusal>
+    ensures { IfErr result IsOfNoFix }
+{
     check_ledger(alloc, said, sheet, ledger)?;
     grid_of(alloc, said, text, sheet, ledger)
 }
@@ -298,8 +312,10 @@ fn split_placed(
     columns: &Columns<Global>,
     rows: Vec<Row>,
 ) -> Result<Split, Refusal>
-    ensures { IfOk result (λ split. AreFilesAt look.now.wish.now look.now.sheet.now.unit columns.now (texts look.now.animals.now)
+    ensures split { IfOk result (λ split. AreFilesAt look.now.wish.now look.now.sheet.now.unit columns.now (texts look.now.animals.now)
         rows.items (map filed split.files.items) split.counts.items) }
+    ensures refused { IfErr result (λ refusal. IsOffGridAt look.now.wish.now look.now.sheet.now.unit columns.now rows.items refusal
+        ⊎ IsOfNoFix refusal) }
 {
     let mut said = said;
     let choice = choice_of(columns, &rows, look.grid, look.sheet.unit, look.wish);
@@ -326,8 +342,9 @@ fn split_sheet(
     columns: &Columns<Global>,
     ledger: Ledger,
 ) -> Result<Split, Refusal>
-    ensures { IfOk result (λ split. AreFilesOf wish.now sheet.now.unit columns.now ledger
+    ensures split { IfOk result (λ split. AreFilesOf wish.now sheet.now.unit columns.now ledger
         (map filed split.files.items) split.counts.items) }
+    ensures refused { IfErr result (λ refusal. IsOffGridOf wish.now sheet.now.unit columns.now ledger refusal ⊎ IsOfNoFix refusal) }
 {
     let mut said = Said::new(alloc);
     let grid = check(alloc, &mut said, text, sheet, &ledger)?;
@@ -353,8 +370,10 @@ fn split_read(
     form: &[u8],
     export: Export<'_>,
 ) -> Result<Split, Refusal>
-    ensures { IfOk result (λ split. AreFilesOf wish.now asked.now.unit export.entry.columns export.entry.ledger
+    ensures split { IfOk result (λ split. AreFilesOf wish.now asked.now.unit export.entry.columns export.entry.ledger
         (map filed split.files.items) split.counts.items) }
+    ensures refused { IfErr result (λ refusal. IsOffGridOf wish.now asked.now.unit export.entry.columns export.entry.ledger refusal
+        ⊎ IsOfNoFix refusal) }
 {
     let Export {
         text,
@@ -403,7 +422,7 @@ pub fn split_export<P: Progress>(
     progress: &mut P,
 ) -> Result<Split, Refusal>
     ensures split { IfOk result (λ split. IsSplit wish.now asked.now bytes.now split.files.items split.counts.items) }
-    ensures refused { IfErr result (IsRefused asked.now bytes.now) }
+    ensures refused { IfErr result (IsRefused wish.now asked.now bytes.now) }
 {
     let export = read(alloc, bytes, path, asked, wish, progress)?;
     refuse_maker(alloc, asked, &export)?;

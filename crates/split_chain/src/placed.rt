@@ -1,7 +1,8 @@
 // On which grid the fixes of a table are.
 
-ghost use Rattle.std.specs.Prelude.{◌≡◌};
+ghost use Rattle.std.specs.Prelude.{◌≡◌, IfErr};
 ghost use Rattle.split_chain.specs.Placed.{ArePlaced, IsChoice, has_own_grid};
+ghost use Rattle.split_refusal.specs.Refused.{IsOfNoFix};
 
 use crate::read::grouped_refusal;
 use crate::wish::Wish;
@@ -23,7 +24,9 @@ fn unrounded(
     text: &TableText<'_>,
     sheet: &Sheet<'_>,
     ledger: &Ledger,
-) -> Result<Option<(f64, f64)>, Refusal> {
+) -> Result<Option<(f64, f64)>, Refusal>
+    ensures { IfErr result IsOfNoFix }
+{
     let Some(metres) = sheet.columns.metres else {
         return Ok(None);
     };
@@ -47,7 +50,9 @@ pub(crate) fn grid_of(
     text: &TableText<'_>,
     sheet: &Sheet<'_>,
     ledger: &Ledger,
-) -> Result<Grid, Refusal> {
+) -> Result<Grid, Refusal>
+    ensures { IfErr result IsOfNoFix }
+{
     let unrounded = unrounded(alloc, text, sheet, ledger)?;
     find_grid(alloc, said, sheet, ledger, unrounded)
 }
@@ -115,7 +120,9 @@ pub(crate) fn moved_by(
     sheet: &Sheet<'_>,
     fates: &[Fate],
     projected: Option<f64>,
-) -> Result<f64, Refusal> {
+) -> Result<f64, Refusal>
+    ensures { IfErr result IsOfNoFix }
+{
     if let Some(moved) = projected {
         return Ok(moved);
     }

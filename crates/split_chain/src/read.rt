@@ -1,9 +1,10 @@
 // The table of an export, or its refusal.
 
-ghost use Rattle.std.specs.Prelude.{IfErr, IfOk, None, Some};
+ghost use Rattle.std.specs.Prelude.{◌≡◌, IfErr, IfOk, None, Some};
 ghost use Rattle.split_chain.specs.Refused.{IsOfFault, record_of, record_of_reading};
 ghost use Rattle.split_export.specs.Export.{IsExport};
-ghost use Rattle.split_refusal.specs.Refused.{Names};
+ghost use Rattle.split_refusal.specs.Refused.{IsOfKind, IsOfNoFix, Names};
+ghost use Rattle.split_times.specs.declared.orders.DayOrders.{DayOrders};
 
 use crate::wish::Wish;
 use range_plane::OutOfMemory;
@@ -51,7 +52,8 @@ enum RecordFault {
 
 // The refusal of a record, of which this is shown.
 fn shown_refusal(alloc: Global, fault: RecordFault, shown: &RecordShown<'_>) -> Refusal
-    ensures { Names (Some shown.now.number) result }
+    ensures names { Names (Some shown.now.number) result }
+    ensures day { (orders : DayOrders) → fault ≡ RecordFault.Day orders → IsOfKind Kind.Time result }
 {
     match fault {
         RecordFault::Cell(fault) => refused_cell(alloc, fault, shown),
@@ -71,7 +73,8 @@ fn fields_refusal<'a>(
     forms: &'a str,
     clock: &'a str,
 ) -> Refusal
-    ensures { Names (Some number) result }
+    ensures names { Names (Some number) result }
+    ensures day { (orders : DayOrders) → fault ≡ RecordFault.Day orders → IsOfKind Kind.Time result }
 {
     let shown = RecordShown {
         number,
@@ -95,7 +98,8 @@ fn record_refusal(
     forms: &str,
     clock: &str,
 ) -> Refusal
-    ensures { Names (Some «record») result }
+    ensures names { Names (Some «record») result }
+    ensures day { (orders : DayOrders) → fault ≡ RecordFault.Day orders → IsOfKind Kind.Time result }
 {
     let (Ok(titles), Ok(fields)) = (
         titles_of(alloc, bytes),
@@ -127,7 +131,9 @@ pub(crate) fn day_refusal(
     orders: DayOrders,
     columns: &Columns<Global>,
     wish: &Wish<'_>,
-) -> Refusal {
+) -> Refusal
+    ensures { IsOfNoFix result }
+{
     record_refusal(
         alloc,
         bytes,
@@ -140,7 +146,9 @@ pub(crate) fn day_refusal(
 }
 
 /// The refusal of a table without a column of the time, of which one with another title has times.
-pub(crate) fn untimed_refusal(alloc: Global, titles: &[Vec<u8>], column: usize) -> Refusal {
+pub(crate) fn untimed_refusal(alloc: Global, titles: &[Vec<u8>], column: usize) -> Refusal
+    ensures { IsOfNoFix result }
+{
     let title = match titles.get(column) {
         Some(title) => trimmed(title),
         None => b"",
@@ -227,7 +235,9 @@ fn export_refusal(
 }
 
 /// The refusal of a number whose sign may stand before thousands, in a record and a column.
-pub(crate) fn grouped_refusal(alloc: Global, bytes: &[u8], record: u32, column: usize) -> Refusal {
+pub(crate) fn grouped_refusal(alloc: Global, bytes: &[u8], record: u32, column: usize) -> Refusal
+    ensures { IsOfNoFix result }
+{
     let (Ok(titles), Ok(fields)) = (
         titles_of(alloc, bytes),
         fields_of_record(alloc, bytes, record),
@@ -241,7 +251,9 @@ pub(crate) fn grouped_refusal(alloc: Global, bytes: &[u8], record: u32, column: 
 }
 
 // That the columns are those of a maker.
-fn refused_maker(alloc: Global, maker: &str) -> Refusal {
+fn refused_maker(alloc: Global, maker: &str) -> Refusal
+    ensures { IsOfNoFix result }
+{
     match format!(in alloc; "the columns are those of {maker}: read them by --from {maker}") {
         Ok(text) => Refusal::new(alloc, Kind::Columns, None, text.as_bytes()),
         Err(_) => Refusal::out_of_memory(alloc),
@@ -257,7 +269,9 @@ pub(crate) fn refuse_maker(
     alloc: Global,
     asked: &Asked<'_>,
     export: &Export<'_>,
-) -> Result<(), Refusal> {
+) -> Result<(), Refusal>
+    ensures { IfErr result IsOfNoFix }
+{
     let named = &asked.named;
     if !export.columns.time.is_empty() || named.lon.is_some() || named.easting.is_some() {
         return Ok(());
@@ -303,7 +317,9 @@ pub(crate) fn refuse_other_animals(
     bytes: &[u8],
     path: &[u8],
     export: &Export<'_>,
-) -> Result<(), Refusal> {
+) -> Result<(), Refusal>
+    ensures { IfErr result IsOfNoFix }
+{
     let [taken] = export.columns.animal.as_slice() else {
         return Ok(());
     };

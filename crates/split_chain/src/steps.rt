@@ -1,13 +1,15 @@
 // The steps from what records say to tracks, or their refusals.
 
-ghost use Rattle.std.specs.Prelude.{◌≡◌, ◌<◌, ◌^◌, IfOk, Ok, OnOk, length, map};
+ghost use Rattle.std.specs.Prelude.{◌≡◌, ◌<◌, ◌^◌, ◌⊎◌, IfErr, IfOk, Ok, OnOk, Some, length, map};
 ghost use Rattle.split_chain.specs.Chain.{filtered_by, tracks_with};
+ghost use Rattle.split_chain.specs.Refused.{IsOffGridBy};
 ghost use Rattle.split_counts.specs.Counts.{left_counts};
 ghost use Rattle.split_export.specs.Export.{bytes_of};
 ghost use Rattle.split_export.specs.Files.{entries_of_all};
 ghost use Rattle.split_fates.specs.Fates.{fates_of};
 ghost use Rattle.split_names.specs.Names.{file_names};
 ghost use Rattle.split_reading.specs.Words.{texts};
+ghost use Rattle.split_refusal.specs.Refused.{IsOfNoFix, Names};
 
 use crate::read::shown;
 use indexmap::IndexSet;
@@ -23,7 +25,9 @@ use split_tracks::{Entry, Fate, tracks_of};
 use std::alloc::Global;
 
 // The refusal of a fix that is used and off the grid.
-fn off_grid(alloc: Global, rows: &[Row], record: u32, unit: Scale) -> Refusal {
+fn off_grid(alloc: Global, rows: &[Row], record: u32, unit: Scale) -> Refusal
+    ensures { Names (Some «record») result }
+{
     let row = rows.get((record as usize).saturating_sub(1));
     if let Some(
         Row {
@@ -46,7 +50,8 @@ fn off_grid(alloc: Global, rows: &[Row], record: u32, unit: Scale) -> Refusal {
 ///
 /// Why the table is refused.
 pub(crate) fn fates_by(alloc: Global, choice: &Choice, rows: &[Row]) -> Result<Vec<Fate>, Refusal>
-    ensures { IfOk result (λ fates. fates_of choice.now rows.now ≡ Ok fates.items) }
+    ensures fates { IfOk result (λ fates. fates_of choice.now rows.now ≡ Ok fates.items) }
+    ensures refused { IfErr result (λ refusal. IsOffGridBy choice.now rows.now refusal ⊎ IsOfNoFix refusal) }
 {
     match fates_of(alloc, choice, rows) {
         Ok(fates) => Ok(fates),
@@ -56,7 +61,9 @@ pub(crate) fn fates_by(alloc: Global, choice: &Choice, rows: &[Row]) -> Result<V
 }
 
 // The refusal of names.
-fn names_refusal(alloc: Global, names: &[Vec<u8>], fault: NamesFault) -> Refusal {
+fn names_refusal(alloc: Global, names: &[Vec<u8>], fault: NamesFault) -> Refusal
+    ensures { IsOfNoFix result }
+{
     match shown(alloc, names) {
         Ok(names) => refused_names(alloc, fault, &names),
         Err(_) => Refusal::out_of_memory(alloc),
@@ -69,7 +76,8 @@ fn names_refusal(alloc: Global, names: &[Vec<u8>], fault: NamesFault) -> Refusal
 ///
 /// Why the table is refused.
 pub(crate) fn names_by(alloc: Global, animals: &IndexSet<Vec<u8>>) -> Result<Vec<Vec<u8>>, Refusal>
-    ensures { IfOk result (λ own. file_names (texts animals.now) ≡ Ok (bytes_of own.items)) }
+    ensures names { IfOk result (λ own. file_names (texts animals.now) ≡ Ok (bytes_of own.items)) }
+    ensures refused { IfErr result IsOfNoFix }
 {
     let names = animals.as_slice();
     match file_names(alloc, names) {
@@ -87,7 +95,9 @@ pub(crate) fn fixes_by(
     alloc: Global,
     rows: &[Row],
     names: &[Vec<u8>],
-) -> Result<Vec<usize>, Refusal> {
+) -> Result<Vec<usize>, Refusal>
+    ensures { IfErr result IsOfNoFix }
+{
     match fix_counts(alloc, rows, names.len()) {
         Ok(counts) => Ok(counts),
         Err(_) => Err(Refusal::out_of_memory(alloc)),
@@ -107,6 +117,7 @@ pub(crate) fn tracks_by(
     ensures tracks { IfOk result (λ tracks. entries_of_all tracks.items ≡ tracks_with (bytes_of names.now) fates.now) }
     ensures count { IfOk result (λ tracks. length names.now ≡ length tracks.items) }
     ensures few { IfOk result (λ tracks. length (bytes_of names.now) < 2 ^ 32) }
+    ensures refused { IfErr result IsOfNoFix }
 {
     let Ok(animals) = u32::try_from(names.len()) else {
         return Err(Refusal::out_of_memory(alloc));
@@ -128,7 +139,8 @@ pub(crate) fn leave_out_by(
     names: &[Vec<u8>],
     filter: Option<Filter<'_>>,
 ) -> Result<(), Refusal>
-    ensures { OnOk result (fates.new.items ≡ filtered_by filter.entry (length (bytes_of names.now)) fates.old.items) }
+    ensures done { OnOk result (fates.new.items ≡ filtered_by filter.entry (length (bytes_of names.now)) fates.old.items) }
+    ensures refused { IfErr result IsOfNoFix }
 {
     let Some(filter) = filter else {
         return Ok(());
@@ -152,7 +164,8 @@ pub(crate) fn counts_by(
     fates: &[Fate],
     names: &[Vec<u8>],
 ) -> Result<Vec<usize>, Refusal>
-    ensures { IfOk result (λ counts. counts.items ≡ left_counts (length (bytes_of names.now)) fates.now) }
+    ensures counts { IfOk result (λ counts. counts.items ≡ left_counts (length (bytes_of names.now)) fates.now) }
+    ensures refused { IfErr result IsOfNoFix }
 {
     let Ok(animals) = u32::try_from(names.len()) else {
         return Err(Refusal::out_of_memory(alloc));

@@ -1,5 +1,8 @@
 // By which form and which clock the times of a table are read.
 
+ghost use Rattle.std.specs.Prelude.{IfErr};
+ghost use Rattle.split_refusal.specs.Refused.{IsOfNoFix};
+
 use crate::read::{day_refusal, untimed_refusal};
 use crate::wish::Wish;
 use range_plane::OutOfMemory;
@@ -12,11 +15,9 @@ use std::alloc::Global;
 const UTC: &str = "UTC";
 
 // Refuses a table without a column of the time where one that is not read has times.
-fn refuse_unread_times(
-    alloc: Global,
-    asked: &Asked<'_>,
-    export: &Export<'_>,
-) -> Result<(), Refusal> {
+fn refuse_unread_times(alloc: Global, asked: &Asked<'_>, export: &Export<'_>) -> Result<(), Refusal>
+    ensures { IfErr result IsOfNoFix }
+{
     let width = export.titles.len();
     let Ok(rules) = rules_of(&export.columns, width, false, asked) else {
         return Ok(());
@@ -42,7 +43,9 @@ fn look_by(
     alloc: Global,
     export: &Export<'_>,
     asked: &Asked<'_>,
-) -> Result<Option<TimesLook>, Refusal> {
+) -> Result<Option<TimesLook>, Refusal>
+    ensures { IfErr result IsOfNoFix }
+{
     let Ok(rules) = rules_of(&export.columns, export.titles.len(), false, asked) else {
         return Ok(None);
     };
@@ -89,7 +92,9 @@ pub(crate) fn form_of_times(
     asked: &Asked<'_>,
     wish: &Wish<'_>,
     export: &Export<'_>,
-) -> Result<Vec<u8>, Refusal> {
+) -> Result<Vec<u8>, Refusal>
+    ensures { IfErr result IsOfNoFix }
+{
     if export.columns.time.is_empty() {
         refuse_unread_times(alloc, asked, export)?;
         return Ok(Vec::new(alloc));

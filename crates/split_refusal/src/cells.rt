@@ -1,7 +1,7 @@
 // Refusals of a record.
 
-ghost use Rattle.std.specs.Prelude.{Some};
-ghost use Rattle.split_refusal.specs.Refused.{Names};
+ghost use Rattle.std.specs.Prelude.{◌≡◌, IfOk, Some};
+ghost use Rattle.split_refusal.specs.Refused.{IsOfKind, Names};
 
 use crate::kind::Kind;
 use crate::push::{Field, field_at, push, push_field, push_number};
@@ -50,7 +50,9 @@ fn field_sentence(
     kind: Kind,
     field: Field<'_>,
     words: &str,
-) -> Result<Sentence, OutOfMemory> {
+) -> Result<Sentence, OutOfMemory>
+    ensures { IfOk result (λ sentence. sentence.kind ≡ kind) }
+{
     let mut text = Vec::new(alloc);
     push_field(&mut text, field, words)?;
     Ok(Sentence { kind, text })
@@ -158,7 +160,9 @@ fn sentence_of(
 }
 
 // That the sign of a number may stand before thousands.
-fn grouped_sentence(alloc: Global, field: Field<'_>) -> Result<Sentence, OutOfMemory> {
+fn grouped_sentence(alloc: Global, field: Field<'_>) -> Result<Sentence, OutOfMemory>
+    ensures { IfOk result (λ sentence. sentence.kind ≡ Kind.Number) }
+{
     let words = if field.cell.contains(&b',') {
         ", whose comma may stand before thousands: export without it"
     } else {
@@ -175,7 +179,9 @@ pub fn refused_grouped(
     titles: &[&[u8]],
     fields: &[&[u8]],
     column: usize,
-) -> Refusal {
+) -> Refusal
+    ensures { IsOfKind Kind.Number result }
+{
     let field = field_at(titles, fields, Some(column));
     match grouped_sentence(alloc, field) {
         Ok(sentence) => Refusal::whole(alloc, sentence.kind, Some(record), &sentence.text),

@@ -1,7 +1,7 @@
 // The refusal of numbers that may be days with hours.
 
-ghost use Rattle.std.specs.Prelude.{Some};
-ghost use Rattle.split_refusal.specs.Refused.{Names};
+ghost use Rattle.std.specs.Prelude.{◌≡◌, IfOk, Some};
+ghost use Rattle.split_refusal.specs.Refused.{IsOfKind, Names};
 
 use crate::cells::{RecordShown, joined};
 use crate::kind::Kind;
@@ -52,7 +52,9 @@ fn day_sentence(
     alloc: Global,
     shown: &RecordShown<'_>,
     orders: DayOrders,
-) -> Result<Sentence, OutOfMemory> {
+) -> Result<Sentence, OutOfMemory>
+    ensures { IfOk result (λ sentence. sentence.kind ≡ Kind.Time) }
+{
     let (title, cell) = joined(alloc, shown)?;
     let field = Field {
         title: &title,
@@ -69,7 +71,8 @@ fn day_sentence(
 
 /// The refusal of a record whose time may be a day with hours in one of these orders, as all other numbers of its column.
 pub fn refused_day(alloc: Global, shown: &RecordShown<'_>, orders: DayOrders) -> Refusal
-    ensures { Names (Some shown.now.number) result }
+    ensures names { Names (Some shown.now.number) result }
+    ensures kind { IsOfKind Kind.Time result }
 {
     match day_sentence(alloc, shown, orders) {
         Ok(sentence) => Refusal::whole(alloc, sentence.kind, Some(shown.number), &sentence.text),

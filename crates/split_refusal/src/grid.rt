@@ -1,5 +1,8 @@
 // Refusals of fixes that are off the grid.
 
+ghost use Rattle.std.specs.Prelude.{Some};
+ghost use Rattle.split_refusal.specs.Refused.{Names};
+
 use crate::kind::Kind;
 use crate::push::{push, push_number};
 use crate::refusal::{Refusal, Sentence, refusal_of};
@@ -55,7 +58,9 @@ fn sentence(
 }
 
 /// The refusal of a record whose used fix has no place in the zone into which it is projected.
-pub fn refused_no_place(alloc: Global, record: u32) -> Refusal {
+pub fn refused_no_place(alloc: Global, record: u32) -> Refusal
+    ensures { Names (Some «record») result }
+{
     let words = b"its longitude and latitude have no place in the zone";
     Refusal::new(alloc, Kind::Grid, Some(record), words)
 }
@@ -67,7 +72,9 @@ pub fn refused_off_grid(
     easting: i64,
     northing: i64,
     unit: Scale,
-) -> Refusal {
+) -> Refusal
+    ensures { Names (Some «record») result }
+{
     refusal_of(
         alloc,
         Some(record),

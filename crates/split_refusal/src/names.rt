@@ -1,5 +1,8 @@
 // Refusals of names of animals.
 
+ghost use Rattle.std.specs.Prelude.{None};
+ghost use Rattle.split_refusal.specs.Refused.{Names};
+
 use crate::kind::Kind;
 use crate::push::push;
 use crate::refusal::{Refusal, Sentence, refusal_of};
@@ -70,7 +73,9 @@ fn sentence(
 }
 
 /// The refusal of animals of these names, in the order of their first records, whose files would have the same name.
-pub fn refused_names(alloc: Global, fault: NamesFault, animals: &[&[u8]]) -> Refusal {
+pub fn refused_names(alloc: Global, fault: NamesFault, animals: &[&[u8]]) -> Refusal
+    ensures { Names None result }
+{
     match fault {
         NamesFault::OutOfMemory => Refusal::out_of_memory(alloc),
         NamesFault::Same { first, second } => {

@@ -1,7 +1,7 @@
 // Why a table is refused.
 
 ghost use Rattle.std.specs.Prelude.{◌≡◌};
-ghost use Rattle.split_refusal.specs.Refused.{Names};
+ghost use Rattle.split_refusal.specs.Refused.{IsOfKind, Names};
 
 use crate::kind::Kind;
 use crate::push::{push, push_number};
@@ -25,14 +25,16 @@ pub struct Refusal {
 impl Refusal {
     /// A refusal of these words, whose control characters are escaped. Of more than 500 signs the middle is left out.
     pub fn new(alloc: Global, kind: Kind, record: Option<u32>, text: &[u8]) -> Refusal
-        ensures { Names «record» result }
+        ensures names { Names «record» result }
+        ensures kind { IsOfKind kind result }
     {
         Refusal::said(alloc, kind, record, shortened(alloc, text))
     }
 
     // One of all of these words, whose control characters are escaped.
     pub(crate) fn whole(alloc: Global, kind: Kind, record: Option<u32>, text: &[u8]) -> Refusal
-        ensures { Names «record» result }
+        ensures names { Names «record» result }
+        ensures kind { IsOfKind kind result }
     {
         Refusal::said(alloc, kind, record, one_line(alloc, text))
     }
@@ -44,7 +46,8 @@ impl Refusal {
         record: Option<u32>,
         line: Result<Vec<u8>, OutOfMemory>,
     ) -> Refusal
-        ensures { Names «record» result }
+        ensures names { Names «record» result }
+        ensures kind { IsOfKind kind result }
     {
         match line {
             Ok(text) => Refusal {

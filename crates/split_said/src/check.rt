@@ -1,5 +1,8 @@
 // The records of a table as a whole.
 
+ghost use Rattle.std.specs.Prelude.{IfErr};
+ghost use Rattle.split_refusal.specs.Refused.{IsOfNoFix};
+
 use crate::animals::check_animals;
 use crate::clocks::tell_clock;
 use crate::exports::tell_exports;
@@ -122,7 +125,9 @@ pub fn check_ledger(
     said: &mut Said,
     sheet: &Sheet<'_>,
     ledger: &Ledger,
-) -> Result<(), Refusal> {
+) -> Result<(), Refusal>
+    ensures { IfErr result IsOfNoFix }
+{
     match check(alloc, said, sheet, ledger) {
         Ok(()) => Ok(()),
         Err(stop) => Err(refusal_of(alloc, stop)),

@@ -1,5 +1,8 @@
 // The grid of a table's coordinates.
 
+ghost use Rattle.std.specs.Prelude.{IfErr};
+ghost use Rattle.split_refusal.specs.Refused.{IsOfNoFix};
+
 use crate::degrees::check_degrees;
 use crate::projection::projected_zone;
 use crate::said::Said;
@@ -106,7 +109,9 @@ pub fn find_grid(
     sheet: &Sheet<'_>,
     ledger: &Ledger,
     unrounded: Option<(f64, f64)>,
-) -> Result<Grid, Refusal> {
+) -> Result<Grid, Refusal>
+    ensures { IfErr result IsOfNoFix }
+{
     match grid_of(alloc, said, sheet, &ledger.rows, unrounded) {
         Ok(grid) => Ok(grid),
         Err(stop) => Err(refusal_of(alloc, stop)),

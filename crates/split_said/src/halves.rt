@@ -1,5 +1,8 @@
 // Filters that leave out more than half of an animal's fixes.
 
+ghost use Rattle.std.specs.Prelude.{IfErr};
+ghost use Rattle.split_refusal.specs.Refused.{IsOfNoFix};
+
 use crate::stop::{Stop, refusal_of, refused};
 use crate::words::{push, push_number};
 use range_plane::OutOfMemory;
@@ -139,7 +142,9 @@ pub fn check_halves(
     names: &[Vec<u8>],
     fixes: &[usize],
     counts: &[usize],
-) -> Result<(), Refusal> {
+) -> Result<(), Refusal>
+    ensures { IfErr result IsOfNoFix }
+{
     match check(alloc, names, fixes, counts) {
         Ok(()) => Ok(()),
         Err(stop) => Err(refusal_of(alloc, stop)),

@@ -1,5 +1,8 @@
 // What is said of tracks.
 
+ghost use Rattle.std.specs.Prelude.{IfErr};
+ghost use Rattle.split_refusal.specs.Refused.{IsOfNoFix};
+
 use crate::extent::tell_columns;
 use crate::far::ask_far_fixes;
 use crate::figures::push_two_digits;
@@ -215,7 +218,9 @@ pub fn tell_tracks(
     tracks: &[Vec<Entry>],
     names: &[Vec<u8>],
     moved: f64,
-) -> Result<(), Refusal> {
+) -> Result<(), Refusal>
+    ensures { IfErr result IsOfNoFix }
+{
     let Ok(order) = animals_in_order(alloc, fates, tracks.len()) else {
         return Err(Refusal::out_of_memory(alloc));
     };
@@ -271,7 +276,9 @@ pub fn tell_files(
     fates: &[Fate],
     tracks: &[Vec<Entry>],
     names: &[Vec<u8>],
-) -> Result<(), Refusal> {
+) -> Result<(), Refusal>
+    ensures { IfErr result IsOfNoFix }
+{
     let Ok(order) = animals_in_order(alloc, fates, tracks.len()) else {
         return Err(Refusal::out_of_memory(alloc));
     };
