@@ -1,5 +1,8 @@
 // Columns that are not read, and whose texts may say where or when fixes are, or of which kind.
 
+ghost use Rattle.std.specs.Prelude.{IfErr};
+ghost use Rattle.split_refusal.specs.Refused.{IsOfNoFix};
+
 use crate::wish::Wish;
 use split_clock::Clock;
 use split_export::{Export, Texts, look_at_unread};
@@ -164,7 +167,9 @@ fn words_of(passed: Passed) -> &'static str {
 }
 
 // The refusal of a table for such a column of this title.
-fn refusal_of(alloc: Global, column: usize, title: &[u8], passed: Passed) -> Refusal {
+fn refusal_of(alloc: Global, column: usize, title: &[u8], passed: Passed) -> Refusal
+    ensures { IsOfNoFix result }
+{
     let title = str::from_utf8(trimmed(title)).unwrap_or("");
     let number = column.saturating_add(1);
     let text = format!(in alloc; "column {number} '{title}' {}", words_of(passed));
@@ -172,7 +177,9 @@ fn refusal_of(alloc: Global, column: usize, title: &[u8], passed: Passed) -> Ref
 }
 
 // The refusal with this text.
-fn refusal_with(alloc: Global, text: Result<String, AllocError>) -> Refusal {
+fn refusal_with(alloc: Global, text: Result<String, AllocError>) -> Refusal
+    ensures { IsOfNoFix result }
+{
     match text {
         Ok(text) => Refusal::new(alloc, Kind::Columns, None, text.as_bytes()),
         Err(_) => Refusal::out_of_memory(alloc),
@@ -204,7 +211,9 @@ pub(crate) fn refuse_passed_over(
     alloc: Global,
     wish: &Wish<'_>,
     export: &Export<'_>,
-) -> Result<(), Refusal> {
+) -> Result<(), Refusal>
+    ensures { IfErr result IsOfNoFix }
+{
     let Ok(columns) = not_read(alloc, &export.columns, export.titles.len()) else {
         return Err(Refusal::out_of_memory(alloc));
     };
