@@ -22,7 +22,11 @@ use std::rt;
 use std::rt::Files;
 
 // The columns that the words name, where filters look at some.
-fn named_of<'a>(columns: &'a NamedColumns<'a>, choices: &Choices<'_>) -> Named<'a> {
+fn named_of<'a>(
+    words: &Words<'a>,
+    columns: &'a NamedColumns<'a>,
+    choices: &Choices<'_>,
+) -> Named<'a> {
     Named {
         animal: &columns.animal,
         time: &columns.time,
@@ -33,6 +37,7 @@ fn named_of<'a>(columns: &'a NamedColumns<'a>, choices: &Choices<'_>) -> Named<'
         argos: columns.argos,
         dop: columns.dop,
         fix: columns.fix,
+        zone: words.zone_name.map(str::as_bytes),
         has_argos_class: choices.takes_classes(),
         has_max_dop: choices.most_dop.is_some(),
         has_fix_type: !choices.types.is_empty(),
@@ -124,7 +129,7 @@ fn split_named<'a, P: Progress>(
     clock: &'a Clock,
     progress: &mut P,
 ) -> Result<Split, Refusal> {
-    let named = named_of(columns, choices);
+    let named = named_of(words, columns, choices);
     split_asked(
         alloc, source, words, missing, named, choices, clock, progress,
     )

@@ -74,6 +74,20 @@ pub enum TitleFault<'a> {
         at: usize,
         what: PassedOver,
     },
+    /// The title of a column of coordinates says another unit than metres, or than degrees.
+    OtherUnit {
+        at: usize,
+        is_metres: bool,
+    },
+    /// The title of a column of the time says a clock other than that of UTC, and no zone was named.
+    LocalTime {
+        at: usize,
+    },
+    /// The title of a column of the time says that of UTC, and another zone was named.
+    UtcTime {
+        at: usize,
+        zone: &'a [u8],
+    },
 }
 
 impl<'a, T: Drop> From<AllocFailed<T>> for TitleFault<'a> {
@@ -103,7 +117,10 @@ impl<'a> TitleFault<'a> {
             | TitleFault::NoArgosClass
             | TitleFault::NoDop
             | TitleFault::NoFixType
-            | TitleFault::PassedOver { .. } => Some(FaultKind::Columns),
+            | TitleFault::PassedOver { .. }
+            | TitleFault::OtherUnit { .. }
+            | TitleFault::LocalTime { .. }
+            | TitleFault::UtcTime { .. } => Some(FaultKind::Columns),
         }
     }
 }

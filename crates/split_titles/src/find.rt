@@ -12,6 +12,7 @@ use crate::named::{Named, Role};
 use crate::passed_over::refuse_passed_over;
 use crate::places::find_places;
 use crate::plain::comes_to;
+use crate::said::refuse_said;
 use crate::usual::{
     ALGORITHM_OUTLIER, ANIMALS, ARGOS_CLASSES, CLOCK_PARTS, COLUMN_LIMIT, DOPS, FIX_TYPES, Family,
     IMPORT_OUTLIER, MANUAL_OUTLIER, MANUAL_VALID, SECOND, SENSOR, SENSOR_NUMBER, TIMES, USE,
@@ -292,5 +293,6 @@ pub fn find_columns<'a, A: Allocator + Copy>(
         other_animals,
     };
     refuse_passed_over(titles, named, &columns)?;
+    refuse_said(titles, named, &columns)?;
     Ok(columns)
 }

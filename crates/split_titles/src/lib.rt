@@ -2,6 +2,7 @@
 //! is refused for its titles.
 #![tactic(auto)]
 
+mod clocks;
 mod columns;
 mod fault;
 mod find;
@@ -12,7 +13,10 @@ mod passed_over;
 mod places;
 mod plain;
 mod presets;
+mod said;
 mod sentences;
+mod sentences_of_said;
+mod units;
 mod usual;
 
 pub use columns::{Columns, Marks, Pair, not_read};

@@ -15,6 +15,8 @@ pub struct Named<'a> {
     pub argos: Option<&'a [u8]>,
     pub dop: Option<&'a [u8]>,
     pub fix: Option<&'a [u8]>,
+    /// The time zone by whose clock times are read that name none; none where it was not named.
+    pub zone: Option<&'a [u8]>,
     /// Whether the option `--argos-class` is there, and fixes without a class are none of those that it takes.
     pub has_argos_class: bool,
     /// Whether the option `--max-dop` is there, without which no DOP is read.

@@ -5,6 +5,7 @@ ghost use Rattle.std.specs.Prelude.{◌≤◌, length};
 use crate::fault::{PassedOver, TitleFault};
 use crate::named::Role;
 use crate::plain::trimmed;
+use crate::sentences_of_said::{push_local, push_unit, push_utc};
 use crate::usual::{ARGOS_CLASSES, COLUMN_LIMIT, DOPS, FIX_TYPES, UTM_EASTING, UTM_NORTHING};
 use itoa::Buffer;
 use range_plane::OutOfMemory;
@@ -18,7 +19,7 @@ const WHOLE_SIGNS: usize = 60;
 const KEPT_SIGNS: usize = 57;
 
 // Appends words.
-fn push<A: Allocator>(text: &mut Vec<u8, A>, words: &str) -> Result<(), AllocError> {
+pub(crate) fn push<A: Allocator>(text: &mut Vec<u8, A>, words: &str) -> Result<(), AllocError> {
     text.extend_from_slice(words.as_bytes())
 }
 
@@ -29,7 +30,7 @@ fn push_number<A: Allocator>(text: &mut Vec<u8, A>, number: usize) -> Result<(),
 }
 
 // The title of a column.
-fn title_at<'a>(titles: &[&'a [u8]], at: usize) -> &'a [u8] {
+pub(crate) fn title_at<'a>(titles: &[&'a [u8]], at: usize) -> &'a [u8] {
     match titles.get(at) {
         Some(title) => trimmed(title),
         None => b"",
@@ -44,7 +45,7 @@ fn push_quoted<A: Allocator>(text: &mut Vec<u8, A>, title: &[u8]) -> Result<(), 
 }
 
 // Appends a column by its number and its title.
-fn push_column<A: Allocator>(
+pub(crate) fn push_column<A: Allocator>(
     text: &mut Vec<u8, A>,
     titles: &[&[u8]],
     at: usize,
@@ -308,6 +309,9 @@ fn push_fault<A: Allocator>(
             role,
         } => push_one_role(text, titles, first, second, role),
         TitleFault::PassedOver { at, what } => push_passed_over(text, titles, at, what),
+        TitleFault::OtherUnit { at, is_metres } => push_unit(text, titles, at, is_metres),
+        TitleFault::LocalTime { at } => push_local(text, titles, at),
+        TitleFault::UtcTime { at, zone } => push_utc(text, titles, at, zone),
     }
 }
 

@@ -46,6 +46,7 @@ const NO_NAMES: Named<'static> = Named {
     argos: None,
     dop: None,
     fix: None,
+    zone: None,
     has_argos_class: false,
     has_max_dop: false,
     has_fix_type: false,

@@ -18,6 +18,7 @@ pub(crate) const NOTHING: Named<'static> = Named {
     argos: None,
     dop: None,
     fix: None,
+    zone: None,
     has_argos_class: false,
     has_max_dop: false,
     has_fix_type: false,

@@ -1,0 +1,76 @@
+// What the titles of columns that are read say of units and clocks is what they are read in, or refused.
+
+use crate::clocks::{ClockSaid, clock_said, is_of_utc};
+use crate::columns::{Columns, Pair};
+use crate::fault::TitleFault;
+use crate::named::Named;
+use crate::units::unit_said;
+use std::alloc::Allocator;
+
+// The title of a column.
+fn title_at<'t>(titles: &[&'t [u8]], at: usize) -> &'t [u8] {
+    match titles.get(at) {
+        Some(title) => title,
+        None => b"",
+    }
+}
+
+// Refuses a column of coordinates whose title says another unit.
+fn refuse_unit<'a>(titles: &[&[u8]], at: usize, is_metres: bool) -> Result<(), TitleFault<'a>> {
+    match unit_said(title_at(titles, at), is_metres) {
+        Some(_) => Err(TitleFault::OtherUnit { at, is_metres }),
+        None => Ok(()),
+    }
+}
+
+// Refuses two columns of coordinates of which one says another unit.
+fn refuse_units<'a>(
+    titles: &[&[u8]],
+    pair: Option<Pair>,
+    is_metres: bool,
+) -> Result<(), TitleFault<'a>> {
+    let Some(pair) = pair else {
+        return Ok(());
+    };
+    refuse_unit(titles, pair.first, is_metres)?;
+    refuse_unit(titles, pair.second, is_metres)
+}
+
+// Refuses a column of the time whose title says another clock than the one by which it is read.
+fn refuse_clock<'a>(
+    titles: &[&[u8]],
+    at: usize,
+    zone: Option<&'a [u8]>,
+) -> Result<(), TitleFault<'a>> {
+    match (clock_said(title_at(titles, at)), zone) {
+        (ClockSaid::Local(_), None) => Err(TitleFault::LocalTime { at }),
+        (ClockSaid::Utc(_), Some(zone)) if !is_of_utc(zone) => Err(TitleFault::UtcTime {
+            at,
+            zone,
+        }),
+        _ => Ok(()),
+    }
+}
+
+// Refuses columns of the time of which one says another clock.
+fn refuse_clocks<'a>(
+    titles: &[&[u8]],
+    time: &[usize],
+    zone: Option<&'a [u8]>,
+) -> Result<(), TitleFault<'a>> {
+    for at in time {
+        refuse_clock(titles, *at, zone)?;
+    }
+    Ok(())
+}
+
+// Refuses the first column that is read in another unit, or by another clock, than its title says.
+pub(crate) fn refuse_said<'a, A: Allocator>(
+    titles: &[&[u8]],
+    named: &Named<'a>,
+    columns: &Columns<A>,
+) -> Result<(), TitleFault<'a>> {
+    refuse_units(titles, columns.metres, true)?;
+    refuse_units(titles, columns.degrees, false)?;
+    refuse_clocks(titles, &columns.time, named.zone)
+}

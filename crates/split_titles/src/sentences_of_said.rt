@@ -1,0 +1,86 @@
+// The sentences in which a table is refused for what a title says of units and clocks.
+
+use crate::clocks::{ClockSaid, clock_said, whole_hours};
+use crate::sentences::{push, push_column, title_at};
+use crate::units::unit_said;
+use std::alloc::{AllocError, Allocator};
+
+// Appends that a column says a word.
+fn push_says<A: Allocator>(
+    text: &mut Vec<u8, A>,
+    titles: &[&[u8]],
+    at: usize,
+    word: &[u8],
+) -> Result<(), AllocError> {
+    push_column(text, titles, at)?;
+    push(text, " says ")?;
+    text.extend_from_slice(word)
+}
+
+// Appends that a column of coordinates says another unit.
+pub(crate) fn push_unit<A: Allocator>(
+    text: &mut Vec<u8, A>,
+    titles: &[&[u8]],
+    at: usize,
+    is_metres: bool,
+) -> Result<(), AllocError> {
+    let word = unit_said(title_at(titles, at), is_metres).unwrap_or(b"");
+    push_says(text, titles, at, word)?;
+    if is_metres {
+        push(
+            text,
+            ", and coordinates are in metres: write metres, and rename the column",
+        )
+    } else {
+        push(
+            text,
+            ", and longitude and latitude are in degrees: write degrees with decimals, and rename the column",
+        )
+    }
+}
+
+// Appends the zone of an offset of whole hours, or else one as an example.
+fn push_zone<A: Allocator>(text: &mut Vec<u8, A>, word: &[u8]) -> Result<(), AllocError> {
+    match whole_hours(word) {
+        Some((is_ahead, hours)) => {
+            push(text, if is_ahead { "Etc/GMT-" } else { "Etc/GMT+" })?;
+            text.extend_from_slice(hours)
+        }
+        None => push(text, "Europe/Ljubljana"),
+    }
+}
+
+// Appends that a column of the time says a clock other than that of UTC.
+pub(crate) fn push_local<A: Allocator>(
+    text: &mut Vec<u8, A>,
+    titles: &[&[u8]],
+    at: usize,
+) -> Result<(), AllocError> {
+    let word = match clock_said(title_at(titles, at)) {
+        ClockSaid::Local(word) => word,
+        _ => b"",
+    };
+    push_says(text, titles, at, word)?;
+    push(
+        text,
+        ", and without --tz times are those of UTC: name their zone, as by --tz ",
+    )?;
+    push_zone(text, word)
+}
+
+// Appends that a column of the time says the clock of UTC, beside another zone.
+pub(crate) fn push_utc<A: Allocator>(
+    text: &mut Vec<u8, A>,
+    titles: &[&[u8]],
+    at: usize,
+    zone: &[u8],
+) -> Result<(), AllocError> {
+    let word = match clock_said(title_at(titles, at)) {
+        ClockSaid::Utc(word) => word,
+        _ => b"",
+    };
+    push_says(text, titles, at, word)?;
+    push(text, ", and --tz is ")?;
+    text.extend_from_slice(zone)?;
+    push(text, ": leave --tz out, or rename the column")
+}
