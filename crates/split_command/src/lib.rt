@@ -2,6 +2,7 @@
 //! is none.
 #![tactic(auto)]
 
+mod begins;
 mod clock;
 mod command_line;
 mod exit_status;

@@ -38,6 +38,7 @@ fn named_of<'a>(
         dop: columns.dop,
         fix: columns.fix,
         zone: words.zone_name.map(str::as_bytes),
+        has_name: words.name.is_some(),
         has_argos_class: choices.takes_classes(),
         has_max_dop: choices.most_dop.is_some(),
         has_fix_type: !choices.types.is_empty(),

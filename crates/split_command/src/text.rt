@@ -1,5 +1,6 @@
 // The text of an export, in UTF-8.
 
+use crate::begins::{said_of_file, said_of_mark, said_of_text};
 use split_encoding::{DecodeFault, Encoding, decode, encoding_of};
 use split_gpx::{GpxCause, GpxFault, declared_encoding, table_of_gpx};
 use split_refusal::{Kind, Refusal};
@@ -11,6 +12,39 @@ fn refused(alloc: Global, words: Result<String, AllocError>) -> Refusal {
     match words {
         Ok(words) => Refusal::new(alloc, Kind::Text, None, words.as_bytes()),
         Err(_) => Refusal::out_of_memory(alloc),
+    }
+}
+
+// Refuses a path of which something is said.
+fn refuse_said(alloc: Global, path: &str, said: Option<&str>) -> Result<(), Refusal> {
+    match said {
+        Some(words) => Err(refused(alloc, format!(in alloc; "{path} {words}"))),
+        None => Ok(()),
+    }
+}
+
+// The refusal of GPX whose bytes are no text of its encoding.
+fn gpx_decode_refusal(
+    alloc: Global,
+    path: &str,
+    encoding: Encoding,
+    fault: DecodeFault,
+) -> Refusal {
+    let name = encoding.name();
+    match fault {
+        DecodeFault::OutOfMemory => Refusal::out_of_memory(alloc),
+        DecodeFault::NoMark => refused(
+            alloc,
+            format!(in alloc;
+                "{path} is no text in {name}: it has no byte order mark; write it anew in UTF-8"
+            ),
+        ),
+        DecodeFault::NoCharacter { place } => refused(
+            alloc,
+            format!(in alloc;
+                "{path} is no text in {name}: byte {place} is none of it; GPX names its encoding in its first line, as <?xml version=\"1.0\" encoding=\"latin-1\"?>"
+            ),
+        ),
     }
 }
 
@@ -107,6 +141,19 @@ fn gpx_encoding(alloc: Global, path: &str, bytes: &[u8]) -> Result<Encoding, Ref
     }
 }
 
+// The table in the text of GPX.
+fn gpx_text_table(
+    alloc: Global,
+    path: &str,
+    text: &[u8],
+    are_of_one: bool,
+) -> Result<Vec<u8>, Refusal> {
+    match table_of_gpx(alloc, text, are_of_one) {
+        Ok(table) => Ok(table),
+        Err(fault) => Err(gpx_refusal(alloc, path, fault)),
+    }
+}
+
 // The table of GPX.
 fn gpx_table(
     alloc: Global,
@@ -115,10 +162,9 @@ fn gpx_table(
     are_of_one: bool,
 ) -> Result<Vec<u8>, Refusal> {
     let encoding = gpx_encoding(alloc, path, bytes)?;
-    let text = decoded(alloc, path, bytes, encoding)?;
-    match table_of_gpx(alloc, &text, are_of_one) {
-        Ok(table) => Ok(table),
-        Err(fault) => Err(gpx_refusal(alloc, path, fault)),
+    match decode(alloc, bytes, encoding) {
+        Ok(text) => gpx_text_table(alloc, path, &text, are_of_one),
+        Err(fault) => Err(gpx_decode_refusal(alloc, path, encoding, fault)),
     }
 }
 
@@ -206,11 +252,17 @@ pub(crate) fn text_of(
     bytes: &[u8],
     words: &Words<'_>,
 ) -> Result<Option<Vec<u8>>, Refusal> {
+    refuse_said(alloc, path, said_of_file(bytes))?;
     if words.text.is_gpx {
         return Ok(Some(gpx_table(alloc, path, bytes, words.name.is_some())?));
     }
-    match words.text.encoding {
-        Encoding::Utf8 => Ok(None),
-        encoding => Ok(Some(decoded(alloc, path, bytes, encoding)?)),
+    let encoding = words.text.encoding;
+    refuse_said(alloc, path, said_of_mark(bytes, encoding))?;
+    if encoding == Encoding::Utf8 {
+        refuse_said(alloc, path, said_of_text(bytes, encoding))?;
+        return Ok(None);
     }
+    let text = decoded(alloc, path, bytes, encoding)?;
+    refuse_said(alloc, path, said_of_text(&text, encoding))?;
+    Ok(Some(text))
 }

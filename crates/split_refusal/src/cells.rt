@@ -6,6 +6,7 @@ ghost use Rattle.split_refusal.specs.Refused.{IsOfKind, Names};
 use crate::kind::Kind;
 use crate::push::{Field, field_at, push, push_field, push_number};
 use crate::refusal::{Refusal, Sentence};
+use crate::remedies::push_missing;
 use crate::times::{clock_sentence, missing_time, number_sentence, second_sentence, time_sentence};
 use crate::zones::zone_sentence;
 use range_plane::OutOfMemory;
@@ -56,6 +57,13 @@ fn field_sentence(
     let mut text = Vec::new(alloc);
     push_field(&mut text, field, words)?;
     Ok(Sentence { kind, text })
+}
+
+// That a field is no number.
+fn no_number_sentence(alloc: Global, field: Field<'_>) -> Result<Sentence, OutOfMemory> {
+    let mut sentence = field_sentence(alloc, Kind::Number, field, NO_NUMBER)?;
+    push_missing(&mut sentence.text, field.cell)?;
+    Ok(sentence)
 }
 
 /// A record of a table, and what its refusal needs to know of the table.
@@ -125,9 +133,7 @@ fn sentence_of_cell(
 ) -> Result<Sentence, OutOfMemory> {
     match fault {
         CellFault::FieldCount { count } => count_sentence(alloc, count, shown.titles.len()),
-        CellFault::NotNumber { column } => {
-            field_sentence(alloc, Kind::Number, field_in(shown, column), NO_NUMBER)
-        }
+        CellFault::NotNumber { column } => { no_number_sentence(alloc, field_in(shown, column)) }
         CellFault::NotTruth { column } => {
             field_sentence(alloc, Kind::Mark, field_in(shown, column), NO_MARK)
         }

@@ -66,6 +66,14 @@ fn is_clock(text: &[u8]) -> bool {
     }
 }
 
+// Whether a text begins with the form of a day of ISO, whatever its numbers are.
+pub(crate) fn has_iso_day(text: &[u8]) -> bool {
+    match text.split_at_checked(10) {
+        Some((day, _)) => has_form(day, b"0000-00-00"),
+        None => false,
+    }
+}
+
 // Whether a text has the form of a time of ISO, whatever its numbers are.
 pub(crate) fn has_iso_form(text: &[u8]) -> bool {
     match text.split_at_checked(10) {

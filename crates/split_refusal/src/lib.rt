@@ -10,6 +10,7 @@ mod kind;
 mod names;
 mod push;
 mod refusal;
+mod remedies;
 mod said;
 mod tables;
 mod times;

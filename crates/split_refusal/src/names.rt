@@ -52,6 +52,18 @@ fn named(alloc: Global, animals: &[&[u8]], animal: &[u8]) -> Result<Vec<u8>, Out
     }
 }
 
+// The most bytes of the name of a file.
+const NAME_BYTES: usize = 32;
+
+// What is to be done about two animals whose files would have the same name.
+fn remedy(first: &[u8], second: &[u8]) -> &'static str {
+    if NAME_BYTES < first.len() || NAME_BYTES < second.len() {
+        ": rename one, since a name in files has at most 32 bytes"
+    } else {
+        ": rename one, since a name in files has _ for signs that files cannot have"
+    }
+}
+
 // That the files of two animals would have the same name.
 fn sentence(
     alloc: Global,
@@ -66,6 +78,7 @@ fn sentence(
     text.extend_from_slice(second)?;
     push(&mut text, "' would both be named ")?;
     text.extend_from_slice(&named(alloc, animals, first)?)?;
+    push(&mut text, remedy(first, second))?;
     Ok(Sentence {
         kind: Kind::Name,
         text,

@@ -5,6 +5,7 @@ use crate::forms::{has_iso_form, without_blanks};
 use crate::kind::Kind;
 use crate::push::{Field, push, push_field};
 use crate::refusal::Sentence;
+use crate::remedies::push_form;
 use range_plane::OutOfMemory;
 use split_clock::NoMoment;
 use split_times::{NumberFault, TimeFault, iso_moment};
@@ -119,8 +120,10 @@ fn sentence(alloc: Global, field: Field<'_>, why: Why) -> Result<Sentence, OutOf
     } else {
         push_field(&mut text, field, why.words())?;
     }
-    if let Why::Number(_) = why {
-        push(&mut text, REMEDY)?;
+    match why {
+        Why::Number(_) => push(&mut text, REMEDY)?,
+        Why::OtherForm => push_form(alloc, &mut text, field.cell)?,
+        _ => {}
     }
     Ok(Sentence {
         kind: Kind::Time,

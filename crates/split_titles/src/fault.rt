@@ -74,6 +74,12 @@ pub enum TitleFault<'a> {
         at: usize,
         what: PassedOver,
     },
+    /// The animal was named, and there is a column of it.
+    NamedAnimal {
+        at: usize,
+    },
+    /// The first line says the separator, as `sep=;` does, and no titles.
+    SeparatorLine,
     /// The title of a column of coordinates says another unit than metres, or than degrees.
     OtherUnit {
         at: usize,
@@ -107,9 +113,10 @@ impl<'a> TitleFault<'a> {
     pub fn kind(self) -> Option<FaultKind> {
         match self {
             TitleFault::OutOfMemory => None,
-            TitleFault::HalfPair { .. } | TitleFault::OneColumn { .. } | TitleFault::TwoPairs => {
-                Some(FaultKind::Option)
-            }
+            TitleFault::HalfPair { .. }
+            | TitleFault::OneColumn { .. }
+            | TitleFault::TwoPairs
+            | TitleFault::NamedAnimal { .. } => Some(FaultKind::Option),
             TitleFault::OneTitle { .. } | TitleFault::OneRole { .. } => Some(FaultKind::Ambiguous),
             TitleFault::TooManyColumns
             | TitleFault::NoColumn { .. }
@@ -118,6 +125,7 @@ impl<'a> TitleFault<'a> {
             | TitleFault::NoDop
             | TitleFault::NoFixType
             | TitleFault::PassedOver { .. }
+            | TitleFault::SeparatorLine
             | TitleFault::OtherUnit { .. }
             | TitleFault::LocalTime { .. }
             | TitleFault::UtcTime { .. } => Some(FaultKind::Columns),

@@ -1,6 +1,6 @@
 // All columns of a table that are read.
 
-ghost use Rattle.std.specs.Prelude.{ℕ, ◌<◌, ◌≤◌, All, IfOk, IsTrue, length};
+ghost use Rattle.std.specs.Prelude.{ℕ, ◌<◌, ◌≤◌, All, IfOk, IsTrue, OnOk, length};
 ghost use Rattle.split_titles.specs.Columns.{AreMarksWithin, AreWithin, HasUsageAlone, IsWithin, has_places};
 
 use crate::columns::{Columns, Marks};
@@ -234,6 +234,29 @@ fn asked_for<'a>(
     Ok(None)
 }
 
+// Refuses a name of the one animal where there is a column of the animal.
+fn refuse_name<'a>(named: &Named<'a>, animal: &[usize]) -> Result<(), TitleFault<'a>> {
+    match animal.first() {
+        Some(at) if named.has_name => Err(TitleFault::NamedAnimal { at: *at }),
+        _ => Ok(()),
+    }
+}
+
+// Refuses more titles than a table may have, and those that are none, but say what stands between fields, as `sep=;` does.
+fn refuse_line<'a>(titles: &[&[u8]]) -> Result<(), TitleFault<'a>>
+    ensures { OnOk result (length titles.now ≤ COLUMN_LIMIT) }
+{
+    if titles.len() > COLUMN_LIMIT {
+        return Err(TitleFault::TooManyColumns);
+    }
+    match titles.first() {
+        Some(title) if titles.len() <= 2 && title.starts_with(b"sep=") => {
+            Err(TitleFault::SeparatorLine)
+        }
+        _ => Ok(()),
+    }
+}
+
 /// The columns of a table of these titles that are read, where these were named.
 ///
 /// # Errors
@@ -249,11 +272,10 @@ pub fn find_columns<'a, A: Allocator + Copy>(
     ensures usage { IfOk result (λ columns. HasUsageAlone columns.marks) }
     ensures few { IfOk result (λ _. length titles.now ≤ COLUMN_LIMIT) }
 {
-    if titles.len() > COLUMN_LIMIT {
-        return Err(TitleFault::TooManyColumns);
-    }
+    refuse_line(titles)?;
     let places = find_places(titles, named)?;
     let animal = animal_columns(alloc, titles, named, places.family)?;
+    refuse_name(named, &animal)?;
     let time = time_columns(alloc, titles, named, places.family)?;
     let is_second = is_second(titles, &time);
     let other_animals = other_animals(alloc, titles, named, &animal)?;

@@ -17,6 +17,8 @@ pub struct Named<'a> {
     pub fix: Option<&'a [u8]>,
     /// The time zone by whose clock times are read that name none; none where it was not named.
     pub zone: Option<&'a [u8]>,
+    /// Whether the one animal of a table without a column of it was named (`--name`).
+    pub has_name: bool,
     /// Whether the option `--argos-class` is there, and fixes without a class are none of those that it takes.
     pub has_argos_class: bool,
     /// Whether the option `--max-dop` is there, without which no DOP is read.

@@ -4,9 +4,11 @@ ghost use Rattle.std.specs.Prelude.{◌≤◌, length};
 
 use crate::fault::{PassedOver, TitleFault};
 use crate::named::Role;
-use crate::plain::trimmed;
+use crate::plain::{comes_to, trimmed};
 use crate::sentences_of_said::{push_local, push_unit, push_utc};
-use crate::usual::{ARGOS_CLASSES, COLUMN_LIMIT, DOPS, FIX_TYPES, UTM_EASTING, UTM_NORTHING};
+use crate::usual::{
+    ARGOS_CLASSES, COLUMN_LIMIT, DATE, DOPS, FIX_TYPES, TIME, UTM_EASTING, UTM_NORTHING,
+};
 use itoa::Buffer;
 use range_plane::OutOfMemory;
 use std::alloc::{AllocError, Allocator};
@@ -192,6 +194,16 @@ fn push_no_column<A: Allocator>(
     push_listed(text, titles)
 }
 
+// Whether there is one title alone, with signs that other tables have between fields.
+fn has_other_separator(titles: &[&[u8]]) -> bool {
+    match titles {
+        [title] => trimmed(title)
+            .iter()
+            .any(|byte| *byte == b'|' || *byte == b' ' || *byte == b':'),
+        _ => false,
+    }
+}
+
 // Appends that no usual title is that of coordinates.
 fn push_no_coordinates<A: Allocator>(
     text: &mut Vec<u8, A>,
@@ -202,7 +214,14 @@ fn push_no_coordinates<A: Allocator>(
         "there are no columns of usual titles for easting and northing, or longitude and latitude: name them, as by \
          --easting X and --northing Y, or --lon X and --lat Y; the table has ",
     )?;
-    push_listed(text, titles)
+    push_listed(text, titles)?;
+    if has_other_separator(titles) {
+        push(
+            text,
+            ", which is one title: fields stand between commas, semicolons or tabs",
+        )?;
+    }
+    Ok(())
 }
 
 // Appends that an option asks for a column which no usual title is that of.
@@ -231,6 +250,13 @@ fn push_one_title<A: Allocator>(
     push(text, ": rename one")
 }
 
+// Whether two columns are the day and the clock of a time.
+fn are_parts_of_time(titles: &[&[u8]], first: usize, second: usize, role: Role) -> bool {
+    role == Role::Time
+        && comes_to(title_at(titles, first), DATE.as_bytes())
+        && comes_to(title_at(titles, second), TIME.as_bytes())
+}
+
 // Appends that two columns fit one role.
 fn push_one_role<A: Allocator>(
     text: &mut Vec<u8, A>,
@@ -241,7 +267,27 @@ fn push_one_role<A: Allocator>(
 ) -> Result<(), AllocError> {
     push_both(text, titles, first, second, role.words())?;
     push(text, ": name one, as by ")?;
-    push_option(text, role.option(), title_at(titles, first))
+    push_option(text, role.option(), title_at(titles, first))?;
+    if are_parts_of_time(titles, first, second, role) {
+        push(text, ", or both, as by ")?;
+        push_option(text, role.option(), title_at(titles, first))?;
+        push(text, ",")?;
+        text.extend_from_slice(title_at(titles, second))?;
+    }
+    Ok(())
+}
+
+// Appends that the animal was named, and there is a column of it.
+fn push_named_animal<A: Allocator>(
+    text: &mut Vec<u8, A>,
+    titles: &[&[u8]],
+    at: usize,
+) -> Result<(), AllocError> {
+    push_column(text, titles, at)?;
+    push(
+        text,
+        " is that of the animal, and --name is for tables without one: leave --name out, or rename the column",
+    )
 }
 
 // Appends that a column would be passed over.
@@ -309,6 +355,11 @@ fn push_fault<A: Allocator>(
             role,
         } => push_one_role(text, titles, first, second, role),
         TitleFault::PassedOver { at, what } => push_passed_over(text, titles, at, what),
+        TitleFault::NamedAnimal { at } => push_named_animal(text, titles, at),
+        TitleFault::SeparatorLine => push(
+            text,
+            "the first line says what stands between fields, and has no titles: leave it out, by --skip-lines 1",
+        ),
         TitleFault::OtherUnit { at, is_metres } => push_unit(text, titles, at, is_metres),
         TitleFault::LocalTime { at } => push_local(text, titles, at),
         TitleFault::UtcTime { at, zone } => push_utc(text, titles, at, zone),

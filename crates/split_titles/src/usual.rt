@@ -15,7 +15,9 @@ pub(crate) const SECOND: &str = "second";
 
 const TIME_OF_AMT: &str = "t_";
 
-const DATE: &str = "date";
+pub(crate) const DATE: &str = "date";
+
+pub(crate) const TIME: &str = "time";
 
 pub(crate) const UTM_EASTING: &str = "utm-easting";
 
@@ -44,7 +46,7 @@ pub(crate) const TIMES: [&str; 9] = [
     SECOND,
     TIME_OF_AMT,
     DATE,
-    "time",
+    TIME,
     "datetime",
     "date-time",
     "acquisition-time",
@@ -75,7 +77,16 @@ pub(crate) const IMPORT_OUTLIER: &str = "import-marked-outlier";
 
 pub(crate) const MANUAL_VALID: &str = "manually-marked-valid";
 // Titles of marks that are not read.
-pub(crate) const ODD_MARKS: [&str; 3] = ["outlier", "valid", "event-visible"];
+pub(crate) const ODD_MARKS: [&str; 8] = [
+    "outlier",
+    "outliers",
+    "is-outlier",
+    "isoutlier",
+    "valid",
+    "is-valid",
+    "isvalid",
+    "event-visible",
+];
 
 pub(crate) const SENSOR: &str = "sensor-type";
 
@@ -89,7 +100,14 @@ pub(crate) const ARGOS_CLASSES: [&str; 5] = [
     "location-class",
 ];
 // Titles that classes of Argos have too, and other classes.
-pub(crate) const ODD_CLASSES: [&str; 3] = ["lc", "class", "argos-loc-class"];
+pub(crate) const ODD_CLASSES: [&str; 6] = [
+    "lc",
+    "class",
+    "argos-loc-class",
+    "argos-location-class",
+    "loc-class",
+    "locationclass",
+];
 
 pub(crate) const DOPS: [&str; 5] = ["gps-dop", "dop", "gps-hdop", "hdop", "pdop"];
 

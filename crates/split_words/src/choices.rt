@@ -2,7 +2,7 @@
 
 use crate::bounds::bound_of;
 use crate::fault::WordFault;
-use crate::values::{list_of, refused_value};
+use crate::values::{full_list_of, refused_value};
 use clap::ArgMatches;
 use split_clock::Clock;
 use split_filters::Filters;
@@ -71,8 +71,12 @@ impl<'a> Choices<'a> {
 }
 
 // A list of words of which `none` is empty.
-fn list_with_none<'a>(alloc: Global, value: Option<&'a str>) -> Result<Vec<&'a [u8]>, WordFault> {
-    let mut words = list_of(alloc, value)?;
+fn list_with_none<'a>(
+    alloc: Global,
+    option: &str,
+    value: Option<&'a str>,
+) -> Result<Vec<&'a [u8]>, WordFault> {
+    let mut words = full_list_of(alloc, option, value)?;
     for word in words.iter_mut() {
         if *word == b"none".as_slice() {
             *word = b"";
@@ -148,10 +152,10 @@ pub(crate) fn choices_of<'a>(
     matches: &ArgMatches<'a>,
 ) -> Result<Choices<'a>, WordFault> {
     Ok(Choices {
-        sensors: list_with_none(alloc, matches.get_str("sensor"))?,
-        classes: list_with_none(alloc, matches.get_str("argos-class"))?,
+        sensors: list_with_none(alloc, "sensor", matches.get_str("sensor"))?,
+        classes: list_with_none(alloc, "argos-class", matches.get_str("argos-class"))?,
         class_words: matches.get_str("argos-class").unwrap_or(""),
-        types: list_of(alloc, matches.get_str("fix-type"))?,
+        types: full_list_of(alloc, "fix-type", matches.get_str("fix-type"))?,
         type_words: matches.get_str("fix-type").unwrap_or(""),
         most_dop: dop_of(alloc, matches.get_str("max-dop"))?,
         since: None,

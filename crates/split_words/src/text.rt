@@ -44,6 +44,41 @@ fn encoding_in(alloc: Global, value: Option<&str>) -> Result<Encoding, WordFault
 // Options of texts with a line of titles.
 const OF_TITLES: [&str; 3] = ["encoding", "header", "skip-lines"];
 
+// Options of columns that track points of GPX do not have.
+const OF_COLUMNS: [&str; 7] = [
+    "argos",
+    "argos-class",
+    "dop",
+    "fix",
+    "fix-type",
+    "max-dop",
+    "sensor",
+];
+
+// Refuses options of columns that GPX does not have.
+fn refuse_columns_of_gpx(alloc: Global, matches: &ArgMatches<'_>) -> Result<(), WordFault> {
+    for option in OF_COLUMNS {
+        if matches.get_str(option).is_some() {
+            let words = format!(in alloc;
+                "--{option} is for a column, which track points of GPX do not have: leave it out beside --from gpx"
+            )?;
+            return Err(refused(alloc, Kind::Option, words.as_str()));
+        }
+    }
+    Ok(())
+}
+
+// Refuses a name of the animal, which is that of the track.
+fn refuse_name_of_gpx(alloc: Global, matches: &ArgMatches<'_>) -> Result<(), WordFault> {
+    if matches.get_str("name").is_none() {
+        return Ok(());
+    }
+    let words =
+        "--name is for tables without a column of the animal, and the animal of GPX is its track's name: leave it out \
+                 beside --from gpx";
+    Err(refused(alloc, Kind::Option, words))
+}
+
 // Refuses options that GPX does not have: it says its encoding itself.
 fn refuse_beside_gpx(alloc: Global, matches: &ArgMatches<'_>) -> Result<(), WordFault> {
     for option in OF_TITLES {
@@ -62,6 +97,8 @@ fn is_gpx(alloc: Global, matches: &ArgMatches<'_>) -> Result<bool, WordFault> {
     let is_gpx = matches.get_str("from") == Some(GPX);
     if is_gpx {
         refuse_beside_gpx(alloc, matches)?;
+        refuse_columns_of_gpx(alloc, matches)?;
+        refuse_name_of_gpx(alloc, matches)?;
     }
     Ok(is_gpx)
 }

@@ -68,6 +68,20 @@ pub(crate) fn list_of<'a>(
     Ok(words)
 }
 
+// The words of the list of an option, none of which is empty.
+pub(crate) fn full_list_of<'a>(
+    alloc: Global,
+    option: &str,
+    value: Option<&'a str>,
+) -> Result<Vec<&'a [u8]>, WordFault> {
+    let words = list_of(alloc, value)?;
+    if words.iter().any(|word| word.is_empty()) {
+        let wanted = "a word, or several with commas between";
+        return Err(refused_value(alloc, option, value.unwrap_or(""), wanted));
+    }
+    Ok(words)
+}
+
 // Appends a name to a list of so many.
 pub(crate) fn push_listed(text: &mut String, count: usize, name: &str) -> Result<(), AllocError> {
     if count > 0 {

@@ -47,6 +47,7 @@ const NO_NAMES: Named<'static> = Named {
     dop: None,
     fix: None,
     zone: None,
+    has_name: false,
     has_argos_class: false,
     has_max_dop: false,
     has_fix_type: false,

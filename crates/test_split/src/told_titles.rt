@@ -19,6 +19,7 @@ pub(crate) const NOTHING: Named<'static> = Named {
     dop: None,
     fix: None,
     zone: None,
+    has_name: false,
     has_argos_class: false,
     has_max_dop: false,
     has_fix_type: false,

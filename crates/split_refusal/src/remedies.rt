@@ -1,0 +1,131 @@
+// What is to be done about fields that are no numbers, and no times.
+
+use crate::forms::has_iso_day;
+use crate::push::push;
+use range_plane::OutOfMemory;
+use split_times::Forms;
+use std::alloc::{AllocError, Global};
+
+// The most bytes of a word that may stand for what is missing.
+const WORD_BYTES: usize = 20;
+
+// Forms of days, the first also of a clock before it.
+const DAYS: [&str; 17] = [
+    "%H:%M:%S %d-%b-%Y",
+    "%d.%m.%Y",
+    "%d.%m.%y",
+    "%m/%d/%Y",
+    "%d/%m/%Y",
+    "%m/%d/%y",
+    "%d/%m/%y",
+    "%m-%d-%Y",
+    "%d-%m-%Y",
+    "%Y/%m/%d",
+    "%Y.%m.%d",
+    "%Y-%m-%d",
+    "%Y %m %d",
+    "%d-%b-%Y",
+    "%d-%b-%y",
+    "%d %b %Y",
+    "%b %d %Y",
+];
+
+// Forms of clocks behind a day.
+const CLOCKS: [&str; 7] = [
+    "",
+    " %H:%M:%S",
+    " %H:%M",
+    " %I:%M:%S %p",
+    " %I:%M %p",
+    ", %H:%M:%S",
+    ", %I:%M:%S %p",
+];
+
+// Whether a byte may stand in a word for what is missing, and needs no quotes there.
+fn is_plain(byte: u8) -> bool {
+    byte.is_ascii_alphabetic() || byte == b'/' || byte == b'.' || byte == b'-' || byte == b'_'
+}
+
+// Whether a byte may stand in such a word between quotes.
+fn is_of_word(byte: u8) -> bool {
+    byte.is_ascii_graphic()
+        && !byte.is_ascii_digit()
+        && byte != b','
+        && byte != b'\''
+        && byte != b'"'
+}
+
+// Whether a field may be a word for what is missing.
+fn is_word(cell: &[u8]) -> bool {
+    let is_short = !cell.is_empty() && cell.len() <= WORD_BYTES;
+    is_short && cell.iter().all(|byte| is_of_word(*byte))
+}
+
+/// Appends by which option a field that is no number is missing, where it may be a word for that.
+pub(crate) fn push_missing(text: &mut Vec<u8>, cell: &[u8]) -> Result<(), AllocError> {
+    if !is_word(cell) {
+        return Ok(());
+    }
+    push(
+        text,
+        ": if it stands for what is missing, name it, by --na=",
+    )?;
+    if cell.iter().all(|byte| is_plain(*byte)) {
+        return text.extend_from_slice(cell);
+    }
+    push(text, "'")?;
+    text.extend_from_slice(cell)?;
+    push(text, "'")
+}
+
+// Whether a text is a time of this form.
+fn has_form(form: &[u8], cell: &[u8]) -> bool {
+    match Forms::new(form) {
+        Ok(forms) => forms.time(cell).is_ok(),
+        Err(_) => false,
+    }
+}
+
+// Appends the forms of a day and a clock that a text has, of which so many stand before. Answers how many there are then.
+fn push_forms(
+    alloc: Global,
+    text: &mut Vec<u8>,
+    cell: &[u8],
+    day: &str,
+    before: usize,
+) -> Result<usize, OutOfMemory> {
+    let mut count = before;
+    for clock in CLOCKS {
+        let mut form = Vec::from_slice(alloc, day.as_bytes())?;
+        push(&mut form, clock)?;
+        if has_form(&form, cell) {
+            let start = if count == 0 {
+                ": name its form, as by --time-format '"
+            } else {
+                " or '"
+            };
+            push(text, start)?;
+            text.extend_from_slice(&form)?;
+            push(text, "'")?;
+            count = count.saturating_add(1);
+        }
+    }
+    Ok(count)
+}
+
+// Whether a text has digits, and does not begin with a day of ISO.
+fn has_other_digits(cell: &[u8]) -> bool {
+    !has_iso_day(cell) && cell.iter().any(|byte| byte.is_ascii_digit())
+}
+
+/// Appends by which option a field is read that is no time of ISO, and may be one of another form.
+pub(crate) fn push_form(alloc: Global, text: &mut Vec<u8>, cell: &[u8]) -> Result<(), OutOfMemory> {
+    let mut count = 0;
+    for day in DAYS {
+        count = push_forms(alloc, text, cell, day, count)?;
+    }
+    if count == 0 && has_other_digits(cell) {
+        push(text, ": if it is one, name its form, by --time-format")?;
+    }
+    Ok(())
+}
