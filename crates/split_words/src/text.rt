@@ -68,17 +68,6 @@ fn refuse_columns_of_gpx(alloc: Global, matches: &ArgMatches<'_>) -> Result<(), 
     Ok(())
 }
 
-// Refuses a name of the animal, which is that of the track.
-fn refuse_name_of_gpx(alloc: Global, matches: &ArgMatches<'_>) -> Result<(), WordFault> {
-    if matches.get_str("name").is_none() {
-        return Ok(());
-    }
-    let words =
-        "--name is for tables without a column of the animal, and the animal of GPX is its track's name: leave it out \
-                 beside --from gpx";
-    Err(refused(alloc, Kind::Option, words))
-}
-
 // Refuses options that GPX does not have: it says its encoding itself.
 fn refuse_beside_gpx(alloc: Global, matches: &ArgMatches<'_>) -> Result<(), WordFault> {
     for option in OF_TITLES {
@@ -98,7 +87,6 @@ fn is_gpx(alloc: Global, matches: &ArgMatches<'_>) -> Result<bool, WordFault> {
     if is_gpx {
         refuse_beside_gpx(alloc, matches)?;
         refuse_columns_of_gpx(alloc, matches)?;
-        refuse_name_of_gpx(alloc, matches)?;
     }
     Ok(is_gpx)
 }

@@ -158,7 +158,7 @@ fn blanks_may_stand_beside_the_words_of_a_list(rt: HostRuntime) -> Result<(), Fa
     let texts = [
         "a.csv",
         "--sensor= gps , none",
-        "--argos-class=3, 2, ",
+        "--argos-class=3, 2, none",
         "--fix-type=3D fix , 2D",
         "--na=N/A, -9999 ,no fix",
     ];

@@ -79,13 +79,13 @@ fn a_maker_stands_for_its_columns(rt: HostRuntime) -> Result<(), Fail> {
             "argos",
             "Platform ID No.,;Loc. date,;-;-;Longitude;Latitude;-;-;Loc. quality;",
         ),
-        ("gpx", ";time,;-;-;lon;lat;-;-;-;"),
     ];
     for (maker, expected) in cases {
         let texts = ["a.csv", "--from", maker, "--max-dop=5", "--fix-type=3D"];
         expect_columns(&rt, rt.alloc(), &texts, expected)?;
     }
-    Ok(())
+    let texts = ["a.gpx", "--from=gpx"];
+    expect_columns(&rt, rt.alloc(), &texts, ";time,;-;-;lon;lat;-;-;-;")
 }
 
 #[test]
