@@ -1,6 +1,6 @@
 // What is to be done about fields that are no numbers, and no times.
 
-use crate::forms::has_iso_day;
+use crate::forms::{has_iso_day, without_blanks};
 use crate::push::push;
 use range_plane::OutOfMemory;
 use split_times::Forms;
@@ -48,7 +48,7 @@ fn is_plain(byte: u8) -> bool {
 
 // Whether a byte may stand in such a word between quotes.
 fn is_of_word(byte: u8) -> bool {
-    byte.is_ascii_graphic()
+    (byte.is_ascii_graphic() || byte == b' ')
         && !byte.is_ascii_digit()
         && byte != b','
         && byte != b'\''
@@ -58,7 +58,7 @@ fn is_of_word(byte: u8) -> bool {
 // Whether a field may be a word for what is missing.
 fn is_word(cell: &[u8]) -> bool {
     let is_short = !cell.is_empty() && cell.len() <= WORD_BYTES;
-    is_short && cell.iter().all(|byte| is_of_word(*byte))
+    is_short && without_blanks(cell) == cell && cell.iter().all(|byte| is_of_word(*byte))
 }
 
 /// Appends by which option a field that is no number is missing, where it may be a word for that.

@@ -3,8 +3,22 @@
 use crate::units::parts_words;
 
 // Words for clocks that are not that of UTC.
-const LOCAL_WORDS: [&str; 14] = [
-    "local", "lmt", "cet", "cest", "mez", "mesz", "est", "edt", "cst", "cdt", "mst", "mdt", "pst",
+const LOCAL_WORDS: [&str; 16] = [
+    "local",
+    "localtime",
+    "localdate",
+    "lmt",
+    "cet",
+    "cest",
+    "mez",
+    "mesz",
+    "est",
+    "edt",
+    "cst",
+    "cdt",
+    "mst",
+    "mdt",
+    "pst",
     "pdt",
 ];
 

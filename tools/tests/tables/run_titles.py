@@ -12,6 +12,9 @@ from cases import finish
 UTM = "individual-local-identifier,timestamp,utm-easting,utm-northing,utm-zone"
 NO_COORDINATES = ("there are no columns of usual titles for easting and northing, or longitude and latitude: name them, as by --easting X and "
                   "--northing Y, or --lon X and --lat Y; the table has ")
+UTC = ", and without --tz times are those of UTC: name their zone, as by --tz "
+METRES = ", and coordinates are in metres: write metres, and rename the column"
+DEGREES = ", and longitude and latitude are in degrees: write degrees with decimals, and rename the column"
 NO_MARKS = " (a fix is not used where 'visible' is false, or 'manually-marked-outlier' is true)"
 # The options, the titles, and the line.
 REFUSED = [
@@ -27,7 +30,8 @@ REFUSED = [
     ([], f"{UTM},UTM Zone,utm-zone", "column 5 'utm-zone' and column 7 'utm-zone' both fit utm-zone: rename one"),
     ([], "id,date,x,y,argos lc,argos:lc", "column 5 'argos lc' and column 6 'argos:lc' both fit argos-lc: rename one"),
     ([], "id,date,timestamp,x,y", "column 3 'timestamp' and column 2 'date' both fit the time: name one, as by --time timestamp"),
-    ([], "id,date, Time ,x,y", "column 2 'date' and column 3 'Time' both fit the time: name one, as by --time date"),
+    ([], "id,date, Time ,x,y", "column 2 'date' and column 3 'Time' both fit the time: name one, as by --time date, or both, as by --time date,Time"),
+    ([], "id,TIME,DATE,lon,lat", "column 3 'DATE' and column 2 'TIME' both fit the time: name one, as by --time DATE, or both, as by --time DATE,TIME"),
     ([], "id,Date Time,time,lon,lat", "column 3 'time' and column 2 'Date Time' both fit the time: name one, as by --time time"),
     ([], "id,date,x,y,easting,northing", "column 5 'easting' and column 3 'x' both fit the easting: name one, as by --easting easting"),
     ([], "id,time,lon,lat,Longi tude,longitude,latitude",
@@ -50,6 +54,14 @@ REFUSED = [
     ([], "id,date,x,y,class,argos-lc", "column 6 'argos-lc' and column 5 'class' both fit the Argos class: name one, as by --argos argos-lc"),
     ([], "id,date,x,y,location-class,argos-lc",
      "column 6 'argos-lc' and column 5 'location-class' both fit the Argos class: name one, as by --argos argos-lc"),
+    ([], "id,date,x,y,locationClass",
+     "column 5 'locationClass' may have Argos classes: name it, as by --argos locationClass, or rename or remove it"),
+    ([], "id,date,x,y,Loc Class", "column 5 'Loc Class' may have Argos classes: name it, as by --argos 'Loc Class', or rename or remove it"),
+    ([], "id,date,x,y,argos_location_class",
+     "column 5 'argos_location_class' may have Argos classes: name it, as by --argos argos_location_class, or rename or remove it"),
+    ([], "id,date,x,y,is_outlier", f"column 5 'is_outlier' may have marks, but is not read: rename or remove it{NO_MARKS}"),
+    ([], "id,date,x,y,Outliers", f"column 5 'Outliers' may have marks, but is not read: rename or remove it{NO_MARKS}"),
+    ([], "id,date,x,y,isValid", f"column 5 'isValid' may have marks, but is not read: rename or remove it{NO_MARKS}"),
     ([], "id,date,x,y,outlier", f"column 5 'outlier' may have marks, but is not read: rename or remove it{NO_MARKS}"),
     ([], "animal,second,easting,northing,Event_Visible,visible",
      f"column 5 'Event_Visible' may have marks, but is not read: rename or remove it{NO_MARKS}"),
@@ -60,6 +72,11 @@ REFUSED = [
      "column 5 'utm.zone' is read beside utm-easting and utm-northing alone: rename or remove it"),
     ([], "animal,second,Ost,Nord", f"{NO_COORDINATES}'animal', 'second', 'Ost', 'Nord'"),
     ([], "id,date,lat,x", f"{NO_COORDINATES}'id', 'date', 'lat', 'x'"),
+    ([], "id|timestamp|lon|lat", f"{NO_COORDINATES}'id|timestamp|lon|lat', which is one title: fields stand between commas, semicolons or tabs"),
+    ([], "id date x y", f"{NO_COORDINATES}'id date x y', which is one title: fields stand between commas, semicolons or tabs"),
+    ([], " id ", f"{NO_COORDINATES}'id'"),
+    ([], "sep=;", "the first line says what stands between fields, and has no titles: leave it out, by --skip-lines 1"),
+    (["--lon", "lon", "--lat", "lat"], "sep=,", "the first line says what stands between fields, and has no titles: leave it out, by --skip-lines 1"),
     ([], "aaaaaaaaaaaaaaaaaaaaaaaaaaaaaaaaaaaaaaaaaaaaaaaaaaaaaaaaaaaaa,éééééééééééééééééééééééééééééééééééééééééééééééééééééééééééé,xxxxxxxxxxxxxxxxxxxxxxxxxxxxxxxxxxxxxxxxxxxxxxxxxxxxxxxx€€€€€",
      f"{NO_COORDINATES}'aaaaaaaaaaaaaaaaaaaaaaaaaaaaaaaaaaaaaaaaaaaaaaaaaaaaaaaaa..., 'éééééééééééééééééééééééééééééééééééééééééééééééééééééééééééé', 'xxxxxxxxxxxxxxxxxxxxxxxxxxxxxxxxxxxxxxxxxxxxxxxxxxxxxxxx€..."),
     ([], ",".join(f"c{at}" for at in range(45)), NO_COORDINATES + ", ".join(f"'c{at}'" for at in range(40))),
@@ -96,6 +113,24 @@ REFUSED = [
     (["--fix-type", "3D"], "id,date,x,y,fix-status,fix-type",
      "column 6 'fix-type' and column 5 'fix-status' both fit the fix type: name one, as by --fix fix-type"),
     (["--max-dop", "5"], "id,date,x,y,Dop,DOP", "column 5 'Dop' and column 6 'DOP' both fit dop: rename one"),
+    (["--easting", "Easting (km)", "--northing", "Northing (km)"], "id,date,Easting (km),Northing (km)", f"column 3 'Easting (km)' says km{METRES}"),
+    (["--easting", "x_m", "--northing", "y[FT]"], "id,date,x_m,y[FT]", f"column 4 'y[FT]' says FT{METRES}"),
+    (["--easting", "x.miles", "--northing", "y/m"], "id,date,x.miles,y/m", f"column 3 'x.miles' says miles{METRES}"),
+    (["--lon", "lon rad", "--lat", "lat"], "id,date,lon rad,lat", f"column 3 'lon rad' says rad{DEGREES}"),
+    (["--lon", "lon", "--lat", "lat_E7"], "id,date,lon,lat_E7", f"column 4 'lat_E7' says E7{DEGREES}"),
+    (["--time", "time (UTC+2)"], "id,time (UTC+2),lon,lat", f"column 2 'time (UTC+2)' says UTC+2{UTC}Etc/GMT-2"),
+    (["--time", "date_gmt-05:30"], "id,date_gmt-05:30,lon,lat", f"column 2 'date_gmt-05:30' says gmt-05:30{UTC}Europe/Ljubljana"),
+    (["--time", "UTC -11"], "id,UTC -11,lon,lat", f"column 2 'UTC -11' says UTC -11{UTC}Etc/GMT+11"),
+    (["--time", "day,Local.time"], "id,day,Local.time,lon,lat", f"column 3 'Local.time' says Local{UTC}Europe/Ljubljana"),
+    (["--from", "vectronic", "--time", "LMT_Date,LMT_Time", "--time-format", "%d.%m.%Y %H:%M:%S"], "AnimalID,CollarID,LMT_Date,LMT_Time,Longitude,Latitude",
+     f"column 3 'LMT_Date' says LMT{UTC}Europe/Ljubljana"),
+    (["--from", "ornitela", "--tz", "Europe/Vienna"], "device_id,UTC_datetime,Longitude,Latitude",
+     "column 2 'UTC_datetime' says UTC, and --tz is Europe/Vienna: leave --tz out, or rename the column"),
+    (["--from", "lotek", "--tz", "Etc/GMT-2"], "Device ID,Date & Time [GMT],Longitude,Latitude",
+     "column 2 'Date & Time [GMT]' says GMT, and --tz is Etc/GMT-2: leave --tz out, or rename the column"),
+    (["--name", "fox"], "id,date,x,y", "column 1 'id' is that of the animal, and --name is for tables without one: leave --name out, or rename the column"),
+    (["--name", "fox", "--animal", "Tier"], "Tier,date,x,y",
+     "column 1 'Tier' is that of the animal, and --name is for tables without one: leave --name out, or rename the column"),
     (["--easting", "utm-northing", "--northing", "utm-easting"], UTM,
      "column 5 'utm-zone' is read beside utm-easting and utm-northing alone: rename or remove it"),
 ]

@@ -14,6 +14,9 @@ MAKERS = "is none of vectronic, lotek, telonics, eobs, ornitela, argos, gpx"
 NOT_GPX = "is for texts with a line of titles, and not for GPX: leave it out beside --from gpx"
 ENCODINGS = ("utf-8, ascii, utf-16, utf-16-le, utf-16-be, utf-32, utf-32-le, utf-32-be, latin-1, iso-8859-2, windows-1250, windows-1251, "
              "windows-1252")
+NOT_OF_GPX = "is for a column, which track points of GPX do not have: leave it out beside --from gpx"
+NO_LIST = "and not a word, or several with commas between"
+NO_ZONE = "is no time zone such as 'Europe/Ljubljana'"
 LJUBLJANA = ["--tz", "Europe/Ljubljana"]
 # The words behind a.csv, and the line.
 REFUSED = [
@@ -31,6 +34,16 @@ REFUSED = [
     (["--time-format="], f"time-format is '', {NO_FORM}"),
     (["--time-format", "%Y-%m-%d" + 248 * "x"], "time-format has 256 bytes, and may have 255: name fewer forms, or shorter ones"),
     (["--tz=Europe/../etc"], "tz='Europe/../etc' is no time zone such as 'Europe/Ljubljana'"),
+    (["--tz=localtime"], f"tz='localtime' {NO_ZONE}"),
+    (["--tz=Posixrules"], f"tz='Posixrules' {NO_ZONE}"),
+    (["--tz=Factory"], f"tz='Factory' {NO_ZONE}"),
+    (["--tz=posix/Europe/Ljubljana"], f"tz='posix/Europe/Ljubljana' {NO_ZONE}"),
+    (["--tz=right/Europe/Ljubljana"], f"tz='right/Europe/Ljubljana' {NO_ZONE}"),
+    (["--argos-class="], f"argos-class is '' {NO_LIST}"),
+    (["--argos-class", "3,,1"], f"argos-class is '3,,1' {NO_LIST}"),
+    (["--sensor", " "], f"sensor is ' ' {NO_LIST}"),
+    (["--fix-type", "3D,"], f"fix-type is '3D,' {NO_LIST}"),
+    (["--na="], f"na is '' {NO_LIST}"),
     (["--tz="], "tz='' is no time zone such as 'Europe/Ljubljana'"),
     ([*LJUBLJANA, "--since", "1.5.2024"], "'1.5.2024' is no time in Europe/Ljubljana, such as '2024-05-01' or '2024-05-01 00:30:04'"),
     (["--until="], "'' is no time in UTC, such as '2024-05-01' or '2024-05-01 00:30:04'"),
@@ -43,6 +56,13 @@ REFUSED = [
     (["--from=gpx", "--encoding=latin-1"], f"--encoding {NOT_GPX}"),
     (["--from=gpx", "--skip-lines=1"], f"--skip-lines {NOT_GPX}"),
     (["--from=gpx", "--header=animal"], f"--header {NOT_GPX}"),
+    (["--from=gpx", "--max-dop=5"], f"--max-dop {NOT_OF_GPX}"),
+    (["--from=gpx", "--fix-type=3D"], f"--fix-type {NOT_OF_GPX}"),
+    (["--from=gpx", "--argos-class=3"], f"--argos-class {NOT_OF_GPX}"),
+    (["--from=gpx", "--dop=hdop"], f"--dop {NOT_OF_GPX}"),
+    (["--from=gpx", "--sensor=gps"], f"--sensor {NOT_OF_GPX}"),
+    (["--from=gpx", "--name=fox"],
+     "--name is for tables without a column of the animal, and the animal of GPX is its track's name: leave it out beside --from gpx"),
     (["--header="], "--header: the start of the line of titles is wanted, such as 'Acquisition Time'"),
 ]
 # Words that are none of the program's: what they are called in the line.
