@@ -204,6 +204,11 @@ fn has_other_separator(titles: &[&[u8]]) -> bool {
     }
 }
 
+// Whether a title has a tab inside it.
+fn has_tabs(titles: &[&[u8]]) -> bool {
+    titles.iter().any(|title| trimmed(title).contains(&b'\t'))
+}
+
 // Appends that no usual title is that of coordinates.
 fn push_no_coordinates<A: Allocator>(
     text: &mut Vec<u8, A>,
@@ -219,6 +224,11 @@ fn push_no_coordinates<A: Allocator>(
         push(
             text,
             ", which is one title: fields stand between commas, semicolons or tabs",
+        )?;
+    } else if has_tabs(titles) {
+        push(
+            text,
+            ": tabs stand between fields only where the line of titles has no comma and no semicolon",
         )?;
     }
     Ok(())

@@ -74,6 +74,7 @@ REFUSED = [
     ([], "id,date,lat,x", f"{NO_COORDINATES}'id', 'date', 'lat', 'x'"),
     ([], "id|timestamp|lon|lat", f"{NO_COORDINATES}'id|timestamp|lon|lat', which is one title: fields stand between commas, semicolons or tabs"),
     ([], "id date x y", f"{NO_COORDINATES}'id date x y', which is one title: fields stand between commas, semicolons or tabs"),
+    ([], "id\tlon\tlat\tnote, free", f"{NO_COORDINATES}'id\\x09lon\\x09lat\\x09note', 'free': tabs stand between fields only where the line of titles has no comma and no semicolon"),
     ([], " id ", f"{NO_COORDINATES}'id'"),
     ([], "sep=;", "the first line says what stands between fields, and has no titles: leave it out, by --skip-lines 1"),
     (["--lon", "lon", "--lat", "lat"], "sep=,", "the first line says what stands between fields, and has no titles: leave it out, by --skip-lines 1"),
