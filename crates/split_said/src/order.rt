@@ -1,5 +1,8 @@
 // The order in which animals come.
 
+ghost use Rattle.std.specs.Prelude.{◌≡◌, IfOk};
+ghost use Rattle.split_said.specs.Order.{animals_in_order};
+
 use range_plane::OutOfMemory;
 use split_tracks::Fate;
 use std::alloc::Global;
@@ -13,16 +16,16 @@ pub fn animals_in_order(
     alloc: Global,
     fates: &[Fate],
     animals: usize,
-) -> Result<Vec<u32>, OutOfMemory> {
+) -> Result<Vec<u32>, OutOfMemory>
+    ensures { IfOk result (λ order. order.items ≡ animals_in_order animals fates.now) }
+{
     let mut met = vec![in alloc; false; animals]?;
     let mut order = Vec::new(alloc);
     for fate in fates {
         if let Fate::InTrack { animal, .. } = *fate {
-            if let Some(is_met) = met.get_mut(animal as usize) {
-                if !*is_met {
-                    *is_met = true;
-                    order.push(animal)?;
-                }
+            if (animal as usize) < animals && !met[animal as usize] {
+                met[animal as usize] = true;
+                order.push(animal)?;
             }
         }
     }
