@@ -14,3 +14,8 @@ if_err (Err e) then holds = then e holds
 -- what two hold is the same where they are
 pub inner : {X E : Type 0} {x y : X} → ◌≡◌ {A = Result X E} (Ok x) (Ok y) → x ≡ y
 inner e = cc e
+
+-- what holds where two others do
+pub both_ok : {X E : Type 0} {P Q R : X → Type 0} (result : Result X E) → ((x : X) → P x → Q x → R x) → IfOk result P → IfOk result Q → IfOk result R
+both_ok (Ok x) then one other = then x one other
+both_ok (Err e) then one other = tt

@@ -20,6 +20,7 @@ use Rattle.split_export.specs.Files.{Filed, filed, files_of}
 use Rattle.split_export.specs.declared.asked.Asked.{Asked}
 use Rattle.split_export.specs.declared.export.Export.{Export}
 use Rattle.split_export.specs.declared.files.TrackFile.{TrackFile}
+use Rattle.split_said.specs.Order.{animals_in_order}
 use Rattle.split_chain.specs.declared.wish.Wish.{Wish}
 use Rattle.split_chain.specs.Placed.{ArePlaced, IsChoice}
 
@@ -75,3 +76,12 @@ pub record AreFilesOf {A : Type 0} (wish : Wish) (unit : Scale) (columns : Colum
 abbrev pub IsSplit : Wish → Asked → List ℕ → List TrackFile → List ℕ → Type 0
 IsSplit wish asked bytes files counts =
     (export : Export) × IsExport asked bytes export × AreFilesOf wish asked.unit export.columns export.ledger (map filed files) counts
+
+-- the animals that have a record in their file, in the order of the first such
+abbrev pub order_in : {wish : Wish} {choice : Choice} {animals : List (List ℕ)} {rows : List Row} {files : List Filed} {counts : List ℕ}
+    → AreFilesBy wish choice animals rows files counts → List ℕ
+order_in {wish} {choice} made = animals_in_order (length made.names) (filtered wish choice.unit (length made.names) made.fates)
+
+-- a split with such files and counts, whose animals come in this order
+abbrev pub IsOrdered : Wish → Asked → List ℕ → List TrackFile → List ℕ → List ℕ → Type 0
+IsOrdered wish asked bytes files counts order = (split : IsSplit wish asked bytes files counts) × (order ≡ order_in split.2.are_files.are_files)

@@ -1,7 +1,7 @@
 // From the bytes of an export to the files of its tracks.
 
 ghost use Rattle.std.specs.Prelude.{◌≡◌, ◌<◌, ◌^◌, ◌⊎◌, IfErr, IfOk, Ok, length, map};
-ghost use Rattle.split_chain.specs.Chain.{AreFilesAt, AreFilesBy, AreFilesOf, AreMade, IsSplit, tracks_with};
+ghost use Rattle.split_chain.specs.Chain.{AreFilesAt, AreFilesBy, AreFilesOf, AreMade, IsOrdered, IsSplit, order_in, tracks_with};
 ghost use Rattle.split_chain.specs.Refused.{IsOffGridAt, IsOffGridBy, IsOffGridOf, IsRefused};
 ghost use Rattle.split_counts.specs.Counts.{left_counts};
 ghost use Rattle.split_export.specs.Export.{bytes_of};
@@ -10,6 +10,7 @@ ghost use Rattle.split_fates.specs.Fates.{fates_of};
 ghost use Rattle.split_names.specs.Names.{file_names};
 ghost use Rattle.split_reading.specs.Words.{texts};
 ghost use Rattle.split_refusal.specs.Refused.{IsOfNoFix};
+ghost use Rattle.split_said.specs.Order.{animals_in_order};
 
 use crate::passed::refuse_passed_over;
 use crate::placed::{choice_of, grid_of, moved_by, place};
@@ -167,7 +168,8 @@ fn files_by(
 
 // The animals with a record in their file.
 fn order_by(alloc: Global, fates: &[Fate], animals: usize) -> Result<Vec<u32>, Refusal>
-    ensures { IfErr result IsOfNoFix }
+    ensures order { IfOk result (λ order. order.items ≡ animals_in_order animals fates.now) }
+    ensures refused { IfErr result IsOfNoFix }
 {
     match animals_in_order(alloc, fates, animals) {
         Ok(order) => Ok(order),
@@ -188,6 +190,8 @@ fn filtered_tracks(
     ensures few { IfOk result (λ filtered. length (bytes_of fated.now.names.items) < 2 ^ 32) }
     ensures counts { IfOk result (λ filtered. filtered.counts.items
         ≡ left_counts (length (bytes_of fated.now.names.items)) fated.now.fates.items) }
+    ensures order { IfOk result (λ filtered. filtered.order.items
+        ≡ animals_in_order (length (bytes_of fated.now.names.items)) fated.now.fates.items) }
     ensures refused { IfErr result IsOfNoFix }
 {
     let tracks = tracks_by(alloc, &fated.fates, &fated.names)?;
@@ -222,6 +226,8 @@ fn make_filtered(
 ) -> Result<Made, Refusal>
     ensures made { IfOk result (λ made. AreMade choice.now (bytes_of fated.names.items) fated.fates.items
         (map filed made.files.items) made.counts.items) }
+    ensures order { IfOk result (λ made. made.order.items
+        ≡ animals_in_order (length (bytes_of fated.names.items)) fated.fates.items) }
     ensures refused { IfErr result IsOfNoFix }
 {
     let Filtered {
@@ -269,8 +275,8 @@ fn make(
     choice: &Choice,
     rows: Vec<Row>,
 ) -> Result<Made, Refusal>
-    ensures made { IfOk result (λ made. AreFilesBy look.now.wish.now choice.now (texts look.now.animals.now)
-        rows.items (map filed made.files.items) made.counts.items) }
+    ensures made { IfOk result (λ made. (files : AreFilesBy look.now.wish.now choice.now (texts look.now.animals.now)
+        rows.items (map filed made.files.items) made.counts.items) × (made.order.items ≡ order_in files)) }
     ensures refused { IfErr result (λ refusal. IsOffGridBy choice.now rows.items refusal ⊎ IsOfNoFix refusal) }
 {
     let mut fated = fated_by(alloc, choice, look.animals, rows)?;
@@ -312,8 +318,9 @@ fn split_placed(
     columns: &Columns<Global>,
     rows: Vec<Row>,
 ) -> Result<Split, Refusal>
-    ensures split { IfOk result (λ split. AreFilesAt look.now.wish.now look.now.sheet.now.unit columns.now (texts look.now.animals.now)
-        rows.items (map filed split.files.items) split.counts.items) }
+    ensures split { IfOk result (λ split. (files : AreFilesAt look.now.wish.now look.now.sheet.now.unit columns.now
+        (texts look.now.animals.now) rows.items (map filed split.files.items) split.counts.items)
+        × (split.order.items ≡ order_in files.are_files)) }
     ensures refused { IfErr result (λ refusal. IsOffGridAt look.now.wish.now look.now.sheet.now.unit columns.now rows.items refusal
         ⊎ IsOfNoFix refusal) }
 {
@@ -342,8 +349,8 @@ fn split_sheet(
     columns: &Columns<Global>,
     ledger: Ledger,
 ) -> Result<Split, Refusal>
-    ensures split { IfOk result (λ split. AreFilesOf wish.now sheet.now.unit columns.now ledger
-        (map filed split.files.items) split.counts.items) }
+    ensures split { IfOk result (λ split. (files : AreFilesOf wish.now sheet.now.unit columns.now ledger
+        (map filed split.files.items) split.counts.items) × (split.order.items ≡ order_in files.are_files.are_files)) }
     ensures refused { IfErr result (λ refusal. IsOffGridOf wish.now sheet.now.unit columns.now ledger refusal ⊎ IsOfNoFix refusal) }
 {
     let mut said = Said::new(alloc);
@@ -370,8 +377,8 @@ fn split_read(
     form: &[u8],
     export: Export<'_>,
 ) -> Result<Split, Refusal>
-    ensures split { IfOk result (λ split. AreFilesOf wish.now asked.now.unit export.entry.columns export.entry.ledger
-        (map filed split.files.items) split.counts.items) }
+    ensures split { IfOk result (λ split. (files : AreFilesOf wish.now asked.now.unit export.entry.columns export.entry.ledger
+        (map filed split.files.items) split.counts.items) × (split.order.items ≡ order_in files.are_files.are_files)) }
     ensures refused { IfErr result (λ refusal. IsOffGridOf wish.now asked.now.unit export.entry.columns export.entry.ledger refusal
         ⊎ IsOfNoFix refusal) }
 {
@@ -422,6 +429,7 @@ pub fn split_export<P: Progress>(
     progress: &mut P,
 ) -> Result<Split, Refusal>
     ensures split { IfOk result (λ split. IsSplit wish.now asked.now bytes.now split.files.items split.counts.items) }
+    ensures order { IfOk result (λ split. IsOrdered wish.now asked.now bytes.now split.files.items split.counts.items split.order.items) }
     ensures refused { IfErr result (IsRefused wish.now asked.now bytes.now) }
 {
     let export = read(alloc, bytes, path, asked, wish, progress)?;
