@@ -1,9 +1,9 @@
 // The folder of tracks.
 
 use crate::stop::Stop;
-use range_plane::OutOfMemory;
 use split_chain::Split;
-use split_folder::{FolderFault, NewFile, Step, SystemFolder, write_folder};
+use split_folder::{FolderFault, Step, SystemFolder};
+use split_output::{Origin, OutputFault, RECORD_NAME, names_of_split, write_split};
 use split_refusal::{Kind, Refusal};
 use std::alloc::{AllocError, Global};
 use std::fs::File;
@@ -70,36 +70,30 @@ fn says_there(step: Step, kind: ErrorKind) -> bool {
     }
 }
 
-// The path of a file in a folder.
-fn path_in(
-    alloc: Global,
-    path: &str,
-    files: &[NewFile<'_>],
-    file: usize,
-) -> Result<String, AllocError> {
-    match files.get(file) {
-        Some(file) => format!(in alloc; "{path}/{}", file.name),
-        None => String::from_str(alloc, path),
+// The path of a file in a folder: that of a track, or behind them that of the record.
+fn path_in(alloc: Global, path: &str, split: &Split, file: usize) -> Result<String, OutputFault> {
+    let names = names_of_split(alloc, split)?;
+    let name = match names.get(file) {
+        Some(name) => name.as_str(),
+        None => RECORD_NAME,
+    };
+    match format!(in alloc; "{path}/{name}") {
+        Ok(own) => Ok(own),
+        Err(AllocError) => Err(OutputFault::OutOfMemory),
     }
 }
 
 // The refusal of a step that failed.
-fn failed_step(
-    alloc: Global,
-    path: &str,
-    files: &[NewFile<'_>],
-    step: Step,
-    error: &io::Error,
-) -> Refusal {
+fn failed_step(alloc: Global, path: &str, split: &Split, step: Step, error: &io::Error) -> Refusal {
     if says_there(step, error.kind()) {
         return is_there(alloc, path);
     }
     let Step::Add(file) = step else {
         return refused_path(alloc, Kind::Output, path, error);
     };
-    match path_in(alloc, path, files, file) {
+    match path_in(alloc, path, split, file) {
         Ok(own) => refused_path(alloc, Kind::Output, own.as_str(), error),
-        Err(AllocError) => Refusal::out_of_memory(alloc),
+        Err(_) => Refusal::out_of_memory(alloc),
     }
 }
 
@@ -111,63 +105,26 @@ fn bad_name(alloc: Global, path: &str) -> Refusal {
     }
 }
 
-// Why a folder is not written.
-fn refused_folder(
-    alloc: Global,
-    path: &str,
-    files: &[NewFile<'_>],
-    fault: &FolderFault,
-) -> Refusal {
-    let FolderFault::Failed { step, error, .. } = fault else {
-        return bad_name(alloc, path);
-    };
-    failed_step(alloc, path, files, *step, error)
+// Why the folder of a split is not written.
+fn refused_output(alloc: Global, path: &str, split: &Split, fault: &OutputFault) -> Refusal {
+    match fault {
+        OutputFault::OutOfMemory => Refusal::out_of_memory(alloc),
+        OutputFault::Folder(FolderFault::Failed { step, error, .. }) => {
+            failed_step(alloc, path, split, *step, error)
+        }
+        _ => bad_name(alloc, path),
+    }
 }
 
 // Whether something is left of a folder.
-fn is_left(fault: &FolderFault) -> bool {
+fn is_left(fault: &OutputFault) -> bool {
     match fault {
-        FolderFault::Failed { left, .. } => left.is_some(),
+        OutputFault::Folder(FolderFault::Failed { left, .. }) => left.is_some(),
         _ => false,
     }
 }
 
-// The names of the files of tracks.
-fn names_of(alloc: Global, split: &Split) -> Result<Vec<String>, OutOfMemory> {
-    let mut names = Vec::new(alloc);
-    for animal in split.order.iter() {
-        if let Some(file) = split.files.get(*animal as usize) {
-            let name = str::from_utf8(&file.name).unwrap_or("");
-            names.push(format!(in alloc; "{name}.csv")?)?;
-        }
-    }
-    Ok(names)
-}
-
-// The files of a folder.
-fn files_of<'a>(
-    alloc: Global,
-    split: &'a Split,
-    names: &'a [String],
-    record: &'a [u8],
-) -> Result<Vec<NewFile<'a>>, OutOfMemory> {
-    let mut files = Vec::new(alloc);
-    for (animal, name) in split.order.iter().zip(names) {
-        if let Some(file) = split.files.get(*animal as usize) {
-            files.push(NewFile {
-                name: name.as_str(),
-                text: &file.text,
-            })?;
-        }
-    }
-    files.push(NewFile {
-        name: "split.txt",
-        text: record,
-    })?;
-    Ok(files)
-}
-
-/// Writes the folder of tracks at a path.
+/// Writes the folder of tracks at a path, which were made of this.
 ///
 /// # Errors
 ///
@@ -175,21 +132,15 @@ fn files_of<'a>(
 pub(crate) fn write_tracks<R: Files + AllocGlobal>(
     rt: &R,
     path: &str,
+    origin: &Origin<'_>,
     split: &Split,
-    record: &[u8],
 ) -> Result<(), Stop> {
     let alloc = rt.alloc();
-    let Ok(names) = names_of(alloc, split) else {
-        return Err(Stop::from(Refusal::out_of_memory(alloc)));
-    };
-    let Ok(files) = files_of(alloc, split, &names, record) else {
-        return Err(Stop::from(Refusal::out_of_memory(alloc)));
-    };
     let mut folder = SystemFolder::new(rt, path);
-    match write_folder(&mut folder, &files) {
+    match write_split(alloc, &mut folder, origin, split) {
         Ok(()) => Ok(()),
         Err(fault) => Err(Stop {
-            refusal: refused_folder(alloc, path, &files, &fault),
+            refusal: refused_output(alloc, path, split, &fault),
             left: if is_left(&fault) {
                 folder.into_left()
             } else {

@@ -2,7 +2,7 @@
 
 use crate::folder::{refuse_there, write_tracks};
 use crate::read::{Exports, read_exports};
-use crate::record::{name_of, record_of};
+use crate::record::{all_read, name_of};
 use crate::screen::Screen;
 use crate::several::{join_exports, placed};
 use crate::stop::Stop;
@@ -12,10 +12,11 @@ use range_plane::{OutOfMemory, Scale};
 use split_chain::{Split, Wish, split_export};
 use split_clock::Clock;
 use split_export::Asked;
+use split_output::Origin;
 use split_reading::Progress;
 use split_refusal::{Kind, Refusal};
 use split_titles::Named;
-use split_words::{Choices, NamedColumns, Words};
+use split_words::{Choices, NamedColumns, VERSION, Words};
 use std::alloc::Global;
 use std::io::{IsTerminal, Read, Write};
 use std::rt;
@@ -265,6 +266,29 @@ fn say_last(alloc: Global, words: &Words<'_>, split: &mut Split) -> Result<(), O
     split.said.say(alloc, &line)
 }
 
+// Writes the folder of tracks, which were made as the words ask of exports with these checksums.
+fn write_made<R: Files + AllocGlobal>(
+    rt: &R,
+    words: &Words<'_>,
+    sums: &[[u8; 64]],
+    split: &Split,
+) -> Result<(), Stop> {
+    let alloc = rt.alloc();
+    let Ok(exports) = all_read(alloc, &words.exports, sums) else {
+        return Err(Stop::from(Refusal::out_of_memory(alloc)));
+    };
+    let Ok(tool) = format!(in alloc; "homerange-split {VERSION}") else {
+        return Err(Stop::from(Refusal::out_of_memory(alloc)));
+    };
+    let origin = Origin {
+        exports: &exports,
+        unit: words.unit,
+        options: &words.given,
+        tool: tool.as_bytes(),
+    };
+    write_tracks(rt, words.into, &origin, split)
+}
+
 /// Splits the exports that the words name, whose times are those of this clock, and writes the folder of its tracks. Answers what is
 /// said of that. The screen shows how far it is.
 ///
@@ -283,10 +307,7 @@ pub(crate) fn run<R: Files + rt::Clock + AllocGlobal, I: Read, X: Write + IsTerm
     let Exports { all, sums } = read_exports(rt, words, input)?;
     screen.count_lines(&all);
     let mut split = split_all(alloc, &all, words, clock, screen)?;
-    let Ok(record) = record_of(alloc, &sums, words, &split) else {
-        return Err(Stop::from(Refusal::out_of_memory(alloc)));
-    };
-    write_tracks(rt, words.into, &split, &record)?;
+    write_made(rt, words, &sums, &split)?;
     // A line that names the folder and for which there is no memory is not said: the folder is there.
     let _ = say_last(alloc, words, &mut split);
     Ok(split.said.lines)

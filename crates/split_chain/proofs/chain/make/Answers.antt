@@ -14,9 +14,9 @@ returns c =
     let names = bytes_of c.in_ok-fated.fated.names.items in
     let slow = c.leave_out_by.new.fates.items in
     let first : slow ≡ filtered_by (speed_filter wish choice.unit) (length names) fates =
-    c.in_ok-leave_out_by.ensures ∙ ap₂ (λ one all. filtered_by one (length (bytes_of all)) fates) c.speed_filter.ensures c.deref.ensures.value in
+    c.in_ok-leave_out_by.ensures.done ∙ ap₂ (λ one all. filtered_by one (length (bytes_of all)) fates) c.speed_filter.ensures c.deref.ensures.value in
     let left : c.leave_out_by-2.new.fates.items ≡ filtered wish choice.unit (length names) fates =
-    c.in_ok-leave_out_by-2.ensures
+    c.in_ok-leave_out_by-2.ensures.done
     ∙ (ap₂ (λ one all. filtered_by one (length (bytes_of all)) slow) c.every_filter.ensures c.deref-2.ensures.value
     ∙ ap (filtered_by (every_filter wish) (length names)) first) in
     record {

@@ -1,0 +1,4 @@
+pub mod Files
+pub mod Left
+pub mod Record
+pub mod Write
