@@ -1,5 +1,5 @@
-//! Tests of the second look at a table, of the words of `homerange-split`, and of the counts of what is left out, against worked
-//! ones.
+//! Tests of the second look at a table, of the words of `homerange-split`, of the counts of what is left out, and of what is
+//! written of a split, against worked ones.
 #![tactic(auto)]
 
 #[cfg(test)]
@@ -8,6 +8,8 @@ mod counts;
 mod look;
 #[cfg(test)]
 mod look_times;
+#[cfg(test)]
+mod output;
 #[cfg(test)]
 mod words;
 #[cfg(test)]

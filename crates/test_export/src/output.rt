@@ -1,0 +1,77 @@
+// A test of what is written of a split: its record, and the names of the files of its tracks. The checksums were computed by
+// `hashlib`.
+
+use range_plane::Scale;
+use split_chain::Split;
+use split_counts::REASONS;
+use split_export::TrackFile;
+use split_output::{Origin, names_of_split, record_of_split};
+use split_said::{Grid, Said};
+use std::alloc::Global;
+use std::test::Fail;
+
+// What is expected of the record.
+const RECORD: &[u8] =
+    b"unit,m\nzone,none\nleft,,2,animal\nleft,Bor,1,coordinates\nleft,Vesna,3,every\n\
+track,Vesna,4,3,9cf90bef112438f2194b5265ced5b68a45f8ab7fde95c8b65e9072a0e16cc96c\n\
+track,Bor,5,5,12070a74d292604b939978fc0de24a5e02e6293ecac4af595a0e2c997a41bdb9\ntool,t\n";
+
+// The file of a track.
+fn file(
+    alloc: Global,
+    name: &[u8],
+    text: &[u8],
+    records: usize,
+    used: usize,
+) -> Result<TrackFile, Fail> {
+    Ok(TrackFile {
+        name: Vec::from_slice(alloc, name)?,
+        text: Vec::from_slice(alloc, text)?,
+        records,
+        used,
+    })
+}
+
+// A split of two animals, of which the first by name has the second number.
+fn split_of_two(alloc: Global) -> Result<Split, Fail> {
+    let mut files = Vec::new(alloc);
+    files.push(file(alloc, b"Vesna", b"vixen", 4, 3)?)?;
+    files.push(file(alloc, b"Bor", b"old boar", 5, 5)?)?;
+    let mut counts = vec![in alloc; 0usize; 3 * REASONS]?;
+    counts[REASONS - 1] = 3;
+    counts[REASONS + 1] = 1;
+    counts[2 * REASONS] = 2;
+    Ok(Split {
+        files,
+        order: Vec::from_slice(alloc, &[0, 1])?,
+        counts,
+        said: Said::new(alloc),
+        grid: Grid {
+            zone: None,
+            of_zone: None,
+            shift: (0, 0),
+            is_projected: false,
+        },
+    })
+}
+
+#[test]
+fn a_split_has_its_record_and_its_files(rt: HostRuntime) -> Result<(), Fail> {
+    let alloc = rt.alloc();
+    let split = split_of_two(alloc)?;
+    let origin = Origin {
+        exports: &[],
+        unit: Scale::Metre,
+        options: &[],
+        tool: b"t",
+    };
+    let record = record_of_split(alloc, &origin, &split)?;
+    assert!(rt; record.as_slice() == RECORD);
+    let names = names_of_split(alloc, &split)?;
+    let is_named = match names.as_slice() {
+        [first, second] => first.as_str() == "Vesna.csv" && second.as_str() == "Bor.csv",
+        _ => false,
+    };
+    assert!(rt; is_named);
+    Ok(())
+}
