@@ -1,4 +1,3 @@
-pub mod FateFacts
 pub mod Joined
 pub mod LineFacts
 pub mod OneLineFacts

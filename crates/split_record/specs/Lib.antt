@@ -1,4 +1,3 @@
-pub mod Fates
 pub mod Laws
 pub mod Lines
 pub mod OneLine

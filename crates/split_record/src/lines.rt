@@ -13,10 +13,7 @@ use split_reading::Zone;
 use std::alloc::{AllocError, Allocator};
 
 // Appends a field behind a comma.
-pub(crate) fn push_field<A: Allocator>(
-    text: &mut Vec<u8, A>,
-    field: &[u8],
-) -> Result<(), AllocError>
+fn push_field<A: Allocator>(text: &mut Vec<u8, A>, field: &[u8]) -> Result<(), AllocError>
     ensures { OnOk result (text.new.items ≡ text.old.items ++ field_text field.now) }
 {
     text.extend_from_slice(b",")?;
@@ -24,10 +21,7 @@ pub(crate) fn push_field<A: Allocator>(
 }
 
 // Appends a number behind a comma.
-pub(crate) fn push_number<A: Allocator, I: Integer>(
-    text: &mut Vec<u8, A>,
-    n: I,
-) -> Result<(), AllocError>
+fn push_number<A: Allocator, I: Integer>(text: &mut Vec<u8, A>, n: I) -> Result<(), AllocError>
     ensures { OnOk result (text.new.items ≡ text.old.items ++ field_text (I.text n)) }
 {
     let mut buffer = Buffer::new();
