@@ -89,6 +89,13 @@ fn a_maker_stands_for_its_columns(rt: HostRuntime) -> Result<(), Fail> {
 }
 
 #[test]
+fn gpx_stands_for_its_columns(rt: HostRuntime) -> Result<(), Fail> {
+    let texts = ["a.csv", "--from", "gpx"];
+    let expected = "animal,;time,;-;-;lon;lat;-;-;-;";
+    expect_columns(&rt, rt.alloc(), &texts, expected)
+}
+
+#[test]
 fn columns_that_are_named_go_before_those_of_a_maker(rt: HostRuntime) -> Result<(), Fail> {
     let cases = [
         (
