@@ -1,6 +1,7 @@
 // What is to be done about fields that are no numbers, and no times.
 
-use crate::forms::{has_iso_day, without_blanks};
+use crate::digits::is_number;
+use crate::forms::{has_iso_day, has_iso_form, without_blanks};
 use crate::push::push;
 use range_plane::OutOfMemory;
 use split_times::Forms;
@@ -118,8 +119,33 @@ fn has_other_digits(cell: &[u8]) -> bool {
     !has_iso_day(cell) && cell.iter().any(|byte| byte.is_ascii_digit())
 }
 
-/// Appends by which option a field is read that is no time of ISO, and may be one of another form.
+// A text with points for its commas.
+fn with_points(alloc: Global, cell: &[u8]) -> Result<Vec<u8>, OutOfMemory> {
+    let mut text = Vec::from_slice(alloc, cell)?;
+    for byte in text.iter_mut() {
+        if *byte == b',' {
+            *byte = b'.';
+        }
+    }
+    Ok(text)
+}
+
+// Whether a text would be a time or a number with a point for its comma.
+fn has_decimal_comma(alloc: Global, cell: &[u8]) -> Result<bool, OutOfMemory> {
+    if !cell.contains(&b',') {
+        return Ok(false);
+    }
+    let text = with_points(alloc, cell)?;
+    Ok(has_iso_form(&text) || is_number(&text))
+}
+
+/// Appends what is to be done about a field that is no time of ISO: by which option it is read, where it may be one of another
+/// form.
 pub(crate) fn push_form(alloc: Global, text: &mut Vec<u8>, cell: &[u8]) -> Result<(), OutOfMemory> {
+    if has_decimal_comma(alloc, cell)? {
+        push(text, ": write its decimals behind a point")?;
+        return Ok(());
+    }
     let mut count = 0;
     for day in DAYS {
         count = push_forms(alloc, text, cell, day, count)?;

@@ -67,6 +67,8 @@ REFUSED = [
     ("a day or a month", [], b"id,date,x,y\na,05/03/2024,1,2\n", 1, ": name its form, as by --time-format '%m/%d/%Y' or '%d/%m/%Y'"),
     ("a time of another form", [], b"id,date,x,y\na,week 13,1,2\n", 1,
      "date is 'week 13' and not a time such as 2024-05-01 00:30:04: if it is one, name its form, by --time-format"),
+    ("a comma in seconds", [], b"id;timestamp;x;y\na;1714523404,75;1,5;2\n", 1, "timestamp is '1714523404,75' and not a time such as 2024-05-01 00:30:04: write its decimals behind a point"),
+    ("a comma in a time", [], b"id;date;x;y\na;2024-05-01 00:30:04,5;1,5;2\n", 1, "and not a time such as 2024-05-01 00:30:04: write its decimals behind a point"),
     ("two long names", [], f"{TITLES}\n{32 * 'v'}1,0,1,2\n{32 * 'v'}2,0,1,2\n{32 * 'v'}2,1,1,2\n".encode(), None,
      f"would both be named {32 * 'v'}: rename one, since a name in files has at most 32 bytes"),
     ("two names of one file", [], f"{TITLES}\na/b,0,1,2\na:b,0,1,2\na:b,1,1,2\n".encode(), None,
