@@ -21,14 +21,14 @@ returns c =
     ∙ ap (filtered_by (every_filter wish) (length names)) first) in
     record {
       made = both_ok c.make_filtered.result (λ made is order. (
-      record {
-        fates = fates;
-        are_fates = c.in_ok-fated.ensures.fates;
-        names = names;
-        are_names = c.in_ok-fated.ensures.names;
-        are_made = subst (λ others. AreMade choice names others (map filed made.files.items) made.counts.items) left is;
-      },
-      order ∙ ap (animals_in_order (length names)) left,
-    )) c.make_filtered.ensures.made c.make_filtered.ensures.order;
+        record {
+          fates = fates;
+          are_fates = c.in_ok-fated.ensures.fates;
+          names = names;
+          are_names = c.in_ok-fated.ensures.names;
+          are_made = subst (λ others. AreMade choice names others (map filed made.files.items) made.counts.items) left is;
+        },
+        order ∙ ap (animals_in_order (length names)) left,
+      )) c.make_filtered.ensures.made c.make_filtered.ensures.order;
       refused = if_err c.make_filtered.result (λ refusal is. inr is) c.make_filtered.ensures.refused;
     }
