@@ -12,6 +12,9 @@ use split_titles::Pair;
 use std::alloc::{AllocError, Global};
 use std::num::saturating_f64_to_i64;
 
+// How many fixes are not a few, of which one may be wrong.
+const FEW: usize = 3;
+
 // The greatest longitude and latitude, in units.
 fn most_degrees(unit: Scale) -> (u64, u64) {
     match unit {
@@ -29,15 +32,15 @@ struct Counts {
 }
 
 impl Counts {
-    // The counts with a fix of these metres. Longitudes may also go round to 360.
+    // The counts with a fix of these metres. Longitudes may also go round to 360 in the east.
     fn with(self, east: i64, north: i64, unit: Scale) -> Counts {
         let (longitude, latitude) = most_degrees(unit);
         let is_within = north.unsigned_abs() <= latitude;
-        let may_be = is_within && east.unsigned_abs() <= longitude.saturating_mul(2);
         let is_near = is_within && east.unsigned_abs() <= longitude;
+        let is_round = is_within && east >= 0 && east.unsigned_abs() <= longitude.saturating_mul(2);
         Counts {
             all: self.all.saturating_add(1),
-            may_be: self.may_be.saturating_add(usize::from(may_be)),
+            may_be: self.may_be.saturating_add(usize::from(is_near || is_round)),
             near: self.near.saturating_add(usize::from(is_near)),
         }
     }
@@ -47,9 +50,9 @@ impl Counts {
         self.near == self.all
     }
 
-    // Whether more than half may be degrees.
+    // Whether all are degrees, or more than half may be and they are not a few.
     fn may_most_be(self) -> bool {
-        self.may_be > self.all / 2
+        self.are_all_near() || self.all >= FEW && self.may_be > self.all / 2
     }
 }
 

@@ -25,15 +25,17 @@ HERE = Path(__file__).resolve().parent
 # What records.txt has not, since its reader did not say it: whole lines, and what stands behind the box in the line of columns.
 MORE_LINES = re.compile(r"(?:not read: .*|all [0-9,]+ fixes lie within .*|the fixes of each animal that has 10 or more lie within .*"
                         r"|[0-9,]+ of [0-9,]+ fixes of .* k?m from the others: .*"
-                        r"|animals .* differ in the form of letters(?: and in blanks or capitals)? alone: are they one\?)")
+                        r"|animals .* differ in (?:zeros|the form of letters(?: and in blanks or capitals)?) alone: are they one\?"
+                        r"|animal '.*' has [0-9]+ records: are they of no animal\?)")
 MORE_OF_COLUMNS = re.compile(r"(columns: .* box [0-9.]+ by [0-9.]+ km)(?: near [0-9.]+ [EW] [0-9.]+ [NS])?(?:,? from .*)?")
 OTHER_KINDS = ("export", "sha256", "tool")  # of lines of a record that records.txt has not
 # Tables that this program refuses, of which the cases have tracks: a quote inside a field, two columns for the animal that part the records
-# otherwise, a time of ISO among seconds, a filter that leaves out more than half of an animal's fixes, and an encoding named beside GPX, which names its own.
+# otherwise, a time of ISO among seconds, words in a column of Argos classes that are none, a filter that leaves out more than half of an animal's fixes, and an encoding named beside GPX, which names its own.
 STRICTER = {"quoted_fields": "a quote stands inside a field", "id_of_a_fix_beside_animal": "both fit the animal",
             "species_beside_id": "both fit the animal", "the_animal_of_movebank": "both fit the animal",
             "a_date_in_the_column_second": "which is a time among seconds: write seconds since a start",
             "gpx_in_another_coding_that_is_named_too": "--encoding is for texts with a line of titles, and not for GPX",
+            "classes_that_are_none_of_argos": "fixes are of Argos",
             "max_speed_of_the_first": "--max-speed leaves out 2 of 3 fixes of v, more than half"}
 # Tables that the cases refuse and this program reads, with their tracks: a number that could be a day with minutes is a second where
 # another one of its column could not be one.
