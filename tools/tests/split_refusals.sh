@@ -41,4 +41,4 @@ says '--name: a name without control characters is wanted'
     echo 'a,?,562000,5134000'
 } | split_to 1
 says "record 100000: time is '?' and not a time"
-refuses "the table has '<?xml version=" "<?xml version='1.0'?>$(printf '<trkpt>%.0s' 1 2 3 4 5 6 7 8 9)"
+refuses 'export.csv is XML, and no table with titles: GPX is read by --from gpx' "<?xml version='1.0'?>$(printf '<trkpt>%.0s' 1 2 3 4 5 6 7 8 9)"
