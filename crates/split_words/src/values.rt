@@ -68,6 +68,9 @@ pub(crate) fn list_of<'a>(
     Ok(words)
 }
 
+// What the value of a list has to be.
+const WORDS: &str = "a word, or several with commas between";
+
 // The words of the list of an option, none of which is empty.
 pub(crate) fn full_list_of<'a>(
     alloc: Global,
@@ -76,10 +79,20 @@ pub(crate) fn full_list_of<'a>(
 ) -> Result<Vec<&'a [u8]>, WordFault> {
     let words = list_of(alloc, value)?;
     if words.iter().any(|word| word.is_empty()) {
-        let wanted = "a word, or several with commas between";
-        return Err(refused_value(alloc, option, value.unwrap_or(""), wanted));
+        return Err(refused_value(alloc, option, value.unwrap_or(""), WORDS));
     }
     Ok(words)
+}
+
+// The words for what is missing, one at least. An empty one says nothing more: what is empty is missing.
+pub(crate) fn missing_words<'a>(
+    alloc: Global,
+    value: Option<&'a str>,
+) -> Result<Vec<&'a [u8]>, WordFault> {
+    match value {
+        Some(text) if text.trim().is_empty() => Err(refused_value(alloc, "na", text, WORDS)),
+        _ => list_of(alloc, value),
+    }
 }
 
 // Appends a name to a list of so many.

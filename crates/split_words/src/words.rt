@@ -8,7 +8,7 @@ use crate::given::options_given;
 use crate::preset::texts_of;
 use crate::text::{TextWords, header_in, text_words};
 use crate::times::{forms_in, zone_name_in};
-use crate::values::{folder_of, full_list_of, name_of, unit_of, zone_in};
+use crate::values::{folder_of, missing_words, name_of, unit_of, zone_in};
 use clap::ArgMatches;
 use range_plane::Scale;
 use split_clock::Clock;
@@ -96,7 +96,7 @@ fn words_in<'a>(alloc: Global, matches: &ArgMatches<'a>) -> Result<Words<'a>, Wo
         forms: forms_in(alloc, texts.time_format)?,
         form_words: texts.time_format.unwrap_or(""),
         zone_name: zone_name_in(alloc, matches.get_str("tz"))?,
-        missing: full_list_of(alloc, "na", texts.na)?,
+        missing: missing_words(alloc, texts.na)?,
         choices: choices_of(alloc, matches)?,
         keeps_marks: matches.get_flag("mark"),
         skips_unnamed: matches.get_flag("skip-unnamed"),

@@ -120,6 +120,8 @@ REFUSED = [
 READ = [
     ("a word that is missing", ["--na", "-9999"], f"{TITLES}\nv,0,1000,2000\nv,30,-9999,-9999\nv,60,1030,2040\n".encode(),
      ["1 records have no coordinates: left out", *LINES, OWN_COLUMNS], {"v": "v,0,1000,2000\nv,60,1030,2040\n"}),
+    ("a word that is missing, and an empty one", ["--na", "-9999,"], f"{TITLES}\nv,0,1000,2000\nv,30,-9999,\nv,60,1030,2040\n".encode(),
+     ["1 records have no coordinates: left out", *LINES, OWN_COLUMNS], {"v": "v,0,1000,2000\nv,60,1030,2040\n"}),
     ("decimal commas between tabs", [], b"id\tdate\tx\ty\na\t2024-05-01\t1000,5\t2000,25\na\t2024-05-02\t1030,5\t2040,25\n",
      [*LINES, "coordinates are rounded to whole metres, which moves a fix by at most 0.56 m",
       columns("id, date, x, y", "0.030 by 0.040", ", from 2024-05-01 to 2024-05-02")], {"a": "a,1714521600,1001,2000\na,1714608000,1031,2040\n"}),
