@@ -113,14 +113,6 @@ fn push_value(table: &mut Vec<u8>, value: &[u8]) -> Result<(), AllocError> {
     Ok(())
 }
 
-/// Writes the text of an element as a cell, as it stands in the document.
-pub(crate) fn push_text_cell(table: &mut Vec<u8>, text: &[u8]) -> Result<(), AllocError> {
-    table.push(b'"')?;
-    push_text(table, text)?;
-    table.push(b'"')?;
-    Ok(())
-}
-
 /// Writes the value of an attribute as a cell, as it stands in the document.
 pub(crate) fn push_value_cell(table: &mut Vec<u8>, value: &[u8]) -> Result<(), AllocError> {
     table.push(b'"')?;

@@ -145,12 +145,14 @@ impl<'a> Document<'a> {
     fn write_track(&mut self) -> Result<(), Stop> {
         self.tracks = self.tracks.saturating_add(1);
         match self.track.animal_cell(self.alloc)? {
-            Some(animal) => self.track.write(&mut self.named, Some(&animal))?,
+            Some(animal) => self
+                .track
+                .write(self.alloc, &mut self.named, Some(&animal))?,
             None => {
                 if !self.track.points.is_empty() {
                     self.count_nameless();
                 }
-                self.track.write(&mut self.nameless, None)?;
+                self.track.write(self.alloc, &mut self.nameless, None)?;
             }
         }
         Ok(())

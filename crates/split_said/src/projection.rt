@@ -73,7 +73,7 @@ fn no_place_text(
     if is_swapped {
         push(
             &mut text,
-            ": name their columns the other way, by --lon and --lat",
+            ": are their columns to be named the other way, by --lon and --lat?",
         )?;
         return Ok(text);
     }

@@ -65,9 +65,7 @@ const SIGNS: &str =
     ]]></name><trkseg><trkpt lat='\"1\"' lon=\">\"/></trkseg></trk></gpx>";
 
 const TABLE_OF_SIGNS: &str = "\"animal\",\"time\",\"lon\",\"lat\"\n\
-    \"a<b>&'\"\"Jäger \u{1F98A}\",\"xz<&amp;>\"\"]]\n\
-    w\n\
-    v\",\" 2 3 4 5 6\n\
+    \"a<b>&'\"\"Jäger \u{1F98A}\",\"xz<&amp;>\"\"]] w v\",\" 2 3 4 5 6\n\
     \"\"'\",\"10\"\n\
     \"old \"\"boar\"\"\",\"\",\">\",\"\"\"1\"\"\"\n";
 

@@ -35,7 +35,8 @@ STRICTER = {"quoted_fields": "a quote stands inside a field", "id_of_a_fix_besid
             "species_beside_id": "both fit the animal", "the_animal_of_movebank": "both fit the animal",
             "a_date_in_the_column_second": "which is a time among seconds: write seconds since a start",
             "gpx_in_another_coding_that_is_named_too": "--encoding is for texts with a line of titles, and not for GPX",
-            "classes_that_are_none_of_argos": "fixes are of Argos",
+            "classes_that_are_none_of_argos": "fixes are of Argos", "a_class_of_beasts_that_is_named": "fixes are of Argos",
+            "a_latitude_of_95": "there is no place of longitude 15.1 and latitude 95",
             "max_speed_of_the_first": "--max-speed leaves out 2 of 3 fixes of v, more than half"}
 # Tables that the cases refuse and this program reads, with their tracks: a number that could be a day with minutes is a second where
 # another one of its column could not be one.

@@ -61,8 +61,6 @@ REFUSED = [
     (["--from=gpx", "--argos-class=3"], f"--argos-class {NOT_OF_GPX}"),
     (["--from=gpx", "--dop=hdop"], f"--dop {NOT_OF_GPX}"),
     (["--from=gpx", "--sensor=gps"], f"--sensor {NOT_OF_GPX}"),
-    (["--from=gpx", "--name=fox"],
-     "--name is for tables without a column of the animal, and the animal of GPX is its track's name: leave it out beside --from gpx"),
     (["--header="], "--header: the start of the line of titles is wanted, such as 'Acquisition Time'"),
 ]
 # Words that are none of the program's: what they are called in the line.
