@@ -23,9 +23,9 @@ refuses "record 2: utm-easting is '1 000' and not a number" "$head_line" 'a,,,,,
 refuses "record 1: visible is 'FALSCH' and not true or false" "$head_line" 'a,2024-05-01 00:30:00,1,2,33N,FALSCH'
 refuses 'record 1: 5 fields where 6 are wanted' "$head_line" 'a,2024-05-01 00:30:00,1,2,33N'
 refuses 'there are no columns of usual titles for easting and northing, or longitude and latitude' 'animal,second,x' 'a,1,2'
-refuses 'fixes lie in several zones (33N 2, 32N 1): name the zone' "$head_line" 'a,2024-05-01 00:30:00,1,2,33N,' \
+refuses 'fixes lie in several zones (33N 2, 32N 1): make a table of each' "$head_line" 'a,2024-05-01 00:30:00,1,2,33N,' \
     'a,2024-05-01 00:30:00,1,2,33N,' 'b,2024-05-01 00:30:00,1,2,32N,'
-refuses 'fixes lie in several zones (33N 1, 33S 1): name the zone' "$head_line" 'a,2024-05-01 00:30:00,1,2,33N,' \
+refuses 'fixes lie in several zones (33N 1, 33S 1): make a table of each' "$head_line" 'a,2024-05-01 00:30:00,1,2,33N,' \
     'a,2024-05-01 00:30:00,1,2,33S,'
 refuses 'record 1: -52.00 east and 2000.00 north is off the grid' "$head_line" 'a,2024-05-01 00:30:00,-52.3,2000,33N,'
 refuses "animals 'a/b' and 'a_b' would both be named a_b" "$head_line" 'a/b,2024-05-01 00:30:00,1,2,33N,' \

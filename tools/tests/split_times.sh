@@ -46,4 +46,4 @@ says '1 records have longitude and latitude 0: left out'
 says '1 records have no coordinates: left out'
 printf '%s\n' animal,second,easting,northing "a,$(stamp '2024-05-01 00:30:00'),500000,0" | makes a.csv
 printf '%s\n' "$degrees" 'a,2024-05-01 00:30:00,15,46' 'a,2024-05-01 00:40:00,15,95' | split_to 1
-says 'record 2: its longitude and latitude have no place in the zone'
+says 'record 2: there is no place of longitude'
