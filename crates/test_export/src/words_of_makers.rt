@@ -84,14 +84,13 @@ fn a_maker_stands_for_its_columns(rt: HostRuntime) -> Result<(), Fail> {
         let texts = ["a.csv", "--from", maker, "--max-dop=5", "--fix-type=3D"];
         expect_columns(&rt, rt.alloc(), &texts, expected)?;
     }
-    let texts = ["a.gpx", "--from=gpx"];
-    expect_columns(&rt, rt.alloc(), &texts, ";time,;-;-;lon;lat;-;-;-;")
+    Ok(())
 }
 
 #[test]
 fn gpx_stands_for_its_columns(rt: HostRuntime) -> Result<(), Fail> {
-    let texts = ["a.csv", "--from", "gpx"];
-    let expected = "animal,;time,;-;-;lon;lat;-;-;-;";
+    let texts = ["a.gpx", "--from", "gpx"];
+    let expected = ";time,;-;-;lon;lat;-;-;-;";
     expect_columns(&rt, rt.alloc(), &texts, expected)
 }
 
