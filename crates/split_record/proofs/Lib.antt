@@ -1,3 +1,4 @@
+pub mod FateFacts
 pub mod Joined
 pub mod LineFacts
 pub mod OneLineFacts

@@ -1,3 +1,4 @@
+pub mod Fates
 pub mod Laws
 pub mod Lines
 pub mod OneLine

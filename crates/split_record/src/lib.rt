@@ -1,6 +1,7 @@
 //! The record of a folder of tracks, `split.txt`: of which export they were made, how, and by what.
 #![tactic(auto)]
 
+mod fates;
 mod laws;
 mod lines;
 mod one_line;
@@ -9,6 +10,7 @@ mod record;
 mod sum;
 mod text;
 
+pub use fates::fates_text;
 pub use laws::{
     each_line_is_one_that_was_given, lines_have_no_control_characters, lines_have_no_separators,
 };

@@ -13,7 +13,10 @@ use split_reading::Zone;
 use std::alloc::{AllocError, Allocator};
 
 // Appends a field behind a comma.
-fn push_field<A: Allocator>(text: &mut Vec<u8, A>, field: &[u8]) -> Result<(), AllocError>
+pub(crate) fn push_field<A: Allocator>(
+    text: &mut Vec<u8, A>,
+    field: &[u8],
+) -> Result<(), AllocError>
     ensures { OnOk result (text.new.items ≡ text.old.items ++ field_text field.now) }
 {
     text.extend_from_slice(b",")?;
@@ -21,7 +24,10 @@ fn push_field<A: Allocator>(text: &mut Vec<u8, A>, field: &[u8]) -> Result<(), A
 }
 
 // Appends a number behind a comma.
-fn push_number<A: Allocator, I: Integer>(text: &mut Vec<u8, A>, n: I) -> Result<(), AllocError>
+pub(crate) fn push_number<A: Allocator, I: Integer>(
+    text: &mut Vec<u8, A>,
+    n: I,
+) -> Result<(), AllocError>
     ensures { OnOk result (text.new.items ≡ text.old.items ++ field_text (I.text n)) }
 {
     let mut buffer = Buffer::new();

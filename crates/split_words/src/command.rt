@@ -72,6 +72,7 @@ fn whole_command<'a>(alloc: Global) -> Result<Command<'a>, AllocError> {
     with_filters(alloc, command)?
         .arg(flag(alloc, "mark"))?
         .arg(flag(alloc, "machine"))?
+        .arg(flag(alloc, "records"))?
         .arg(flag(alloc, "skip-unnamed"))?
         .arg(exports_argument(alloc))
 }

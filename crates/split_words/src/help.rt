@@ -58,6 +58,8 @@ Options:
       --fix <COLUMN>           Title of the column of the type of fixes
       --mark                   Write outliers too, with 0 in a column use
       --skip-unnamed           Leave out records that name no animal
+      --records                Write records.txt too: for each record the file
+                               that it is in, or why it is left out
       --machine                Say why an export is refused as a record of CSV:
                                kind, file, record, text
   -h, --help                   Print help

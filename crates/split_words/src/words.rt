@@ -49,6 +49,8 @@ pub struct Words<'a> {
     pub keeps_marks: bool,
     /// Whether records that name no animal are left out (`--skip-unnamed`).
     pub skips_unnamed: bool,
+    /// Whether what became of each record is written too (`--records`).
+    pub lists_records: bool,
     /// Each option that was given, but the unit and the folder, in the order of their names.
     pub given: Vec<OptionGiven<'a>>,
 }
@@ -100,6 +102,7 @@ fn words_in<'a>(alloc: Global, matches: &ArgMatches<'a>) -> Result<Words<'a>, Wo
         choices: choices_of(alloc, matches)?,
         keeps_marks: matches.get_flag("mark"),
         skips_unnamed: matches.get_flag("skip-unnamed"),
+        lists_records: matches.get_flag("records"),
         given: options_given(alloc, matches)?,
     })
 }
