@@ -107,6 +107,20 @@ track,a_b,1,1,$(printf 'animal,second,easting,northing\na_b,1714523400,5000010,2
 tool,$("$splitter" --version)
 END
 
+# What became of each record, and a reference system, which the record of tracks keeps.
+printf '%s\n' animal,timestamp,x,y,visible 'a/b,2024-05-01 00:30:00.25,3,4,' 'a/b,2024-05-01 00:10:00,1,2,false' 'c,2024-05-01 00:40:00,,,' \
+    'a/b,2024-05-01 00:20:00,5,6,' | split_to 0 --records --crs 'EPSG:3035 (LAEA)'
+makes records.txt <<END
+record,file,second,nanosecond,reason
+1,a_b,1714523400,250000000,
+2,a_b,,,outlier
+3,c,,,coordinates
+4,a_b,1714522800,0,
+END
+holds 'the record has the reference system' grep -qx 'option,crs,EPSG:3035 (LAEA)' "$work/split/tracks/split.txt"
+printf '%s\n' animal,timestamp,x,y 'a,2024-05-01 00:30:00,3,4' | split_to 0
+holds 'what became of records is written only where that is asked' [ ! -e "$work/split/tracks/records.txt" ]
+
 # What was read from a pipe has its own checksum; names of files are UTF-8 in whatever locale; a folder without a name.
 rm -rf "$work/piped" "$work/plain"
 printf '%s\n' "$head_line" 'J\303\244ger,2024-05-01 00:30:00,500001,2,33N,' | xargs -0 printf >"$work/export.csv"

@@ -15,7 +15,7 @@ if_err (Err e) then holds = then e holds
 pub inner : {X E : Type 0} {x y : X} → ◌≡◌ {A = Result X E} (Ok x) (Ok y) → x ≡ y
 inner e = cc e
 
--- what holds where two others do
-pub both_ok : {X E : Type 0} {P Q R : X → Type 0} (result : Result X E) → ((x : X) → P x → Q x → R x) → IfOk result P → IfOk result Q → IfOk result R
-both_ok (Ok x) then one other = then x one other
-both_ok (Err e) then one other = tt
+-- what holds where three others do
+pub all_ok : {X E : Type 0} {P Q R S : X → Type 0} (result : Result X E) → ((x : X) → P x → Q x → R x → S x) → IfOk result P → IfOk result Q → IfOk result R → IfOk result S
+all_ok (Ok x) then one other third = then x one other third
+all_ok (Err e) then one other third = tt

@@ -1,5 +1,5 @@
 -- From the bytes of an export to the files of its tracks.
-use Rattle.std.specs.Prelude.{◌≡◌, ◌<◌, ◌^◌, ℕ, List, length, map, option_map, Option, Some, None, Ok}
+use Rattle.std.specs.Prelude.{◌≡◌, ◌<◌, ◌^◌, if◌then◌else◌, ℕ, Bool, List, Vec, length, map, option_map, Option, Some, None, Ok}
 use Rattle.range_plane.specs.declared.scale.Scale.{Scale}
 use Rattle.split_reading.specs.Words.{texts}
 use Rattle.split_reading.specs.declared.ledger.Ledger.{Ledger}
@@ -20,6 +20,7 @@ use Rattle.split_export.specs.Files.{Filed, filed, files_of}
 use Rattle.split_export.specs.declared.asked.Asked.{Asked}
 use Rattle.split_export.specs.declared.export.Export.{Export}
 use Rattle.split_export.specs.declared.files.TrackFile.{TrackFile}
+use Rattle.split_record.specs.Fates.{fates_text}
 use Rattle.split_said.specs.Order.{animals_in_order}
 use Rattle.split_chain.specs.declared.wish.Wish.{Wish}
 use Rattle.split_chain.specs.Placed.{ArePlaced, IsChoice}
@@ -72,6 +73,14 @@ pub record AreFilesOf {A : Type 0} (wish : Wish) (unit : Scale) (columns : Colum
   pub are_placed : ArePlaced columns ledger.rows.items rows
   pub are_files : AreFilesAt wish unit columns (texts ledger.names) rows files counts
 
+-- what became of each record as text, where that is wished, of animals whose files have these names
+abbrev pub records_with : Bool → List (List ℕ) → List Fate → Option (List ℕ)
+records_with is_wished names fates = if is_wished then Some (fates_text names fates) else None
+
+-- a text that there may be
+abbrev pub text_in : {A : Type 0} → Option (Vec ℕ A) → Option (List ℕ)
+text_in text = option_map (λ own. own.items) text
+
 -- the files are those of the table of these bytes, and the counts those of its records
 abbrev pub IsSplit : Wish → Asked → List ℕ → List TrackFile → List ℕ → Type 0
 IsSplit wish asked bytes files counts =
@@ -82,6 +91,22 @@ abbrev pub order_in : {wish : Wish} {choice : Choice} {animals : List (List ℕ)
     → AreFilesBy wish choice animals rows files counts → List ℕ
 order_in {wish} {choice} made = animals_in_order (length made.names) (filtered wish choice.unit (length made.names) made.fates)
 
+-- what became of each record as text, where that is wished
+abbrev pub records_in : {wish : Wish} {choice : Choice} {animals : List (List ℕ)} {rows : List Row} {files : List Filed} {counts : List ℕ}
+    → AreFilesBy wish choice animals rows files counts → Option (List ℕ)
+records_in {wish} {choice} made =
+    records_with wish.lists_records made.names (filtered wish choice.unit (length made.names) made.fates)
+
+-- what is told of files beside them: the order of animals, and what became of each record
+abbrev pub AreTold : {A : Type 0} {wish : Wish} {choice : Choice} {animals : List (List ℕ)} {rows : List Row} {files : List Filed} {counts : List ℕ}
+    → AreFilesBy wish choice animals rows files counts → List ℕ → Option (Vec ℕ A) → Type 0
+AreTold made order records = (order ≡ order_in made) × (text_in records ≡ records_in made)
+
 -- a split with such files and counts, whose animals come in this order
 abbrev pub IsOrdered : Wish → Asked → List ℕ → List TrackFile → List ℕ → List ℕ → Type 0
 IsOrdered wish asked bytes files counts order = (split : IsSplit wish asked bytes files counts) × (order ≡ order_in split.2.are_files.are_files)
+
+-- a split with such files and counts, of whose records this is the text
+abbrev pub IsListed : {A : Type 0} → Wish → Asked → List ℕ → List TrackFile → List ℕ → Option (Vec ℕ A) → Type 0
+IsListed wish asked bytes files counts records =
+    (split : IsSplit wish asked bytes files counts) × (text_in records ≡ records_in split.2.are_files.are_files)

@@ -1,7 +1,19 @@
 // From the bytes of an export to the files of its tracks.
 
 ghost use Rattle.std.specs.Prelude.{◌≡◌, ◌<◌, ◌^◌, ◌⊎◌, IfErr, IfOk, Ok, length, map};
-ghost use Rattle.split_chain.specs.Chain.{AreFilesAt, AreFilesBy, AreFilesOf, AreMade, IsOrdered, IsSplit, order_in, tracks_with};
+ghost use Rattle.split_chain.specs.Chain.{
+  AreFilesAt,
+  AreFilesBy,
+  AreFilesOf,
+  AreMade,
+  AreTold,
+  IsListed,
+  IsOrdered,
+  IsSplit,
+  records_with,
+  text_in,
+  tracks_with,
+};
 ghost use Rattle.split_chain.specs.Refused.{IsOffGridAt, IsOffGridBy, IsOffGridOf, IsRefused};
 ghost use Rattle.split_counts.specs.Counts.{left_counts};
 ghost use Rattle.split_export.specs.Export.{bytes_of};
@@ -15,7 +27,7 @@ ghost use Rattle.split_said.specs.Order.{animals_in_order};
 use crate::passed::refuse_passed_over;
 use crate::placed::{choice_of, grid_of, moved_by, place};
 use crate::read::{read, refuse_maker, refuse_other_animals, shown};
-use crate::steps::{counts_by, fates_by, fixes_by, leave_out_by, names_by, tracks_by};
+use crate::steps::{counts_by, fates_by, fixes_by, leave_out_by, names_by, records_by, tracks_by};
 use crate::times::form_of_times;
 use crate::wish::Wish;
 use indexmap::IndexSet;
@@ -43,6 +55,8 @@ pub struct Split {
     pub order: Vec<u32>,
     /// How many records are left out, by animal and reason, as `split_counts` has it.
     pub counts: Vec<usize>,
+    /// What became of each record, as text, if that was wished.
+    pub records: Option<Vec<u8>>,
     pub said: Said,
     pub grid: Grid,
 }
@@ -53,6 +67,7 @@ struct Made {
     files: Vec<TrackFile>,
     order: Vec<u32>,
     counts: Vec<usize>,
+    records: Option<Vec<u8>>,
 }
 
 // A table that was read, whose rows are placed on a grid.
@@ -228,6 +243,8 @@ fn make_filtered(
         (map filed made.files.items) made.counts.items) }
     ensures order { IfOk result (λ made. made.order.items
         ≡ animals_in_order (length (bytes_of fated.names.items)) fated.fates.items) }
+    ensures records { IfOk result (λ made. text_in made.records
+        ≡ records_with look.now.wish.now.lists_records (bytes_of fated.names.items) fated.fates.items) }
     ensures refused { IfErr result IsOfNoFix }
 {
     let Filtered {
@@ -236,12 +253,14 @@ fn make_filtered(
         counts,
     } = filtered_tracks(alloc, said, look, &fated)?;
     let Fated { fates, names, .. } = fated;
+    let records = records_by(alloc, look.wish.lists_records, &names, &fates)?;
     drop(fates);
     let files = files_by(alloc, choice, &names, &tracks)?;
     Ok(Made {
         files,
         order,
         counts,
+        records,
     })
 }
 
@@ -276,7 +295,7 @@ fn make(
     rows: Vec<Row>,
 ) -> Result<Made, Refusal>
     ensures made { IfOk result (λ made. (files : AreFilesBy look.now.wish.now choice.now (texts look.now.animals.now)
-        rows.items (map filed made.files.items) made.counts.items) × (made.order.items ≡ order_in files)) }
+        rows.items (map filed made.files.items) made.counts.items) × AreTold files made.order.items made.records) }
     ensures refused { IfErr result (λ refusal. IsOffGridBy choice.now rows.items refusal ⊎ IsOfNoFix refusal) }
 {
     let mut fated = fated_by(alloc, choice, look.animals, rows)?;
@@ -320,7 +339,7 @@ fn split_placed(
 ) -> Result<Split, Refusal>
     ensures split { IfOk result (λ split. (files : AreFilesAt look.now.wish.now look.now.sheet.now.unit columns.now
         (texts look.now.animals.now) rows.items (map filed split.files.items) split.counts.items)
-        × (split.order.items ≡ order_in files.are_files)) }
+        × AreTold files.are_files split.order.items split.records) }
     ensures refused { IfErr result (λ refusal. IsOffGridAt look.now.wish.now look.now.sheet.now.unit columns.now rows.items refusal
         ⊎ IsOfNoFix refusal) }
 {
@@ -330,11 +349,13 @@ fn split_placed(
         files,
         order,
         counts,
+        records,
     } = make(alloc, &mut said, look, &choice, rows)?;
     Ok(Split {
         files,
         order,
         counts,
+        records,
         said,
         grid: *look.grid,
     })
@@ -350,7 +371,7 @@ fn split_sheet(
     ledger: Ledger,
 ) -> Result<Split, Refusal>
     ensures split { IfOk result (λ split. (files : AreFilesOf wish.now sheet.now.unit columns.now ledger
-        (map filed split.files.items) split.counts.items) × (split.order.items ≡ order_in files.are_files.are_files)) }
+        (map filed split.files.items) split.counts.items) × AreTold files.are_files.are_files split.order.items split.records) }
     ensures refused { IfErr result (λ refusal. IsOffGridOf wish.now sheet.now.unit columns.now ledger refusal ⊎ IsOfNoFix refusal) }
 {
     let mut said = Said::new(alloc);
@@ -378,7 +399,7 @@ fn split_read(
     export: Export<'_>,
 ) -> Result<Split, Refusal>
     ensures split { IfOk result (λ split. (files : AreFilesOf wish.now asked.now.unit export.entry.columns export.entry.ledger
-        (map filed split.files.items) split.counts.items) × (split.order.items ≡ order_in files.are_files.are_files)) }
+        (map filed split.files.items) split.counts.items) × AreTold files.are_files.are_files split.order.items split.records) }
     ensures refused { IfErr result (λ refusal. IsOffGridOf wish.now asked.now.unit export.entry.columns export.entry.ledger refusal
         ⊎ IsOfNoFix refusal) }
 {
@@ -430,6 +451,7 @@ pub fn split_export<P: Progress>(
 ) -> Result<Split, Refusal>
     ensures split { IfOk result (λ split. IsSplit wish.now asked.now bytes.now split.files.items split.counts.items) }
     ensures order { IfOk result (λ split. IsOrdered wish.now asked.now bytes.now split.files.items split.counts.items split.order.items) }
+    ensures records { IfOk result (λ split. IsListed wish.now asked.now bytes.now split.files.items split.counts.items split.records) }
     ensures refused { IfErr result (IsRefused wish.now asked.now bytes.now) }
 {
     let export = read(alloc, bytes, path, asked, wish, progress)?;

@@ -1,7 +1,7 @@
 // The steps from what records say to tracks, or their refusals.
 
 ghost use Rattle.std.specs.Prelude.{◌≡◌, ◌<◌, ◌^◌, ◌⊎◌, IfErr, IfOk, Ok, OnOk, Some, length, map};
-ghost use Rattle.split_chain.specs.Chain.{filtered_by, tracks_with};
+ghost use Rattle.split_chain.specs.Chain.{filtered_by, records_with, text_in, tracks_with};
 ghost use Rattle.split_chain.specs.Refused.{IsOffGridBy};
 ghost use Rattle.split_counts.specs.Counts.{left_counts};
 ghost use Rattle.split_export.specs.Export.{bytes_of};
@@ -19,6 +19,7 @@ use split_fates::{Choice, FatesFault, fates_of};
 use split_names::{NamesFault, file_names};
 use split_pace::{Filter, leave_out};
 use split_reading::{Row, Told};
+use split_record::fates_text;
 use split_refusal::{Refusal, refused_names, refused_no_place, refused_off_grid};
 use split_said::fix_counts;
 use split_tracks::{Entry, Fate, tracks_of};
@@ -124,6 +125,29 @@ pub(crate) fn tracks_by(
     };
     match tracks_of(alloc, fates, animals) {
         Ok(tracks) => Ok(tracks),
+        Err(_) => Err(Refusal::out_of_memory(alloc)),
+    }
+}
+
+/// What became of each record, as text, if that is wished.
+///
+/// # Errors
+///
+/// Memory ran out.
+pub(crate) fn records_by(
+    alloc: Global,
+    is_wished: bool,
+    names: &[Vec<u8>],
+    fates: &[Fate],
+) -> Result<Option<Vec<u8>>, Refusal>
+    ensures records { IfOk result (λ records. text_in records ≡ records_with is_wished (bytes_of names.now) fates.now) }
+    ensures refused { IfErr result IsOfNoFix }
+{
+    if !is_wished {
+        return Ok(None);
+    }
+    match fates_text(alloc, names, fates) {
+        Ok(text) => Ok(Some(text)),
         Err(_) => Err(Refusal::out_of_memory(alloc)),
     }
 }

@@ -18,6 +18,8 @@ pub struct Wish<'a> {
     pub zone: Option<Zone>,
     /// Whether fixes that are not used stand in tracks, with a mark; else they are left out.
     pub keeps_marks: bool,
+    /// Whether what became of each record is told as text.
+    pub lists_records: bool,
     /// The greatest speed of an animal.
     pub speed: Option<Speed>,
     /// The length of the pieces of time of which the first fix is taken, in seconds.

@@ -57,6 +57,7 @@ fn wish_of<'a>(
         exports,
         zone: words.zone,
         keeps_marks: words.keeps_marks,
+        lists_records: words.lists_records,
         speed: choices.speed,
         every: choices.every,
         clock,

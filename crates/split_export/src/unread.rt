@@ -167,6 +167,7 @@ impl Texts {
             || self.are_of_latitude
             || self.are_of_longitude
             || self.are_classes
+            || self.are_utc
             || !self.are_several
     }
 }

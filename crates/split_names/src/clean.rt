@@ -8,8 +8,8 @@ use crate::device::is_device;
 use range_plane::OutOfMemory;
 use std::alloc::Allocator;
 
-// How many bytes a name of a file may have, without what the file's kind puts behind it.
-pub(crate) const NAME_BYTES: usize = 32;
+/// How many bytes of UTF-8 the name of a file may have, without what the file's kind puts behind it.
+pub const NAME_BYTES: usize = 32;
 
 // A byte, or `_` in its place.
 fn plain(byte: u8) -> u8

@@ -10,7 +10,7 @@ mod names;
 mod names_fault;
 mod numbered;
 
-pub use clean::file_name;
+pub use clean::{NAME_BYTES, file_name};
 pub use laws::{
     clean_names_are_utf8, clean_names_name_files, file_names_are_utf8, file_names_differ,
     file_names_name_files,

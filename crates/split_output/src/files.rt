@@ -3,7 +3,7 @@
 ghost use Rattle.std.specs.Prelude.{◌≡◌, ◌++◌, ◌∷◌, [], IfErr, IfOk, OnOk, codes, map, string_bytes};
 ghost use Rattle.split_export.specs.Files.{filed};
 ghost use Rattle.split_folder.specs.Fault.{files_in};
-ghost use Rattle.split_output.specs.Files.{files_of_split, files_of_tracks, name_of_track};
+ghost use Rattle.split_output.specs.Files.{file_of_records, files_of_split, files_of_tracks, name_of_track};
 ghost use Rattle.split_output.specs.Write.{IsOfName, IsOfNames};
 
 use crate::fault::OutputFault;
@@ -16,6 +16,9 @@ use std::alloc::Global;
 
 /// The name of the file that has the record of tracks.
 pub const RECORD_NAME: &str = "split.txt";
+
+/// The name of the file that says what became of each record.
+pub const RECORDS_NAME: &str = "records.txt";
 
 // The name of a track as that of its file.
 fn with_kind(alloc: Global, name: &str) -> Result<String, OutOfMemory>
@@ -65,6 +68,19 @@ pub fn names_of_split(alloc: Global, split: &Split) -> Result<Vec<String>, Outpu
     Ok(names)
 }
 
+// Appends the file that says what became of each record, if the split lists them.
+fn push_records<'a>(files: &mut Vec<NewFile<'a>>, split: &'a Split) -> Result<(), OutOfMemory>
+    ensures { OnOk result (files_in files.new.items ≡ files_in files.old.items ++ file_of_records split.now) }
+{
+    if let Some(records) = &split.records {
+        files.push(NewFile {
+            name: RECORDS_NAME,
+            text: records,
+        })?;
+    }
+    Ok(())
+}
+
 /// The files of the folder of a split whose tracks have files of these names, and whose record has this text.
 ///
 /// # Errors
@@ -87,6 +103,7 @@ pub(crate) fn files_of_split<'a>(
             text: &track.text,
         })?;
     }
+    push_records(&mut files, split)?;
     files.push(NewFile {
         name: RECORD_NAME,
         text,

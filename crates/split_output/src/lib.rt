@@ -11,7 +11,7 @@ mod tracks;
 mod write;
 
 pub use fault::OutputFault;
-pub use files::{RECORD_NAME, names_of_split};
+pub use files::{RECORD_NAME, RECORDS_NAME, names_of_split};
 pub use origin::Origin;
 pub use record::record_of_split;
 pub use write::write_split;

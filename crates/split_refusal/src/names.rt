@@ -8,7 +8,7 @@ use crate::push::push;
 use crate::refusal::{Refusal, Sentence, refusal_of};
 use indexmap::IndexSet;
 use range_plane::OutOfMemory;
-use split_names::{NamesFault, file_name, file_names};
+use split_names::{NAME_BYTES, NamesFault, file_name, file_names};
 use std::alloc::Global;
 
 // The name of this number; empty where there is none.
@@ -51,9 +51,6 @@ fn named(alloc: Global, animals: &[&[u8]], animal: &[u8]) -> Result<Vec<u8>, Out
         Err(NamesFault::OutOfMemory) => Err(OutOfMemory),
     }
 }
-
-// The most bytes of the name of a file.
-const NAME_BYTES: usize = 32;
 
 // What is to be done about two animals whose files would have the same name.
 fn remedy(first: &[u8], second: &[u8]) -> &'static str {

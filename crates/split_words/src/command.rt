@@ -67,7 +67,8 @@ fn whole_command<'a>(alloc: Global) -> Result<Command<'a>, AllocError> {
         .version(VERSION)
         .arg(text_option(alloc, "into", "FOLDER"))?
         .arg(text_option(alloc, "unit", "UNIT"))?
-        .arg(text_option(alloc, "zone", "ZONE"))?;
+        .arg(text_option(alloc, "zone", "ZONE"))?
+        .arg(text_option(alloc, "crs", "SYSTEM"))?;
     let command = with_text(alloc, with_columns(alloc, command)?)?;
     with_filters(alloc, command)?
         .arg(flag(alloc, "mark"))?

@@ -5,10 +5,11 @@ use split_record::OptionGiven;
 use std::alloc::{AllocFailed, Global};
 
 // The options but the folder and the unit, in the order of their names.
-const NAMES: [&str; 28] = [
+const NAMES: [&str; 29] = [
     "animal",
     "argos",
     "argos-class",
+    "crs",
     "dop",
     "easting",
     "encoding",

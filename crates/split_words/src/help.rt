@@ -31,6 +31,8 @@ Options:
       --unit <UNIT>            Unit of the coordinates of tracks: m for metres,
                                dm for decimetres [default: m]
       --zone <ZONE>            UTM zone of all coordinates, such as 33N
+      --crs <SYSTEM>           Reference system of coordinates in metres, for
+                               the record alone
       --from <MAKER>           Options for a maker: vectronic, lotek, telonics,
                                eobs, ornitela, argos, gpx
       --encoding <ENCODING>    Encoding of the export [default: utf-8]

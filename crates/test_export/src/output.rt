@@ -1,12 +1,15 @@
-// A test of what is written of a split: its record, and the names of the files of its tracks. The checksums were computed by
-// `hashlib`.
+// Tests of what is written of a split: its record, the names of the files of its tracks, and what became of each record. The
+// checksums were computed by `hashlib`.
 
 use range_plane::Scale;
 use split_chain::Split;
 use split_counts::REASONS;
 use split_export::TrackFile;
 use split_output::{Origin, names_of_split, record_of_split};
+use split_record::fates_text;
 use split_said::{Grid, Said};
+use split_times::Moment;
+use split_tracks::{Entry, Fate, Reason};
 use std::alloc::Global;
 use std::test::Fail;
 
@@ -45,6 +48,7 @@ fn split_of_two(alloc: Global) -> Result<Split, Fail> {
         files,
         order: Vec::from_slice(alloc, &[0, 1])?,
         counts,
+        records: None,
         said: Said::new(alloc),
         grid: Grid {
             zone: None,
@@ -73,5 +77,40 @@ fn a_split_has_its_record_and_its_files(rt: HostRuntime) -> Result<(), Fail> {
         _ => false,
     };
     assert!(rt; is_named);
+    Ok(())
+}
+
+#[test]
+fn each_record_has_its_line(rt: HostRuntime) -> Result<(), Fail> {
+    let alloc = rt.alloc();
+    let mut names = Vec::new(alloc);
+    names.push(Vec::from_slice(alloc, b"Vesna")?)?;
+    names.push(Vec::from_slice(alloc, b"Bor")?)?;
+    let entry = Entry {
+        record: 1,
+        moment: Moment {
+            second: 1714521610,
+            nanosecond: 500000000,
+        },
+        easting: 3,
+        northing: 4,
+        is_used: true,
+    };
+    let fates = [
+        Fate::InTrack { animal: 1, entry },
+        Fate::LeftOut {
+            animal: None,
+            reason: Reason::Coordinates,
+        },
+        Fate::LeftOut {
+            animal: Some(0),
+            reason: Reason::NoDop,
+        },
+    ];
+    let text = fates_text(alloc, &names, &fates)?;
+    assert!(rt;
+        text.as_slice()
+            == b"record,file,second,nanosecond,reason\n1,Bor,1714521610,500000000,\n2,,,,coordinates\n3,Vesna,,,no dop\n"
+    );
     Ok(())
 }

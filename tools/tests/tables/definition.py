@@ -25,12 +25,14 @@ class Asked(NamedTuple):
 
 
 class Made(NamedTuple):
-    """What comes of a table: texts by the names of files, records and used ones by them, counts by name and reason, metres."""
+    """What comes of a table: texts by the names of files, records and used ones by them, counts by name and reason, metres, and
+    the text that says what became of each record."""
 
     texts: dict
     counts: dict
     left: Counter
     shift: tuple
+    listed: str
 
 
 def number(text):
@@ -94,23 +96,29 @@ def lines_of(name, fixes, asked):
         yield ",".join(map(str, (name, floor(time), *place, *([int(used)] if asked.mark else []))))
 
 
+def line_of(at, record, reason, asked):
+    """What became of a record, as a line."""
+    second, rest = divmod(moment(record), 1) if not reason else ("", "")
+    return f"{at},{name_of(record, asked)},{second},{rest if reason else int(rest * 10 ** 9)},{reason or ''}"
+
+
 def made_of(records, asked):
     """What comes of records."""
-    left, kept, fixes = Counter(), [], defaultdict(list)
-    for record in records:
-        reason = why_left(record, asked)
-        if reason:
-            left[name_of(record, asked), reason] += 1
-        else:
-            kept.append((record, is_used(record), [number(record[axis]) for axis in ("easting", "northing")]))
-    zone = next(record.get("zone") for record, used, _ in kept if used)
-    used_places = zip(*(place for _, used, place in kept if used))
+    why, kept, fixes = [why_left(record, asked) for record in records], [], defaultdict(list)
+    for at, record in enumerate(records):
+        if not why[at]:
+            kept.append((at, record, is_used(record), [number(record[axis]) for axis in ("easting", "northing")]))
+    zone = next(record.get("zone") for _, record, used, _ in kept if used)
+    used_places = zip(*(place for _, _, used, place in kept if used))
     shift = tuple(shift_of(metres, asked.units) for metres in used_places) if asked.is_local else (0, 0)
-    for record, used, place in kept:
+    for at, record, used, place in kept:
         metres = [value + added for value, added in zip(place, shift)]
         if record.get("zone") == zone and all(is_on_grid(value, asked.units) for value in metres):
             fixes[name_of(record, asked)].append((moment(record), used, *(whole(value, asked.units) for value in metres)))
         else:
-            left[name_of(record, asked), "grid"] += 1
+            why[at] = "grid"
+    left = Counter((name_of(record, asked), reason) for record, reason in zip(records, why) if reason)
+    listed = [line_of(at, record, reason, asked) for at, (record, reason) in enumerate(zip(records, why), 1)]
     texts = {name: "\n".join([*lines_of(name, own, asked), ""]) for name, own in fixes.items()}
-    return Made(texts, {name: (len(own), sum(fix[1] for fix in own)) for name, own in fixes.items()}, left, shift)
+    return Made(texts, {name: (len(own), sum(fix[1] for fix in own)) for name, own in fixes.items()}, left, shift,
+                "\n".join(["record,file,second,nanosecond,reason", *listed, ""]))

@@ -189,7 +189,7 @@ class Table:
         """The options."""
         given = [("--unit", "dm", self.asked.units == 10), *(("--na", word, True) for word in self.asked.missing if word)]
         words = [word for *pair, is_given in given if is_given for word in pair]
-        return words + ["--mark"] * self.asked.mark + ["--skip-unnamed"] * self.skips_unnamed
+        return [*words, "--records"] + ["--mark"] * self.asked.mark + ["--skip-unnamed"] * self.skips_unnamed
 
 
 def record_of(text):
@@ -223,6 +223,13 @@ def first_difference(found, wanted):
                  for key in sorted({*found, *wanted}, key=str) if found.get(key) != wanted.get(key)), None)
 
 
+def fault_in(found, made, asked):
+    """How the texts of a folder, by the names of their files, are not what is wanted."""
+    record = found.pop("split.txt")
+    wanted = {**{f"{name}.csv": text for name, text in made.texts.items()}, "records.txt": made.listed}
+    return first_difference(lines_of(found), lines_of(wanted)) or first_difference(record_of(record), wanted_record(made, asked))
+
+
 def fault_of(seed, program):
     """How many records the table of a seed has, and how the program does not do with it what is wanted."""
     table = Table(seed)
@@ -235,9 +242,7 @@ def fault_of(seed, program):
         if run.returncode:
             return table.count, f"status {run.returncode}: {run.stderr.decode()}"
         found = {path.name: path.read_bytes().decode() for path in Path(name, "tracks").iterdir()}
-    record = found.pop("split.txt")
-    fault = first_difference(lines_of(found), lines_of({f"{name}.csv": text for name, text in made.texts.items()}))
-    return table.count, fault or first_difference(record_of(record), wanted_record(made, table.asked))
+    return table.count, fault_in(found, made, table.asked)
 
 
 def sized_seeds(first, records):

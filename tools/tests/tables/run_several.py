@@ -14,7 +14,7 @@ from pathlib import Path
 sys.dont_write_bytecode = True
 from cases import finish
 from definition import made_of
-from random_tables import Table, first_difference, lines_of, record_of, sized_seeds, wanted_record
+from random_tables import Table, fault_in, sized_seeds
 
 RECORDS = 10_000  # of random tables
 TITLES = "animal,second,easting,northing"
@@ -137,9 +137,7 @@ def random_fault(seed, program, folder):
     if found.returncode:
         return f"status {found.returncode}: {found.stderr.decode()}"
     texts = {path.name: path.read_bytes().decode() for path in (folder / "tracks").iterdir()}
-    record = texts.pop("split.txt")
-    fault = first_difference(lines_of(texts), lines_of({f"{name}.csv": text for name, text in made.texts.items()}))
-    return fault or first_difference(record_of(record), wanted_record(made, table.asked))
+    return fault_in(texts, made, table.asked)
 
 
 def faults(program):

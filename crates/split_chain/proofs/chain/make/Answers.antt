@@ -1,6 +1,6 @@
 use Rattle.std.proofs.Common.{◌≡◌, ◌∙◌, length, map, ap, ap₂, inr, subst}
-use Rattle.split_chain.proofs.Results.{both_ok, if_err}
-use Rattle.split_chain.specs.Chain.{AreMade, every_filter, filtered, filtered_by, speed_filter}
+use Rattle.split_chain.proofs.Results.{all_ok, if_err}
+use Rattle.split_chain.specs.Chain.{AreMade, every_filter, filtered, filtered_by, records_with, speed_filter}
 use Rattle.split_export.specs.Export.{bytes_of}
 use Rattle.split_export.specs.Files.{filed}
 use Rattle.split_said.specs.Order.{animals_in_order}
@@ -20,7 +20,7 @@ returns c =
     ∙ (ap₂ (λ one all. filtered_by one (length (bytes_of all)) slow) c.every_filter.ensures c.deref-2.ensures.value
     ∙ ap (filtered_by (every_filter wish) (length names)) first) in
     record {
-      made = both_ok c.make_filtered.result (λ made is order. (
+      made = all_ok c.make_filtered.result (λ made is order records. (
         record {
           fates = fates;
           are_fates = c.in_ok-fated.ensures.fates;
@@ -28,7 +28,7 @@ returns c =
           are_names = c.in_ok-fated.ensures.names;
           are_made = subst (λ others. AreMade choice names others (map filed made.files.items) made.counts.items) left is;
         },
-        order ∙ ap (animals_in_order (length names)) left,
-      )) c.make_filtered.ensures.made c.make_filtered.ensures.order;
+        (order ∙ ap (animals_in_order (length names)) left, records ∙ ap (records_with wish.lists_records names) left),
+      )) c.make_filtered.ensures.made c.make_filtered.ensures.order c.make_filtered.ensures.records;
       refused = if_err c.make_filtered.result (λ refusal is. inr is) c.make_filtered.ensures.refused;
     }

@@ -5,7 +5,8 @@ use Rattle.split_chain.proofs.chain.split_export.Goals as goal
 pub returns : goal.returns
 returns g c = record {
   split = if_ok c.split_read.result (λ split are. (c.in_ok-export.export, c.in_ok-export.ensures.export, are.0)) c.split_read.ensures.split;
-  order = if_ok c.split_read.result (λ split are. ((c.in_ok-export.export, c.in_ok-export.ensures.export, are.0), are.1)) c.split_read.ensures.split;
+  order = if_ok c.split_read.result (λ split are. ((c.in_ok-export.export, c.in_ok-export.ensures.export, are.0), are.1.0)) c.split_read.ensures.split;
+  records = if_ok c.split_read.result (λ split are. ((c.in_ok-export.export, c.in_ok-export.ensures.export, are.0), are.1.1)) c.split_read.ensures.split;
   refused = if_err c.split_read.result
       (λ refusal is. inr (record { export = c.in_ok-export.export; is_export = c.in_ok-export.ensures.export; is_refused = is })) c.split_read.ensures.refused;
 }

@@ -1,7 +1,7 @@
 use Rattle.std.proofs.Common.{◌≡◌, ◌∙◌, ◌++◌, List, length, map, take, drop, inl, inr, subst}
 use Rattle.std.proofs.Math.Seq.{take-append_seam}
 use Rattle.split_chain.proofs.Results.{if_err, if_ok}
-use Rattle.split_chain.specs.Chain.{AreFilesAt, order_in}
+use Rattle.split_chain.specs.Chain.{AreFilesAt, AreTold}
 use Rattle.split_export.specs.Files.{filed}
 use Rattle.split_reading.specs.Words.{texts}
 use Rattle.split_reading.specs.declared.ledger.Row.{Row}
@@ -18,7 +18,7 @@ returns c =
       split = if_ok c.split_placed.result (λ split made.
           let At : List Row → Type 0 = λ items. (
           files : AreFilesAt c.args.wish.now c.args.sheet.now.unit c.args.columns.now (texts c.args.ledger.names) items (map filed split.files.items) split.counts.items
-          ) × (split.order.items ≡ order_in files.are_files) in
+          ) × AreTold files.are_files split.order.items split.records in
           let placed = subst At all made in (record { rows = rows; are_placed = are_placed; are_files = placed.0 }, placed.1)) c.split_placed.ensures.split;
       refused = if_err c.split_placed.result
           (λ refusal is. elim is [ inl off ↦ inl (record { rows = rows; are_placed = are_placed; is_off_grid = rw all at off }) | inr other ↦ inr other ])

@@ -6,7 +6,7 @@ use Rattle.split_export.specs.declared.files.TrackFile.{TrackFile}
 use Rattle.split_folder.specs.Fault.{files_in}
 use Rattle.split_folder.specs.Folder.{File}
 use Rattle.split_folder.specs.declared.new_file.NewFile.{NewFile}
-use Rattle.split_output.specs.Files.{file_of_track, files_of_tracks, name_of_track}
+use Rattle.split_output.specs.Files.{file_of_records, file_of_track, files_of_tracks, name_of_track}
 use Rattle.split_output.proofs.Chosen.{filed_of, seen_alike}
 use Rattle.split_output.proofs.files.files_of_split.Goals as goal
 
@@ -43,9 +43,13 @@ pub returns : goal.returns
 returns c =
     let tracks = c.deref-track-items.result.now in
     let files = c.loop-place.files.items in
-    let all : files_in files ≡ map file_of_track (files_of_tracks c.args.split.now) =
+    let tracked : files_in files ≡ map file_of_track (files_of_tracks c.args.split.now) =
     c.loop-place.invariant
     ∙ (ap (map file_of) (take_all c.loop-place.place tracks c.loop-place-test.false)
     ∙ (sym (map-map file_of_track filed_of tracks)
     ∙ ap (map file_of_track) (ap (map filed_of) c.deref-track-items.ensures.value ∙ c.in_ok-tracks.ensures))) in
-    ap files_in c.in_ok-push-2.ensures.items ∙ (map-append seen files (_ ∷ []) ∙ ap (λ l. l ++ (codes "split.txt", c.args.text.now) ∷ []) all)
+    let listed : files_in c.push_records.new.files.items ≡ map file_of_track (files_of_tracks c.args.split.now) ++ file_of_records c.args.split.now =
+    c.in_ok-push_records.ensures ∙ ap (λ l. l ++ file_of_records c.args.split.now) tracked in
+    ap files_in c.in_ok-push-2.ensures.items
+    ∙ (map-append seen c.push_records.new.files.items (_ ∷ [])
+    ∙ ap (λ l. l ++ (codes "split.txt", c.args.text.now) ∷ []) listed)
