@@ -101,6 +101,8 @@ REFUSED = [
     ("halves of the day", [], b"id,time,x,y,half\na,2024-05-01 01:00,1000,2000,AM\na,2024-05-01 01:30,1030,2040,pm\n", None, "column 5 'half' has halves of the day"),
     ("a clock beside days", [], b"id,date,x,y,Uhrzeit\na,2024-05-01,1000,2000,10:30\na,2024-05-01,1030,2040,9:15\n", None, "column 5 'Uhrzeit' has hours"),
     ("hours beside days", [], b"id,date,x,y,hora\na,2024-05-01,1000,2000,7\na,2024-05-01,1030,2040,23\n", None, "column 5 'hora' has hours"),
+    ("an offset of times that begins as UTC", [], b"id,time,x,y,utc_offset\na,2024-03-31 00:00,1000,2000,Z\na,2024-03-31 00:30,1030,2040,+00:00\na,2024-03-31 01:30,1060,2040,+01:00\n", None,
+     "column 5 'utc_offset' says of which zone times are"),
     ("an offset of times", [], b"id,time,x,y,utc_offset\na,2024-05-01 01:00,1000,2000,+2\na,2024-05-01 02:00,1030,2040,+2\n", None, "column 5 'utc_offset' says of which zone times are"),
     ("degrees with one that is none", [], b"id,date,x,y\na,2024-05-01,15.8,46.3\na,2024-05-02,15.9,46.4\na,2024-05-03,15.9,95.0\n", None, "most of x and y lie within 360 by 90"),
     ("a latitude of no place", [], b"id,date,lon,lat\na,2024-05-01,15.8,46.3\na,2024-05-02,-9999,-9999\n", 2, "a word for what is missing is named by --na, such as --na -9999"),
