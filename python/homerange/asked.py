@@ -5,26 +5,16 @@ from __future__ import annotations
 
 import math
 import re
-import zoneinfo
 from dataclasses import dataclass
 from datetime import date, datetime, timezone
-from typing import Any, NamedTuple, Sequence
+from typing import Any, Sequence
 
 from .cells import day_begins, iso_time, moments_of
 from .errors import refuse
+from .units import UNITS, zone_of_time
 from .zones import zone_of
 
 
-class Unit(NamedTuple):
-    """A unit of coordinates."""
-
-    per_metre: int
-    limit: int  # the greatest coordinate
-    name: str
-    hectare: int  # how much doubled area a hectare has
-
-
-UNITS = {"m": Unit(1, 16_777_216, "metres", 20_000), "dm": Unit(10, 134_217_728, "decimetres", 2_000_000)}
 LENGTHS = {"h": 3600, "min": 60, "s": 1}
 LENGTH = re.compile("([0-9]+(?:[.][0-9]+)?)(h|min|s)")
 NUMBER = re.compile("[-+]?(?:[0-9]+[.]?[0-9]*|[.][0-9]+)(?:[eE][-+]?[0-9]+)?")
@@ -104,14 +94,6 @@ def word_of(option: str, value: str) -> str:
 def title_of(option: str) -> str:
     """An option's own name in a call."""
     return option.replace("-", "_")
-
-
-def zone_of_time(name: object) -> zoneinfo.ZoneInfo:
-    """A time zone by its name."""
-    try:
-        return zoneinfo.ZoneInfo(str(name)) if isinstance(name, str) else refuse(f"tz={name!r} is no time zone")
-    except Exception:
-        refuse(f"tz={name!r} is no time zone such as 'Europe/Ljubljana'")
 
 
 def positive(value: Any, option: str) -> float | None:
