@@ -11,9 +11,8 @@ from typing import Any, Sequence
 
 from .cells import day_begins, iso_time, moments_of
 from .errors import refuse
-from .units import UNITS, zone_of_time
+from .units import UNITS, Unit as Unit, zone_of_time
 from .zones import zone_of
-
 
 LENGTHS = {"h": 3600, "min": 60, "s": 1}
 LENGTH = re.compile("([0-9]+(?:[.][0-9]+)?)(h|min|s)")
