@@ -155,6 +155,7 @@ def test_a_program_that_is_ended_is_no_bad_table(stub):
     ("such as --argos-class 3,2,1 (none is a fix", "such as argos_class='3,2,1' (none is a fix"),
     ("leave it out, by --skip-lines 1", "leave it out, by skip_lines=1"), ("read them by --from lotek", "read them by from_='lotek'"),
     (", and --skip-unnamed leaves such records out", ", and skip_unnamed=True leaves such records out"),
+    ("say so by --lon 'a b' --lat y --zone 33N; or", "say so by lon='a b', lat='y', zone='33N'; or"),
     ("--max-dop leaves out 2 of 3", "max_dop leaves out 2 of 3"), ("leave --tz out, or", "leave tz out, or"),
     ("--encoding is for texts", "encoding is for texts"), ("with %p in --time-format, or", "with %p in time_format, or"),
     ("as by --time DAY,COLUMN, or remove it", "as by time='DAY,COLUMN', or remove it"), ("--sensor: no fix is of x", "sensor: no fix is of x"),

@@ -17,8 +17,9 @@ NAMES = {in_program(name): name for name in (*FORMS, *FLAGS)}
 NUMBERS = ("skip_lines", "max_dop", "max_speed")
 # An option as the program says it, with its value if one of these words does not follow; what is quoted is passed over.
 NO_VALUE = "and|are|for|has|is|leaves|or|out|times"
-OPTION = re.compile(rf"'[^']*'|--({'|'.join(sorted(NAMES, key=len, reverse=True))})(?![\w-])"
-                    rf"(?:(?: (?!(?:{NO_VALUE})\b)|=)('[^']*'|[^\s']*[^\s',;:.)]))?")
+VALUE = rf"(?: (?!(?:{NO_VALUE})\b)|=)('[^']*'|[^\s']*[^\s',;:.)])"
+OPTION = re.compile(rf"'[^']*'|--({'|'.join(sorted(NAMES, key=len, reverse=True))})(?![\w-])(?:{VALUE})?")
+FOLLOWED = re.compile(rf"(--[a-z-]+{VALUE})(?= --[a-z])")  # by another one, without a comma between
 WORD = re.compile(f"({'|'.join(name for name in NAMES if '-' in name)})(?= is )")  # at the start of what is said of a word
 
 
@@ -34,7 +35,8 @@ def as_arguments(text: str, kind: str = "") -> str:
         return f"{name}={bare if name in NUMBERS else repr(bare)}"
 
     own = WORD.match(text) if kind == "option" else None
-    return OPTION.sub(argument, text if own is None else f"{NAMES[own[1]]}{text[own.end():]}")
+    named = text if own is None else f"{NAMES[own[1]]}{text[own.end():]}"
+    return OPTION.sub(argument, FOLLOWED.sub(r"\1,", named))
 
 
 def split_table(path: str, into: str, words: Iterable[str], program: str, folder: str | None = None) -> list[str]:

@@ -41,7 +41,7 @@ class Reading:
     @property
     def system(self) -> Any:
         """The reference system; None where it is not known."""
-        return crs_of(self.zone) if self.zone else self.crs
+        return crs_of(self.zone) if self.crs is None and self.zone else self.crs
 
     @property
     def system_text(self) -> str | None:

@@ -32,11 +32,12 @@ TAKEN = ("columns: ", "UTM coordinates are", "coordinates are those", "longitude
          "ranges are by group", "not read: ", "times are read as ", "points of ")
 
 
-class Table(NamedTuple):
-    """A table that was read: its fixes, and of each the row of the frame; None where it was a file."""
+class ReadTable(NamedTuple):
+    """A table that was read: its fixes, the frame, None where it was a file, and of each fix its row there, where that was asked."""
 
     fixes: Fixes
-    rows: NDArray[numpy.int64] | None
+    frame: pandas.DataFrame | None = None
+    rows: NDArray[numpy.int64] | None = None
 
 
 def tell(lines: Iterable[str]) -> None:
@@ -67,7 +68,7 @@ def read_fixes(x: Any, *, program: str | os.PathLike[str] | None = None, **optio
     return table.fixes
 
 
-def read_table(x: Any, options: Mapping[str, Any], program: str | os.PathLike[str] | None = None, has_columns: bool = True) -> Table:
+def read_table(x: Any, options: Mapping[str, Any], program: str | os.PathLike[str] | None = None, has_columns: bool = True) -> ReadTable:
     """The fixes of a file or a frame, of a frame with its own columns if they are wanted."""
     own = frame_given(x)
     words_of_options({**options, "crs": None})  # what cannot be right is refused before anything is looked for
@@ -80,7 +81,7 @@ def read_table(x: Any, options: Mapping[str, Any], program: str | os.PathLike[st
         return read_frame(own, options, Path(folder), find_split_program(program), has_columns)
 
 
-def read_file(path: Path, options: Mapping[str, Any], folder: Path, program: str) -> Table:
+def read_file(path: Path, options: Mapping[str, Any], folder: Path, program: str) -> ReadTable:
     """The fixes of a file."""
     crs = None if options.get("crs") is None else crs_named(options["crs"])
     found = {**options, "crs": None, **options_of(crs, options.get("zone"))}
@@ -92,10 +93,10 @@ def read_file(path: Path, options: Mapping[str, Any], folder: Path, program: str
         raise FrameError(f"{place}{text}" if text.startswith(shown) else f"{shown}: {place}{text}", fault.kind, fault.record) from None
     record = read_record(folder / "tracks" / "split.txt")
     whole = read_tracks(folder / "tracks", record)
-    return Table(fixes_of(whole, record, folder, options.get("tz"), crs, []), None)
+    return ReadTable(fixes_of(whole, record, folder, options.get("tz"), crs, []))
 
 
-def read_frame(frame: pandas.DataFrame, options: Mapping[str, Any], folder: Path, program: str, has_columns: bool) -> Table:
+def read_frame(frame: pandas.DataFrame, options: Mapping[str, Any], folder: Path, program: str, has_columns: bool) -> ReadTable:
     """The fixes of a data frame, with its own columns if they are wanted."""
     if not len(frame) or not len(frame.columns):
         refuse("the data frame has no row of a fix", "empty")
@@ -111,9 +112,9 @@ def read_frame(frame: pandas.DataFrame, options: Mapping[str, Any], folder: Path
     refuse_odd(record, text)
     fixes = fixes_of(whole, record, folder, text.options.get("tz"), text.crs, text.notes)
     if not has_columns:
-        return Table(fixes, None)
+        return ReadTable(fixes, frame)
     rows = rows_of(folder / "tracks", whole)
-    return Table(with_columns(fixes, frame, rows), rows)
+    return ReadTable(with_columns(fixes, frame, rows), frame, rows)
 
 
 def of_row(fault: FrameError, labels: pandas.Index) -> FrameError:

@@ -11,7 +11,7 @@ import numpy
 import pandas
 
 from ..errors import refuse
-from ..zones import REFUSED, TOLD, scale_of_crs, text_of_crs, zone_of_crs
+from ..zones import REFUSED, TOLD, scale_of_crs, text_of_crs, zone_of, zone_of_crs
 
 if TYPE_CHECKING:
     import geopandas
@@ -62,7 +62,7 @@ def options_of(crs: Any, zone: Any) -> dict[str, Any]:
     if crs is None:
         return {"zone": zone}
     own = zone_of_crs(crs)
-    if zone is not None and zone not in (own, getattr(crs, "utm_zone", None)):
+    if zone is not None and zone_of(zone) not in (own, getattr(crs, "utm_zone", None)):
         refuse_zone(zone, crs)
     return {"zone": own} if own else {"zone": None, "crs": text_of_crs(crs)}
 

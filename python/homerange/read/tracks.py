@@ -1,4 +1,5 @@
-"""Reads back what the program made of a table: its record, the tracks, and which record of the table is which fix."""
+"""Reads back what the program made of a table: its record, the tracks, and which record of the table is which fix. Names of files have
+no backslash, so one in the record stands for a sign that ends lines."""
 
 from __future__ import annotations
 
@@ -13,7 +14,7 @@ import pandas
 from numpy.typing import NDArray
 
 from ..errors import ProgramError
-from ..record import Record
+from ..record import Record, unescaped
 
 NAMED = re.compile("animal '(.*)' is named (.*)")  # what is said of an animal whose file has another name
 NUMBERS = ["second", "easting", "northing"]
@@ -40,12 +41,13 @@ def path_of_track(folder: str | os.PathLike[str], name: str) -> bytes:
 
 def read_tracks(folder: Path, record: Record) -> Whole:
     """The fixes of the tracks of a folder, which has this record."""
-    tracks = [track_in(folder, name) for name in record.tracks]
+    names = [*map(unescaped, record.tracks)]
+    tracks = [track_in(folder, name) for name in names]
     for (name, made), track in zip(record.tracks.items(), tracks):
         if len(track) != made.records:
             raise ProgramError(f"the program wrote {len(track)} fixes of {name}, and says {made.records}")
     numbers = numpy.concatenate(tracks) if tracks else numpy.empty((0, 3), dtype="int64")
-    return Whole([*record.tracks], [len(track) for track in tracks], *numbers.T)
+    return Whole(names, [len(track) for track in tracks], *numbers.T)
 
 
 def track_in(folder: Path, name: str) -> NDArray[numpy.int64]:
@@ -76,10 +78,11 @@ def own_names(record: Record) -> dict[str, str]:
     known, found = {*record.tracks, *(name for name, _, _ in record.left)}, dict[str, str]()
     for said in map(NAMED.fullmatch, record.said):
         if said and said[2] in known:
-            found[said[2]] = said[1]
+            found[unescaped(said[2])] = said[1]
     return found
 
 
 def left_out(record: Record, own: Mapping[str, str]) -> dict[tuple[str, str], int]:
     """How many fixes were left out, by the own name of the animal and the reason."""
-    return {(own.get(name, name), reason): count for name, count, reason in record.left}
+    files = ((unescaped(name), count, reason) for name, count, reason in record.left)
+    return {(own.get(name, name), reason): count for name, count, reason in files}

@@ -74,12 +74,12 @@ def length_of(value: Any, option: str) -> str:
 
 def seconds_of(value: Any) -> float:
     """The seconds of a timedelta, of Python, numpy or pandas, or of a number of hours; 0 where it is neither."""
-    own = value.item() if hasattr(value, "item") and not isinstance(value, (int, float)) else value
-    if isinstance(own, timedelta):
-        return float(own / timedelta(seconds=1))
-    is_length = type(value).__name__ == "timedelta64"  # of nanoseconds, which item() makes a number
+    if isinstance(value, timedelta):
+        return value / timedelta(seconds=1)
+    is_length = type(value).__name__ == "timedelta64"
     try:
-        return 0.0 if isinstance(own, (bool, str)) else float(own) / 1e9 if is_length else float(own) * 3600
+        seconds = value / type(value)(1, "s") if is_length else value
+        return 0.0 if isinstance(value, (bool, str)) else float(seconds) if is_length else float(seconds) * 3600
     except (TypeError, ValueError, OverflowError):
         return 0.0
 
