@@ -9,7 +9,7 @@ from datetime import date, datetime, timezone
 from pathlib import Path
 from typing import Iterator, NamedTuple, NoReturn, Sequence
 
-from .asked import zone_of_time
+from .units import zone_of_time
 from .errors import ReportError, one_line
 from .program import GROUP, MOST_ANIMALS, Program
 from .record import Record, escaped, unescaped

@@ -20,7 +20,7 @@ import re
 from datetime import date, datetime
 from typing import Iterable
 
-from .asked import UNITS, zone_of_time
+from .units import UNITS, zone_of_time
 from .errors import one_line
 
 MONTHS = ("Jan", "Feb", "Mar", "Apr", "May", "Jun", "Jul", "Aug", "Sep", "Oct", "Nov", "Dec")

@@ -1,20 +1,23 @@
-"""Groups of an animal's fixes, each of which has a range of its own: the periods of a calendar, or what a Series says."""
+"""Groups of an animal's fixes, each of which has a range of its own: the periods of a calendar, or what a column, a value for each fix
+or a function says."""
 
 from __future__ import annotations
 
-import datetime
 from dataclasses import replace
-from functools import cache
 from typing import Any, Callable, NamedTuple, Sequence
 
+import numpy
 import pandas
 
-from .asked import zone_of_time
-from .errors import refuse
-from .frames import Tracks, aligned, cells_of, names_of, row_named
+from .errors import UNPRINTABLE, refuse
+from .read.cells import cells_of
+from .read.fixes import Fixes
+from .read.reading import ReadTable, row_named
+from .tracks import Tracks
 
 # Seasons are named by their months, since those of north and south have other names.
 SEASONS = ("Dec-Feb", "Mar-May", "Jun-Aug", "Sep-Nov")
+REMEDY = "leave fixes without a group out before, as by fixes[fixes['sex'].notna()]"
 
 
 class Group(NamedTuple):
@@ -24,63 +27,104 @@ class Group(NamedTuple):
     group: str
 
 
-def year_of(day: datetime.date) -> str:
-    return f"{day.year:04}"
+def year_of(year: int, _: int) -> str:
+    return f"{year:04}"
 
 
-def month_of(day: datetime.date) -> str:
-    return f"{day.year:04}-{day.month:02}"
+def month_of(year: int, month: int) -> str:
+    return f"{year:04}-{month:02}"
 
 
-def season_of(day: datetime.date) -> str:
-    """The season, of whose winter December is that of the year before."""
-    season = SEASONS[day.month % 12 // 3]
+def season_of(year: int, month: int) -> str:
+    """The season of a month, of whose winter December is that of the year before."""
+    season = SEASONS[month % 12 // 3]
     if season != SEASONS[0]:
-        return f"{day.year:04} {season}"
-    first = day.year if day.month == 12 else day.year - 1
+        return f"{year:04} {season}"
+    first = year if month == 12 else year - 1
     return f"{first:04}-{first + 1:04} {season}"
 
 
-PERIODS: dict[str, Callable[[datetime.date], str]] = {"year": year_of, "season": season_of, "month": month_of}
+PERIODS: dict[str, Callable[[int, int], str]] = {"year": year_of, "season": season_of, "month": month_of}
 
 
 def check_by(by: Any) -> None:
     """Refuses what says no groups, before a table is looked at."""
-    if not isinstance(by, pandas.Series) and not (isinstance(by, str) and by in PERIODS):
-        what = f"by={by!r}" if isinstance(by, str) else f"by: {type(by).__name__}"
-        refuse(f"{what} is none of {', '.join(map(repr, PERIODS))}, and no Series of groups such as frame['sex']")
+    is_list = pandas.api.types.is_list_like(by) and hasattr(by, "__len__") and not isinstance(by, (dict, set, frozenset, pandas.DataFrame))
+    if not isinstance(by, str) and not is_list and not callable(by):
+        refuse(f"by={by!r} is none of {', '.join(map(repr, PERIODS))}, no column of the fixes, no value for each of them, and no "
+               "function of them")
 
 
-def group_tracks(tracks: Tracks, by: str | pandas.Series, frame: pandas.DataFrame) -> tuple[Tracks, dict[str, Group]]:
+def is_period(by: Any) -> bool:
+    """Whether groups are those of a calendar."""
+    return isinstance(by, str) and by in PERIODS
+
+
+def labels_of(table: ReadTable, by: Any) -> list[str]:
+    """The group of each fix. Values that were given beside a frame go by its rows."""
+    fixes, labels = table.fixes, table.fixes.index
+    if is_period(by):
+        if by in (fixes if table.frame is None else table.frame):
+            refuse(f"by={by!r} is a period of the calendar, and a column too: rename the column")
+        return periods(fixes, by)
+    if isinstance(by, str):
+        if [*fixes.columns].count(by) != 1:
+            refuse(f"by: there is no column {by!r}, and it is none of {', '.join(map(repr, PERIODS))}", "columns")
+        return given(fixes[by], labels)
+    if callable(by) or table.frame is None or table.rows is None:
+        return given(values_for(by(fixes) if callable(by) else by, fixes), labels)
+    return given(values_for(by, table.frame).iloc[table.rows], labels)
+
+
+def values_for(values: Any, frame: pandas.DataFrame) -> pandas.Series:
+    """A value for each row of a frame, in their order: those of a Series go by its index."""
+    if isinstance(values, pandas.Series):
+        return aligned(values, frame)
+    count = len(values) if pandas.api.types.is_list_like(values) and hasattr(values, "__len__") else None
+    if count != len(frame) or getattr(values, "ndim", 1) != 1:
+        refuse(f"by is {repr(values) if count is None else f'{count} values'} for {len(frame)} rows")
+    return pandas.Series(pandas.array(values) if isinstance(values, (list, tuple)) else values)
+
+
+def aligned(series: pandas.Series, frame: pandas.DataFrame) -> pandas.Series:
+    """A series with a value for each row of a frame, in the order of its rows, by its index."""
+    if series.index.equals(frame.index):
+        return series
+    if series.index.is_unique and frame.index.is_unique and not len(frame.index.difference(series.index)):
+        return series.reindex(frame.index)
+    refuse("by is a Series with another index than the frame: take by.to_numpy() to go by position, or by.reindex(frame.index)")
+
+
+def given(values: pandas.Series, labels: pandas.Index) -> list[str]:
+    """The groups that values say, each of which has to be there."""
+    cells = cells_of(values)
+    odd = next((at for at, cell in enumerate(cells) if not cell or UNPRINTABLE.search(cell)), None)
+    if odd is not None:
+        what = f"a group that is {cells[odd]!r}, with a control character" if cells[odd] else "no group"
+        refuse(f"{row_named(labels, odd)}: by has {what}; {REMEDY}", "option", odd + 1)
+    return cells
+
+
+def periods(fixes: Fixes, by: str) -> list[str]:
+    """The period of each fix, by the clock of the fixes."""
+    if "time" not in fixes:
+        refuse(f"by={by!r}: seconds have no calendar: make times of them, as by pandas.to_datetime(frame['second'], unit='s')")
+    own = fixes["time"].dt
+    months, at = numpy.unique(own.year.to_numpy() * 12 + own.month.to_numpy() - 1, return_inverse=True)
+    names = [PERIODS[by](int(month) // 12, int(month) % 12 + 1) for month in months]
+    return [names[place] for place in at.tolist()]
+
+
+def group_tracks(tracks: Tracks, labels: Sequence[str]) -> tuple[Tracks, dict[str, Group]]:
     """The tracks of each group, in the order of animals and of times, by names that say both; and what these names mean."""
-    groups = None if isinstance(by, str) else names_of(cells_of(aligned(by, frame, "by")))
-    zone = zone_of_time(tracks.tz)
     parts: dict[str, pandas.DataFrame] = {}
     known: dict[str, Group] = {}
+    own = numpy.array(labels, dtype=object)
     for animal, track in tracks.by_name.items():
-        labels = periods(track, str(by), zone) if groups is None else given(groups, tracks.places[animal], frame.index)
-        for group, own in track.groupby(labels, sort=False):
+        for group, part in track.groupby(own[tracks.places[animal]], sort=False):
             name = f"{animal} {group}"
             if name in known:
                 refuse(f"by: {animal!r} and {known[name].animal!r} both have a range named {name!r}: rename one", "name")
-            parts[name], known[name] = own.reset_index(drop=True), Group(animal, group)
+            parts[name], known[name] = part.reset_index(drop=True), Group(animal, group)
     said = f"ranges are by group: {len(parts)} of {len(tracks.by_name)} animals"
-    return replace(tracks, by_name=parts, left_out={}, notes=[*tracks.notes, said]), known
-
-
-def given(groups: Sequence[Any], rows: Sequence[int], labels: pandas.Index) -> list[str]:
-    """The groups of some rows of a frame, each of which has to have one."""
-    for at in rows:
-        if not isinstance(groups[at], str):
-            what = "no group" if groups[at] is None else f"a group that is {groups[at].text}"
-            where = row_named(labels, at)
-            refuse(f"{where}: by has {what}; use=by.notna() leaves rows without a group out", "option", int(at) + 1)
-    return [groups[at] for at in rows]
-
-
-def periods(track: pandas.DataFrame, by: str, zone: datetime.tzinfo) -> list[str]:
-    """The period of each fix, by the clock of a zone."""
-    label = cache(PERIODS[by])
-    start = datetime.datetime(1970, 1, 1, tzinfo=datetime.timezone.utc)
-    seconds = track["second"].tolist()
-    return [label((start + datetime.timedelta(seconds=second)).astimezone(zone).date()) for second in seconds]
+    return replace(tracks, by_name=parts, left_out={}, notes=[*tracks.notes, said], record=None), known

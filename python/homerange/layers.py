@@ -13,9 +13,10 @@ from typing import TYPE_CHECKING, Iterator
 import numpy
 import pandas
 
-from .asked import UNITS
 from .errors import path_of
-from .ranges import HomeRanges, tell, times_of
+from .ranges import HomeRanges
+from .read.reading import tell, times_of
+from .units import UNITS
 from .zones import code_of_crs
 
 if TYPE_CHECKING:

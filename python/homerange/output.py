@@ -3,30 +3,32 @@
 from __future__ import annotations
 
 import hashlib
-import itertools
 import os
 import shutil
+import tempfile
 from dataclasses import replace
 from pathlib import Path
-from typing import TYPE_CHECKING, Any, Iterable, Mapping
+from typing import Any, Mapping
+
+import pandas
 
 from .about import Words, read_about
-from .asked import zone_of_time
 from .errors import ReportError, path_of, refuse
 from .evidence import ABOUT, REPORT, TRACKS, Wish, copy_tracks, make_report, new_folder, used_tracks
-from .frames import Tracks
-from .names import file_names, refuse_same_names
 from .page import rings_given, words_typed, write_rings
-from .program import ROWS, Program, checksum_of, find_program, program_of
+from .program import Program, checksum_of, find_program, find_split_program, program_of
 from .ranges import HomeRanges, check_whole, ranges_of
-from .record import Made, Record, given, in_order, read_record, record_in, tools_of, write_record
-from .report import Report
+from .read.call import split_table
+from .read.reading import SINCE_1970, times_of
+from .read.systems import options_of
+from .read.text import NAME, text_of_frame, write_text
+from .read.tracks import own_names, path_of_track
+from .read.words import words_of_options
+from .record import read_record, record_in
+from .report import Report, Table
 from .results import BOUNDARY, words_beside, write_results
-from .split import path_of_track
-from .zones import text_of_crs, zone_of_crs
-
-if TYPE_CHECKING:
-    import pandas
+from .tracks import Tracks, track_text
+from .units import UNITS, zone_of_time
 
 FORMULAS = tuple("=+-@\t\r'")  # how texts begin that a spreadsheet may compute, or of which it hides the first sign
 PLACES = dict.fromkeys(("days", "median_hours", "longest_hours", "last_tenth", "last_quarter"), 4)
@@ -59,28 +61,9 @@ def write_tables(ranges: HomeRanges, folder: Path) -> None:
     shares.to_csv(folder / "overlaps.csv", lineterminator="\n")
 
 
-def record_of(ranges: HomeRanges, tracks: Tracks, names: Mapping[str, str], made: dict[str, Made]) -> Record:
-    """The record of tracks that were made of a frame."""
-    zone = zone_of_crs(ranges.crs)
-    crs = None if zone or ranges.crs is None else text_of_crs(ranges.crs)
-    said, left = [*tracks.notes, *renames(ranges.animals, names)], in_order(tracks.reasons, names)
-    return Record(None, None, ranges.unit, zone, ranges.shift, crs, given(tracks.options), said, left, made,
-                  tools_of("homerange for Python", tracks.is_projected))
-
-
-def names_of(ranges: HomeRanges, tracks: Tracks) -> dict[str, str]:
-    """The name in files of each animal, also of those of which all was left out."""
-    if ranges.files:
-        return {name: name for name in ranges.animals}
-    others = sorted({name for name, _ in tracks.reasons}.difference(ranges.animals))
-    names = file_names([*ranges.animals, *others])
-    refuse_same_names(ranges.animals, names)
-    return names
-
-
-def renames(animals: Iterable[str], names: Mapping[str, str]) -> list[str]:
+def renames(names: Mapping[str, str]) -> list[str]:
     """What is said of animals that have other names in files."""
-    return [f"animal '{name}' is named {names[name]}" for name in animals if names[name] != name]
+    return [f"animal '{name}' is named {own}" for name, own in names.items() if name != own]
 
 
 def tracks_of(ranges: HomeRanges) -> Tracks:
@@ -90,29 +73,50 @@ def tracks_of(ranges: HomeRanges) -> Tracks:
     return ranges.tracks
 
 
-def write_track(folder: Path, name: str, track: pandas.DataFrame) -> str:
-    """Writes the file of an animal, and answers its checksum."""
-    checksum, numbers = hashlib.sha256(), zip(*(track[title].tolist() for title in ("second", "easting", "northing")))
-    with open(path_of_track(folder, name), "xb") as file:
-        lines = (f"{name},{second},{east},{north}\n".encode() for second, east, north in numbers)
-        for piece in itertools.chain([b"animal,second,easting,northing\n"], iter(lambda: b"".join(itertools.islice(lines, ROWS)), b"")):
-            file.write(piece)
-            checksum.update(piece)
-    return checksum.hexdigest()
-
-
-def put_tracks(ranges: HomeRanges, tracks: Tracks, names: Mapping[str, str], folder: Path) -> None:
-    """Puts tracks into a folder with their record: those of a frame as new files, else the files that were read."""
+def put_tracks(ranges: HomeRanges, tracks: Tracks, folder: Path) -> dict[str, str]:
+    """Puts tracks into a folder with their record: the files that were read, or those that the program made of the fixes, or makes
+    of them now, where they were changed. Answers the name in files of each animal."""
     if ranges.files:
         copy_tracks(ranges.files, folder)
         if ranges.split is not None:
             shutil.copyfile(ranges.split, folder / TRACKS / "split.txt")
-        return
-    (folder / TRACKS).mkdir()
-    made: dict[str, Made] = {}
-    for name, track in tracks.by_name.items():
-        made[names[name]] = Made(len(track), len(track), write_track(folder / TRACKS, names[name], track))
-    write_record(folder / TRACKS / "split.txt", record_of(ranges, tracks, names, made))
+        return {name: name for name in ranges.animals}
+    texts = {name: track_text(tracks.names.get(name, name), track) for name, track in tracks.by_name.items()}
+    if not put_as_read(tracks, texts, folder / TRACKS):
+        split_again(ranges, tracks, folder / TRACKS)
+    own = {name: file for file, name in own_names(read_record(folder / TRACKS / "split.txt")).items()}
+    return {name: own.get(name, name) for name in ranges.animals}
+
+
+def put_as_read(tracks: Tracks, texts: Mapping[str, bytes], folder: Path) -> bool:
+    """Writes tracks with the record that the program wrote of them, if they are those that it has; answers whether they are."""
+    if tracks.record is None:
+        return False
+    folder.mkdir()
+    (folder / "split.txt").write_bytes(tracks.record)
+    made = {name: own.checksum for name, own in read_record(folder / "split.txt").tracks.items()}
+    if made != {tracks.names.get(name, name): hashlib.sha256(text).hexdigest() for name, text in texts.items()}:
+        shutil.rmtree(folder)
+        return False
+    for name, text in texts.items():
+        with open(path_of_track(folder, tracks.names.get(name, name)), "xb") as file:
+            file.write(text)
+    return True
+
+
+def split_again(ranges: HomeRanges, tracks: Tracks, into: Path) -> None:
+    """Has the program make tracks of fixes that were chosen, bound or changed since they were read."""
+    unit, (east, north) = UNITS[ranges.unit], tracks.shift
+    whole = pandas.concat(tracks.by_name.values(), keys=tracks.by_name.keys(), names=["animal", None]).reset_index("animal")
+    is_calendar = whole["second"].between(*SINCE_1970, inclusive="left").all()
+    times = {"time": times_of(whole["second"], "UTC")} if is_calendar else {"second": whole["second"]}
+    frame = pandas.DataFrame({
+        "animal": whole["animal"], **times, "easting": whole["easting"] / unit.per_metre - east,
+        "northing": whole["northing"] / unit.per_metre - north}).reset_index(drop=True)
+    text = text_of_frame(frame, {"unit": ranges.unit, **options_of(ranges.crs, None)})
+    with tempfile.TemporaryDirectory(prefix="homerange-") as room:
+        write_text(text, Path(room, NAME))
+        split_table(NAME, str(into.absolute()), words_of_options(text.options), find_split_program(ranges.named), room)
 
 
 def renamed(report: Report, names: Mapping[str, str]) -> Report:
@@ -121,27 +125,39 @@ def renamed(report: Report, names: Mapping[str, str]) -> Report:
                   {(names[name], names[other]): count for (name, other), count in report.overlaps.items()})
 
 
-def tracks_in_order(tracks: Tracks, names: Mapping[str, str], report: Report) -> Tracks:
-    """The tracks of a frame by the names that files have, in the order of the report."""
+def moved(report: Report, by: tuple[int, int]) -> Report:
+    """The report with its corners moved by some units."""
+    def table(own: Table) -> Table:
+        return own._replace(corners=[(east + by[0], north + by[1]) for east, north in own.corners])
+
+    return report if not any(by) else report._replace(tables={name: table(own) for name, own in report.tables.items()})
+
+
+def in_order(ranges: HomeRanges, tracks: Tracks, names: Mapping[str, str], report: Report, shift: tuple[int, int]) -> Tracks:
+    """The tracks by the names that files have, in the order of the report, with the shift that they have there."""
+    east, north = (UNITS[ranges.unit].per_metre * (own - before) for own, before in zip(shift, tracks.shift))
     animal_of = {names[name]: name for name in tracks.by_name}
-    by_name = {own: tracks.by_name[animal_of[own]] for own in report.tables}
+    by_name = {own: tracks.by_name[animal_of[own]].assign(
+        easting=lambda table: table["easting"] + east, northing=lambda table: table["northing"] + north) for own in report.tables}
     left_out = {names[name]: count for name, count in tracks.left_out.items()}
-    return replace(tracks, by_name=by_name, left_out=left_out)
+    return replace(tracks, by_name=by_name, left_out=left_out, shift=shift)
 
 
 def ranges_in(folder: Path, report: Report, ranges: HomeRanges, tracks: Tracks, names: Mapping[str, str],
               program: Program) -> HomeRanges:
     """The ranges of the report that a program made in a folder, which has to have the numbers of these."""
     split = folder / TRACKS / "split.txt"
-    if report != renamed(ranges.report, names):
+    record = read_record(split) if split.is_file() else None
+    shift = ranges.shift if record is None else record.shift
+    east, north = (UNITS[ranges.unit].per_metre * (own - before) for own, before in zip(shift, ranges.shift))
+    if report != moved(renamed(ranges.report, names), (east, north)):
         raise ReportError("the program reports other numbers of these tracks than the ranges have: make them again")
     if ranges.files:
         files = [folder / name for name in used_tracks(folder)]
         return ranges_of(report, folder / REPORT, files, ranges.crs, ranges.tz, ranges.shift, split if split.is_file() else None,
                          program.path)
-    own = tracks_in_order(tracks, names, report)
-    found = HomeRanges(report, own, crs=ranges.crs, tz=ranges.tz, program=program)
-    found.record, found.checksum = read_record(split), checksum_of(folder / REPORT)
+    found = HomeRanges(report, in_order(ranges, tracks, names, report, shift), crs=ranges.crs, tz=ranges.tz, program=program)
+    found.record, found.checksum = record, checksum_of(folder / REPORT)
     return found
 
 
@@ -150,19 +166,18 @@ def write_folder(ranges: HomeRanges, into: str | os.PathLike[str], page: Mapping
     say of it."""
     path, tracks = path_of(into, "folder"), tracks_of(ranges)
     check_whole(ranges, "evidence")
-    names = names_of(ranges, tracks)
-    said = renames(ranges.animals, names)
+    said: list[str] = []
     wish = Wish(",".join(map(str, ranges.levels)), ranges.unit, program_of(find_program(ranges.named)))
     words, reserve = words_of_page(ranges, **page)
     rings = rings_given(ranges, reserve)
 
     def fill(folder: Path) -> None:
-        put_tracks(ranges, tracks, names, folder)
+        names = put_tracks(ranges, tracks, folder)
         if rings is not None:
             write_rings(rings, folder / BOUNDARY)
         report = make_report(folder, wish, words_beside(record_in(folder / TRACKS), ranges, words), keeps_rows=True)
         found = ranges_in(folder, report, ranges, tracks, names, wish.program)
-        said.extend(write_results(folder, found, read_about(folder / ABOUT)))
+        said.extend([*renames(names), *write_results(folder, found, read_about(folder / ABOUT))])
 
     new_folder(path, fill)
     return said

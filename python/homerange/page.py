@@ -10,7 +10,7 @@ from pathlib import Path
 from typing import Any, Mapping, NamedTuple, Sequence
 
 from .about import Words
-from .asked import zone_of_time
+from .units import zone_of_time
 from .drawing import colour
 from .errors import ProgramError, path_of, refuse
 from .formats import Clock, day_text, escaped, listed, named
@@ -198,7 +198,7 @@ def numbers(ranges: HomeRanges, rows: Sequence[Row], clock: Clock) -> dict[str, 
 def drawn_map(ranges: HomeRanges, head: Head) -> tuple[dict[str, str], System]:
     """The places with the map and what is said of it, and the reference system."""
     shapes = shapes_of(ranges, levels_drawn(ranges))
-    own = ranges.record.crs if ranges.record else None
+    own = ranges.record.crs_text if ranges.record else None
     system = system_of(ranges.crs, [middle(shape.polygons[0]) for shape in shapes], own)
     drawn = maps(shapes, head.rings or [], escaped(system.text), LEAST[ranges.unit])
     has_boundary = head.rings is not None

@@ -6,7 +6,7 @@ from typing import TYPE_CHECKING, Any, Iterable, Literal, Sequence, overload
 
 import pandas
 
-from .asked import UNITS
+from .units import UNITS
 from .errors import refuse
 from .formats import Clock
 from .page_curves import layout

@@ -6,7 +6,7 @@ from __future__ import annotations
 from math import ceil
 from typing import Any, Iterable, Mapping, NamedTuple, Sequence
 
-from .asked import UNITS
+from .units import UNITS
 from .errors import one_line, refuse
 from .formats import with_sign
 from .ranges import HomeRanges

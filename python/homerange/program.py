@@ -11,7 +11,6 @@ import subprocess
 import sys
 import tempfile
 from concurrent.futures import ThreadPoolExecutor
-from functools import cache
 from pathlib import Path
 from typing import Any, Callable, Mapping, NamedTuple, Sequence
 
@@ -20,6 +19,7 @@ from .report import Report, lines_of, overlaps_of, parse
 
 MOST_ANIMALS = 64  # of one run
 GROUP = 32  # animals of a group, where there are more
+PIECE = 2 ** 20  # bytes of a file that are read together
 ROWS = 1_000  # of a track that are written together
 PACKAGE = Path(__file__).resolve().parent
 Progress = Callable[[int, int], object]  # is called with how many of how many runs are done
@@ -46,8 +46,12 @@ CLONE = clone_of(PACKAGE)
 
 
 def checksum_of(path: str | os.PathLike[str]) -> str:
+    """The SHA-256 checksum of a file."""
+    found = hashlib.sha256()
     with open(path, "rb") as file:
-        return hashlib.file_digest(file, "sha256").hexdigest()
+        while piece := file.read(PIECE):
+            found.update(piece)
+    return found.hexdigest()
 
 
 def find_program(program: str | os.PathLike[str] | None = None) -> str:
@@ -86,7 +90,6 @@ def is_called(path: Path) -> bool:
     return os.path.isfile(sys.argv[0]) and os.path.samefile(path, sys.argv[0])
 
 
-@cache
 def check_own(path: Path) -> None:
     """Refuses a program of a wheel that is not as it was built."""
     sums = path.with_name("SHA256SUMS")

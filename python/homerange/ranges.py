@@ -2,119 +2,35 @@
 
 from __future__ import annotations
 
-import csv
 import itertools
 import math
 import os
-import tempfile
-import warnings
 from collections import Counter
-from datetime import date, datetime
 from functools import cached_property
-from operator import itemgetter
 from pathlib import Path
-from typing import TYPE_CHECKING, Any, Callable, Iterable, Sequence, Union
+from typing import TYPE_CHECKING, Any, Callable, Iterable, Sequence
 
 import numpy
 import pandas
 
-from .asked import UNITS, Asked, seconds_of, zone_of_time
 from .bar import progress_of
-from .errors import FrameError, HomeRangeInfo, HomeRangeNote, ReportError, one_line, path_of, refuse
-from .frames import Tracks, crs_named, frame_given, read_frame
-from .groups import Group, check_by, group_tracks
+from .errors import ReportError, path_of, refuse
+from .groups import Group, check_by, group_tracks, is_period, labels_of
 from .growth import share
+from .outer import count_inside, outer_kept
 from .overview import Facts, Row, facts_of, reasons_of, rows_of
-from .program import MOST_ANIMALS, Program, Runs, checksum_of, find_program, find_split_program, program_of
+from .program import MOST_ANIMALS, Program, Runs, checksum_of, find_program, program_of
+from .read.fixes import Fixes, is_of_fixes, reading_of
+from .read.reading import ReadTable, read_table, tell, times_of
+from .read.systems import crs_named
 from .record import Record, read_record
-from .report import Corners, Percent, Report, Table, kept_count, nearest, polygon_of, read as read_lines
-from .split import path_of_track, split_export, words_of_options
+from .report import Corners, Percent, Report, Table, read as read_lines
+from .tracks import Tracks, tracks_of_files, tracks_of_fixes
+from .units import UNITS, zone_of_time
 
 if TYPE_CHECKING:
     import geopandas
     from numpy.typing import NDArray
-
-Moment = Union[str, date, datetime]
-Words = Union[str, Iterable[Any]]
-ROWS = 1_000  # of a file that are read together
-LAST_OF_TIMES = 9_223_372_036  # the last second since 1970 that pandas has
-EXACT = 2 ** 30  # products of two differences of smaller numbers have 64 bits
-SOME = 16  # of the corners of a polygon, at most
-SLACK = 1e-12  # by how much of itself and of 1 the square of a rounded distance is not known, with a wide margin
-# How lines begin that say what was taken, and nothing that was left out or changed.
-TAKEN = ("columns: ", "UTM coordinates are", "coordinates are those", "longitude and latitude are", "days and hours are",
-         "ranges are by group", "not read: ")
-
-
-def times_of(seconds: pandas.Series, tz: str) -> pandas.Series:
-    """Seconds since 1970 by the clock of tz; NaT after the year 2262, where pandas' times end."""
-    whole = seconds.to_numpy("int64")
-    nanoseconds = numpy.where(whole <= LAST_OF_TIMES, 10 ** 9 * whole, numpy.iinfo("int64").min)
-    times = pandas.Series(nanoseconds.view("datetime64[ns]"), seconds.index, name=seconds.name)
-    return times.dt.tz_localize("UTC").dt.tz_convert(tz)
-
-
-def _outer_kept(track: pandas.DataFrame, level: int) -> pandas.DataFrame:
-    """Of the fixes of a track that a level keeps some whose polygon is that of all of them."""
-    kept = _kept(track, level)[["easting", "northing"]]
-    return pandas.DataFrame(outer_fixes(kept, far_ends(kept)), columns=["easting", "northing"]).assign(second=0)
-
-
-def far_ends(track: pandas.DataFrame) -> Corners:
-    """The fixes of a track that lie farthest in some directions, counterclockwise."""
-    east, north = track["easting"].to_numpy(), track["northing"].to_numpy()
-    angles = [2 * math.pi * at / SOME for at in range(SOME)]
-    places = dict.fromkeys(int((east * math.cos(angle) + north * math.sin(angle)).argmax()) for angle in angles)
-    return [(int(east[at]), int(north[at])) for at in places]
-
-
-def _kept(track: pandas.DataFrame, level: int) -> pandas.DataFrame:
-    """The fixes of a track that a level keeps."""
-    count, east, north = kept_count(len(track), level), track["easting"], track["northing"]
-    far = from_mean(east.to_numpy()) ** 2 + from_mean(north.to_numpy()) ** 2
-    edge = numpy.partition(far, count - 1)[count - 1]
-    is_near, is_far = far < edge - SLACK * (edge + 1), far > edge + SLACK * (edge + 1)
-    # Where rounded distances do not tell it, whole numbers do.
-    unsure = numpy.flatnonzero(~is_near & ~is_far).tolist()
-    is_near[nearest(east.tolist(), north.tolist(), unsure, count - int(is_near.sum()))] = True
-    return track[is_near]
-
-
-def from_mean(numbers: NDArray[numpy.int64]) -> NDArray[numpy.float64]:
-    """How far whole numbers are from their mean, but for roundings."""
-    whole, rest = divmod(int(numbers.sum()), len(numbers))
-    return numpy.asarray(numbers - whole - rest / len(numbers), dtype="float64")
-
-
-def outer_fixes(track: pandas.DataFrame, corners: Corners) -> list[tuple[int, int]]:
-    """The fixes of a track without those within a polygon of some of these corners; of fixes with one easting the southernmost
-    and the northernmost. If the corners are those of all fixes, they are those of these."""
-    is_small = -EXACT < track.min().min() and track.max().max() < EXACT
-    east, north = (track[title].to_numpy("int64" if is_small else object) for title in ("easting", "northing"))
-    some, is_within = corners[::-(-len(corners) // SOME)], numpy.full(len(track), True)
-    for (e, n), (next_e, next_n) in zip(some, [*some[1:], some[0]]):
-        is_within &= (next_e - e) * (north - n) > (next_n - n) * (east - e)
-    return ends_of(east[~is_within], north[~is_within])
-
-
-def ends_of(east: NDArray[Any], north: NDArray[Any]) -> list[tuple[int, int]]:
-    """Of points with one easting the southernmost and the northernmost."""
-    order = east.argsort()
-    east, north = east[order], north[order]
-    first = numpy.flatnonzero(numpy.append(True, east[1:] != east[:-1]))
-    ends = [numpy.minimum.reduceat(north, first), numpy.maximum.reduceat(north, first)]
-    return [pair for end in ends for pair in zip(east[first].tolist(), end.tolist())]
-
-
-def count_inside(track: Any, polygon: Corners) -> int:
-    """How many fixes of a track a polygon covers, its edges included. Coordinates are below 2 ** 28, so that all products are
-    whole numbers of 64 bits."""
-    east, north = track["easting"].to_numpy("int64"), track["northing"].to_numpy("int64")
-    eastings, northings = zip(*polygon)
-    is_in = (min(eastings) <= east) & (east <= max(eastings)) & (min(northings) <= north) & (north <= max(northings))
-    for (e, n), (next_e, next_n) in zip(polygon, [*polygon[1:], polygon[0]]):
-        is_in &= (next_e - e) * (north - n) >= (next_n - n) * (east - e)
-    return int(is_in.sum())
 
 
 class HomeRanges:
@@ -318,7 +234,7 @@ class HomeRanges:
         """The tables of the fixes that a level keeps."""
         if self._tracks is None:
             refuse("polygons below 100 per cent need the fixes: read_report(path, files=..)")
-        kept = {name: _outer_kept(track, level) for name, track in self._tracks.by_name.items()}
+        kept = {name: outer_kept(track, level) for name, track in self._tracks.by_name.items()}
         tables: dict[str, Table] = {}
         for first in range(0, len(kept), MOST_ANIMALS):
             part = dict(itertools.islice(kept.items(), first, first + MOST_ANIMALS))
@@ -412,9 +328,16 @@ def whole_numbers(values: Any, least: int, most: int, what: str) -> list[int]:
     given = list(values) if several else [values]
     found = [number for number in map(whole_number, given) if number is not None and least <= number <= most]
     if not given or len(found) < len(given):
-        refuse(f"{what}={given if several or whole_number(values) is not None else values!r} are not {what} "
-               f"from {least} to {most}")
+        refuse(f"{what}={given if several else values!r} are not {what} from {least} to {most}{remedy(given, what)}")
     return found
+
+
+def remedy(given: Sequence[Any], what: str) -> str:
+    """What to write for a share of 1, or for a number in quotes."""
+    odd = next((value for value in given if isinstance(value, str) or isinstance(value, float) and 0 < value < 1), None)
+    if isinstance(odd, str):
+        return f": {odd!r} is a text, so write {odd} without quotes" if odd.strip().isdecimal() else ""
+    return f": {odd}: {what} are per cent, {round(100 * odd, 6):g}" if odd is not None else ""
 
 
 def levels_of(levels: Any) -> list[int]:
@@ -425,204 +348,58 @@ def levels_of(levels: Any) -> list[int]:
     return found
 
 
-def hours_of(hours: Any) -> tuple[float, float]:
-    """Two hours of the day."""
-    try:
-        first, last = (math.nan if isinstance(hour, (bool, str)) else float(hour) for hour in hours)
-    except (TypeError, ValueError):
-        first = last = math.nan
-    if not (0 <= first <= 24 and 0 <= last <= 24) or first == last:
-        refuse(f"hours={hours} are not two different hours from 0 to 24, such as (18, 6)")
-    return first, last
-
-
-def words_of(value: Any, option: str) -> list[str] | None:
-    """One word, several between commas, or a sequence of words."""
-    if value is None:
-        return None
-    if isinstance(value, str):
-        return [value] if option in ("animal", "time") else value.split(",")
-    if isinstance(value, pandas.Series) or not isinstance(value, Iterable):
-        refuse(f"{option}={type(value).__name__} is no name: a text, or several, is wanted")
-    return [str(word) for word in value]
-
-
-def tell(lines: Iterable[str]) -> None:
-    """Says in warnings what was taken, left out or changed."""
-    for line in lines:
-        warnings.warn(line, HomeRangeInfo if line.startswith(TAKEN) else HomeRangeNote, stacklevel=3)
-
-
-def either(new: Any, old: Any, name: str, old_name: str) -> Any:
-    """An argument that has two names."""
-    if new is not None and old is not None:
-        refuse(f"{name} and {old_name} are one argument: give one")
-    return old if new is None else new
-
-
 def home_range(
-    frame: pandas.DataFrame, levels: int | Iterable[int] = (50, 95, 100), unit: str = "m", *, animal: Words | None = None,
-    time: Words | None = None, easting: str | None = None, northing: str | None = None, lon: str | None = None,
-    lat: str | None = None, name: str = "animal", zone: str | None = None, crs: Any = None,
-    use: str | Sequence[bool] | bool | None = None, skip_unnamed: bool = False, sensor: Words | None = None,
-    argos_class: Words | None = None, argos: str | None = None, max_dop: float | None = None, dop: str | None = None,
-    fix_type: Words | None = None, fix: str | None = None, since: Moment | None = None, until: Moment | None = None,
-    max_speed: float | None = None, months: int | Iterable[int] | None = None,
-    hours: tuple[float, float] | None = None, every: str | float | None = None, tz: str | None = None,
-    by: str | pandas.Series | None = None, program: str | os.PathLike[str] | None = None, jobs: int | None = None,
-    progress: Callable[[int, int], object] | bool | None = None, from_: Moment | None = None, to: Moment | None = None,
-    every_hours: float | None = None,
+    x: Any, levels: int | Iterable[int] = (50, 95, 100), by: Any = None, program: str | os.PathLike[str] | None = None,
+    jobs: int | None = None, progress: Callable[[int, int], object] | bool | None = None, **reading: Any,
 ) -> HomeRanges:
-    """The home ranges of the animals of a data frame, by the minimum convex polygon (Mohr 1947).
+    """The home ranges of animals, by the minimum convex polygon (Mohr 1947).
 
-    How a frame is read, and what is refused, is said in docs/TABLES.md, once for all front ends: the usual titles of
-    columns, times, coordinates, marks of outliers, sensors and filters.
-
-    frame: a pandas DataFrame with a row for each fix, or a GeoDataFrame of points in a plane CRS in metres; or a trajectory or
-        a collection of movingpandas.
+    x: fixes that ``read_fixes`` has read, of which rows may have been chosen; or what it reads, a data frame with a row for each
+        fix or a file.
     levels: 1 to 8 whole numbers from 1 to 100. Level p keeps, of n fixes, the (p * n + 99) // 100 nearest to the mean
         of all, of fixes as near the earlier.
-    unit: 'm' or 'dm': coordinates are rounded to whole metres or decimetres.
-    animal, time, easting, northing, lon, lat: columns, where they have no usual titles; name: the one animal's name.
-    zone, crs: the UTM zone, or the reference system, of the coordinates; longitude and latitude are projected into zone.
-    use: which rows are used: a column, a truth for each row (a Series goes by its index), or True for all. Then neither
-        marks nor sensors are looked at.
-    skip_unnamed, sensor, argos_class, max_dop, fix_type, since, until, max_speed, every: as the options of homerange-split;
-        argos, dop and fix name their columns. from_, to and every_hours are other names of since, until and every.
-    months: the months that are wanted, 1 to 12.
-    hours: two hours of the day, the second not included; (18, 6) is the night.
-    tz: the time zone of since, until, months, hours and every and of the times in the answers; if left out, that of the
-        column of times, or UTC.
+    by: makes a range of each group of an animal's fixes: of a 'year', a 'month' ('2024-05') or a 'season' of a year, by the
+        clock of the fixes; of a column of the fixes; of values, one for each fix, or for each row of a frame (a Series goes by its
+        index); or of what a function of the fixes answers. Seasons are those of meteorology and are named by their months,
+        '2024 Jun-Aug', and '2023-2024 Dec-Feb' for a December with the months behind it.
     program: the program; if left out, that in the environment as HOMERANGE, the package's own, that of the clone that the
         package is in, or homerange on PATH (README.md, Which program runs).
-    by: makes a range of each group of an animal's fixes: of a 'year', a 'month' ('2024-05') or a 'season' of a year, by the
-        clock of tz, or of what a Series says of each row (it goes by its index). Seasons are those of meteorology and are
-        named by their months, '2024 Jun-Aug', and '2023-2024 Dec-Feb' for a December with the months behind it.
     jobs: how many processors are taken; if left out, all that this process may have.
     progress: is called with how many of how many runs are done; more than 64 animals are several runs. True shows that in a
         line on standard error, as is done on a terminal if left out, and False does not.
+    reading: the options of ``read_fixes``, such as ``zone='33N'``, where x is still to be read.
 
-    What is left out or changed is said in warnings (HomeRangeNote), and what was taken (HomeRangeInfo). Raises
-    FrameError where the fixes or an argument cannot be right, ProgramError where the program does not run, and the error
-    of the program's status where it refuses (FileError, OptionError, OutOfMemoryError, OutputError, CutError);
-    ReportError where a report is not whole.
+    How a table is read, and what is refused, is said in docs/TABLES.md. What is left out or changed is said in warnings
+    (HomeRangeNote), and what was taken (HomeRangeInfo). Raises FrameError where the fixes or an argument cannot be right,
+    ProgramError where the program does not run, and the error of the program's status where it refuses (FileError, OptionError,
+    OutOfMemoryError, OutputError, CutError); ReportError where a report is not whole.
     """
     wanted = levels_of(levels)
-    if every_hours is not None:
-        seconds_of(every_hours, "every_hours")
-    asked = Asked(
-        unit=unit, zone=zone, skip_unnamed=skip_unnamed, animal=words_of(animal, "animal"),
-        time=words_of(time, "time"), easting=easting, northing=northing, lon=lon, lat=lat, name=name, argos=argos,
-        dop=dop, fix=fix, sensor=words_of(sensor, "sensor"), argos_class=words_of(argos_class, "argos-class"),
-        max_dop=max_dop, fix_type=words_of(fix_type, "fix-type"), since=either(since, from_, "since", "from_"),
-        until=either(until, to, "until", "to"), max_speed=max_speed, tz=tz,
-        months=None if months is None else sorted({*whole_numbers(months, 1, 12, "months")}),
-        hours=None if hours is None else hours_of(hours), every=either(every, every_hours, "every", "every_hours"))
     if by is not None:
         check_by(by)
-        asked.by = by if isinstance(by, str) else None
     if jobs is not None:
         jobs = whole_numbers([jobs], 1, 1024, "jobs")[0]
-    shown = progress_of(progress)
-    asked.check()
-    found, frame = program_of(find_program(program)), frame_given(frame)
-    tracks = read_frame(frame, asked, lambda line: None, use, crs)
-    tracks, groups = (tracks, {}) if by is None else group_tracks(tracks, by, frame)
-    tell(tracks.notes)
-    report = Runs(found.path, tracks.by_name, ",".join(map(str, wanted)), unit).report(shown, jobs)
-    ranges = HomeRanges(report, tracks, crs=tracks.crs, tz=tracks.tz, program=found)
+    shown, found = progress_of(progress), program_of(find_program(program))
+    table = table_of(x, reading, program, by)
+    tracks, groups = tracks_of_fixes(table.fixes), dict[str, Group]()
+    if by is not None:
+        tracks, groups = group_tracks(tracks, labels_of(table, by))
+    own = reading_of(table.fixes)
+    tell(tracks.notes[len(own.notes) if table.fixes is x else 0:])  # what was said when they were read is not said again
+    report = Runs(found.path, tracks.by_name, ",".join(map(str, wanted)), own.unit).report(shown, jobs)
+    ranges = HomeRanges(report, tracks, crs=own.system, tz=own.tz, program=found)
     ranges.jobs, ranges.groups = jobs, groups
     return ranges
 
 
-def read_export(path: str | os.PathLike[str], **options: Any) -> pandas.DataFrame:
-    """The fixes of a table of text, such as an export of Movebank or of a collar, as a data frame for ``home_range``.
-
-    path: the file.
-    options: those of homerange-split, with _ for hyphens (``from_`` for from): unit, zone, from_, encoding, skip_lines, header,
-        na, animal, name, time, time_format, tz, easting, northing, lon, lat, argos, dop, fix, skip_unnamed, sensor, argos_class,
-        max_dop, fix_type, since, until, max_speed, every. docs/TABLES.md says what each does, and how a table is read.
-
-    The table is read by the program homerange-split, which lies beside homerange. The frame has animals, by the names that
-    files have; times (whole seconds since 1970); coordinates in metres, rounded to whole ones, or to decimetres by
-    ``unit='dm'``, with their UTM zone, where it is known; and ``use``, which is False for outliers. What was left out is said
-    in warnings (HomeRangeNote), and what was taken (HomeRangeInfo). What cannot be right is refused (FrameError), with the
-    record's number; ProgramError is raised where the program is not there.
-    """
-    words = {"from" if name == "from_" else name.replace("_", "-"): value for name, value in options.items()}
-    if "mark" in words:
-        refuse("there is no option mark: the column use says which fixes are used")
-    own = str(path_of(path, "path"))
-    with tempfile.TemporaryDirectory(prefix="homerange-") as folder:
-        into = Path(folder, "tracks")
-        try:
-            split_export(own, str(into), words_of_options({**words, "mark": True}), find_split_program())
-        except FrameError as fault:
-            shown = one_line(own)
-            text = str(fault) if str(fault).startswith(shown) else f"{shown}: {fault}"
-            raise FrameError(text, fault.kind, fault.record) from None
-        record = read_record(into / "split.txt")
-        frame = frame_of_tracks(into, record)
-    # The shift is taken off again.
-    tell(line for line in record.said if not line.startswith("coordinates are shifted"))
-    return frame
-
-
-def frame_of_tracks(folder: Path, record: Record) -> pandas.DataFrame:
-    """The fixes of all tracks of a folder, in the order of time."""
-    tracks = []
-    for name in record.tracks:
-        with open(path_of_track(folder, name), encoding="utf-8", newline="") as file:
-            track = pandas.read_csv(file, dtype="int64", usecols=["second", "easting", "northing", "use"], quoting=csv.QUOTE_NONE)
-        tracks.append(track.assign(animal=name))
-    fixes = pandas.concat(tracks, ignore_index=True).sort_values("second", kind="stable", ignore_index=True)
-    is_since_1970 = fixes["second"].between(10 ** 8, 10 ** 10, "left").all()
-    metres = {title: fixes[title] / UNITS[record.unit].per_metre - shift
-              for title, shift in zip(("easting", "northing"), record.shift)}
-    prefix = "utm-" if record.zone else ""
-    return pandas.DataFrame({
-        "individual-local-identifier": fixes["animal"], "timestamp" if is_since_1970 else "second": fixes["second"],
-        **{f"{prefix}{title}": numbers for title, numbers in metres.items()},
-        **({"utm-zone": record.zone} if record.zone else {}), "use": fixes["use"] == 1})
-
-
-def _read_track(path: str | os.PathLike[str]) -> tuple[str, pandas.DataFrame, int]:
-    """The animal of a file, its used fixes, of which there may be none, and how many are not used."""
-    numbers: dict[str, list[int]] = {title: [] for title in ("second", "easting", "northing")}
-    animals, count = list[str](), 0
-    with open(path, encoding="utf-8-sig", newline="") as file:
-        lines = csv.reader(file)
-        at = {title: place for place, title in enumerate(next(lines, []))}
-        rows = filter(None, lines) if {"animal", *numbers} <= {*at} else iter(())
-        while some := list(itertools.islice(rows, ROWS)):
-            used = [row for row in some if row[at["use"]:][:1] == ["1"]] if "use" in at else some
-            try:
-                for title, column in numbers.items():
-                    column += map(int, map(itemgetter(at[title]), used))
-            except (IndexError, ValueError) as fault:
-                raise FrameError(f"{path} has a fix whose second, easting or northing is no number") from fault
-            animals, count = animals or some[0][at["animal"]:], count + len(some)
-    if not count:
-        raise FrameError(f"{path} has no fix with animal, second, easting and northing")
-    track = pandas.DataFrame({title: numpy.array(column) for title, column in numbers.items()})
-    return "".join(animals[:1]), track, count - len(track)
-
-
-def _tracks_of(report: Report, files: Iterable[str | os.PathLike[str]]) -> Tracks | None:
-    """The fixes of the files of a report; None where there are no files."""
-    read = {name: (track, left_out) for name, track, left_out in map(_read_track, files)}
-    if not read:
-        return None
-    for name, table in report.tables.items():
-        if name not in read:
-            raise ReportError(f"no file has the animal {name} of the report")
-        if read[name][0]["second"].tolist() != [second for second, _, _ in table.rows]:
-            raise ReportError(f"the file of {name} has other fixes than the report")
-        if polygon_of(outer_fixes(read[name][0][["easting", "northing"]], table.corners)) != table.corners:
-            raise ReportError(f"the polygon of the file of {name} is not that of the report")
-    unused = {name: read[name][1] for name in report.tables}
-    reasons = Counter({(name, "use"): count for name, count in unused.items()})
-    return Tracks({name: read[name][0] for name in report.tables}, unused, reasons=reasons)
+def table_of(x: Any, reading: dict[str, Any], program: str | os.PathLike[str] | None, by: Any) -> ReadTable:
+    """The fixes as they were given, or as they are read; without a frame's own columns where nobody asks for them."""
+    if not isinstance(x, Fixes) or not is_of_fixes(x):
+        return read_table(x, reading, program, has_columns=by is not None and not is_period(by))
+    named = next((name for name, value in reading.items() if value is not None), None)
+    if named is not None:
+        refuse(f"{named} says how a table is read, and these fixes were read already: give it to read_fixes")
+    return ReadTable(x)
 
 
 def read_report(
@@ -665,7 +442,7 @@ def ranges_of(report: Report, path: Path, files: Sequence[Path], crs: Any, tz: s
     record = None if split is None else read_record(split)
     if record is not None:
         shift, crs = record.shift, record.system if crs is None else crs
-    ranges = HomeRanges(report, _tracks_of(report, files), crs=crs, tz=tz, named=program)
+    ranges = HomeRanges(report, tracks_of_files(report, files), crs=crs, tz=tz, named=program)
     ranges.shift, ranges.record, ranges.checksum = shift, record, checksum_of(path)
     ranges.files, ranges.split = [*files], split
     return ranges

@@ -3,23 +3,18 @@ docs/TABLES.md, The record, has its lines."""
 
 from __future__ import annotations
 
-import hashlib
 import os
 import re
 from collections import Counter
-from functools import lru_cache
 from pathlib import Path
-from typing import Any, Iterator, Mapping, NamedTuple, NoReturn, Optional
+from typing import Iterator, NamedTuple, NoReturn, Optional
 
-from . import __version__
 from .errors import FrameError, one_line
 from .zones import system_of_text, text_of_zone
 
-PACKAGE = Path(__file__).resolve().parent
 SUM = re.compile("[0-9a-f]{64}")
 COUNT = re.compile("[0-9]{1,9}")
 ESCAPED = re.compile(r"\\(\\|x[0-9a-f]{2}|u[0-9a-f]{4})")
-NO_OPTIONS = ("unit", "skip-unnamed")  # whose value may be that of no wish
 SINGLE = ("export", "sha256", "unit", "zone", "shift", "crs")  # kinds of which there is one line
 # What such a line may have: the export is a plain name of a file, since a record may be a stranger's.
 FORMS = {"export": re.compile("(?!\\.{1,2}\\Z)[^/]+"), "sha256": SUM, "unit": re.compile("d?m"),
@@ -45,7 +40,7 @@ class Record(NamedTuple):
     unit: str
     zone: str | None
     shift: tuple[int, int]  # metres that were added to eastings and northings
-    crs: str | None  # a reference system that is known and is that of no UTM zone, as it is written
+    crs: str | None  # a reference system that is known and is that of no UTM zone, as older records of data frames have it
     options: list[tuple[str, str | None]]  # None is the value of an option that has none
     said: list[str]
     left: list[tuple[str, int, str]]  # animal, how many fixes were left out, reason
@@ -71,9 +66,14 @@ class Record(NamedTuple):
         return found
 
     @property
+    def crs_text(self) -> str | None:
+        """The reference system that is that of no UTM zone, as it is written; None where none is known."""
+        return dict(self.options).get("crs") if self.export is not None else self.crs
+
+    @property
     def system_text(self) -> str | None:
         """The reference system as it is written; None where none is known."""
-        return text_of_zone(self.zone) if self.zone else self.crs
+        return text_of_zone(self.zone) if self.zone else self.crs_text
 
     @property
     def system(self) -> str | None:
@@ -93,39 +93,6 @@ def escaped(value: str) -> str:
 
 def unescaped(text: str) -> str:
     return ESCAPED.sub(lambda found: "\\" if found[1] == "\\" else chr(int(found[1][1:], 16)), text)
-
-
-def given(options: Mapping[str, Any]) -> list[tuple[str, str | None]]:
-    """The options that were given, by name; the unit has a line of its own."""
-    pairs = sorted((name, value) for name, value in options.items()
-                   if value is not None and name != "unit" and (value or name not in NO_OPTIONS))
-    return [(name, None if value is True else str(value)) for name, value in pairs]
-
-
-def in_order(left: Mapping[tuple[str, str], int], names: Mapping[str, str]) -> list[tuple[str, int, str]]:
-    """What was left out, by the names of animals in files, and then by reasons."""
-    found = sorted((names[name], REASONS.index(reason), count) for (name, reason), count in left.items())
-    return [(name, count, REASONS[reason]) for name, reason, count in found]
-
-
-@lru_cache(maxsize=None)
-def code_checksum() -> str:
-    """The checksum of the package's code: what `cat *.py *.csv *.html | sha256sum` says in its folder."""
-    checksum = hashlib.sha256()
-    for suffix in ("py", "csv", "html"):
-        for path in sorted(PACKAGE.glob(f"*.{suffix}")):
-            checksum.update(path.read_bytes())
-    return checksum.hexdigest()
-
-
-def tools_of(name: str, is_projected: bool) -> list[str]:
-    """What made the tracks: this package, under a name, and what projected."""
-    own = f"{name} {__version__},{code_checksum()}"
-    if not is_projected:
-        return [own]
-    from pyproj import __proj_version__, __version__ as version
-
-    return [own, f"pyproj {version} (PROJ {__proj_version__})"]
 
 
 def record_lines(record: Record) -> Iterator[str]:
@@ -149,11 +116,6 @@ def record_lines(record: Record) -> Iterator[str]:
 def record_text(record: Record) -> str:
     """A record as it is written."""
     return "".join(f"{one_line(line)}\n" for line in record_lines(record))
-
-
-def write_record(path: Path, record: Record) -> None:
-    with open(path, "w", encoding="utf-8", errors="surrogateescape", newline="\n") as file:
-        file.write(record_text(record))
 
 
 class Reader:

@@ -1,5 +1,4 @@
-"""UTM zones: their one form, projecting into them, and how much greater areas are on a grid. docs/TABLES.md,
-Coordinates."""
+"""UTM zones and other reference systems: their one form, and how much greater areas are on a grid. docs/TABLES.md, Coordinates."""
 
 from __future__ import annotations
 
@@ -7,9 +6,9 @@ import re
 import warnings
 from functools import lru_cache
 from math import cosh
-from typing import Any, Callable, Sequence
+from typing import Any, Callable
 
-from .errors import FrameError, refuse
+from .errors import refuse
 
 ZONE = re.compile("0?([1-9]|[1-5][0-9]|60) ?([NnSs])")
 BAND = re.compile("0?([1-9]|[1-5][0-9]|60) ?([C-HJ-MP-RT-Xc-hj-mp-rt-x])")
@@ -96,24 +95,6 @@ def definition_of(system: Any) -> str:
     with warnings.catch_warnings():
         warnings.simplefilter("ignore")
         return str(system.to_proj4()).removesuffix(" +type=crs")
-
-
-def zone_at(longitude: float, latitude: float) -> str:
-    """The zone of a place, by its longitude alone."""
-    return f"{int((longitude + 180) // 6) % 60 + 1}{'N' if latitude >= 0 else 'S'}"
-
-
-def project(longitudes: Sequence[float], latitudes: Sequence[float], zone: str) -> tuple[list[float], list[float]]:
-    """Longitudes and latitudes projected into a zone, by pyproj; infinite where they have no place."""
-    try:
-        from pyproj import Transformer
-    except ImportError:
-        raise FrameError(
-            "there are no UTM coordinates of one zone, and longitude and latitude need pyproj: install python3-pyproj, "
-            "and call /usr/bin/python3") from None
-    transform = Transformer.from_crs("EPSG:4326", crs_of(zone), always_xy=True).transform
-    easting, northing = transform(list(longitudes), list(latitudes))
-    return list(easting), list(northing)
 
 
 def scale_of_zone(easting: float, _: float) -> float:

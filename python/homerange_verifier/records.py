@@ -8,12 +8,13 @@ import re
 from homerange.record import REASONS, Record, record_text
 from homerange.zones import CODE, UTM
 
-# The options of a split that a record may have, none of which names a file; and those of a call that read a data frame.
+# The options of a split that a record may have, none of which names a file; and those of a call of older packages, which read data
+# frames themselves.
 SPLIT = set(
-    "zone sensor from animal name time time-format tz lon lat easting northing na encoding argos-class argos max-dop dop "
+    "zone crs sensor from animal name time time-format tz lon lat easting northing na encoding argos-class argos max-dop dop "
     "fix-type fix since until max-speed every skip-lines header mark skip-unnamed".split())
-TEXTS = sorted(SPLIT - {*"zone from tz encoding max-dop since until max-speed every skip-lines mark skip-unnamed".split()})  # any text
-FRAME = SPLIT - set("from time-format na encoding skip-lines header mark".split()) | {"crs", "use", "months", "hours"}
+TEXTS = sorted(SPLIT - {*"zone crs from tz encoding max-dop since until max-speed every skip-lines mark skip-unnamed".split()})  # any text
+FRAME = SPLIT - set("from time-format na encoding skip-lines header mark".split()) | {"use", "months", "hours"}
 # What makes tracks, and what projects for it.
 TOOLS = (r"homerange-split [0-9.]+ \(logic [0-9a-f]{16}\)|(split\.py|split\.R|homerange for (Python|R)) [0-9.]+,[0-9a-f]{64}",
          r"(pyproj|sf) [0-9.]+[a-z0-9.]* \(PROJ [0-9.]+\)")
@@ -39,7 +40,9 @@ def fault_of(record: Record, content: bytes) -> str | None:
 
 def system_fault(record: Record) -> str | None:
     """How the reference system is not written as it is in such records."""
-    code = CODE.fullmatch(record.crs or "")
-    if record.zone and record.crs is not None:
+    code = CODE.fullmatch(record.crs_text or "")
+    if record.export is not None and record.crs is not None:
+        return "split.txt has a line 'crs', which older records of data frames have"
+    if record.zone and record.crs_text is not None:
         return "split.txt has a zone and another reference system"
     return f"split.txt has the zone {UTM[code[1]]} by another name" if code and code[1] in UTM else None

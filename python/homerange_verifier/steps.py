@@ -468,13 +468,16 @@ class Verification:
     def others(self) -> None:
         """What nobody can know of the folder, and what no step knows."""
         about, words = self.about, self.about.words
+        system = self.split.crs_text if self.split else None
+        has_code = system is not None and CODE.fullmatch(system) is not None
         typed = [name for name in ("crs", "title", "study", "species", "by", "day", "boundary", "clock") if getattr(words, name)]
         typed += [f"the option {name}" for name in TEXTS if self.split and name in dict(self.split.options)]
+        typed += ["the option crs"] * (system is not None and not has_code)
         typed += ["the name of the export"] * (self.split is not None and self.split.export is not None)
         if typed:
             self.findings.note(f"whether what was typed in is right: {listed(typed, len(typed))}")
-        if self.split and self.split.crs and CODE.fullmatch(self.split.crs):
-            self.findings.note(f"whether the reference system '{self.split.crs}' is called so: it is known by its code alone")
+        if has_code:
+            self.findings.note(f"whether the reference system '{system}' is called so: it is known by its code alone")
         self.findings.note(f"whether the run was on {about.made}, of the commit that {ABOUT} names ({about.commit})")
         if self.release is None:
             self.findings.note(f"whether sources and logic are those that {ABOUT} says: the program is no released one")

@@ -1,7 +1,8 @@
-"""Data frames of made-up fixes, and what was noted of them."""
+"""Data frames of made-up fixes, what was noted of them, and programs that stand in for others."""
 import pandas
 
 from homerange import HomeRangeNote
+from homerange.program import find_split_program
 
 START = pandas.Timestamp("2024-03-01", tz="UTC")
 
@@ -14,5 +15,15 @@ def frame_of(**animals):
 
 
 def noted(warned):
-    """The texts of the notes among warnings."""
-    return [str(warning.message) for warning in warned if warning.category is HomeRangeNote]
+    """The texts of the notes among warnings, but for questions."""
+    notes = [str(warning.message) for warning in warned if warning.category is HomeRangeNote]
+    return [note for note in notes if not note.endswith("?")]
+
+
+def with_splitter(program):
+    """A program beside which homerange-split is put, where it is looked for."""
+    splitter = find_split_program(None)
+    beside = program.with_name("homerange-split")
+    beside.unlink(missing_ok=True)
+    beside.symlink_to(splitter)
+    return program

@@ -9,7 +9,7 @@ import pytest
 from exact import cloud
 from frames import frame_of
 
-from homerange import HomeRangeError, HomeRangeNote, home_range, plot_curve, plot_ranges, read_export, read_report, share_inside
+from homerange import HomeRangeError, HomeRangeNote, home_range, plot_curve, plot_ranges, read_fixes, read_report, share_inside
 from homerange import write_page
 
 EXAMPLES = pathlib.Path(__file__).parents[2] / "examples"
@@ -20,12 +20,10 @@ ODD = [
     datetime.datetime(2024, 3, 1, 12), pandas.Timestamp("2024-03-01"), pandas.Period("2024-03"), FRAME["animal"], FRAME,
     FRAME.index, object(), iter([1]), numpy.array([1, 2]), numpy.array([[1]]), decimal.Decimal(5), 1j, "a" * 200, "9" * 5000,
     "a\nb", ["animal"], {50, 95}, range(3)]
-OF_RANGES = """
-    levels unit animal time easting northing lon lat name zone crs use skip_unnamed sensor argos_class argos max_dop dop fix_type
-    fix since until max_speed months hours every tz program jobs progress from_ to every_hours by""".split()
-OF_EXPORTS = """
-    unit zone sensor skip_unnamed animal name time time_format tz lon lat easting northing na skip_lines header encoding argos
-    argos_class dop max_dop fix fix_type since until max_speed every from_ nonsense""".split()
+OF_RANGES = "levels by program jobs progress".split()
+OF_TABLES = """
+    unit zone crs sensor skip_unnamed animal name time time_format tz lon lat easting northing na argos argos_class dop max_dop fix
+    fix_type since until max_speed every from_ skip_lines header encoding nonsense use months hours to every_hours mark""".split()
 
 
 @pytest.fixture(scope="module")
@@ -83,9 +81,14 @@ def test_arguments_of_pictures(ranges):
     pyplot.close("all")
 
 
-@pytest.mark.parametrize("name", OF_EXPORTS)
-def test_arguments_of_read_export(splitter, name):
-    is_taken_or_refused(lambda value: read_export(EXAMPLES / "export.csv", **{name: value}))
+@pytest.mark.parametrize("name", OF_TABLES)
+def test_arguments_of_reading(splitter, name):
+    is_taken_or_refused(lambda value: read_fixes(EXAMPLES / "export.csv", **{name: value}))
+    is_taken_or_refused(lambda value: home_range(FRAME, **{name: value}))
+    fixes = read_fixes(FRAME)
+    for value in (ODD[0], "x"):
+        with pytest.raises(HomeRangeError, match=f"{name} says how a table is read, and these fixes were read already"):
+            home_range(fixes, **{name: value})
 
 
 @pytest.mark.parametrize("name", ["files", "crs", "tz", "shift", "program", "record"])
@@ -100,7 +103,8 @@ def test_arguments_of_write_page(ranges, tmp_path, name):
 
 def test_paths(splitter, ranges, tmp_path, monkeypatch):
     monkeypatch.chdir(tmp_path)
-    is_taken_or_refused(read_export)
+    is_taken_or_refused(read_fixes)
+    is_taken_or_refused(home_range)
     is_taken_or_refused(read_report)
     is_taken_or_refused(lambda value: write_page(ranges, value))
 
@@ -108,5 +112,8 @@ def test_paths(splitter, ranges, tmp_path, monkeypatch):
 def test_long_values_are_shown_in_part():
     with pytest.raises(HomeRangeError) as caught:
         home_range(FRAME, unit="x" * 5000)
-    assert str(caught.value).startswith("unit='xxx") and str(caught.value).endswith("xx' is neither 'm' nor 'dm'")
+    assert len(str(caught.value)) < 6000
+    with pytest.raises(HomeRangeError) as caught:
+        home_range(FRAME, levels="x" * 5000)
+    assert str(caught.value).startswith("levels='xxx") and str(caught.value).endswith("xx' are not levels from 1 to 100")
     assert len(str(caught.value)) == 504

@@ -10,10 +10,9 @@ from pathlib import Path
 import pandas
 import pytest
 from exact import cloud
-from frames import frame_of, noted
+from frames import frame_of, with_splitter
 
-from homerange import FrameError, HomeRangeNote, ProgramError, ReportError, evidence, home_range, read_report
-from homerange.asked import Asked, told
+from homerange import FrameError, HomeRangeInfo, HomeRangeNote, ProgramError, ReportError, evidence, home_range, read_fixes, read_report
 from homerange.output import cell_text, shown_cell
 from homerange.program import find_program
 
@@ -37,7 +36,7 @@ def ranges():
     frame = frame_of(**POINTS)
     frame["visible"] = [at != 3 for at in range(len(frame))]
     with pytest.warns(HomeRangeNote, match="1 outliers: left out"):
-        return home_range(frame, [95, 100], crs="EPSG:32633", tz="Europe/Ljubljana")
+        return home_range(read_fixes(frame, crs="EPSG:32633", tz="Europe/Ljubljana"), [95, 100])
 
 
 def lines_of(folder):
@@ -49,7 +48,7 @@ def lines_of(folder):
 def test_evidence_of_a_frame(ranges, tmp_path):
     pytest.importorskip("geopandas")
     folder = tmp_path / "hand-in"
-    with pytest.warns(HomeRangeNote, match="animal 'a/b' is named a_b"):
+    with pytest.warns(HomeRangeInfo, match="animal 'a/b' is named a_b"):
         ranges.evidence(folder, title="Three animals", by="Maja")
     names = sorted(path.relative_to(folder).as_posix() for path in folder.rglob("*") if path.is_file())
     assert {*names} - {"build.log"} == {
@@ -61,25 +60,78 @@ def test_evidence_of_a_frame(ranges, tmp_path):
     assert (folder / "tracks/vixen.csv").read_text().splitlines()[:2] == [
         "animal,second,easting,northing", "vixen,{},{},{}".format(1709251200, *POINTS["vixen"][0])]
     about = about_of(folder)
-    assert (about["unit"], about["levels"], about["export"]) == ("m", "95,100", "none")
+    assert (about["unit"], about["levels"], about["export"]) == ("m", "95,100", "fixes.csv")
     assert about["arguments"] == "--percent 95,100 --unit m -- tracks/a_b.csv tracks/vixen.csv 'tracks/Žiga Ä.csv'"
-    assert not {"crs", "zone", "shift", "notes", "export sha256"} & {*about}
+    assert not {"crs", "zone", "shift", "notes"} & {*about}
+
+
+def checksums_in(folder):
+    return {path.stem: hashlib.sha256(path.read_bytes()).hexdigest() for path in (folder / "tracks").glob("*.csv")}
+
+
+def kinds(lines, *wanted):
+    """The lines of a record of these kinds."""
+    return [line for line in lines if line.split(",")[0] in wanted]
 
 
 def test_the_record_of_a_frame(ranges, tmp_path):
-    with pytest.warns(HomeRangeNote, match="is named a_b"):
-        ranges.evidence(tmp_path / "hand-in")
+    ranges.evidence(tmp_path / "hand-in")
     lines, tools = lines_of(tmp_path / "hand-in")
-    sums = {name: hashlib.sha256((tmp_path / "hand-in" / "tracks" / f"{name}.csv").read_bytes()).hexdigest()
-            for name in ("vixen", "a_b", "Žiga Ä")}
-    assert lines == [
-        "unit,m", "zone,33N", "option,crs,EPSG:32633", "option,tz,Europe/Ljubljana", "said,1 outliers: left out",
-        "said,columns: animal, timestamp, easting, northing; 3 animals, box 1.765 by 1.744 km",
-        "said,animal 'a/b' is named a_b", "left,vixen,1,outlier", f"track,vixen,39,39,{sums['vixen']}",
-        f"track,a_b,31,31,{sums['a_b']}", f"track,Žiga Ä,12,12,{sums['Žiga Ä']}"]
-    package = Path(evidence.__file__).parent
-    code = b"".join(path.read_bytes() for end in ("py", "csv", "html") for path in sorted(package.glob(f"*.{end}")))
-    assert tools == [f"tool,homerange for Python 1.0.0,{hashlib.sha256(code).hexdigest()}"]
+    sums = checksums_in(tmp_path / "hand-in")
+    assert kinds(lines, "export", "unit", "zone", "crs", "option", "left", "track") == [
+        "export,fixes.csv", "unit,m", "zone,33N", "option,tz,Europe/Ljubljana", "option,zone,33N", "left,vixen,1,outlier",
+        f"track,vixen,39,39,{sums['vixen']}", f"track,a_b,31,31,{sums['a_b']}", f"track,Žiga Ä,12,12,{sums['Žiga Ä']}"]
+    assert "said,1 outliers: left out" in lines and "said,animal 'a/b' is named a_b" in lines
+    assert len(tools) == 1 and tools[0].startswith("tool,homerange-split 1.")
+    assert not (tmp_path / "hand-in" / "tracks" / "records.txt").exists()
+
+
+def by_program(folder, frame, splitter, *words):
+    """What the program makes of the text of a frame that pandas writes."""
+    frame.to_csv(folder / "fixes.csv", index=False, date_format="%Y-%m-%dT%H:%M:%SZ")
+    subprocess.run([splitter, "--into", folder / "made", *words, folder / "fixes.csv"], check=True, capture_output=True)
+    return {path.name: path.read_bytes() for path in (folder / "made").glob("*.csv")}
+
+
+def test_tracks_of_fixes_as_they_were_read_are_those_of_the_program(tmp_path, splitter):
+    frame = frame_of(**POINTS)
+    home_range(read_fixes(frame, zone="33N")).evidence(tmp_path / "hand-in")
+    tracks = {path.name: path.read_bytes() for path in (tmp_path / "hand-in" / "tracks").glob("*.csv")}
+    assert tracks == by_program(tmp_path, frame, splitter, "--zone", "33N")
+
+
+def test_evidence_of_fixes_that_were_chosen_and_bound(tmp_path, splitter):
+    frame = frame_of(**POINTS).assign(sex="f")
+    with pytest.warns(HomeRangeNote):
+        other = read_fixes(frame_of(urchin=[(-1_500_000 + east, north) for east, north in cloud(4, 20)]))
+    fixes = read_fixes(frame)
+    chosen = fixes[fixes["easting"] > 562_000]
+    for number, own in enumerate((chosen, pandas.concat([chosen, other]), chosen.sort_values("time", ascending=False))):
+        folder = tmp_path / f"hand-in{number}"
+        found = home_range(own, [50, 100])
+        found.evidence(folder)
+        lines, _ = lines_of(folder)
+        assert lines[0] == "export,fixes.csv" and not kinds(lines, "left")
+        status, said = verify(folder)
+        assert status == 3 and "did not hold" not in said, said
+        areas = pandas.read_csv(folder / "summary.csv").set_index(["animal", "level"])["hectares"]
+        assert {name: areas[name, 100] for name in ("vixen", "a_b")} == {
+            name: found.hectares(name.replace("_", "/")) for name in ("vixen", "a_b")}
+    # Moved as a whole fixes are shifted otherwise, and have the areas that they had.
+    moved = home_range(chosen.assign(easting=chosen["easting"] - 7_000_000))
+    moved.evidence(tmp_path / "moved")
+    assert "shift,7000000,0" in lines_of(tmp_path / "moved")[0]
+    assert verify(tmp_path / "moved")[0] == 3
+
+
+def test_evidence_of_a_file_is_held_with_it(tmp_path, splitter):
+    export = TOOLS.parent / "examples" / "export.csv"
+    with pytest.warns(HomeRangeNote):
+        found = home_range(export, 100, zone="33N")
+    found.evidence(tmp_path / "hand-in")
+    assert about_of(tmp_path / "hand-in")["export"] == "export.csv"
+    status, said = verify(tmp_path / "hand-in", export)
+    assert status == 0, said
 
 
 def test_names_that_windows_cannot_tell_apart_or_hold(tmp_path):
@@ -87,10 +139,10 @@ def test_names_that_windows_cannot_tell_apart_or_hold(tmp_path):
     frame["visible"] = frame["animal"] != "FOX_2"
     with pytest.warns(HomeRangeNote):
         found = home_range(frame, 100)
-    with pytest.warns(HomeRangeNote) as warned:
+    with pytest.warns(HomeRangeInfo) as warned:
         found.evidence(tmp_path / "hand-in")
     renamed = ["animal 'con' is named _con", "animal 'fox' is named fox_3"]
-    assert noted(warned) == renamed
+    assert [str(warning.message) for warning in warned if "is named" in str(warning.message)] == renamed
     lines, _ = lines_of(tmp_path / "hand-in")
     assert [line for line in lines if "is named" in line] == [f"said,{line}" for line in renamed]
     assert [line for line in lines if line.startswith("left,")] == ["left,FOX_2,2,outlier"]
@@ -99,39 +151,19 @@ def test_names_that_windows_cannot_tell_apart_or_hold(tmp_path):
         "Fox.csv", "_con.csv", "fox_3.csv", "split.txt"]
 
 
-def test_what_a_call_was_told():
-    asked = Asked(
-        animal=["a", "b,c"], max_dop=5.0, max_speed=0.25, months=[3, 4], hours=(18.0, 6.5), every=2, zone="33n",
-        since=datetime.date(2024, 5, 1), until=pandas.Timestamp("2024-05-31 18:00", tz="Europe/Ljubljana"), tz="UTC", name="fox")
-    assert told(asked, "ok") == {
-        "animal": "a,b,c", "max-dop": "5", "max-speed": "0.25", "months": "3,4", "hours": "18,6.5", "every": "2h", "zone": "33n",
-        "since": "2024-05-01", "until": "2024-05-31T16:00:00Z", "tz": "UTC", "name": "fox", "use": "ok", "skip-unnamed": False}
-    bare = Asked(every="30min", until="2024-05-31 18:00")
-    assert told(bare, True) == {"every": "30min", "until": "2024-05-31 18:00", "use": True, "skip-unnamed": False}
-    assert told(Asked(), [True, False]) == {"skip-unnamed": False}
-
-
 def test_another_reference_system_than_that_of_a_zone(tmp_path):
     pytest.importorskip("geopandas")
     found = home_range(frame_of(a=[(4321000 + e - 562000, 3210000 + n - 5134000) for e, n in cloud(1, 40)]), crs=3035, unit="dm")
     found.evidence(tmp_path / "hand-in")
     lines, _ = lines_of(tmp_path / "hand-in")
-    assert lines[:4] == ["unit,dm", "zone,none", "crs,EPSG:3035 (ETRS89-extended / LAEA Europe)", "option,crs,EPSG:3035"]
+    assert kinds(lines, "unit", "zone", "crs", "option") == [
+        "unit,dm", "zone,none", "option,crs,EPSG:3035 (ETRS89-extended / LAEA Europe)"]
     status, said = verify(tmp_path / "hand-in")
     assert status == 3 and "did not hold" not in said, said
     assert "held: ranges.gpkg: made again it has the same layers" in said
     assert "not known: whether the reference system 'EPSG:3035 (ETRS89-extended / LAEA Europe)' is called so" in said
     again = read_report(tmp_path / "hand-in" / "report.txt", record=tmp_path / "hand-in" / "tracks" / "split.txt")
     assert again.crs == "EPSG:3035"
-
-
-def test_tracks_that_were_projected_say_by_what(tmp_path):
-    pyproj = pytest.importorskip("pyproj")
-    frame = frame_of(a=cloud(1, 9)).assign(lon=15.8, lat=[46.3 + at / 1000 for at in range(9)])
-    with pytest.warns(HomeRangeNote, match="rounded"):
-        found = home_range(frame.drop(columns=["easting", "northing"]), 100, zone="33N")
-    found.evidence(tmp_path / "hand-in")
-    assert lines_of(tmp_path / "hand-in")[1][1] == f"tool,pyproj {pyproj.__version__} (PROJ {pyproj.__proj_version__})"
 
 
 def test_more_animals_than_a_run_takes_without_a_clone(tmp_path, monkeypatch):
@@ -148,7 +180,7 @@ def test_more_animals_than_a_run_takes_without_a_clone(tmp_path, monkeypatch):
 
 
 def test_the_log_of_a_program_that_was_built_here_goes_with_it(tmp_path, monkeypatch):
-    built = shutil.copy(find_program(None), tmp_path)
+    built = with_splitter(Path(shutil.copy(find_program(None), tmp_path)))
     (tmp_path / "build.log").write_text("rt: homerange proved\n")
     monkeypatch.setenv("HOMERANGE", str(built))
     home_range(frame_of(a=cloud(1, 9)), 100).evidence(tmp_path / "hand-in")
@@ -157,12 +189,11 @@ def test_the_log_of_a_program_that_was_built_here_goes_with_it(tmp_path, monkeyp
 
 
 def test_the_verifier_holds_it_but_for_the_export(ranges, tmp_path):
-    with pytest.warns(HomeRangeNote, match="is named a_b"):
-        ranges.evidence(tmp_path / "hand-in")
+    ranges.evidence(tmp_path / "hand-in")
     status, said = verify(tmp_path / "hand-in")
     assert status == 3, said
     assert said.endswith("verify.py: 8 held, 0 did not, 1 not looked at\n")
-    assert "not looked at: whether the tracks are those of the data frame that they were made of" in said
+    assert "not looked at: whether the tracks are those of an export: name it behind the folder" in said
     for part in ("animals.csv", "ranges.gpkg", "report.html"):
         assert any(line.startswith("held:") and part in line for line in said.splitlines())
     assert verify(tmp_path / "hand-in", TOOLS.parent / "examples" / "export.csv")[0] == 1
@@ -175,8 +206,7 @@ def test_the_verifier_holds_it_but_for_the_export(ranges, tmp_path):
 
 
 def test_tables_have_the_names_and_the_order_of_the_report(ranges, tmp_path):
-    with pytest.warns(HomeRangeNote, match="is named a_b"):
-        ranges.evidence(tmp_path / "hand-in")
+    ranges.evidence(tmp_path / "hand-in")
     found = pandas.read_csv(tmp_path / "hand-in" / "animals.csv")
     assert found["animal"].tolist() == ["a_b", "vixen", "Žiga Ä"]
     assert found[["records", "left_outlier", "used"]].values.tolist() == [[31, 0, 31], [40, 1, 39], [12, 0, 12]]
@@ -215,15 +245,14 @@ def test_evidence_of_a_grid_of_its_own(tmp_path):
         found = home_range(frame_of(a=[(-100, 5), (50, 60), (40, 90)]), 100, unit="dm")
     found.evidence(tmp_path / "hand-in")
     lines, _ = lines_of(tmp_path / "hand-in")
-    assert lines[:3] == ["unit,dm", "zone,none", "shift,{},{}".format(*found.shift)] and found.shift != (0, 0)
-    assert not any(line.startswith(("crs,", "option,")) for line in lines)
+    assert kinds(lines, "unit", "zone", "shift", "crs", "option") == [
+        "unit,dm", "zone,none", "shift,{},{}".format(*found.shift)] and found.shift != (0, 0)
     status, said = verify(tmp_path / "hand-in")
     assert status == 3 and "did not hold" not in said, said
 
 
 def test_evidence_of_a_report_and_files_of_a_frame(ranges, tmp_path):
-    with pytest.warns(HomeRangeNote, match="is named a_b"):
-        ranges.evidence(tmp_path / "hand-in")
+    ranges.evidence(tmp_path / "hand-in")
     tracks = tmp_path / "hand-in" / "tracks"
     found = read_report(tmp_path / "hand-in" / "report.txt", files=tracks.glob("*.csv"), record=tracks / "split.txt")
     assert (found.crs, found.left_out().values.tolist()) == ("EPSG:32633", [["vixen", "outlier", 1]])
@@ -289,8 +318,8 @@ def test_what_is_refused_of_files(split, tmp_path):
 
 
 def test_what_is_refused_of_frames_and_programs(ranges, tmp_path):
-    points = {"a/b": [(1, 2), (3, 4)], "a\\b": [(5, 6), (7, 8)]}
-    refuses(home_range(frame_of(**points)).evidence, FrameError, "would both be named a_b", tmp_path)
+    with pytest.raises(FrameError, match="would both be named a_b"):
+        home_range(frame_of(**{"a/b": [(1, 2), (3, 4)], "a\\b": [(5, 6), (7, 8)]}))
     (tmp_path / "there").mkdir()
     with pytest.raises(FrameError, match="is there already"):
         ranges.evidence(tmp_path / "there")

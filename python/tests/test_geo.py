@@ -3,7 +3,7 @@ import pytest
 from exact import cloud, hull
 from frames import frame_of
 
-from homerange import FrameError, HomeRangeNote, home_range
+from homerange import FrameError, HomeRangeInfo, HomeRangeNote, home_range
 
 geopandas = pytest.importorskip("geopandas")
 POINTS = cloud(5, 30)
@@ -23,8 +23,8 @@ def test_points_are_fixes_and_the_crs_stays():
 
 
 def test_columns_that_are_named_go_before_points():
-    frame = geo("EPSG:4326").assign(e=1, n=2)
-    assert home_range(frame, easting="e", northing="n").corners() == {"vixen": [(1, 2)]}
+    frame = geo("EPSG:3857").assign(e=range(1000, 1030), n=2000)
+    assert home_range(frame, easting="e", northing="n").corners() == {"vixen": [(1000, 2000), (1029, 2000)]}
 
 
 def test_points_in_a_column_of_another_name():
@@ -32,8 +32,6 @@ def test_points_in_a_column_of_another_name():
 
 
 @pytest.mark.parametrize("crs, said", [
-    (None, "the frame has no CRS: name the one that it is in, such as frame.set_crs"),
-    ("EPSG:4326", r"the CRS WGS 84 is not a plane one in metres: project it first, as by frame.to_crs\("),
     ("EPSG:2264", "the CRS .* is in US survey foot and not in metres: project it first"),
     ("EPSG:3857", "areas in the CRS WGS 84 / Pseudo-Mercator grow away from the equator: project it first"),
 ])
@@ -42,12 +40,22 @@ def test_a_crs_that_cannot_be_right_is_refused(crs, said):
         home_range(geo(crs))
 
 
-def test_the_call_that_helps_helps():
-    degrees = geo().to_crs(4326)
-    with pytest.raises(FrameError):
-        home_range(degrees)
-    found = home_range(degrees.to_crs(degrees.estimate_utm_crs()))
-    assert found.corners() == {"vixen": hull(POINTS)}
+def test_points_without_a_crs_are_metres_of_no_place():
+    found = home_range(geo(None))
+    assert found.corners() == {"vixen": hull(POINTS)} and found.crs is None
+
+
+@pytest.mark.parametrize("crs", ["EPSG:4326", "OGC:CRS84", "EPSG:4979"])
+def test_points_in_degrees_are_projected(crs):
+    with pytest.warns(HomeRangeInfo, match="longitude and latitude are projected into zone 33N"):
+        found = home_range(geo().to_crs(crs))
+    assert found.corners() == {"vixen": hull(POINTS)} and found.crs == "EPSG:32633"
+    degrees = geo().to_crs(crs)
+    assert home_range(degrees.to_crs(degrees.estimate_utm_crs())).corners() == found.corners()
+    with pytest.warns(HomeRangeNote, match="rounded"):
+        other = home_range(degrees, zone="34N")
+    assert other.crs == "EPSG:32634"
+    assert other.polygons().to_crs(32633).geometry[0].hausdorff_distance(found.polygons().geometry[0]) < 1.5
 
 
 def without_first(shape):
@@ -68,9 +76,10 @@ def test_another_shape_than_a_point_is_refused():
     from shapely.geometry import LineString
 
     frame = without_first(LineString([(0, 0), (1, 1)]))
-    with pytest.raises(FrameError, match="^row 0: point is a LineString and not a point"):
+    with pytest.raises(FrameError, match="^row 0: point easting is '<LineString>' and not a number") as fault:
         home_range(frame)
-    assert home_range(frame, use=[False] + [True] * 29).summary()["fixes"].tolist() == [29] * 3
+    assert (fault.value.kind, fault.value.record) == ("number", 1)
+    assert home_range(frame.iloc[1:]).summary()["fixes"].tolist() == [29] * 3
 
 
 @pytest.mark.parametrize("crs", ["EPSG:32634", None])
@@ -80,9 +89,10 @@ def test_points_bring_their_own_crs(crs):
     assert fault.value.kind == "option"
 
 
-def test_degrees_with_the_crs_of_metres_are_asked_about():
-    with pytest.warns(HomeRangeNote, match="^all fixes lie within 180 m by 90 m of the grid's corner"):
+def test_degrees_with_the_crs_of_metres_are_refused():
+    with pytest.raises(FrameError, match="all of point easting and point northing lie within 180 by 90") as fault:
         home_range(geo(points=[(15.8, 46.3), (15.9, 46.4)]))
+    assert fault.value.kind == "degrees"
 
 
 def test_points_in_decimetres_come_back_in_metres():

@@ -6,9 +6,9 @@ import os
 import pandas
 import pytest
 from exact import area2, cloud, hull
-from frames import frame_of
+from frames import frame_of, with_splitter
 
-from homerange import FrameError, HomeRangeInfo, HomeRangeNote, bar, home_range, plot_curve, share_inside, write_page
+from homerange import FrameError, HomeRangeInfo, HomeRangeNote, bar, home_range, plot_curve, read_fixes, share_inside, write_page
 
 
 @pytest.fixture
@@ -66,7 +66,7 @@ def test_periods_go_by_the_clock_of_tz():
     frame = frame_of(a=cloud(1, 2))
     frame["timestamp"] = pandas.to_datetime(["2024-05-31 12:00", "2024-05-31 23:30"]).tz_localize("UTC")
     assert home_range(frame, 100, by="month").summary()["group"].tolist() == ["2024-05"]
-    local = home_range(frame, 100, by="month", tz="Europe/Ljubljana")
+    local = home_range(read_fixes(frame, tz="Europe/Ljubljana"), 100, by="month")
     assert local.summary()["group"].tolist() == ["2024-05", "2024-06"]
 
 
@@ -81,7 +81,8 @@ def test_groups_are_of_the_fixes_that_filters_leave(frame):
     marked = frame.assign(visible=[at % 5 != 0 for at in range(80)])
     sex = pandas.Series(["a", "b"] * 40, index=frame.index)
     with pytest.warns(HomeRangeNote, match="16 outliers: left out"):
-        found = areas(home_range(marked, 100, by=sex, months=(3, 4, 5, 6)))
+        fixes = read_fixes(marked.assign(sex=sex))
+    found = areas(home_range(fixes[fixes["time"].dt.month.isin((3, 4, 5, 6))], 100, by="sex"))
     rest = frame[marked["visible"] & frame["timestamp"].dt.month.isin((3, 4, 5, 6))]
     assert found == hectares_of(rest, sex[rest.index])
 
@@ -91,30 +92,47 @@ def test_numbers_are_groups_by_their_digits(frame):
     assert {*found["group"]} == {"2022", "2023", "2024", "2025"}
 
 
+def test_all_ways_to_say_groups(frame):
+    sex = pandas.Series(["a", "b"] * 40, index=frame.index)
+    marked = frame.assign(sex=sex, visible=[at % 5 != 0 for at in range(80)], easting=frame["easting"].astype(float))
+    with pytest.warns(HomeRangeNote, match="16 outliers: left out"):
+        fixes = read_fixes(marked)
+    wanted = hectares_of(frame[marked["visible"]], sex[marked["visible"]])
+    for by in (sex, sex.tolist(), sex.to_numpy(), "sex", lambda own: own["sex"], sex.astype("category")):
+        with pytest.warns(HomeRangeNote, match="16 outliers: left out"):
+            assert areas(home_range(marked, 100, by=by)) == wanted
+    for by in ("sex", fixes["sex"], fixes["sex"].tolist(), lambda own: own["sex"].to_numpy(), sex):
+        assert areas(home_range(fixes, 100, by=by)) == wanted
+    half = home_range(fixes, 100, by=lambda own: own["time"].dt.month > 6).summary()
+    assert {*half["group"]} == {"true", "false"}
+
+
 def test_rows_without_a_group(frame):
     sex = pandas.Series("a", index=frame.index)
     sex.iloc[4] = None
-    with pytest.raises(FrameError, match=r"row [0-9]+ .frame.iloc\[4\].: by has no group; use=by.notna") as caught:
+    with pytest.raises(FrameError, match=r"row [0-9]+.*: by has no group; leave fixes without a group out before"):
         home_range(frame, by=sex)
-    assert caught.value.record == 5
-    assert home_range(frame, 100, by=sex, use=sex.notna()).summary()["fixes"].sum() == 79
+    fixes = read_fixes(frame.assign(sex=sex))
+    assert home_range(fixes[fixes["sex"].notna()], 100, by="sex").summary()["fixes"].sum() == 79
 
 
 @pytest.mark.parametrize("by, said", [
-    ("week", "by='week' is none of 'year', 'season', 'month', and no Series of groups"), (5, "by: int is none of"),
-    (["a"] * 80, "by: list is none of"), (pandas.Series(["a"] * 79), "by is a Series with another index than the frame"),
-    (pandas.Series([1.5] * 80), "row .*: by has a group that is 1.5, a number that is not whole")])
+    ("week", "by: there is no column 'week', and it is none of 'year', 'season', 'month'"), (5, "by=5 is none of 'year', 'season', 'month'"),
+    ({"a": 1}, "by=.* is none of"), (["a"] * 79, "by is 79 values for 80 rows"), (lambda fixes: 5, "by is 5 for 80 rows"),
+    (pandas.Series(["a"] * 79), "by is a Series with another index than the frame"),
+    (["a\tb"] * 80, "row .*: by has a group that is 'a.*b', with a control character")])
 def test_what_is_refused(frame, by, said):
     with pytest.raises(FrameError, match=said):
         home_range(frame, by=by)
 
 
-def test_periods_want_a_calendar():
-    frame = frame_of(a=cloud(1, 3)).drop(columns="timestamp")
-    with pytest.raises(FrameError, match="by: numbers of a column 'second' have no calendar"):
-        home_range(frame.assign(second=[1, 2, 3]), by="year")
-    with pytest.raises(FrameError, match="by"):
-        home_range(frame, by="year")
+def test_periods_want_a_calendar(frame):
+    seconds = frame_of(a=cloud(1, 3)).drop(columns="timestamp")
+    for table in (seconds, seconds.assign(second=[1, 2, 3])):
+        with pytest.raises(FrameError, match="by='year': seconds have no calendar"):
+            home_range(table, by="year")
+    with pytest.raises(FrameError, match="by='year' is a period of the calendar, and a column too: rename the column"):
+        home_range(frame.assign(year=1), by="year")
 
 
 def test_two_groups_of_one_name_are_refused():
@@ -160,7 +178,7 @@ def program_that_logs(tmp_path):
     log = f'[ "$1" = --version ] || nproc >>"{tmp_path}/processors"'
     path.write_text(f'#!/bin/sh\n{log}\nexec "{find_program()}" "$@"\n')
     path.chmod(0o755)
-    return path
+    return with_splitter(path)
 
 
 @pytest.mark.parametrize("jobs", [1, 2])

@@ -84,13 +84,12 @@ def test_times_are_those_of_utc(tmp_path):
     """A clock that is two hours before UTC, and a time that pandas has not."""
     frame = frame_of(a=SQUARE)
     frame["timestamp"] = ["2024-05-01 00:00:02", "2024-05-01 01:00", "2024-05-01 02:00", "2024-05-01 03:00"]
-    with pytest.warns(homerange.HomeRangeNote, match="without a zone are those of UTC"):
-        ranges = home_range(frame, 100, tz="Europe/Ljubljana")
+    ranges = home_range(frame, 100, tz="Europe/Ljubljana")
     put_layers(ranges, tmp_path / "ranges.gpkg")
     assert query(tmp_path / "ranges.gpkg", "SELECT first, last FROM ranges") == [
-        ("2024-05-01T00:00:02.000Z", "2024-05-01T03:00:00.000Z")]
+        ("2024-04-30T22:00:02.000Z", "2024-05-01T01:00:00.000Z")]
     assert query(tmp_path / "ranges.gpkg", "SELECT time FROM fixes WHERE n < 3") == [
-        ("2024-05-01T00:00:02.000Z",), ("2024-05-01T01:00:00.000Z",)]
+        ("2024-04-30T22:00:02.000Z",), ("2024-04-30T23:00:00.000Z",)]
 
 
 def test_times_after_2262_are_missing(tmp_path):

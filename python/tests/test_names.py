@@ -1,9 +1,8 @@
-"""Names of animals as names of files: how they are compared, by what Python itself has of Unicode. What they become is in the
-cases of tools/tests/tables."""
+"""How names of files are compared, by what Python itself has of Unicode."""
 import random
 import unicodedata
 
-from homerange.names import file_names, folded, known_letters
+from homerange.names import folded, known_letters
 
 SIGNS = [chr(code) for code in range(0x110000) if not 0xD800 <= code < 0xE000]
 
@@ -28,9 +27,3 @@ def test_names_of_several_signs_are_compared_as_unicode_does():
     for _ in range(5000):
         name = "".join(draw.choice(draw.choice(pools)) for _ in range(draw.randrange(1, 9)))
         assert folded(name) == canonical(name), ascii(name)
-
-
-def test_numbers_do_not_run_into_each_other():
-    names = file_names(["a", "A", "a_2", "A_2", "a_3", "\u00e9", "e\u0301", "E\u0301"])
-    assert [*names.values()] == ["a", "A_4", "a_2", "A_2_2", "a_3", "\u00e9", "e\u0301_2", "E\u0301_3"]
-    assert len({*map(canonical, names.values())}) == len(names)

@@ -8,7 +8,7 @@ from pathlib import Path
 
 import pytest
 from exact import cloud
-from frames import frame_of
+from frames import frame_of, with_splitter
 
 import homerange
 from homerange import home_range
@@ -28,7 +28,7 @@ def stand_in(tmp_path):
         path = tmp_path / "homerange"
         path.write_text("\n".join(["#!/bin/sh", VERSION, *lines]) + "\n")
         path.chmod(path.stat().st_mode | stat.S_IXUSR)
-        return path
+        return with_splitter(path)
 
     return make
 
@@ -143,14 +143,12 @@ def wheel(tmp_path, monkeypatch):
     monkeypatch.delenv("HOMERANGE", raising=False)
     monkeypatch.setattr(runs, "OWN", folder / "homerange")
     yield folder
-    runs.check_own.cache_clear()
 
 
 def test_the_programs_of_a_wheel_are_held_to_their_checksums(wheel):
     for find, name in ((find_program, "homerange"), (find_split_program, "homerange-split")):
         own = wheel / name
         assert find() == str(own)
-        runs.check_own.cache_clear()
         own.write_bytes(own.read_bytes() + b"x")
         with pytest.raises(homerange.ProgramError, match=f"/{name} is not the program that this package was built with"):
             find()
@@ -163,7 +161,6 @@ def test_a_wheel_that_lost_a_file_is_refused(wheel):
     (wheel / "homerange-split").unlink()
     with pytest.raises(homerange.ProgramError, match="/homerange-split is not the program .*: install the package again"):
         find_split_program()
-    runs.check_own.cache_clear()
     (wheel / "SHA256SUMS").unlink()
     with pytest.raises(homerange.ProgramError, match="/homerange is not the program .*: install the package again"):
         find_split_program()

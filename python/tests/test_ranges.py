@@ -5,7 +5,7 @@ import pytest
 from exact import area2, cloud, covers, hull, nearest
 from frames import frame_of
 
-from homerange import FrameError, HomeRangeNote, home_range
+from homerange import FrameError, HomeRangeNote, home_range, read_fixes
 
 HERD = {
     "vixen": cloud(1, 120), "old boar": cloud(2, 75, 300, 562500), "Jäger": cloud(3, 9, 5), "NA": cloud(4, 41, 2000)}
@@ -112,7 +112,7 @@ def test_decimetres_are_read_rounded_and_answered_in_metres():
     pytest.importorskip("geopandas")
     square = [(10.04, 20.0), (30.0, 20.0), (30.0, 40.05), (10.0, 40.0)]
     with pytest.warns(HomeRangeNote, match="rounded to whole decimetres, which moves a fix by at most 0.05 m"):
-        found = home_range(frame_of(urchin=square), 100, "dm")
+        found = home_range(frame_of(urchin=square), 100, unit="dm")
     assert found.corners() == {"urchin": [(10.0, 20.0), (30.0, 20.0), (30.0, 40.1), (10.0, 40.0)]}
     # Doubled, in square decimetres: 200 x 200 twice, and the triangle 200 x 1 above it.
     assert found.summary()["hectares"].tolist() == [80200 / 2_000_000]
@@ -139,8 +139,8 @@ def test_one_fix_two_equal_fixes_and_a_line_have_no_area():
 
 
 def test_summary_has_times_and_counts():
-    frame = frame_of(a=SQUARE)
-    found = home_range(frame, 100, use=[True, True, True, False], tz="Europe/Ljubljana").summary()
+    fixes = read_fixes(frame_of(a=SQUARE), tz="Europe/Ljubljana")
+    found = home_range(fixes.iloc[:3], 100).summary()
     assert [str(time) for time in (found["first"][0], found["last"][0])] == [
         "2024-03-01 01:00:00+01:00", "2024-03-01 02:00:00+01:00"]
     assert found[["fixes", "left_out", "kept", "corners"]].values.tolist() == [[3, 1, 3, 3]]

@@ -10,7 +10,7 @@ from exact import area2, cloud, hull, nearest
 import homerange
 from homerange import FrameError, ReportError, read_report
 from homerange.program import find_program
-from homerange.ranges import _kept, _outer_kept, outer_fixes
+from homerange.outer import kept_of, outer_fixes, outer_kept
 from homerange.report import kept_places
 
 TRACKS = {"vixen": cloud(7, 40), "old boar": cloud(8, 11)}
@@ -118,9 +118,9 @@ def test_few_fixes_have_the_polygon_of_all(points):
 def test_fixes_that_a_level_keeps(points, level):
     track = pandas.DataFrame(points, columns=["easting", "northing"])
     places = kept_places(*zip(*points), level)
-    assert _kept(track, level).index.tolist() == places
+    assert kept_of(track, level).index.tolist() == places
     assert sorted(points[at] for at in places) == sorted(nearest(points, level))
-    assert hull([*map(tuple, _outer_kept(track, level)[["easting", "northing"]].to_numpy().tolist())]) == hull(nearest(points, level))
+    assert hull([*map(tuple, outer_kept(track, level)[["easting", "northing"]].to_numpy().tolist())]) == hull(nearest(points, level))
 
 
 def changed(text, kind, change):

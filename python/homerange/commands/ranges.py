@@ -16,15 +16,14 @@ import argparse
 import os
 import sys
 from pathlib import Path
-from typing import Any
 
 from ..about import TYPED, read_about
-from ..asked import UNITS, zone_of_time
+from ..units import UNITS, zone_of_time
 from ..bar import Log
 from ..errors import FrameError, HomeRangeError, OptionError, one_line
 from ..evidence import ABOUT, Wish, make_report, new_folder
 from ..program import program_of
-from ..split import split_export, words_of_options
+from ..read.call import split_table
 from .options import Options, program_of_command, show_all, split_program_of_command
 from .tables import add_page_options, check_libraries, words_of, write_all
 
@@ -93,12 +92,17 @@ def check_call(options: argparse.Namespace) -> None:
             raise HomeRangeError(f"{one_line(str(path))} cannot be read")
 
 
+def split_words(options: argparse.Namespace) -> list[str]:
+    """The options of homerange-split as they were given."""
+    given = {own.replace("_", "-"): value for own, value in vars(options).items() if own not in OWN and value not in (None, False)}
+    return [f"--{name}" if value is True else f"--{name}={value}" for name, value in given.items()]
+
+
 def fill(folder: Path, options: argparse.Namespace, log: Log, program: str, splitter: str) -> None:
     """Makes all in a folder, in which it works, so that nothing has the folder's name."""
     os.chdir(folder)
     log.at("reading the export")
-    wishes: dict[str, Any] = {own.replace("_", "-"): value for own, value in vars(options).items() if own not in OWN}
-    for line in split_export(str(options.export), "tracks", words_of_options(wishes), splitter):
+    for line in split_table(str(options.export), "tracks", split_words(options), splitter):
         log.say(line, by="split")
     log.at("running the program")
     words = words_of(options, options.clock or options.tz or "UTC")

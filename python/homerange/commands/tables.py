@@ -24,7 +24,7 @@ from pathlib import Path
 from typing import TYPE_CHECKING
 
 from ..about import TYPED, About, Words
-from ..asked import zone_of_time
+from ..units import zone_of_time
 from ..bar import Log
 from ..errors import HomeRangeError, refuse
 from ..evidence import TRACKS, Wish, about_of, used_tracks

@@ -22,9 +22,9 @@ class Case:
         path = self.folder / name
         return path.read_text("utf-8").split("\n")[:-1] if path.exists() else []
 
-    def refusal(self, is_frame):
+    def refusal(self):
         """The record and the kind of the refusal that is wanted, or None."""
-        found = (self.lines("refusal.frame") if is_frame else []) or self.lines("refusal")
+        found = self.lines("refusal")
         return tuple(found[0].split(" ")) if found else None
 
 

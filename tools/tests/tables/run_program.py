@@ -29,18 +29,6 @@ MORE_LINES = re.compile(r"(?:not read: .*|all [0-9,]+ fixes lie within .*|the fi
                         r"|animal '.*' has [0-9]+ records: are they of no animal\?)")
 MORE_OF_COLUMNS = re.compile(r"(columns: .* box [0-9.]+ by [0-9.]+ km)(?: near [0-9.]+ [EW] [0-9.]+ [NS])?(?:,? from .*)?")
 OTHER_KINDS = ("export", "sha256", "tool")  # of lines of a record that records.txt has not
-# Tables that this program refuses, of which the cases have tracks: a quote inside a field, two columns for the animal that part the records
-# otherwise, a time of ISO among seconds, words in a column of Argos classes that are none, a filter that leaves out more than half of an animal's fixes, and an encoding named beside GPX, which names its own.
-STRICTER = {"quoted_fields": "a quote stands inside a field", "id_of_a_fix_beside_animal": "both fit the animal",
-            "species_beside_id": "both fit the animal", "the_animal_of_movebank": "both fit the animal",
-            "a_date_in_the_column_second": "which is a time among seconds: write seconds since a start",
-            "gpx_in_another_coding_that_is_named_too": "--encoding is for texts with a line of titles, and not for GPX",
-            "classes_that_are_none_of_argos": "fixes are of Argos", "a_class_of_beasts_that_is_named": "fixes are of Argos",
-            "a_latitude_of_95": "there is no place of longitude 15.1 and latitude 95",
-            "max_speed_of_the_first": "--max-speed leaves out 2 of 3 fixes of v, more than half"}
-# Tables that the cases refuse and this program reads, with their tracks: a number that could be a day with minutes is a second where
-# another one of its column could not be one.
-READ = {"a_date_with_minutes_without_hyphens": {"a.csv": b"a,1714521600,562000,5134000\na,2405011230,562000,5134000\n"}}
 
 
 def wanted_records():
@@ -60,7 +48,7 @@ def words(case):
 
 def check_refusal(case, run, told, into):
     """How the end of the program is not the refusal that is wanted, nor what --machine tells of it."""
-    record, kind = case.refusal(False)
+    record, kind = case.refusal()
     lines = run.stderr.decode().splitlines()
     if run.returncode not in (1, 2) or into.exists() or len(lines) != 1:
         return f"status {run.returncode} where it is to be refused as {kind}: {lines}"
@@ -107,14 +95,7 @@ def check(case, program, room, records):
     folder.mkdir(parents=True)
     call = [*words(case), "--", str(case.table.resolve())]
     found = subprocess.run([program, *call], capture_output=True, cwd=folder)
-    lines = found.stderr.decode().splitlines()
-    if case.name in STRICTER:
-        is_refused = found.returncode in (1, 2) and len(lines) == 1 and STRICTER[case.name] in lines[0] and not (folder / "tracks").exists()
-        return None if is_refused else f"status {found.returncode}: {lines}"
-    if case.name in READ:
-        tracks = {path.name: path.read_bytes().partition(b"\n")[2] for path in (folder / "tracks").glob("*.csv")}
-        return None if found.returncode == 0 and tracks == READ[case.name] else f"status {found.returncode}: {tracks}"
-    if case.refusal(False):
+    if case.refusal():
         told = subprocess.run([program, "--machine", *call], capture_output=True, cwd=folder)
         return check_refusal(case, found, told, folder / "tracks")
     return check_tracks(case, found, folder / "tracks", records.get(case.name, []))

@@ -63,7 +63,7 @@ def take(case, kind, text, known):
     elif kind == "names:":
         case.files.setdefault("names", []).append("\t".join(text.split(" = ")))
     else:
-        name = {"!": "refusal", "frame!": "refusal.frame", "shift:": "shift", "said:": "said", "silent:": "silent"}[kind]
+        name = {"!": "refusal", "shift:": "shift", "said:": "said", "silent:": "silent"}[kind]
         case.files.setdefault(name, []).append(text)
 
 

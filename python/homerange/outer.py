@@ -1,0 +1,80 @@
+"""Which fixes of a track decide a polygon: those that a level keeps, and the outermost of them; by whole numbers where rounded ones do
+not tell it."""
+
+from __future__ import annotations
+
+import math
+from typing import Any
+
+import numpy
+import pandas
+from numpy.typing import NDArray
+
+from .report import Corners, kept_count, nearest
+
+EXACT = 2 ** 30  # products of two differences of smaller numbers have 64 bits
+SOME = 16  # of the corners of a polygon, at most
+SLACK = 1e-12  # by how much of itself and of 1 the square of a rounded distance is not known, with a wide margin
+
+
+def outer_kept(track: pandas.DataFrame, level: int) -> pandas.DataFrame:
+    """Of the fixes of a track that a level keeps some whose polygon is that of all of them."""
+    kept = kept_of(track, level)[["easting", "northing"]]
+    return pandas.DataFrame(outer_fixes(kept, far_ends(kept)), columns=["easting", "northing"]).assign(second=0)
+
+
+def far_ends(track: pandas.DataFrame) -> Corners:
+    """The fixes of a track that lie farthest in some directions, counterclockwise."""
+    east, north = track["easting"].to_numpy(), track["northing"].to_numpy()
+    angles = [2 * math.pi * at / SOME for at in range(SOME)]
+    places = dict.fromkeys(int((east * math.cos(angle) + north * math.sin(angle)).argmax()) for angle in angles)
+    return [(int(east[at]), int(north[at])) for at in places]
+
+
+def kept_of(track: pandas.DataFrame, level: int) -> pandas.DataFrame:
+    """The fixes of a track that a level keeps."""
+    count, east, north = kept_count(len(track), level), track["easting"], track["northing"]
+    far = from_mean(east.to_numpy()) ** 2 + from_mean(north.to_numpy()) ** 2
+    edge = numpy.partition(far, count - 1)[count - 1]
+    is_near, is_far = far < edge - SLACK * (edge + 1), far > edge + SLACK * (edge + 1)
+    # Where rounded distances do not tell it, whole numbers do.
+    unsure = numpy.flatnonzero(~is_near & ~is_far).tolist()
+    is_near[nearest(east.tolist(), north.tolist(), unsure, count - int(is_near.sum()))] = True
+    return track[is_near]
+
+
+def from_mean(numbers: NDArray[numpy.int64]) -> NDArray[numpy.float64]:
+    """How far whole numbers are from their mean, but for roundings."""
+    whole, rest = divmod(int(numbers.sum()), len(numbers))
+    return numpy.asarray(numbers - whole - rest / len(numbers), dtype="float64")
+
+
+def outer_fixes(track: pandas.DataFrame, corners: Corners) -> list[tuple[int, int]]:
+    """The fixes of a track without those within a polygon of some of these corners; of fixes with one easting the southernmost
+    and the northernmost. If the corners are those of all fixes, they are those of these."""
+    is_small = -EXACT < track.min().min() and track.max().max() < EXACT
+    east, north = (track[title].to_numpy("int64" if is_small else object) for title in ("easting", "northing"))
+    some, is_within = corners[::-(-len(corners) // SOME)], numpy.full(len(track), True)
+    for (e, n), (next_e, next_n) in zip(some, [*some[1:], some[0]]):
+        is_within &= (next_e - e) * (north - n) > (next_n - n) * (east - e)
+    return ends_of(east[~is_within], north[~is_within])
+
+
+def ends_of(east: NDArray[Any], north: NDArray[Any]) -> list[tuple[int, int]]:
+    """Of points with one easting the southernmost and the northernmost."""
+    order = east.argsort()
+    east, north = east[order], north[order]
+    first = numpy.flatnonzero(numpy.append(True, east[1:] != east[:-1]))
+    ends = [numpy.minimum.reduceat(north, first), numpy.maximum.reduceat(north, first)]
+    return [pair for end in ends for pair in zip(east[first].tolist(), end.tolist())]
+
+
+def count_inside(track: Any, polygon: Corners) -> int:
+    """How many fixes of a track a polygon covers, its edges included. Coordinates are below 2 ** 28, so that all products are
+    whole numbers of 64 bits."""
+    east, north = track["easting"].to_numpy("int64"), track["northing"].to_numpy("int64")
+    eastings, northings = zip(*polygon)
+    is_in = (min(eastings) <= east) & (east <= max(eastings)) & (min(northings) <= north) & (north <= max(northings))
+    for (e, n), (next_e, next_n) in zip(polygon, [*polygon[1:], polygon[0]]):
+        is_in &= (next_e - e) * (north - n) >= (next_n - n) * (east - e)
+    return int(is_in.sum())

@@ -1,0 +1,178 @@
+"""The cells of a column of a data frame as text, by the class of the column, or of each cell where it has none. What is missing
+is nothing, and what no table of fixes has is named by its class, as <complex>, which the program refuses where it is read."""
+
+from __future__ import annotations
+
+import datetime as clock
+from decimal import Decimal
+from typing import Any, Callable, List
+
+import numpy
+import pandas
+from numpy.typing import NDArray
+
+Cells = List[str]
+EXACT = 2 ** 53  # from here on numbers of floating point are not all whole numbers
+WIDTHS = {"float16": 2 ** 11, "float32": 2 ** 24}  # the same of narrower ones
+MOST_BITS = 13_000  # of a whole number, which Python writes with up to 4,300 digits
+PARTS = {"s": 1, "ms": 10 ** 3, "us": 10 ** 6, "ns": 10 ** 9}  # of a second
+TRUTHS = {True: "true", False: "false"}
+
+
+def cells_of(series: pandas.Series) -> Cells:
+    """The cells of a column."""
+    kind = series.dtype
+    if isinstance(kind, pandas.CategoricalDtype):
+        own = [*cells_of(pandas.Series(series.cat.categories)), ""]
+        return [own[code] for code in series.cat.codes.tolist()]
+    if isinstance(kind, pandas.SparseDtype):
+        return cells_of(series.sparse.to_dense())
+    if isinstance(kind, pandas.PeriodDtype):
+        return cells_of(series.dt.to_timestamp())
+    if is_time(kind):
+        return times_of(series)
+    if isinstance(kind, numpy.dtype) and kind.kind in "biuf":
+        return plain_cells(series.to_numpy())
+    if not pandas.api.types.is_extension_array_dtype(kind):
+        return object_cells(series.to_numpy())
+    if pandas.api.types.is_float_dtype(kind):  # one that may be missing, or of Arrow
+        return float_cells(series.to_numpy(dtype=kind.numpy_dtype, na_value=numpy.nan))
+    return object_cells(series.to_numpy(dtype=object, na_value=None))
+
+
+def is_time(kind: Any) -> bool:
+    """Whether a class of columns is that of date-times."""
+    return isinstance(kind, pandas.DatetimeTZDtype) or isinstance(kind, numpy.dtype) and kind.kind == "M"
+
+
+def times_of(series: pandas.Series) -> Cells:
+    """The cells of date-times: in UTC, with a Z, where they have a zone, and else by their own clock. None are turned into another
+    unit, in which they may have no place."""
+    has_zone = isinstance(series.dtype, pandas.DatetimeTZDtype)
+    times = series.dt.tz_convert("UTC").dt.tz_localize(None).to_numpy() if has_zone else series.to_numpy()
+    return moments(times, has_zone)
+
+
+def moments(times: NDArray[Any], has_zone: bool) -> Cells:
+    """The cells of date-times of numpy, with as many decimals as they all need."""
+    unit = numpy.datetime_data(times.dtype)[0]
+    if unit not in PARTS:
+        times, unit = times.astype("datetime64[s]"), "s"
+    rest = numpy.where(numpy.isnat(times), 0, times.astype("int64"))
+    needed = next(name for name, parts in PARTS.items() if not (rest % max(PARTS[unit] // parts, 1)).any())
+    text = "\n".join(numpy.datetime_as_string(times, unit=needed).tolist()).replace("NaT", "")
+    if not has_zone:
+        return text.replace("T", " ").split("\n")
+    return [f"{time}Z" if time else "" for time in text.split("\n")]
+
+
+def plain_cells(values: NDArray[Any]) -> Cells:
+    """The cells of numbers, or truths, of numpy."""
+    if values.dtype.kind == "b":
+        return [TRUTHS[value] for value in values.tolist()]
+    return joined(values.tolist()) if values.dtype.kind in "iu" else float_cells(values)
+
+
+def joined(numbers: list[Any]) -> Cells:
+    """The texts of numbers, as one text of them all has them, which is the fastest way."""
+    return repr(numbers)[1:-1].split(", ") if numbers else []
+
+
+def float_cells(values: NDArray[Any]) -> Cells:
+    """The cells of numbers of floating point: the fewest digits that give them back, without an exponent as long as all whole
+    numbers of such a size are exact."""
+    most = WIDTHS.get(values.dtype.name, EXACT)
+    sizes = numpy.abs(values)
+    is_whole = numpy.isfinite(values) & (sizes < most) & (numpy.floor(values) == values)
+    if is_whole.all():
+        return joined(values.astype("int64").tolist())
+    if values.dtype != numpy.float64:
+        return [float_cell(value) for value in values]
+    # Python writes others so small with an exponent.
+    is_plain = numpy.isfinite(values) & (sizes < most) & ((sizes >= 1e-4) | (values == 0))
+    if is_plain.all() and not is_whole.any():
+        return joined(values.tolist())
+    cells = joined(values.tolist())
+    for at in numpy.flatnonzero(is_whole | ~is_plain).tolist():
+        cells[at] = float_cell(values[at])
+    return cells
+
+
+def float_cell(value: Any) -> str:
+    """A number of floating point, of Python's or of numpy's, as a cell."""
+    if value != value:
+        return ""
+    most = WIDTHS.get(getattr(getattr(value, "dtype", None), "name", ""), EXACT)
+    if abs(value) < most:
+        return str(int(value)) if value == int(value) else numpy.format_float_positional(value, unique=True, trim="-")
+    return str(float(value)) if abs(value) == float("inf") else numpy.format_float_scientific(value, unique=True, trim="-")
+
+
+def object_cells(values: NDArray[Any]) -> Cells:
+    """The cells of values of whatever classes."""
+    if pandas.api.types.infer_dtype(values, skipna=True) == "string":
+        return text_cells(values)
+    return [cell_of(value) for value in values]
+
+
+def text_cells(values: NDArray[Any]) -> Cells:
+    """The cells of texts, some of which may be missing."""
+    cells: Cells = values.tolist()
+    for at in numpy.flatnonzero(pandas.isna(values)).tolist():
+        cells[at] = ""
+    return cells
+
+
+def is_missing(value: Any) -> bool:
+    """Whether a value stands for none."""
+    if value is None or value is pandas.NA or value is pandas.NaT:
+        return True
+    if isinstance(value, (numpy.datetime64, numpy.timedelta64)):
+        return bool(numpy.isnat(value))
+    return isinstance(value, (float, numpy.floating)) and bool(value != value)
+
+
+def cell_of(value: Any) -> str:
+    """A value of whatever class as a cell."""
+    if is_missing(value):
+        return ""
+    if isinstance(value, numpy.datetime64):
+        return moments(numpy.array([value]), False)[0]
+    found = next((write for kinds, write in CLASSES if isinstance(value, kinds)), None)
+    return odd_cell(value) if found is None else found(value)
+
+
+def odd_cell(value: Any) -> str:
+    """What a table of fixes cannot have, by its class."""
+    return f"<{type(value).__name__}>"
+
+
+def whole_cell(value: Any) -> str:
+    """A whole number by its digits, if Python writes so many."""
+    return str(int(value)) if int(value).bit_length() < MOST_BITS else odd_cell(value)
+
+
+def decimal_cell(value: Decimal) -> str:
+    """A decimal by all its digits."""
+    if not value.is_finite():
+        return "" if value.is_nan() else "-inf" if value < 0 else "inf"
+    text = f"{value:f}"
+    return text.rstrip("0").removesuffix(".") if "." in text else text
+
+
+def moment_cell(value: clock.datetime) -> str:
+    """A date-time: in UTC where it has a zone."""
+    if value.utcoffset() is None:
+        return value.replace(tzinfo=None).isoformat(" ")
+    try:
+        return f"{value.astimezone(clock.timezone.utc).replace(tzinfo=None).isoformat()}Z"
+    except (OverflowError, ValueError):  # of the first day or the last that there is
+        return value.isoformat()
+
+
+# How values of some classes are written; a class that is a kind of another stands before it.
+CLASSES: tuple[tuple[Any, Callable[[Any], str]], ...] = (
+    (str, str), (numpy.timedelta64, odd_cell), ((bool, numpy.bool_), lambda value: TRUTHS[bool(value)]), ((int, numpy.integer), whole_cell),
+    ((float, numpy.floating), float_cell), (Decimal, decimal_cell), (clock.datetime, moment_cell),
+    (clock.date, lambda value: value.isoformat()), (clock.time, lambda value: value.isoformat()),
+    (pandas.Period, lambda value: moment_cell(value.to_timestamp())))

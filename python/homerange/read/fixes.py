@@ -1,0 +1,176 @@
+"""Fixes as they were read: a data frame that knows how, so that rows may be chosen, sorted and bound as in any other."""
+
+from __future__ import annotations
+
+import html
+from collections import Counter
+from dataclasses import dataclass, field, replace
+from typing import TYPE_CHECKING, Any, Callable, Iterable
+
+import pandas
+
+from ..errors import refuse
+from ..zones import crs_of, text_of_crs
+
+if TYPE_CHECKING:
+    import geopandas
+
+PLACES = ("easting", "northing")
+SHOWN = 12  # lines of what is asked that are shown
+
+
+@dataclass(frozen=True)
+class Reading:
+    """How fixes were read: the unit to which coordinates were rounded, their zone and reference system (None where it is not
+    known), the zone of their times, how many metres the program added to coordinates, what was said, how many fixes were left
+    out by animal and reason, how many fixes each animal had, the names that files have of animals, and the record that the
+    program wrote."""
+
+    unit: str
+    zone: str | None
+    crs: Any
+    tz: str
+    shift: tuple[int, int] = (0, 0)
+    notes: tuple[str, ...] = ()
+    left: dict[tuple[str, str], int] = field(default_factory=dict)
+    counts: dict[str, int] = field(default_factory=dict)
+    names: dict[str, str] = field(default_factory=dict)
+    record: bytes | None = None  # None where they were bound of several
+    parts: tuple[Reading, ...] = ()  # of which they were bound
+
+    @property
+    def system(self) -> Any:
+        """The reference system; None where it is not known."""
+        return crs_of(self.zone) if self.crs is None and self.zone else self.crs
+
+    @property
+    def system_text(self) -> str | None:
+        """The reference system as it is written."""
+        return None if self.system is None else text_of_crs(self.system)
+
+
+def bound(readings: Iterable[Reading]) -> Reading:
+    """How fixes were read that are bound of several, which have to be of one unit, reference system and zone of times."""
+    parts: list[Reading] = []
+    for reading in readings:
+        parts += [part for part in reading.parts or (reading,) if part not in parts]
+    first = parts[0]
+    for part in parts:
+        for what, one, other in (("unit", first.unit, part.unit), ("reference system", first.system_text, part.system_text),
+                                 ("time zone", first.tz, part.tz)):
+            if one != other:
+                refuse(f"fixes of the {what} {one or 'not known'} and of {other or 'not known'} are not bound: read them alike")
+    if len(parts) == 1:
+        return first
+    left, counts, names = Counter[tuple[str, str]](), Counter[str](), dict[str, str]()
+    for part in parts:
+        left.update(part.left)
+        counts.update(part.counts)
+        names.update(part.names)
+    shift = max(part.shift[0] for part in parts), max(part.shift[1] for part in parts)
+    notes = tuple(dict.fromkeys(note for part in parts for note in part.notes))
+    return replace(first, shift=shift, notes=notes, left=dict(left), counts=dict(counts), names=names, record=None, parts=tuple(parts))
+
+
+class Fixes(pandas.DataFrame):
+    """The fixes that a table was read to, a row for each: ``animal``; ``time``, or ``second`` where the table has no calendar;
+    ``easting`` and ``northing`` in metres; and the other columns of the frame that was read.
+
+    They are a data frame: choose rows, sort them and bind them by pandas, and hand them to ``home_range``. ``reading`` has how
+    they were read. Without one of their columns they become a plain data frame.
+    """
+
+    _metadata = ["reading"]
+    reading: Reading | None = None
+
+    @property
+    def _constructor(self) -> Callable[..., pandas.DataFrame]:
+        return self._made
+
+    def _made(self, *data: Any, **words: Any) -> pandas.DataFrame:
+        """A frame of this one's data, which is one of fixes as long as it has their columns."""
+        frame = pandas.DataFrame(*data, **words)
+        if not is_of_fixes(frame):
+            return frame
+        fixes = Fixes(frame)
+        fixes.reading = self.reading
+        return fixes
+
+    def __finalize__(self, other: Any, method: str | None = None, **words: Any) -> Fixes:
+        """Keeps how they were read, of all that were bound."""
+        super().__finalize__(other, method=method, **words)
+        if method == "concat":
+            own = [each for each in other.objs if isinstance(each, Fixes)]
+            known = [each.reading for each in own if each.reading is not None]
+            is_whole = sum(map(len, own)) == len(self) or len(own) == 1 and len(own[0]) == len(self)
+            self.reading = bound(known) if known and is_whole and len(known) == len(own) else None
+        return self
+
+    def left_out(self) -> pandas.DataFrame:
+        """How many fixes of the table were left out when it was read, a row for each ``animal`` and ``reason``, with ``fixes``.
+        The reasons are those of docs/TABLES.md."""
+        rows = [(name, reason, count) for (name, reason), count in sorted(reading_of(self).left.items())]
+        return pandas.DataFrame(rows, columns=["animal", "reason", "fixes"])
+
+    def points(self) -> geopandas.GeoDataFrame:
+        """The fixes as points, in their reference system. Wants geopandas."""
+        try:
+            import geopandas
+        except ImportError:
+            refuse("points want geopandas, which is not installed (python3-geopandas)")
+        places = geopandas.points_from_xy(self["easting"], self["northing"])
+        return geopandas.GeoDataFrame(pandas.DataFrame(self), geometry=places, crs=reading_of(self).system)
+
+    def __repr__(self) -> str:
+        return f"{told(self)}\n\n{super().__repr__()}" if is_known(self) else super().__repr__()
+
+    def _repr_html_(self) -> str | None:
+        table = super()._repr_html_()
+        return f"<pre>{html.escape(told(self))}</pre>\n{table}" if is_known(self) else table
+
+
+def is_of_fixes(frame: pandas.DataFrame) -> bool:
+    """Whether a frame has each column of fixes once."""
+    columns = [*frame.columns]
+    return all(columns.count(title) == 1 for title in ("animal", *PLACES)) and (
+        columns.count("time") + columns.count("second") >= 1)
+
+
+def is_known(fixes: Fixes) -> bool:
+    """Whether a frame has the columns of fixes, and it is known how they were read."""
+    return fixes.reading is not None and is_of_fixes(fixes)
+
+
+def reading_of(fixes: Fixes) -> Reading:
+    """How fixes were read, which has to be known."""
+    return fixes.reading if fixes.reading is not None else refuse(
+        "it is not known how these fixes were read, since they were joined to others: read them anew by read_fixes")
+
+
+def told(fixes: Fixes) -> str:
+    """What was taken, left out and asked when fixes were read."""
+    reading = reading_of(fixes)
+    questions = [note for note in reading.notes if note.endswith("?")]
+    lines = [head(fixes, reading), *(note for note in reading.notes if note.startswith(("columns: ", "not read: ")))]
+    totals = Counter[str]()
+    for (_, reason), count in reading.left.items():
+        totals[reason] += count
+    if totals:
+        lines.append(f"left out: {', '.join(f'{count} {reason}' for reason, count in totals.items())}")
+    gone = sum(reading.counts.values()) - len(fixes)
+    if gone > 0:
+        lines.append(f"not chosen: {gone} of {sum(reading.counts.values())} fixes that were read")
+    return "\n".join([*lines, *questions[:SHOWN]])
+
+
+def head(fixes: Fixes, reading: Reading) -> str:
+    """How many fixes there are, of when and where."""
+    system = reading.system_text or "reference system not known"
+    counted = f"{len(fixes)} fixes of {fixes['animal'].nunique()} animals"
+    if not len(fixes):
+        return f"{counted}; {system}"
+    sizes = [(fixes[title].max() - fixes[title].min()) / 1000 for title in PLACES]
+    title = "time" if "time" in fixes else "second"
+    ends = [str(end.date()) if isinstance(end, pandas.Timestamp) else f"second {end}" for end in (fixes[title].min(), fixes[title].max())]
+    span = f"from {ends[0]} to {ends[1]}" + (f" in {reading.tz}" if title == "time" else "")
+    return f"{counted}, {span}, box {sizes[0]:.3f} by {sizes[1]:.3f} km; {system}"

@@ -1,0 +1,200 @@
+"""Reads a table of fixes, a file or a data frame, by the program homerange-split: read_fixes, and what it answers with."""
+
+from __future__ import annotations
+
+import os
+import re
+import tempfile
+import warnings
+from pathlib import Path
+from typing import Any, Iterable, Mapping, NamedTuple
+
+import numpy
+import pandas
+from numpy.typing import NDArray
+
+from ..errors import FrameError, HomeRangeInfo, HomeRangeNote, one_line, path_of, refuse
+from ..program import find_split_program
+from ..record import Record, read_record
+from ..units import UNITS
+from .call import as_arguments, split_table
+from .cells import cell_of
+from .fixes import PLACES, Fixes, Reading
+from .systems import crs_named, options_of, refuse_zone, scale_said
+from .text import NAME, Column, Text, frame_given, text_of_frame, titles_named, write_text
+from .tracks import NAMED, Whole, left_out, own_names, read_tracks, rows_of
+from .words import words_of_options
+
+SINCE_1970 = (10 ** 8, 9_223_372_036)  # seconds that have a calendar: from 1973 to where pandas' times end
+ODD = re.compile("<[A-Za-z_0-9]+>")  # how a cell is written that no table can have
+# How lines begin that say what was taken, and nothing that was left out or changed.
+TAKEN = ("columns: ", "UTM coordinates are", "coordinates are those", "longitude and latitude are", "days and hours are",
+         "ranges are by group", "not read: ", "times are read as ", "points of ")
+
+
+class ReadTable(NamedTuple):
+    """A table that was read: its fixes, the frame, None where it was a file, and of each fix its row there, where that was asked."""
+
+    fixes: Fixes
+    frame: pandas.DataFrame | None = None
+    rows: NDArray[numpy.int64] | None = None
+
+
+def tell(lines: Iterable[str]) -> None:
+    """Says in warnings what was taken, left out or changed."""
+    for line in lines:
+        is_info = line.startswith(TAKEN) or NAMED.fullmatch(line)
+        warnings.warn(line, HomeRangeInfo if is_info else HomeRangeNote, stacklevel=3)
+
+
+def read_fixes(x: Any, *, program: str | os.PathLike[str] | None = None, **options: Any) -> Fixes:
+    """The fixes of a table, as a data frame of pandas for ``home_range``, which knows how it was read.
+
+    x: a file, such as an export of Movebank or of a collar, text or GPX; or a data frame of pandas with a row for each fix; or
+        a GeoDataFrame of points, or a trajectory or a collection of movingpandas.
+    options: those of homerange-split, with _ for hyphens (``from_`` for from): unit, zone, crs, animal, name, time, time_format,
+        tz, easting, northing, lon, lat, argos, dop, fix, skip_unnamed, sensor, argos_class, max_dop, fix_type, since, until,
+        max_speed, every, na and from_; and of files encoding, skip_lines and header. docs/TABLES.md says what each does, and how
+        a table is read. crs is the reference system of coordinates in metres, such as 'EPSG:3035'.
+    program: as in home_range.
+
+    The program homerange-split, which lies beside homerange, reads the table: a data frame is written as a text for it. Fixes are
+    in the order of animals, and of times. What was left out or changed is said in warnings (HomeRangeNote), and what was taken
+    (HomeRangeInfo). What cannot be right is refused (FrameError), with the row; ProgramError is raised where the program is not
+    there.
+    """
+    table = read_table(x, options, program)
+    tell(table.fixes.reading.notes if table.fixes.reading else ())
+    return table.fixes
+
+
+def read_table(x: Any, options: Mapping[str, Any], program: str | os.PathLike[str] | None = None, has_columns: bool = True) -> ReadTable:
+    """The fixes of a file or a frame, of a frame with its own columns if they are wanted."""
+    own = frame_given(x)
+    words_of_options({**options, "crs": None})  # what cannot be right is refused before anything is looked for
+    with tempfile.TemporaryDirectory(prefix="homerange-") as folder:
+        if isinstance(own, (str, os.PathLike)):
+            return read_file(path_of(own, "path"), options, Path(folder), find_split_program(program))
+        if not isinstance(own, pandas.DataFrame):
+            helps = ": make it one, as by to_pandas()" if hasattr(own, "to_pandas") else ""
+            refuse(f"a {type(x).__name__} is neither a path nor a data frame with a row for each fix{helps}", "empty")
+        return read_frame(own, options, Path(folder), find_split_program(program), has_columns)
+
+
+def read_file(path: Path, options: Mapping[str, Any], folder: Path, program: str) -> ReadTable:
+    """The fixes of a file."""
+    crs = None if options.get("crs") is None else crs_named(options["crs"])
+    found = {**options, "crs": None, **options_of(crs, options.get("zone"))}
+    try:
+        split_table(str(path), str(folder / "tracks"), words_of_options(found), program)
+    except FrameError as fault:
+        shown, text = one_line(str(path)), as_arguments(str(fault), fault.kind)
+        place = "" if fault.record is None else f"record {fault.record}: "
+        raise FrameError(f"{place}{text}" if text.startswith(shown) else f"{shown}: {place}{text}", fault.kind, fault.record) from None
+    record = read_record(folder / "tracks" / "split.txt")
+    whole = read_tracks(folder / "tracks", record)
+    return ReadTable(fixes_of(whole, record, folder, options.get("tz"), crs, []))
+
+
+def read_frame(frame: pandas.DataFrame, options: Mapping[str, Any], folder: Path, program: str, has_columns: bool) -> ReadTable:
+    """The fixes of a data frame, with its own columns if they are wanted."""
+    if not len(frame) or not len(frame.columns):
+        refuse("the data frame has no row of a fix", "empty")
+    text = text_of_frame(frame, options)
+    words = [*(["--records"] if has_columns else []), *words_of_options(text.options)]
+    try:
+        write_text(text, folder / NAME)
+        split_table(NAME, "tracks", words, program, str(folder))
+    except FrameError as fault:
+        raise of_row(fault, frame.index) from None
+    record = read_record(folder / "tracks" / "split.txt")
+    whole = read_tracks(folder / "tracks", record)
+    refuse_odd(record, text)
+    fixes = fixes_of(whole, record, folder, text.options.get("tz"), text.crs, text.notes)
+    if not has_columns:
+        return ReadTable(fixes, frame)
+    rows = rows_of(folder / "tracks", whole)
+    return ReadTable(with_columns(fixes, frame, rows), frame, rows)
+
+
+def of_row(fault: FrameError, labels: pandas.Index) -> FrameError:
+    """A refusal with the row by its label, and with options as arguments. That of the program may name the text, which nobody
+    knows."""
+    text = as_arguments(str(fault).removeprefix(f"{NAME}: "), fault.kind)
+    if fault.record is None:
+        return FrameError(text, fault.kind)
+    return FrameError(f"{row_named(labels, fault.record - 1)}: {text}", fault.kind, fault.record)
+
+
+def row_named(labels: pandas.Index, at: int) -> str:
+    """A row by its label, and where that is not its place by that too."""
+    label = labels[at]
+    is_place = isinstance(label, (int, numpy.integer)) and label == at
+    return f"row {at}" if is_place else f"row {one_line(str(label))} (frame.iloc[{at}])"
+
+
+def refuse_odd(record: Record, text: Text) -> None:
+    """Refuses animals that are named by what has no text, such as lists."""
+    own = own_names(record)
+    odd = {name for name in map(lambda name: own.get(name, name), record.tracks) if ODD.fullmatch(name)}
+    named, taken = titles_named(text.options.get("animal")), next((line for line in record.said if line.startswith("columns: ")), "")
+    for column in text.columns if odd else ():
+        is_animal = column.title in named or taken.startswith(f"columns: {column.title},")
+        at = odd_row(column, odd) if is_animal else None
+        if at is not None:
+            kind = type(column.values.iloc[at]).__name__
+            refuse(f"{row_named(text.labels, at)}: {column.title} is of the class {kind}, which is no name: make it text", "name", at + 1)
+
+
+def odd_row(column: Column, odd: set[str]) -> int | None:
+    """The first row whose cell is one of these words, and no text; None where there is none."""
+    cells = enumerate(column.values.tolist())
+    return next((at for at, value in cells if not isinstance(value, str) and cell_of(value) in odd), None)
+
+
+def fixes_of(whole: Whole, record: Record, folder: Path, tz: str | None, crs: Any, notes: Iterable[str]) -> Fixes:
+    """The fixes of tracks with their record, in metres and by the clock of tz."""
+    if crs is not None and record.zone is not None and options_of(crs, None).get("zone") != record.zone:
+        refuse_zone(record.zone, crs)
+    own, scale, clock = own_names(record), UNITS[record.unit].per_metre, tz or "UTC"
+    names = [own.get(name, name) for name in whole.names]
+    east, north = (numbers / scale - added for numbers, added in zip((whole.easting, whole.northing), record.shift))
+    is_calendar = len(whole.second) and SINCE_1970[0] <= whole.second.min() and whole.second.max() < SINCE_1970[1]
+    when = {"time": times_of(pandas.Series(whole.second), clock)} if is_calendar else {"second": whole.second}
+    fixes = Fixes({"animal": whole.per_fix(names), **when, "easting": east, "northing": north})
+    middles = {name: tuple(float(side[part].mean()) for side in (east, north)) for name, part in zip(names, parts_of(whole.counts))}
+    said = [as_arguments(line) for line in record.said]
+    shown = [*said, *notes, *scale_said(crs, record.zone, middles)]
+    fixes.reading = Reading(
+        record.unit, record.zone, crs, clock, record.shift, tuple(shown), left_out(record, own), dict(zip(names, whole.counts)),
+        {name: file for file, name in own.items()}, (folder / "tracks" / "split.txt").read_bytes())
+    return fixes
+
+
+def parts_of(counts: Iterable[int]) -> Iterable[slice]:
+    """Where each of several tracks, one behind the other, stands."""
+    first = 0
+    for count in counts:
+        yield slice(first, first + count)
+        first += count
+
+
+def times_of(seconds: pandas.Series, tz: str) -> pandas.Series:
+    """Seconds since 1970 by the clock of tz; NaT after the year 2262, where pandas' times end."""
+    whole = seconds.to_numpy("int64")
+    nanoseconds = numpy.where(whole < SINCE_1970[1], 10 ** 9 * whole, numpy.iinfo("int64").min)
+    times = pandas.Series(nanoseconds.view("datetime64[ns]"), seconds.index, name=seconds.name)
+    return times.dt.tz_localize("UTC").dt.tz_convert(tz)
+
+
+def with_columns(fixes: Fixes, frame: pandas.DataFrame, rows: NDArray[numpy.int64]) -> Fixes:
+    """The fixes with the other columns of their frame, and its labels where it has plain ones."""
+    titles = [*frame.columns]
+    at = [place for place, title in enumerate(titles) if str(frame.iloc[:, place].dtype) != "geometry"
+          and str(title) not in ("animal", "time", "second", *PLACES) and titles.count(title) == 1]
+    own = pandas.DataFrame(frame.iloc[rows, at]).reset_index(drop=True)
+    found = Fixes(pandas.concat([pandas.DataFrame(fixes), own], axis="columns"))
+    if frame.index.nlevels == 1 and frame.index.name is None and not isinstance(frame.index, pandas.DatetimeIndex):
+        found.index = frame.index.take(rows)
+    found.reading = fixes.reading
+    return found

@@ -1,0 +1,119 @@
+"""Reference systems of coordinates and of points: which are planes in metres, what names them, and how much greater areas are
+on their grids. docs/TABLES.md, Coordinates."""
+
+from __future__ import annotations
+
+import re
+from math import isfinite
+from typing import TYPE_CHECKING, Any, Mapping
+
+import numpy
+import pandas
+
+from ..errors import refuse
+from ..zones import REFUSED, TOLD, scale_of_crs, text_of_crs, zone_of, zone_of_crs
+
+if TYPE_CHECKING:
+    import geopandas
+
+DEGREES = "EPSG:4326"  # longitude and latitude as the program takes them
+HELP = "project it first, as by frame.to_crs(frame.estimate_utm_crs())"
+METRE = {"metre", "meter"}
+TITLES = {"easting": "point easting", "northing": "point northing"}
+TITLES_OF_DEGREES = {"lon": "point longitude", "lat": "point latitude"}
+
+
+def crs_named(crs: Any) -> Any:
+    """A reference system by what names it, which has to be a plane in metres."""
+    try:
+        from pyproj import CRS
+    except ImportError:
+        return crs
+    try:
+        found = CRS.from_user_input(crs)
+    except Exception:
+        found = None
+    # A text that is neither a code nor a definition is a name, of which pyproj takes one that has it as a part.
+    is_name = isinstance(crs, str) and not re.search("[:+=\\[{]|^[0-9]+$", crs)
+    if found is None or is_name and found.name.lower() != crs.lower():
+        refuse(f"crs={crs!r} names no reference system", "crs")
+    check_plane(found)
+    return None if is_local(found) else found
+
+
+def is_local(crs: Any) -> bool:
+    """Whether a system, or none, is a plane without a place on the Earth."""
+    return crs is None or bool(crs.is_engineering)
+
+
+def check_plane(crs: Any) -> None:
+    """Refuses a reference system that is no plane in metres."""
+    units = {axis.unit_name for axis in crs.axis_info[:2]}
+    if not crs.is_projected and not crs.is_engineering:
+        refuse(f"the CRS {crs.name} is not a plane one in metres: {HELP}", "crs")
+    if units - METRE:
+        refuse(f"the CRS {crs.name} is in {', '.join(sorted(units))} and not in metres: {HELP}", "crs")
+    if crs.to_epsg() == 3857:
+        refuse(f"areas in the CRS {crs.name} grow away from the equator: {HELP}", "scale")
+
+
+def options_of(crs: Any, zone: Any) -> dict[str, Any]:
+    """The options that say to the program of which system coordinates are, where a zone may be named too."""
+    if crs is None:
+        return {"zone": zone}
+    own = zone_of_crs(crs)
+    if zone is not None and zone_of(zone) not in (own, getattr(crs, "utm_zone", None)):
+        refuse_zone(zone, crs)
+    return {"zone": own} if own else {"zone": None, "crs": text_of_crs(crs)}
+
+
+def refuse_zone(zone: Any, crs: Any) -> None:
+    """Refuses a zone that is not that of the reference system."""
+    own = getattr(crs, "utm_zone", None)
+    refuse(f"the coordinates are of the zone {zone}, and the CRS {getattr(crs, 'name', crs)} is "
+           f"{'that of ' + own if own else 'none of UTM'}: give one of the two", "zone")
+
+
+def columns_of_points(points: geopandas.GeoSeries) -> tuple[dict[str, pandas.Series], list[str]]:
+    """The columns of points by the options that name them, and what is to be said: of a plane in metres as they are, of degrees
+    turned into those of WGS 84."""
+    crs = points.crs
+    if crs is None or not crs.is_geographic:
+        if crs is not None:
+            check_plane(crs)
+        return dict(zip(TITLES, sides_of(points))), []
+    sides = dict(zip(TITLES_OF_DEGREES, sides_of(points, DEGREES)))
+    return sides, [] if crs == DEGREES else [f"points of {crs.name} are turned into longitude and latitude of WGS 84"]
+
+
+def sides_of(points: geopandas.GeoSeries, into: str | None = None) -> tuple[pandas.Series, pandas.Series]:
+    """The two coordinates of points, of which some may be transformed; missing where there is none, and the class of another
+    shape."""
+    kinds, is_empty = points.geom_type.to_numpy(), (points.isna() | points.is_empty).to_numpy()
+    is_point = (kinds == "Point") & ~is_empty
+    own = points[is_point] if into is None else points[is_point].to_crs(into)
+    found = []
+    for side in (own.x, own.y):
+        values = numpy.full(len(points), numpy.nan)
+        values[is_point] = side
+        found.append(pandas.Series(values))
+    for at in numpy.flatnonzero(~is_point & ~is_empty).tolist():
+        found = [side.astype(object) for side in found]
+        for side in found:
+            side.iat[at] = f"<{kinds[at]}>"
+    return found[0], found[1]
+
+
+def scale_said(crs: Any, zone: str | None, middles: Mapping[str, tuple[float, float]]) -> list[str]:
+    """What is to be said of how much greater areas are on a grid, at the middle of each animal's fixes in metres. A grid on which
+    they are wrong by more than 1 % is refused; of zones the program has looked already."""
+    scale = None if zone or crs is None else scale_of_crs(crs)
+    if scale is None:
+        return []
+    worst, name = max(((scale(*middle), name) for name, middle in middles.items()), key=lambda pair: abs(pair[0] - 1))
+    text = f"areas of {name} are {abs(worst - 1) * 100:.2f} % too {'great' if worst > 1 else 'small'} on this grid"
+    if not isfinite(worst):
+        text = f"the fixes of {name} have no place on this grid"
+    if not abs(worst - 1) <= REFUSED:
+        refuse(f"{text}: take a zone or a reference system of the place", "scale")
+    return [text] if abs(worst - 1) > TOLD else []

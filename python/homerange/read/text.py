@@ -1,0 +1,242 @@
+"""The text of a data frame, which the program reads as it reads files: all columns with their titles, the levels of the index, and
+the places of points. What is no table of fixes is refused by the program, and not here."""
+
+from __future__ import annotations
+
+import datetime as clock
+import re
+import sys
+from pathlib import Path
+from typing import TYPE_CHECKING, Any, Mapping, NamedTuple, NoReturn, Sequence
+
+import numpy
+import pandas
+
+from ..errors import refuse
+from .cells import Cells, cells_of, is_time
+from .systems import TITLES, TITLES_OF_DEGREES, columns_of_points, crs_named, is_local, options_of
+
+if TYPE_CHECKING:
+    import geopandas
+
+ROWS = 2 ** 16  # that are written together
+NAME = "fixes.csv"
+COORDINATES = ("easting", "northing", "lon", "lat")
+OF_FILES = ("encoding", "skip_lines", "header")  # options
+TIMES = {"second", "timestamp", "t-", "date", "time", "datetime", "date-time", "acquisition-time", "tracked-at"}  # usual titles
+
+
+class Column(NamedTuple):
+    """A column of the text."""
+
+    title: str
+    values: pandas.Series
+
+
+class Text(NamedTuple):
+    """A frame as it is written: its columns, the options by which the program reads it, the reference system of its coordinates
+    as far as it is known, and what is to be said."""
+
+    columns: list[Column]
+    labels: pandas.Index
+    options: dict[str, Any]
+    crs: Any
+    notes: list[str]
+
+
+def frame_given(frame: Any) -> Any:
+    """A frame as it was given, or that of the points of a trajectory or a collection of movingpandas."""
+    points = None if isinstance(frame, pandas.DataFrame) else getattr(frame, "to_point_gdf", None)
+    return points() if callable(points) else frame
+
+
+def text_of_frame(frame: pandas.DataFrame, options: Mapping[str, Any]) -> Text:
+    """The text of a frame that is read with these options."""
+    check_options(options)
+    columns, found = columns_of(frame, options), dict(options)
+    crs, notes = found.pop("crs", None), list[str]()
+    points = None if any(found.get(name) is not None for name in COORDINATES) else points_of(frame)
+    if points is not None:
+        if crs is not None:
+            refuse("crs: points bring their own CRS; frame.set_crs names it, and frame.to_crs projects them into another")
+        places, notes = columns_of_points(points)
+        for option, values in places.items():
+            found[option] = title_of_place(option, columns)
+            columns.append(Column(found[option], values))
+        crs = None if is_local(points.crs) or "lon" in places else points.crs
+    elif crs is not None:
+        crs = crs_named(crs)
+    found.update(options_of(crs, found.get("zone")))
+    zone, said = zone_of_times(columns, found)
+    return Text(columns, frame.index, {**found, "tz": zone}, crs, [*notes, *said])
+
+
+def check_options(options: Mapping[str, Any]) -> None:
+    """Refuses options that only files have."""
+    odd = next((name for name in OF_FILES if options.get(name) is not None), None)
+    if odd is not None:
+        refuse(f"{odd} is for files, and not for a data frame: leave it out")
+    if options.get("from_") == "gpx":
+        refuse("from_='gpx' is for files of GPX, and not for a data frame: leave it out")
+
+
+def columns_of(frame: pandas.DataFrame, options: Mapping[str, Any]) -> list[Column]:
+    """The columns of a frame but for shapes, and behind them the levels of its index."""
+    found = [Column(str(title), frame.iloc[:, at]) for at, title in enumerate(frame.columns)
+             if str(frame.iloc[:, at].dtype) != "geometry"]
+    found += [level for level in levels_of(frame, options) if not is_there(level, found)]
+    if not found:
+        return found
+    first = found[0].title
+    if ";" in first or "\t" in first:
+        refuse(f"the first column is titled {first!r}, whose sign would be taken for what stands between fields: rename it", "columns")
+    return found
+
+
+def levels_of(frame: pandas.DataFrame, options: Mapping[str, Any]) -> list[Column]:
+    """The levels of an index that have a name, or are times, or are among others, as columns."""
+    if isinstance(frame.index, pandas.RangeIndex):
+        return []
+    named, found = titles_named(options.get("time")), []
+    for at, name in enumerate(frame.index.names):
+        values = frame.index.get_level_values(at).to_series(index=pandas.RangeIndex(len(frame)))
+        title = f"level_{at}" if name is None else str(name)
+        if has_times(values) and (name is None or plain(title) not in TIMES) and title not in named:
+            title = "datetime"
+        elif name is None and frame.index.nlevels == 1:
+            continue
+        found.append(Column(title, values))
+    return found
+
+
+def is_there(level: Column, columns: Sequence[Column]) -> bool:
+    """Whether a level of the index is a column too, as set_index(.., drop=False) leaves it."""
+    same = [column.values for column in columns if column.title == level.title]
+    return len(same) == 1 and bool(same[0].reset_index(drop=True).equals(level.values))
+
+
+def plain(title: str) -> str:
+    """A title as the program compares it: in small letters, without blanks beside it, with hyphens for other signs."""
+    return re.sub("[ .:_]", "-", title.strip().lower())
+
+
+def titles_named(value: Any) -> list[str]:
+    """The titles that an option names."""
+    several = value.split(",") if isinstance(value, str) else value
+    return [str(title) for title in several] if isinstance(several, (list, tuple)) else []
+
+
+def points_of(frame: pandas.DataFrame) -> geopandas.GeoSeries | None:
+    """The points of a GeoDataFrame; None of another frame."""
+    geopandas = sys.modules.get("geopandas")
+    if geopandas is None or not isinstance(frame, geopandas.GeoDataFrame):
+        return None
+    try:
+        return frame.geometry
+    except AttributeError:
+        return None
+
+
+def title_of_place(option: str, columns: Sequence[Column]) -> str:
+    """The title of a column of points, which the frame has not."""
+    title, titles = {**TITLES, **TITLES_OF_DEGREES}[option], {column.title for column in columns}
+    while title in titles:
+        title = f"{title} "
+    return title
+
+
+def has_times(values: pandas.Series) -> bool:
+    """Whether a column has date-times, whatever holds them."""
+    kind = inner_type(values.dtype)
+    if is_time(kind) or isinstance(kind, pandas.PeriodDtype) or "timestamp" in str(kind):
+        return True
+    return kind == object and pandas.api.types.infer_dtype(values, skipna=True) == "datetime"
+
+
+def inner_type(kind: Any) -> Any:
+    """The class of the values of a column, of categories that of these."""
+    return kind.categories.dtype if isinstance(kind, pandas.CategoricalDtype) else kind
+
+
+def zones_in(values: pandas.Series) -> set[str | None]:
+    """The zones of the date-times of a column; None is that of those without one."""
+    kind = inner_type(values.dtype)
+    if kind == object:
+        own = values.cat.categories if isinstance(values.dtype, pandas.CategoricalDtype) else values
+        return {zone_name(value.tzinfo) for value in own if isinstance(value, clock.datetime) and value is not pandas.NaT}
+    zone = getattr(getattr(kind, "pyarrow_dtype", kind), "tz", None)
+    return {zone_name(zone)}
+
+
+def zone_name(zone: Any) -> str | None:
+    """The name of a time zone; of one without a name what it says of itself."""
+    if zone is None:
+        return None
+    name = str(getattr(zone, "key", None) or getattr(zone, "zone", None) or zone)
+    return "UTC" if name in ("utc", "tzutc()") else name
+
+
+def zone_of_times(columns: Sequence[Column], options: Mapping[str, Any]) -> tuple[Any, list[str]]:
+    """The time zone for the program: the one that is named, or the only one that columns of date-times have, where no other
+    column may be the time; and what is to be said of it."""
+    if options.get("tz") is not None:
+        return options["tz"], []
+    times = {column.title: zones_in(column.values) for column in columns if has_times(column.values)}
+    found = {zone for zones in times.values() for zone in zones}
+    zones = sorted(zone for zone in found if zone is not None)
+    if not zones or zones == ["UTC"]:
+        return None, []
+    named = titles_named(options.get("time"))
+    others = [column.title for column in columns if column.title not in times and not is_number(column.values)
+              and (column.title in named or not named and plain(column.title) in TIMES)]
+    if len(zones) > 1 or None in found or others or options.get("from_") is not None:
+        return None, [f"days and hours are those of UTC, since times are of {', '.join(zones)} and of other clocks"]
+    if not re.fullmatch("[A-Za-z]+(/[A-Za-z0-9_+-]+)*", zones[0]):
+        return None, [f"days and hours are those of UTC, since the zone {zones[0]} of {[*times][0]} has no name"]
+    return zones[0], []
+
+
+def is_number(values: pandas.Series) -> bool:
+    return bool(pandas.api.types.is_numeric_dtype(values.dtype))
+
+
+def write_text(text: Text, path: Path) -> None:
+    """Writes the text of a frame."""
+    with open(path, "wb") as file:
+        file.write(encoded([[title] for title in quoted([column.title for column in text.columns])], text, None))
+        for first in range(0, len(text.labels), ROWS):
+            cells = [quoted_of(column.values.iloc[first:first + ROWS]) for column in text.columns]
+            file.write(encoded(cells, text, first))
+
+
+def encoded(columns: Sequence[Cells], text: Text, first: int | None) -> bytes:
+    """Lines of cells, of the rows from a first one on, or of the titles."""
+    lines = "\n".join(map(",".join, zip(*columns)))
+    try:
+        return f"{lines}\n".encode()
+    except UnicodeEncodeError:
+        refuse_text(columns, text, first)
+
+
+def refuse_text(columns: Sequence[Cells], text: Text, first: int | None) -> NoReturn:
+    """Refuses the first cell that is no text."""
+    for row, cells in enumerate(zip(*columns)):
+        for column, cell in zip(text.columns, cells):
+            if any("\ud800" <= sign <= "\udfff" for sign in cell):
+                place = f"the title {cell!r}" if first is None else f"{column.title} is {cell!r}, which"
+                refuse(f"{place} is no text in UTF-8: mend it", "text", None if first is None else first + row + 1)
+    raise AssertionError("all cells are text")
+
+
+def quoted_of(values: pandas.Series) -> Cells:
+    """The cells of a column, in quotes where they need some."""
+    cells = cells_of(values)
+    return cells if isinstance(values.dtype, numpy.dtype) and values.dtype.kind in "biufM" else quoted(cells)
+
+
+def quoted(cells: Cells) -> Cells:
+    """Cells in quotes where they have a sign that stands between cells, or ends a line."""
+    text = "\n".join(cells)
+    if text.count("\n") == len(cells) - 1 and not any(sign in text for sign in ',"\r'):
+        return cells
+    return ['"{}"'.format(cell.replace('"', '""')) if any(sign in cell for sign in ',"\r\n') else cell for cell in cells]

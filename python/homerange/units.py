@@ -1,0 +1,28 @@
+"""Units of coordinates, and zones of times."""
+
+from __future__ import annotations
+
+import zoneinfo
+from typing import NamedTuple
+
+from .errors import refuse
+
+
+class Unit(NamedTuple):
+    """A unit of coordinates."""
+
+    per_metre: int
+    limit: int  # the greatest coordinate
+    name: str
+    hectare: int  # how much doubled area a hectare has
+
+
+UNITS = {"m": Unit(1, 16_777_216, "metres", 20_000), "dm": Unit(10, 134_217_728, "decimetres", 2_000_000)}
+
+
+def zone_of_time(name: object) -> zoneinfo.ZoneInfo:
+    """A time zone by its name."""
+    try:
+        return zoneinfo.ZoneInfo(str(name)) if isinstance(name, str) else refuse(f"tz={name!r} is no time zone")
+    except Exception:
+        refuse(f"tz={name!r} is no time zone such as 'Europe/Ljubljana'")
