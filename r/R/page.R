@@ -21,7 +21,9 @@ write_page <- function(x, path, title = NULL, study = NULL, species = NULL, by =
 # The zone of the dates of a page.
 zone_of_page <- function(x, tz) {
   zone <- if (!is.null(tz)) tz else if (is.null(x$tz)) "UTC" else x$tz
-  check_zone_of_time(zone)
+  if (!is_text(zone) || !zone %in% c("UTC", "GMT", OlsonNames())) {
+    refuse("option", "tz='", format(zone)[1], "' is no time zone such as 'Europe/Ljubljana'")
+  }
   zone
 }
 
