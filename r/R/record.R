@@ -6,9 +6,9 @@ single_lines <- kinds_of_lines[1:6]
 reasons_of_all <- c("animal", "coordinates", "zero", "sensor", "outlier", "class", "no dop", "dop", "type", "before", "after",
                     "grid", "speed", "months", "hours", "every", "use")  # use is an argument that left rows out
 
-# Values of options as they were before their signs were escaped.
-unescaped <- function(texts) {
-  places <- gregexpr("\\\\(\\\\|x[0-9a-f]{2}|u[0-9a-f]{4})", texts)
+# Texts as they were before signs of control and separators of lines were escaped.
+unescaped <- function(texts, form = "\\\\(x(?:[0189][0-9a-f]|7f)|u202[89])") {
+  places <- gregexpr(form, texts, perl = TRUE)
   regmatches(texts, places) <- lapply(regmatches(texts, places), function(signs) {
     vapply(signs, function(sign) if (sign == "\\\\") "\\" else intToUtf8(strtoi(substring(sign, 3), 16)), "")
   })
@@ -50,19 +50,19 @@ read_record <- function(path) {
 # Options by name; TRUE is the value of one that has none.
 options_of_lines <- function(lines) {
   has_value <- grepl(",", lines, fixed = TRUE)
-  values <- as.list(unescaped(sub("^[^,]*,", "", lines)))
+  values <- as.list(unescaped(sub("^[^,]*,", "", lines), "\\\\(\\\\|x[0-9a-f]{2}|u[0-9a-f]{4})"))  # of these the backslash too
   values[!has_value] <- TRUE
   `names<-`(values, sub(",.*", "", lines))
 }
 
 left_of_lines <- function(lines) {
-  data.frame(animal = sub(",.*", "", lines), reason = sub(".*,", "", lines),
+  data.frame(animal = unescaped(sub(",.*", "", lines)), reason = sub(".*,", "", lines),
              fixes = as.numeric(sub("^[^,]*,([0-9]+),.*", "\\1", lines)))
 }
 
 tracks_of_lines <- function(lines) {
   form <- "^([^,]*),([0-9]+),([0-9]+),?(.*)$"
-  data.frame(animal = sub(form, "\\1", lines), records = as.numeric(sub(form, "\\2", lines)),
+  data.frame(animal = unescaped(sub(form, "\\1", lines)), records = as.numeric(sub(form, "\\2", lines)),
              used = as.numeric(sub(form, "\\3", lines)), checksum = sub(form, "\\4", lines))
 }
 

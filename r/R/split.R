@@ -80,7 +80,7 @@ records_of_fixes <- function(folder, record, fixes) {
   records <- scan(file.path(folder, "records.txt"), list(NULL, file = "", second = 0, nanosecond = 0, reason = ""), sep = ",",
                   skip = 1, quote = "", quiet = TRUE, encoding = "UTF-8", na.strings = "")
   used <- which(records$reason == "" | is.na(records$reason))
-  track <- match(records$file[used], record$tracks$animal)
+  track <- by_distinct(records$file[used], function(files) match(unescaped(files), record$tracks$animal))
   rows <- used[order(track, records$second[used], records$nanosecond[used], method = "radix")]
   if (!identical(records$second[rows], fixes$second)) refuse("program", "the records of the table are not those of its tracks")
   rows
@@ -88,12 +88,12 @@ records_of_fixes <- function(folder, record, fixes) {
 
 # The animals' own names, by the names of their files: where both differ, a line says so.
 own_names <- function(record) {
-  files <- unique(c(record$tracks$animal, record$left$animal))
+  files <- setdiff(c(record$tracks$animal, record$left$animal), "")
   names <- `names<-`(files, files)
   form <- "^animal '(.*)' is named (.*)$"
   lines <- grep(form, record$said, value = TRUE)
-  known <- sub(form, "\\2", lines)
-  names[known] <- sub(form, "\\1", lines)
+  known <- unescaped(sub(form, "\\2", lines))
+  names[known] <- unescaped(sub(form, "\\1", lines))
   names <- names[files]
   twice <- names[duplicated(names)]
   names[names %in% twice] <- files[names %in% twice]
