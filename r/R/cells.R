@@ -11,8 +11,8 @@ degrees_of_units <- c("\u00b0", "degree", "arc_degree", "degrees")
 # The cells of a column.
 cells_of_column <- function(column, title) {
   if (inherits(column, "POSIXlt")) column <- as.POSIXct(column)
-  if (length(dim(column)) == 1 || length(dim(column)) == 2 && ncol(column) == 1) column <- as.vector(column)
-  if (is.list(column) || !is.null(dim(column)) || is.complex(column) || is.raw(column)) return(cells_of_class(column))
+  if (is.list(column) || is.complex(column) || is.raw(column) || NCOL(column) > 1) return(cells_of_class(column))
+  if (!is.null(dim(column))) column <- as.vector(column)
   if (is.factor(column)) return(cells_of_text(levels(column), as.integer(column), title))
   if (is.character(column)) return(cells_of_text(unique(as.vector(column)), match(column, unique(column)), title))
   if (inherits(column, "integer64")) return(digits_of_integer64(column))

@@ -33,9 +33,9 @@ grouped_fixes <- function(whole, labels) {
   list(shift = whole$shift, fixes = fixes, groups = known)
 }
 
-# The group of each fix. Rows are those of the frame that was read, where one was.
-labels_of <- function(fixes, by, rows = NULL) {
-  if (is.function(by)) by <- by(fixes)
+# The group of each fix. Where a frame was read, values are those of its rows.
+labels_of <- function(fixes, by, frame = NULL) {
+  if (is.function(by)) return(labels_of(fixes, by(fixes)))
   if (is_text(by) && by %in% names(periods)) return(labels_of_period(fixes, by))
   if (is_text(by) && nrow(fixes) > 1) {
     if (!by %in% names(fixes)) {
@@ -43,14 +43,19 @@ labels_of <- function(fixes, by, rows = NULL) {
              ", and no column of the fixes")
     }
     by <- fixes[[by]]
-  } else if (!is.null(rows) && length(by) != nrow(fixes)) {
-    by <- if (length(by) >= max(rows)) by[rows] else by
+  } else if (!is.null(frame)) {
+    return(check_labels(text_of_groups(values_of(by, frame$number, "rows"))[frame$rows], frame$rows))
   }
-  if (length(by) != nrow(fixes) || is.list(by) && !inherits(by, "POSIXlt")) {
+  check_labels(text_of_groups(values_of(by, nrow(fixes), "fixes")), seq_len(nrow(fixes)))
+}
+
+# A value for each of so many rows or fixes.
+values_of <- function(by, number, what) {
+  if (length(by) != number || is.list(by)) {
     refuse("option", "by: \"year\", \"month\", \"season\", a column, a function of the fixes, or a group for each of the ",
-           nrow(fixes), " fixes is wanted")
+           number, " ", what, " is wanted")
   }
-  check_labels(text_of_groups(by))
+  by
 }
 
 # Groups as text; what is no name of one is missing.
@@ -62,8 +67,9 @@ text_of_groups <- function(by) {
   if (is.character(by) || is.factor(by)) in_utf8(as.character(by)) else cells_of_column(by, "by")
 }
 
-check_labels <- function(labels) {
-  odd <- which(is.na(labels) | labels == "")
+# Refuses a fix of no group, by its row.
+check_labels <- function(labels, rows) {
+  odd <- rows[is.na(labels) | labels == ""]
   if (length(odd)) {
     refuse("option", "row ", odd[1], ": by has no group: leave fixes without a group out, as by subset(fixes, ..)", record = odd[1])
   }

@@ -11,7 +11,7 @@ home_range <- function(x, levels = c(50, 95, 100), by = NULL, ..., progress = in
   read <- fixes_to_take(x, list(...), quiet)
   whole <- whole_fixes(read$fixes)
   if (!is.null(by)) {
-    whole <- grouped_fixes(whole, labels_of(read$fixes, by, read$rows))
+    whole <- grouped_fixes(whole, labels_of(read$fixes, by, read$frame))
     note <- paste0("ranges are by group: ", nrow(whole$groups), " of ", count_of(length(unique(whole$groups$of)), "animal"))
     if (!quiet) tell_note(note, "guessed")
   }
@@ -26,7 +26,7 @@ home_range <- function(x, levels = c(50, 95, 100), by = NULL, ..., progress = in
   ranges
 }
 
-# Fixes that were read, or those of a table, and of which row of a frame each is.
+# Fixes that were read, or those of a table with the rows of a frame that they are.
 fixes_to_take <- function(x, options, quiet) {
   if (!inherits(x, "homerange_fixes")) return(read_table(x, options, quiet))
   if (length(options)) {

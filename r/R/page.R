@@ -9,6 +9,7 @@ write_page <- function(x, path, title = NULL, study = NULL, species = NULL, by =
                        tz = NULL, made = NULL) {
   local_numbers()
   check_ranges(x)
+  check_whole(x, "a page")
   check_path(path)
   zone <- zone_of_page(x, tz)
   day <- as.POSIXlt(if (is.null(made)) as.POSIXlt(Sys.time(), tz = zone) else made)

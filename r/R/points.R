@@ -10,9 +10,13 @@ places_of <- function(x, given) {
   if (!has_sf()) refuse("crs", "a table of sf wants the package sf, which is not installed")
   shapes <- tryCatch(sf::st_geometry(x), error = function(fault) refuse("columns", "x has no geometry where sf looks for it: ",
                                                                        "sf::st_geometry(x) <- \"COLUMN\" says where it is"))
+  shapes <- sf::st_zm(shapes)
   crs <- sf::st_crs(shapes)
   at <- coordinates_of(shapes)
   has_place <- !is_without_place(crs, "x")
+  if (!has_place && is.na(crs) && look_like_degrees(at)) {
+    refuse("degrees", "the points have no CRS, and lie as longitude and latitude do: sf::st_set_crs(x, 4326) says so where they are")
+  }
   if (has_place && is_in_degrees(crs, "x", function() at)) return(points_in_degrees(x, shapes, at, crs))
   plane <- plane_of(if (has_place) crs, given)
   points <- points_as_columns(x, shapes, at, c("easting", "northing"))
@@ -23,8 +27,14 @@ places_of <- function(x, given) {
 coordinates_of <- function(shapes) {
   is_point <- as.character(sf::st_geometry_type(shapes)) == "POINT" & !sf::st_is_empty(shapes)
   at <- matrix(NA_real_, length(shapes), 2)
-  if (any(is_point)) at[is_point, ] <- sf::st_coordinates(sf::st_zm(shapes[is_point]))[, 1:2]
+  if (any(is_point)) at[is_point, ] <- sf::st_coordinates(shapes[is_point])[, 1:2]
   at
+}
+
+# Whether all of some coordinates may be degrees, and are no whole metres.
+look_like_degrees <- function(at) {
+  at <- at[is.finite(rowSums(at)), , drop = FALSE]
+  nrow(at) > 0 && all(abs(at[, 1]) <= 180 & abs(at[, 2]) <= 90) && any(at != round(at))
 }
 
 # The columns of points, and the options that name them. What is no point is written by its kind.

@@ -7,7 +7,7 @@ read_fixes <- function(x, ..., quiet = FALSE) {
   read_table(x, list(...), quiet)$fixes
 }
 
-# The fixes, and beside them the row of a frame that each is.
+# The fixes, and beside them what was said, and of a frame which of how many rows each is.
 read_table <- function(x, options, quiet) {
   given <- options_given(options)
   read <- in_folder(function(folder) if (is_text(x)) read_file(x, given, folder) else read_frame(x, given, folder))
@@ -55,7 +55,7 @@ read_frame <- function(x, given, folder) {
   scale <- if (!is.null(places$crs)) check_scale(table, places$crs)
   notes <- c(places$line, clock$line, record$said, scale)
   facts <- facts_of_record(record, file.path(into, "split.txt"), tz, places$crs, notes)
-  list(fixes = new_fixes(table, facts), rows = rows, notes = notes)
+  list(fixes = new_fixes(table, facts), notes = notes, frame = list(rows = rows, number = nrow(x)))
 }
 
 check_frame <- function(x, given) {

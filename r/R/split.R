@@ -50,7 +50,7 @@ as_arguments <- function(text) {
                  "takes|was|has)\\b)('[^']*'|[^ ;:?()]*[^ ,;:?().]))?")
   places <- gregexpr(form, text, perl = TRUE)
   regmatches(text, places) <- lapply(regmatches(text, places), function(found) vapply(found, as_argument, ""))
-  text
+  gsub("\" ([a-z_]+ = \")", "\", \\1", text)  # several stand one behind the other
 }
 
 # An option of the command line, with its value where it has one, as an argument.
