@@ -1,6 +1,7 @@
 # What the bytes of a file are: a text, and whole numbers by where they stand in it, all at once.
 
 fields_at_once <- 32768L
+powers_of_ten <- 10^(0:22)
 most_exact_digits <- 15  # of a whole number that is divided by a power of ten without an error
 
 # The whole numbers of fields of digits alone. R reads those of many digits. Pieces of fields fit into a processor's cache.

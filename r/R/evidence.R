@@ -8,20 +8,20 @@ form_of_evidence <- "1"  # that of tables, layers, page and records: another byt
 homerange_evidence <- function(x, folder, ...) {
   local_numbers()
   check_ranges(x)
+  check_whole(x, "evidence")
   if (isTRUE(x$is_part)) refuse("option", "x: evidence is made of the ranges of one call or one report, with all their animals")
   if (is.null(x$fixes)) refuse("option", "evidence needs the fixes: read_report(file, files = ..)")
   check_definition(x)
   if (!is_text(folder) || !nzchar(folder)) refuse("option", "folder: the name of a new folder is wanted")
   folder <- sub("(.)/+$", "\\1", folder)
   if (is_there(folder)) refuse("text", folder, " is there already: name another folder")
-  names <- if (is.null(x$files)) names_of_files(x) else x$animals$animal
-  local_utf8(names)
+  local_utf8(names_of_files(x))
   program <- identity_of(homerange_program())
   part <- paste0(folder, ".part")
   if (is_there(part)) refuse("text", part, " is there already: is another call at work?")
   on.exit(unlink(part, recursive = TRUE), add = TRUE, after = FALSE)
   make_folder(file.path(part, "tracks"))
-  fill_evidence(x, part, names, program, ...)
+  fill_evidence(x, part, program, ...)
   if (!file.rename(part, folder)) refuse("text", folder, ": it cannot be made")
   invisible(folder)
 }
@@ -50,13 +50,13 @@ local_utf8 <- function(names, frame = parent.frame()) {
   if (length(odd)) refuse("name", odd[1], " can be the name of a file in a locale of UTF-8 alone, such as LC_ALL=C.UTF-8")
 }
 
-fill_evidence <- function(x, folder, names, program, title = NULL, study = NULL, species = NULL, by = NULL, reserve = NULL,
+fill_evidence <- function(x, folder, program, title = NULL, study = NULL, species = NULL, by = NULL, reserve = NULL,
                           reserve_name = NULL, tz = NULL, made = NULL) {
   zone <- zone_of_page(x, tz)
   rings <- if (!is.null(reserve)) rings_in_order(rings_of_boundary(boundary_of(x, reserve)))
   words <- list(title = title, study = study, species = species, by = by, day = if (!is.null(made)) format(made, "%Y-%m-%d"),
                 boundary = if (!is.null(rings)) if (is_given(reserve_name)) reserve_name else "boundary")
-  if (is.null(x$files)) put_frame(x, names, folder) else put_files(x, file.path(folder, "tracks"))
+  names <- if (is.null(x$files)) put_frame(x, folder) else put_files(x, file.path(folder, "tracks"))
   record <- record_in(file.path(folder, "tracks"))
   if (!is.null(record)) check_record(record, file.path(folder, "tracks"))
   now <- Sys.time()
@@ -101,24 +101,48 @@ report_of_folder <- function(x, folder, names, program, record, words, now) {
   made
 }
 
-# Puts the fixes of a frame into the folder's tracks, a file for each animal, with the record of how they were made.
-put_frame <- function(x, names, folder) {
+# Puts the fixes of ranges into the folder's tracks, a file for each animal, with the record of how they were made: that of the
+# program, where they are as it made them. Others are split again. Answers the names that animals have in files.
+put_frame <- function(x, folder) {
   tracks <- file.path(folder, "tracks")
+  names <- names_of_files(x)
   for (place in seq_along(names)) {
     own <- x$fixes[x$fixes$animal == x$animals$animal[place], ]
     records <- c(list(second = own$moment), own[c("easting", "northing")])
     write_track(file.path(tracks, paste0(names[place], ".csv")), records, names[place], seq_len(nrow(own)))
   }
-  left <- x$left_out
-  left$animal <- file_names(all_animals(x))[match(left$animal, all_animals(x))]
-  fixes <- x$animals$fixes
-  has_crs <- !is.null(x$crs) && is.null(x$zone)
-  write_lines(file.path(tracks, "split.txt"), lines_of_record(list(
-    unit = x$unit, zone = x$zone, shift = x$shift, crs = if (has_crs) text_of_crs(x$crs), options = x$options,
-    said = c(x$notes, renames_of(x$animals$animal, names)), left = left,
-    tracks = data.frame(animal = names, records = fixes, used = fixes, checksum = checksums_of(tracks)[paste0(names, ".csv")]),
-    tools = tools_of("homerange for R", code_of_this_package(), x$is_projected)
-  )))
+  if (!is.null(x$read$record)) {
+    write_lines(file.path(tracks, "split.txt"), x$read$record)
+    if (is_of_record(tracks)) return(names)
+  }
+  unlink(tracks, recursive = TRUE)
+  split_again(x, tracks)
+}
+
+# Whether the tracks in a folder are those of the record beside them.
+is_of_record <- function(folder) {
+  tracks <- record_in(folder)$tracks
+  made <- checksums_of(folder)
+  wanted <- `names<-`(tracks$checksum, paste0(tracks$animal, ".csv"))
+  setequal(names(made), c(names(wanted), "split.txt")) && all(made[names(wanted)] == wanted)
+}
+
+# Has the program split the fixes of ranges, which were changed since they were read.
+split_again <- function(x, into) {
+  is_time <- inherits(x$fixes$time, "POSIXct")
+  places <- in_metres(x, x$fixes)
+  columns <- list(animal = x$fixes$animal, time = if (is_time) .POSIXct(x$fixes$moment, "UTC") else x$fixes$moment,
+                  easting = places[, 1], northing = places[, 2])
+  if (!is_time) names(columns)[2] <- "second"
+  crs <- if (is.null(x$zone) && !is.null(x$crs)) text_of_crs(x$crs)
+  words <- c(paste0("--unit=", x$unit), paste0("--zone=", x$zone)[!is.null(x$zone)], paste0("--crs=", crs)[!is.null(crs)],
+             paste0("--tz=", x$tz)[x$tz != "UTC"])
+  in_folder(function(folder) {
+    text <- file.path(folder, name_of_frame)
+    write_frame(columns, NULL, text)
+    run_split(text, words, into, function(kind, record, text) refuse(kind, "these fixes cannot be split again: ", text))
+  })
+  unname(files_of(record_in(into))[x$animals$animal])
 }
 
 # Copies the files that were read into a folder, with their record: the one that was named, or the one beside them.
@@ -139,6 +163,7 @@ put_files <- function(x, folder) {
   }
   if (!all(file.copy(files, folder))) refuse("file", "a file of fixes cannot be copied into ", folder)
   if (length(records)) file.copy(records, file.path(folder, "split.txt"))
+  x$animals$animal
 }
 
 # The files of a folder's tracks that have a used fix, by their names within the folder in order of bytes.
@@ -149,23 +174,6 @@ used_tracks <- function(folder) {
 
 # Whether a file of fixes says which are used.
 has_marks <- function(path) "use" %in% strsplit(readLines(path, 1, warn = FALSE), ",", fixed = TRUE)[[1]]
-
-# The names that the animals of ranges have in files; two that are the same are refused, and what a list of checksums cannot
-# have.
-names_of_files <- function(x) {
-  animals <- x$animals$animal
-  names <- file_names(all_animals(x))[seq_along(animals)]
-  refuse_same_names(animals, names)
-  bad <- names[one_line(names) != names]
-  if (length(bad)) refuse("name", bad[1], " has a control character or a separator of lines in its name: rename it")
-  names
-}
-
-# The animals of ranges, and behind them those of which all was left out.
-all_animals <- function(x) {
-  animals <- x$animals$animal
-  c(animals, sort(setdiff(as.character(x$left_out$animal), animals), method = "radix"))
-}
 
 # A program: its path, what it says of its version, and its checksum.
 identity_of <- function(path) {

@@ -9,11 +9,11 @@ homerange_growth <- function(x) {
   numbers_of <- function(what) vapply(found, `[[`, 0, what, USE.NAMES = FALSE)
   area2 <- numbers_of("area2")
   share_of <- function(part) ifelse(area2 > 0, part / area2, NA_real_)
-  data.frame(
+  with_groups(x, list2DF(list(
     animal = x$animals$animal, fixes = x$animals$fixes, hectares = hectares_of(x, area2),
     within_95_fix = numbers_of("within"), within_95_time = x$rows$time[first + numbers_of("within")],
     last_tenth = share_of(numbers_of("tenth")), last_quarter = share_of(numbers_of("quarter"))
-  )
+  )))
 }
 
 # What is said of the doubled areas after each fix, which never fall: the last; the number of the first fix with 95 per cent

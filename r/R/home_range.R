@@ -1,34 +1,50 @@
 # The package's first function, and the class of what it answers.
 
-# The home ranges of the animals of a table of fixes.
-home_range <- function(x, levels = c(50, 95, 100), unit = "m", animal = NULL, time = NULL, easting = NULL, northing = NULL,
-                       use = NULL, from = NULL, to = NULL, months = NULL, hours = NULL, every = NULL, tz = NULL, crs = NULL,
-                       progress = interactive(), lon = NULL, lat = NULL, name = "animal", zone = NULL, skip_unnamed = FALSE,
-                       sensor = NULL, argos_class = NULL, argos = NULL, max_dop = NULL, dop = NULL, fix_type = NULL, fix = NULL,
-                       since = NULL, until = NULL, max_speed = NULL, quiet = FALSE) {
+most_levels <- 8
+
+# The home ranges of the animals of fixes, or of a table of fixes, which is read first.
+home_range <- function(x, levels = c(50, 95, 100), by = NULL, ..., progress = interactive(), quiet = FALSE) {
   local_numbers()
   levels <- checked_levels(levels)
-  asked <- new_asked(list(
-    unit = unit, animal = titles_named(animal, "animal"), time = titles_named(time, "time"), easting = easting,
-    northing = northing, months = checked_months(months), hours = checked_hours(hours), every = every, tz = tz, lon = lon,
-    lat = lat, name = name, zone = zone, skip_unnamed = skip_unnamed, sensor = words_of(sensor, "sensor"),
-    argos_class = words_of(argos_class, "argos_class"), argos = argos, max_dop = max_dop, dop = dop,
-    fix_type = words_of(fix_type, "fix_type"), fix = fix, since = either(since, from, "since", "from"),
-    until = either(until, to, "until", "to"), max_speed = max_speed, quiet = quiet
-  ))
-  check_asked(asked)
+  if (!is_truth(quiet)) refuse("option", "quiet: TRUE or FALSE is wanted")
   program <- homerange_program()  # refuses now, and not after all has been read, where there is none
-  read <- read_frame(x, asked, use, crs)
+  read <- fixes_to_take(x, list(...), quiet)
+  whole <- whole_fixes(read$fixes)
+  if (!is.null(by)) {
+    whole <- grouped_fixes(whole, labels_of(read$fixes, by, read$frame))
+    note <- paste0("ranges are by group: ", nrow(whole$groups), " of ", count_of(length(unique(whole$groups$of)), "animal"))
+    if (!quiet) tell_note(note, "guessed")
+  }
   report <- in_folder(function(folder) {
-    files <- write_tracks(read$fixes, folder)
-    run_all(program, files, unique(read$fixes$animal), c("--unit", asked$unit, "--percent", levels), isTRUE(progress))
+    files <- write_tracks(whole$fixes, folder)
+    run_all(program, files, unique(whole$fixes$animal), c("--unit", facts_of(read$fixes)$unit, "--percent", levels), isTRUE(progress))
   })
-  if (!identical(report$rows$second, read$fixes$moment)) refuse("check", "the report has not the times of the fixes")
-  ranges <- new_home_range(report, read$fixes$time, read$fixes, read$left_out, read$crs, read$shift, read$zone, read$notes,
-                           read$tz)
-  ranges[c("options", "is_projected")] <- read[c("options", "is_projected")]
+  if (!identical(report$rows$second, whole$fixes$moment)) refuse("check", "the report has not the times of the fixes")
+  ranges <- ranges_of_fixes(report, whole, read$fixes, if (!is.null(by)) note)
   ranges$program <- identity_of(program)
   ranges$call <- own_call(match.call())
+  ranges
+}
+
+# Fixes that were read, or those of a table with the rows of a frame that they are.
+fixes_to_take <- function(x, options, quiet) {
+  if (!inherits(x, "homerange_fixes")) return(read_table(x, options, quiet))
+  if (length(options)) {
+    name <- c(names(options), "")[1]
+    refuse("option", if (nzchar(name)) paste0(name, ": ") else "there is an argument too many: ", "these fixes are read already, and ",
+           "options of reading go to read_fixes")
+  }
+  list(fixes = x)
+}
+
+# The ranges of a report of fixes, with what is known of these.
+ranges_of_fixes <- function(report, whole, fixes, note) {
+  facts <- facts_of(fixes)
+  left <- if (is.null(whole$groups)) left_since(fixes)
+  ranges <- new_home_range(report, whole$fixes$time, whole$fixes, left, facts$crs, whole$shift, facts$zone, c(facts$notes, note),
+                           facts$tz)
+  ranges["groups"] <- list(whole$groups)
+  ranges$read <- facts[intersect(c("record", "files"), names(facts))]
   ranges
 }
 
@@ -40,38 +56,18 @@ own_call <- function(call) {
 
 # Levels as the program takes them.
 checked_levels <- function(levels) {
-  if (!is.numeric(levels) || length(levels) == 0 || anyNA(levels)) refuse("option", "levels: numbers from 1 to 100 are wanted")
+  if (is.object(levels) || !is.numeric(levels) || length(levels) == 0 || anyNA(levels)) {
+    refuse("option", "levels: numbers from 1 to 100 are wanted, such as c(50, 95), and not ", what_it_is(levels))
+  }
+  odd <- levels[levels != round(levels) | levels < 1 | levels > 100]
+  if (length(odd)) {
+    near <- if (odd[1] > 0 && odd[1] < 1) 100 * odd[1] else round(odd[1])
+    help <- if (near >= 1 && near <= 100 && near == round(near)) paste0(": levels are per cent, such as ", near)
+    refuse("option", "levels: ", cells_of_numbers(odd[1]), " is not a whole number from 1 to 100", help)
+  }
   if (anyDuplicated(levels)) refuse("option", "levels: ", levels[duplicated(levels)][1], " is there twice")
-  paste(format(levels, trim = TRUE, drop0trailing = TRUE, scientific = FALSE), collapse = ",")
-}
-
-checked_months <- function(months) {
-  if (!is.null(months) && (!is.numeric(months) || length(months) == 0 || !all(months %in% 1:12))) {
-    refuse("option", "months: whole numbers from 1 to 12 are wanted")
-  }
-  if (!is.null(months)) sort(unique(months))
-}
-
-checked_hours <- function(hours) {
-  if (is.null(hours)) return(NULL)
-  if (!is.numeric(hours) || length(hours) != 2 || anyNA(hours) || any(hours < 0 | hours > 24) || hours[1] == hours[2]) {
-    refuse("option", "hours: two different numbers from 0 to 24 are wanted, such as c(18, 6) for the night")
-  }
-  as.numeric(hours)
-}
-
-# The titles of columns that an argument names.
-titles_named <- function(value, argument) {
-  if (!is.null(value) && (!is.character(value) || !length(value) || anyNA(value))) {
-    refuse("option", argument, ": the name of one column is wanted, or of several")
-  }
-  value
-}
-
-# An argument that has two names.
-either <- function(new, old, name, old_name) {
-  if (!is.null(new) && !is.null(old)) refuse("option", name, " and ", old_name, " are one argument: give one")
-  if (is.null(new)) old else new
+  if (length(levels) > most_levels) refuse("option", "levels: ", length(levels), " are more than ", most_levels)
+  paste(sprintf("%.0f", levels), collapse = ",")
 }
 
 # Refuses arguments that there are not.

@@ -9,6 +9,7 @@ write_page <- function(x, path, title = NULL, study = NULL, species = NULL, by =
                        tz = NULL, made = NULL) {
   local_numbers()
   check_ranges(x)
+  check_whole(x, "a page")
   check_path(path)
   zone <- zone_of_page(x, tz)
   day <- as.POSIXlt(if (is.null(made)) as.POSIXlt(Sys.time(), tz = zone) else made)
@@ -21,7 +22,9 @@ write_page <- function(x, path, title = NULL, study = NULL, species = NULL, by =
 # The zone of the dates of a page.
 zone_of_page <- function(x, tz) {
   zone <- if (!is.null(tz)) tz else if (is.null(x$tz)) "UTC" else x$tz
-  check_zone_of_time(zone)
+  if (!is_text(zone) || !zone %in% c("UTC", "GMT", OlsonNames())) {
+    refuse("option", "tz='", format(zone)[1], "' is no time zone such as 'Europe/Ljubljana'")
+  }
   zone
 }
 

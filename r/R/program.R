@@ -71,7 +71,7 @@ run_program <- function(program, files, animals, options) {
   output <- tempfile("report", folder)
   fault <- tempfile("fault", folder)
   on.exit(unlink(c(output, fault)))
-  words <- c(options, shQuote(files))
+  words <- shQuote(c(options, files))
   status <- suppressWarnings(system2(program, words, stdout = output, stderr = fault))
   if (status != 0) refuse_run(status, readLines(fault, warn = FALSE, encoding = "UTF-8"), files, animals)
   report_text(output)
@@ -86,6 +86,12 @@ refuse_run <- function(status, lines, files, animals) {
   if (kind == "program" || !length(lines)) line <- paste0("the program ended with status ", status, ": ", line)
   for (place in order(-nchar(files))) line <- gsub(files[place], animals[place], line, fixed = TRUE)
   refuse(kind, line)
+}
+
+# Values as a factor, whose levels stand in the order of the values.
+as_groups <- function(values) {
+  levels <- unique(values)
+  structure(match(values, levels), levels = as.character(levels), class = "factor")
 }
 
 # Writes the fixes of each animal to a file. The file and the animal in it are named by a number, since the program takes not

@@ -1,69 +1,18 @@
-# The record of tracks, split.txt in their folder: of which export or of what frame they were made, how, and by what.
+# The record of tracks, split.txt in their folder: of which table they were made, how, and by what.
 # docs/TABLES.md, The record, has its lines.
 
 kinds_of_lines <- c("export", "sha256", "unit", "zone", "shift", "crs", "option", "said", "left", "track", "tool")
 single_lines <- kinds_of_lines[1:6]
 reasons_of_all <- c("animal", "coordinates", "zero", "sensor", "outlier", "class", "no dop", "dop", "type", "before", "after",
                     "grid", "speed", "months", "hours", "every", "use")  # use is an argument that left rows out
-no_options <- "skip-unnamed"  # whose value may be that of no wish
 
-# The lines of a record. What was left out is by the names that animals have in files.
-lines_of_record <- function(record) {
-  left <- record$left[order(record$left$animal, match(record$left$reason, reasons_of_all), record$left$fixes, method = "radix"), ]
-  tracks <- record$tracks
-  one_line(c(
-    if (!is.null(record$export)) c(paste0("export,", record$export), paste0("sha256,", record$checksum)),
-    paste0("unit,", record$unit), paste0("zone,", if (is.null(record$zone)) "none" else record$zone),
-    if (any(record$shift != 0)) sprintf("shift,%.0f,%.0f", record$shift[1], record$shift[2]),
-    if (!is.null(record$crs)) paste0("crs,", record$crs), option_lines(record$options),
-    if (length(record$said)) paste0("said,", record$said),
-    if (nrow(left)) sprintf("left,%s,%.0f,%s", left$animal, left$fixes, left$reason),
-    sprintf("track,%s,%.0f,%.0f,%s", tracks$animal, tracks$records, tracks$used, tracks$checksum),
-    sprintf("tool,%s", record$tools)
-  ))
-}
-
-# The options that were given, by name; the unit has a line of its own. Signs of control are escaped, and the backslash.
-option_lines <- function(options) {
-  given <- options[!vapply(options, is.null, NA)]
-  names(given) <- gsub("_", "-", names(given), fixed = TRUE)
-  given <- given[setdiff(names(given), "unit")]
-  is_wish <- !(names(given) %in% no_options & vapply(given, function(value) isTRUE(value == 0), NA))
-  given <- given[is_wish]
-  if (!length(given)) return(NULL)
-  given <- given[order(names(given), method = "radix")]
-  values <- vapply(given, function(value) {
-    if (isTRUE(value)) return("")
-    paste0(",", gsub("\\", "\\\\", if (is.numeric(value)) sprintf("%.0f", value) else value, fixed = TRUE))
-  }, "")
-  paste0("option,", names(given), values)
-}
-
-# Values of options as they were before their signs were escaped.
-unescaped <- function(texts) {
-  places <- gregexpr("\\\\(\\\\|x[0-9a-f]{2}|u[0-9a-f]{4})", texts)
+# Texts as they were before signs of control and separators of lines were escaped.
+unescaped <- function(texts, form = "\\\\(x(?:[0189][0-9a-f]|7f)|u202[89])") {
+  places <- gregexpr(form, texts, perl = TRUE)
   regmatches(texts, places) <- lapply(regmatches(texts, places), function(signs) {
     vapply(signs, function(sign) if (sign == "\\\\") "\\" else intToUtf8(strtoi(substring(sign, 3), 16)), "")
   })
   texts
-}
-
-# What made the tracks, by its name, its version and the checksum of its code, and what projected.
-tools_of <- function(name, code, is_projected) {
-  c(sprintf("%s %s,%s", name, code[1], code[2]),
-    if (isTRUE(is_projected)) {
-      sprintf("sf %s (PROJ %s)", utils::packageVersion("sf"), sf::sf_extSoftVersion()[["PROJ"]])
-    })
-}
-
-# The version of this package, and the checksum of its functions and constants as deparse writes them, each below its name.
-code_of_this_package <- function() {
-  own <- topenv()
-  lines <- unlist(lapply(sort(ls(own), method = "radix"), function(name) c(name, deparse(get(name, own)))))
-  text <- tempfile("code")
-  on.exit(unlink(text))
-  write_lines(text, iconv(enc2utf8(lines), "UTF-8", "ASCII", sub = "Unicode"))
-  c(as.character(utils::packageVersion("homerange")), checksum_of(text))
 }
 
 # What a record says.
@@ -89,10 +38,11 @@ read_record <- function(path) {
   refuse_line(which(kinds == "left" & !grepl("^[^,]*,[0-9]+,[^,]+$", rest)))
   refuse_line(which(kinds == "track" & !grepl("^[^,]+,[0-9]+,[0-9]+(,[0-9a-f]{64})?$", rest)))
   of_kind <- function(kind) rest[kinds == kind]
+  options <- options_of_lines(of_kind("option"))
   list(
     export = single$export, checksum = single$sha256, unit = single$unit, zone = if (single$zone != "none") single$zone,
-    shift = if (is.null(single$shift)) c(0, 0) else as.numeric(strsplit(single$shift, ",")[[1]]), crs = single$crs,
-    options = options_of_lines(of_kind("option")), said = of_kind("said"), left = left_of_lines(of_kind("left")),
+    shift = if (is.null(single$shift)) c(0, 0) else as.numeric(strsplit(single$shift, ",")[[1]]),
+    crs = if (is.null(single$crs)) options$crs else single$crs, options = options, said = of_kind("said"), left = left_of_lines(of_kind("left")),
     tracks = tracks_of_lines(of_kind("track")), tools = of_kind("tool")
   )
 }
@@ -100,19 +50,19 @@ read_record <- function(path) {
 # Options by name; TRUE is the value of one that has none.
 options_of_lines <- function(lines) {
   has_value <- grepl(",", lines, fixed = TRUE)
-  values <- as.list(unescaped(sub("^[^,]*,", "", lines)))
+  values <- as.list(unescaped(sub("^[^,]*,", "", lines), "\\\\(\\\\|x[0-9a-f]{2}|u[0-9a-f]{4})"))  # of these the backslash too
   values[!has_value] <- TRUE
   `names<-`(values, sub(",.*", "", lines))
 }
 
 left_of_lines <- function(lines) {
-  data.frame(animal = sub(",.*", "", lines), reason = sub(".*,", "", lines),
+  data.frame(animal = unescaped(sub(",.*", "", lines)), reason = sub(".*,", "", lines),
              fixes = as.numeric(sub("^[^,]*,([0-9]+),.*", "\\1", lines)))
 }
 
 tracks_of_lines <- function(lines) {
   form <- "^([^,]*),([0-9]+),([0-9]+),?(.*)$"
-  data.frame(animal = sub(form, "\\1", lines), records = as.numeric(sub(form, "\\2", lines)),
+  data.frame(animal = unescaped(sub(form, "\\1", lines)), records = as.numeric(sub(form, "\\2", lines)),
              used = as.numeric(sub(form, "\\3", lines)), checksum = sub(form, "\\4", lines))
 }
 

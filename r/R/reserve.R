@@ -10,8 +10,8 @@ homerange_share <- function(x, reserve, level = 100) {
   places <- seq_along(shapes)
   whole <- vapply(places, function(at) area_of(shapes[at]), 0)
   inside <- vapply(places, function(at) area_of(sf::st_intersection(shapes[at], boundary)), 0)
-  data.frame(animal = x$animals$animal, level = level, hectares = whole / 10000, inside = inside / 10000,
-             share = ifelse(whole > 0, inside / whole, NA_real_))
+  with_groups(x, data.frame(animal = x$animals$animal, level = level, hectares = whole / 10000, inside = inside / 10000,
+                            share = ifelse(whole > 0, inside / whole, NA_real_)))
 }
 
 crs_or_none <- function(ranges) if (is.null(ranges$crs)) sf::NA_crs_ else ranges$crs

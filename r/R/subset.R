@@ -1,6 +1,6 @@
 # Some of the animals of home ranges, and the animals of several together.
 
-tables_of_animals <- c("animals", "rows", "corners", "percents", "fixes", "left_out")
+tables_of_animals <- c("animals", "rows", "corners", "percents", "fixes", "left_out", "groups")
 
 # The home ranges of these animals, by their names, their places or truths, in this order.
 `[.home_range` <- function(x, i) {
@@ -14,7 +14,7 @@ tables_of_animals <- c("animals", "rows", "corners", "percents", "fixes", "left_
   if (length(odd)) refuse("option", "there is no animal ", if (is.na(odd[1])) "at this place" else odd[1])
   if (anyDuplicated(names)) refuse("option", "animal ", names[duplicated(names)][1], " is named twice")
   if (!length(names)) refuse("option", "no animal is named")
-  for (table in tables_of_animals) x[[table]] <- rows_of_names(x[[table]], names)
+  for (table in tables_of_animals) x[table] <- list(rows_of_names(x[[table]], names))
   x$overlaps <- x$overlaps[names, names, drop = FALSE]
   as_part(x)
 }
@@ -31,6 +31,7 @@ rows_of_names <- function(table, names) {
 # Ranges that are no longer those of one call or one report, of which evidence is made.
 as_part <- function(ranges) {
   ranges[c("files", "record", "record_file", "checksum")] <- NULL
+  if (!is.null(ranges$read)) ranges$read <- list()
   ranges$cache <- new.env(parent = emptyenv())
   ranges$is_part <- TRUE
   ranges
@@ -57,6 +58,7 @@ check_alike <- function(one, first) {
   what <- c(unit = "unit", shift = "shift", zone = "zone", crs = "CRS", tz = "zone of times", program = "program")
   differs <- !vapply(names(what), function(own) identical(one[[own]], first[[own]]), NA)
   if (any(differs)) refuse("option", "they differ in their ", what[differs][1])
+  if (is.null(one$groups) != is.null(first$groups)) refuse("option", "they differ: those of one are by groups")
   if (!identical(unique(one$percents$level), unique(first$percents$level))) refuse("option", "they differ in their levels")
   if (!identical(class(one$rows$time), class(first$rows$time))) {
     refuse("option", "they differ in their times: those of one are seconds or days")

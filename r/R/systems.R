@@ -1,86 +1,85 @@
-# Reference systems of tables: those of points, those that are named, and those of zones. docs/TABLES.md, Reference systems.
+# Reference systems: of which kind they are, those of zones, and how they are written. docs/TABLES.md, Reference systems.
+#
+# A system of a site alone has no way to degrees: sf would end the session where it is asked for one. Nothing here asks it.
 
-# That of an sf table of points.
-crs_of_points <- function(x) {
-  if (!has_sf()) refuse("crs", "an sf table wants the package sf, which is not installed")
-  crs <- sf::st_crs(x)
-  if (is.na(crs)) refuse("crs", "the points have no CRS: ", call_for_no_crs(sf::st_geometry(x)))
-  check_crs(crs, "x", function() sf::st_coordinates(sf::st_geometry(x))[, 1:2, drop = FALSE])
-  crs
-}
+system_of_a_site <- "\\b(ENGCRS|ENGINEERINGCRS|LOCAL_CS)\\["
+unit_of_a_site <- "UNIT\\[\"([^\"]*)\",\\s*([-+.0-9eE]+)"
 
-# The reference system of columns that was named, or that of an amt track; NULL where there is none.
-crs_of_columns <- function(frame, crs) {
-  if (is.null(crs)) {
-    crs <- attr(frame$x, "crs_", exact = TRUE)
-    if (is.null(crs) || inherits(crs, "crs") && is.na(crs)) return(NULL)
+has_sf <- function() requireNamespace("sf", quietly = TRUE)
+
+# Whether a reference system is that of no place: none, or that of a site in metres. Of a site in another unit it is refused.
+is_without_place <- function(crs, name) {
+  if (is.na(crs) || !isTRUE(nzchar(crs$wkt))) return(TRUE)
+  if (!grepl(system_of_a_site, crs$wkt)) return(FALSE)
+  found <- regmatches(crs$wkt, regexec(unit_of_a_site, crs$wkt))[[1]]
+  if (length(found) && !as.numeric(found[3]) %in% c(0, 1)) {
+    refuse("crs", name, ": the unit of the coordinates is not the metre but ", found[2], ": turn them into metres first")
   }
-  if (!has_sf()) refuse("option", "crs: this wants the package sf, which is not installed")
-  if (!inherits(crs, "crs") && length(crs) != 1) refuse("crs", "crs: one coordinate reference system is wanted")
-  crs <- tryCatch(suppressWarnings(sf::st_crs(crs)), error = function(fault) refuse("crs", "crs: ", conditionMessage(fault)))
-  if (is.na(crs)) refuse("crs", "crs: there is no such coordinate reference system")
-  columns <- frame$table$columns$grid
-  if (is.null(columns)) columns <- frame$table$columns$degrees
-  titles <- title_of(frame$table, columns)
-  points <- sprintf("sf::st_as_sf(x, coords = c(\"%s\", \"%s\"), crs = \"%s\", na.fail = FALSE)", titles[1], titles[2], crs$input)
-  numbers_of <- function(column) suppressWarnings(as.numeric(column))
-  check_crs(crs, points, function() vapply(frame$x[columns], numbers_of, numeric(nrow(frame$x))))
-  crs
+  TRUE
 }
 
-# Refuses a CRS that is no plane in metres, and says how to project the points.
-check_crs <- function(crs, name, coordinates) {
+# Whether a reference system that has a place has longitude and latitude. What is no plane in metres either is refused.
+is_in_degrees <- function(crs, name, coordinates) {
+  if (isTRUE(sf::st_is_longlat(crs))) return(TRUE)
+  has_way <- isTRUE(nzchar(crs$proj4string)) && !grepl("+proj=geocent", crs$proj4string, fixed = TRUE)
+  if (!has_way) refuse("crs", name, ": ", one_line(crs$Name), " is no plane of eastings and northings: project the points first")
+  unit <- crs$units_gdal
   kind <- "crs"
-  why <- if (isTRUE(sf::st_is_longlat(crs))) {
-    "longitude and latitude are no plane coordinates"
-  } else if (!isTRUE(tolower(crs$units_gdal) %in% c("metre", "meter", "m"))) {
-    paste0("the unit of the coordinates is not the metre but ", crs$units_gdal)
+  why <- if (!isTRUE(unit %in% c("metre", "meter", "Metre", "Meter", "m"))) {
+    paste0("the unit of the coordinates is not the metre but ", unit)
   } else if (grepl("Pseudo.Mercator", crs$wkt)) {
     kind <- "scale"
     "web maps' Mercator projection stretches areas"
   }
-  if (is.null(why)) return(invisible())
-  refuse(kind, why, ": sf::st_transform(", name, ", ", utm_code_of(matrix(coordinates(), ncol = 2), crs), ")")
+  if (!is.null(why)) refuse(kind, why, ": sf::st_transform(", name, ", ", utm_code_of(coordinates(), crs), ")")
+  FALSE
 }
 
 # The EPSG code of the UTM zone of most points; the word EPSG where none has a place.
 utm_code_of <- function(coordinates, crs) {
   coordinates <- coordinates[is.finite(rowSums(coordinates)), , drop = FALSE]
-  if (!isTRUE(sf::st_is_longlat(crs)) && nrow(coordinates)) {
-    coordinates <- sf::sf_project(crs$wkt, "EPSG:4326", coordinates, keep = TRUE, warn = FALSE)
-    coordinates <- coordinates[is.finite(rowSums(coordinates)), , drop = FALSE]
-  }
-  if (!nrow(coordinates)) return("EPSG")
-  code_of_zone(ranked(zones_at(coordinates[, 1], coordinates[, 2]))$first)
+  degrees <- if (nrow(coordinates)) in_degrees(coordinates, crs) else coordinates
+  degrees <- degrees[is.finite(rowSums(degrees)), , drop = FALSE]
+  if (!nrow(degrees)) return("EPSG")
+  zones <- paste0(floor((degrees[, 1] + 180) / 6) %% 60 + 1, ifelse(degrees[, 2] >= 0, "N", "S"))
+  code_of_zone(names(which.max(table(zones))))
 }
 
-call_for_no_crs <- function(points) {
-  at <- sf::st_coordinates(points)
-  at <- at[is.finite(at[, "X"]), 1:2, drop = FALSE]
-  if (nrow(at) && all(abs(at[, "X"]) <= 180 & abs(at[, "Y"]) <= 90)) {
-    return(paste0("sf::st_transform(sf::st_set_crs(x, 4326), ", utm_code_of(at, sf::st_crs(4326)), ")"))
-  }
-  "sf::st_set_crs(x, 32633) where they are of UTM zone 33 north"
+# Coordinates of a reference system that has a place as longitude and latitude of WGS 84; not finite where they have none.
+in_degrees <- function(coordinates, crs) {
+  sf::sf_project(crs$wkt, "EPSG:4326", coordinates, keep = TRUE, warn = FALSE, authority_compliant = FALSE)
 }
 
-# What tells the areal scale of the reference system that is known; NULL where a zone is.
-frame_scale <- function(frame) {
-  if (!is.null(frame$crs) && is.null(frame$asked$zone) && !frame$table$columns$is_utm) scale_of_crs(frame$crs)
+# A reference system that was named.
+named_crs <- function(crs) {
+  if (!has_sf()) refuse("option", "crs: this wants the package sf, which is not installed")
+  if (!inherits(crs, "crs") && length(crs) != 1) refuse("crs", "crs: one coordinate reference system is wanted")
+  crs <- tryCatch(suppressWarnings(sf::st_crs(crs)), error = function(fault) refuse("crs", "crs: ", conditionMessage(fault)))
+  if (is.na(crs)) refuse("crs", "crs: there is no such coordinate reference system")
+  crs
 }
 
-# Refuses a zone that is not that of the reference system.
-check_zone_of_crs <- function(zone, crs) {
-  if (is.null(zone) || is.null(crs)) return(invisible())
-  form <- "^.*[+]proj=utm.*[+]zone=([0-9]+)( [+]south)?.*$"
-  is_utm <- grepl(form, crs$proj4string)
-  own <- if (is_utm) paste0(sub(form, "\\1", crs$proj4string), if (grepl("[+]south", crs$proj4string)) "S" else "N")
-  if (identical(own, zone)) return(invisible())
-  refuse("zone", "the coordinates are of the zone ", zone, ", and the CRS ", crs$input, " is ",
-         if (is_utm) paste("that of", own) else "none of UTM", ": give one of the two")
+# The EPSG code of a zone, on the ellipsoid of WGS 84.
+code_of_zone <- function(zone) (if (endsWith(zone, "N")) 32600 else 32700) + as.numeric(sub("[NS]", "", zone))
+
+# A reference system of sf as it is written: its code and its name, or how it is defined where it has neither; those of UTM
+# are written alike in all languages.
+text_of_crs <- function(crs) {
+  zone <- zone_of_crs(crs)
+  if (!is.null(zone)) return(text_of_zone(zone))
+  own <- "^.*ID\\[\"([^\"]+)\",\"?([^]\"]+)\"?\\]\\]$"
+  wkt <- gsub("\\s*\n\\s*", "", crs$wkt)
+  if (grepl(own, wkt)) return(paste0(sub(own, "\\1:\\2", wkt), " (", crs$Name, ")"))
+  if (crs$Name == "unknown") crs$proj4string else crs$Name
 }
 
-# The reference system of the answers: the one that is known, or that of the zone; NULL where there is none.
-crs_of_tracks <- function(frame, tracks) {
-  if (!is.null(frame$crs)) return(frame$crs)
-  if (!is.null(tracks$zone) && has_sf()) sf::st_crs(code_of_zone(tracks$zone))
+# The reference system of a zone as it is written.
+text_of_zone <- function(zone) sprintf("EPSG:%.0f (WGS 84 / UTM zone %s)", code_of_zone(zone), zone)
+
+# The zone of a reference system of sf; NULL where it is that of none.
+zone_of_crs <- function(crs) {
+  code <- if (is.null(crs)) NA else crs$epsg
+  number <- code %% 100
+  if (!(code %/% 100) %in% c(326, 327) || !number %in% 1:60) return(NULL)
+  paste0(number, if (code < 32700) "N" else "S")
 }

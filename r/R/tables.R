@@ -37,15 +37,16 @@ summary.home_range <- function(object, area = "ha", units = FALSE, ...) {
     fixes = object$animals$fixes[place], left_out = left_out[place]
   )
   areas <- area_column(object, object$percents$area2, area, units)
-  list2DF(c(columns, as.list(object$percents[c("level", "kept", "corners")]), areas))
+  with_groups(object, list2DF(c(columns, as.list(object$percents[c("level", "kept", "corners")]), areas)))
 }
 
 # A row for each animal and level.
 as.data.frame.home_range <- function(x, row.names = NULL, optional = FALSE, ..., stringsAsFactors = FALSE, area = "ha",
                                      units = FALSE) {
   table <- summary(x, area = area, units = units, ...)
-  table <- table[c("animal", "level", setdiff(names(table), c("animal", "level", "first", "last", "left_out")))]
-  if (isTRUE(stringsAsFactors)) table$animal <- factor(table$animal, x$animals$animal)
+  first <- intersect(c("animal", "group", "level"), names(table))
+  table <- table[c(first, setdiff(names(table), c(first, "first", "last", "left_out")))]
+  if (isTRUE(stringsAsFactors)) table$animal <- factor(table$animal, unique(table$animal))
   if (!is.null(row.names)) row.names(table) <- row.names
   table
 }
@@ -53,6 +54,7 @@ as.data.frame.home_range <- function(x, row.names = NULL, optional = FALSE, ...,
 # How many fixes were left out of the table, by animal and reason.
 homerange_left_out <- function(x) {
   check_ranges(x)
+  check_whole(x, "what was left out")
   if (is.null(x$left_out)) refuse("option", "a report does not say what was left out")
   table <- x$left_out[order(x$left_out$animal, x$left_out$reason, method = "radix"), ]
   rownames(table) <- NULL
@@ -62,7 +64,7 @@ homerange_left_out <- function(x) {
 # The table of incremental area analysis.
 homerange_curve <- function(x, area = "ha", units = FALSE) {
   check_ranges(x)
-  list2DF(c(as.list(x$rows[c("animal", "n", "time", "corners")]), area_column(x, x$rows$area2, area, units)))
+  with_groups(x, list2DF(c(as.list(x$rows[c("animal", "n", "time", "corners")]), area_column(x, x$rows$area2, area, units))))
 }
 
 # How many fixes, or which share, of a row's animal lie in the polygon of a column's animal.
@@ -139,7 +141,7 @@ level_table <- function(ranges, level) {
 
 # A table of polygons with these rings and its areas in a unit.
 shapes_of <- function(ranges, table, rings, area, units) {
-  numbers <- table[setdiff(names(table), "area2")]
+  numbers <- with_groups(ranges, table[setdiff(names(table), "area2")])
   sf::st_sf(list2DF(c(as.list(numbers), area_column(ranges, table$area2, area, units))),
             geometry = sf::st_sfc(lapply(unname(rings), as_shape), crs = crs_or_none(ranges)))
 }

@@ -7,11 +7,12 @@ Estimates the home ranges of tagged animals from their location fixes by the min
 polygons, incremental area analysis, and overlaps of animals.
 }
 \details{
-The package checks a table of fixes, writes a file for each animal, runs the program \code{homerange} on them and reads
-its report. Each function of that program is proved to meet its contract, and its numbers are exact whole numbers. The
+The package has the program \code{homerange-split} read a table of fixes, runs the program \code{homerange} on them and reads its
+report. Each function of these programs is proved to meet its contract, and their numbers are exact whole numbers. The
 package itself is tested, and not proved.
 
-\code{\link{home_range}} makes home ranges from a table, \code{\link{read_report}} reads them from a report.
+\code{\link{read_fixes}} reads a data frame, points of sf, or an export of Movebank or of a collar, \code{\link{home_range}} makes
+home ranges of fixes, and \code{\link{read_report}} reads them from a report.
 \code{\link[=summary.home_range]{summary}} and \code{as.data.frame} give tables of them,
 \code{\link[=st_as_sf.home_range]{sf::st_as_sf}} and \code{\link{homerange_corners}} polygons,
 \code{\link[=plot.home_range]{plot}} draws them, and \code{\link[=c.home_range]{[ and c}} take some animals and put several
@@ -19,8 +20,7 @@ together. \code{\link{homerange_curve}} has the areas after each fix, \code{\lin
 \code{\link{homerange_overlap}} has the fixes of one animal in the range of another, \code{\link{homerange_share}} the
 share of ranges in a reserve, and \code{\link{homerange_left_out}} the fixes that were left out. \code{\link{write_page}} writes a page of
 all this, \code{\link{write_report}} the report, and \code{\link{homerange_evidence}} makes a folder to hand in.
-\code{\link{read_export}} reads exports of Movebank and of collars. \code{\link{homerange_program}} says which
-program is run. \code{vignette("homerange")} goes from an export to the share of ranges in a reserve.
+\code{\link{homerange_program}} says which program is run. \code{vignette("homerange")} goes from an export to the share of ranges in a reserve.
 
 The options \code{scipen}, \code{OutDec} and \code{digits} of a session change nothing of what the package reads, says, prints and
 writes.
@@ -38,12 +38,12 @@ them apart and \code{suppressMessages(.., classes = "homerange_rounded_note")} c
 \code{homerange_limit_note} \tab the program refuses what follows \cr
 \code{homerange_renamed_note} \tab an animal has another name in files
 }
-With \code{home_range(.., quiet = TRUE)} nothing is said, and the lines are in \code{notes} of the object all the same.
+With \code{quiet = TRUE} nothing is said, and the lines are in \code{notes} of the object all the same.
 }
 \section{Errors}{
 Each error of the package has the class \code{homerange_error} and another, which \code{\link{tryCatch}} can tell apart:
 \tabular{ll}{
-\code{homerange_data_error} \tab the table of fixes is refused; the message names the row. Beside it stands the kind of
+\code{homerange_data_error} \tab the table of fixes is refused; the message names the row or the record. Beside it stands the kind of
   docs/TABLES.md, such as \code{homerange_time_error} \cr
 \code{homerange_option_error} \tab an argument is refused, by the package or by the program (its status 2) \cr
 \code{homerange_program_error} \tab there is no program, or it ended with a status that it does not know \cr

@@ -13,7 +13,7 @@ homerange_curve(x, area = "ha", units = FALSE)
 }
 \value{
 A data frame with a row for each fix and the columns
-\item{animal}{the animal's name.}
+\item{animal}{the animal's name; behind it stands \code{group} where ranges are by groups.}
 \item{n}{the number of the fix, from 1 for each animal, in the order of time.}
 \item{time}{its time; for a report without \code{start} its second.}
 \item{corners}{how many corners the minimum convex polygon of the first n fixes has.}

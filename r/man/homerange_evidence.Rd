@@ -18,10 +18,10 @@ The program is run again, on the files in the folder, and its report has to have
 \tabular{ll}{
 \code{SHA256SUMS} \tab the checksum of each other file \cr
 \code{evidence.txt} \tab the record of the run, a field a line: the program with its version and checksum, arguments, unit,
-  levels, and the export, which is \code{none} where \code{x} was made of a table \cr
+  levels, and the export, which is \code{fixes.csv} where \code{x} was made of a data frame \cr
 \code{report.txt} \tab the report \cr
 \code{tracks} \tab the fixes, a file for each animal, and \code{split.txt}, the record of how they were made: unit, reference
-  system, shift, the arguments of \code{home_range}, what was said and left out, checksums, and what made them \cr
+  system, shift, the options, what was said and left out, checksums, and what made them \cr
 \code{summary.csv} \tab for each animal and level fixes, corners and hectares \cr
 \code{animals.csv} \tab for each animal what was left out and why, times, intervals, hectares, and
   \code{\link{homerange_growth}} \cr
@@ -33,6 +33,9 @@ The program is run again, on the files in the folder, and its report has to have
 \code{tools/verify.py} of homerange's repository checks such a folder: that no file was changed, that the program makes the
 same report again, that another method computes each of its numbers, and that tables, polygons and page are those of the tracks
 and of their record. Whether the table was right nobody can see from it.
+
+Fixes that are as \code{\link{read_fixes}} has read them go with the record of that. Those that were filtered, bound or changed since
+are split again by the program, and the record is that of this split.
 
 Of a report that was read with its files these are copied, with the record that was named, or else the \code{split.txt} beside
 them; they have to be as it says. Where it is the record of a split, the verifier holds the folder to the export too.

@@ -13,7 +13,7 @@ homerange_growth(x)
 }
 \value{
 A data frame with a row for each animal and the columns
-\item{animal}{the animal's name.}
+\item{animal}{the animal's name; behind it stands \code{group} where ranges are by groups.}
 \item{fixes}{how many fixes are used.}
 \item{hectares}{the area of the polygon of all of them.}
 \item{within_95_fix, within_95_time}{the number and the time of the first fix from which on the area stayed at 95 per

@@ -12,10 +12,10 @@ homerange_left_out(x)
 A data frame with a row for each animal and reason:
 \item{animal}{the animal's name, empty where a row has none.}
 \item{reason}{why: a word of those that docs/TABLES.md of homerange's repository has, such as \code{coordinates} of fixes that
-  failed, \code{outlier}, \code{hours}, or \code{use} of rows that the argument of this name leaves out.}
+  failed, \code{outlier}, \code{speed}, or \code{use} of fixes that were taken away after they were read.}
 \item{fixes}{how many.}
 }
 \examples{
 found <- tryCatch(nzchar(homerange_program()), homerange_program_error = function(fault) FALSE)
-if (found) homerange_left_out(home_range(deer, hours = c(18, 6)))
+if (found) homerange_left_out(home_range(deer, every = "6h"))
 }

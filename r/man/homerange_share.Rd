@@ -13,7 +13,7 @@ homerange_share(x, reserve, level = 100)
 }
 \value{
 A data frame with a row for each animal, in the order of \code{x}:
-\item{animal}{the animal's name.}
+\item{animal}{the animal's name; behind it stands \code{group} where ranges are by groups.}
 \item{level}{the level in per cent.}
 \item{hectares}{the area of its polygon in hectares.}
 \item{inside}{how many of them lie in the reserve: 0 where it lies outside.}

@@ -20,7 +20,7 @@ The minimum convex polygons of home ranges as a table of the package sf, for map
 }
 \value{
 An \code{sf} table in the coordinate reference system of the fixes, or without one where none is known, with a row for each
-animal and level, level by level, and the columns \code{animal}, \code{level}, \code{fixes} (how many are used), \code{kept} (how
+animal and level, level by level, and the columns \code{animal}, \code{group} where ranges are by groups, \code{level}, \code{fixes} (how many are used), \code{kept} (how
 many of them the level keeps), \code{corners}, an area, and \code{geometry}. \code{\link{homerange_corners}} says how polygons
 below level 100 are made and what is refused.
 }

@@ -5,12 +5,12 @@ setwd(commandArgs(trailingOnly = TRUE)[1])
 day <- as.Date("2026-11-26")
 dir.create("by_r")
 
-# Writes a table of fixes, and makes the evidence of what is read of it.
-hand_in <- function(case, table, ..., title = NULL) {
+# Writes a table of fixes, and makes the evidence of what is read of it, all or some of the fixes.
+hand_in <- function(case, table, levels = c(50, 95, 100), ..., filter = identity, title = NULL) {
   path <- paste0(case, ".csv")
   write.csv(table, path, row.names = FALSE, na = "")
-  frame <- read.csv(path, check.names = FALSE)
-  suppressMessages(homerange_evidence(home_range(frame, ...), file.path("by_r", case), title = title, made = day))
+  fixes <- filter(read_fixes(read.csv(path, check.names = FALSE), ..., quiet = TRUE))
+  suppressMessages(homerange_evidence(home_range(fixes, levels), file.path("by_r", case), title = title, made = day))
 }
 
 # Names that no file has, fixes that failed, an animal of outliers alone, and a dilution of precision.
@@ -23,14 +23,14 @@ told$easting[5] <- NA
 told <- rbind(told, transform(told[1:2, ], animal = "gone", visible = FALSE))
 hand_in("deer", deer, title = "<b> & deer")
 hand_in("told", told, c(50, 95, 100), zone = "33N", tz = "Europe/Ljubljana", every = 6, since = as.Date("2024-04-02"),
-        until = as.POSIXct("2024-05-10 12:00", tz = "UTC"), hours = c(3, 22.5), months = c(5, 4), max_dop = "6", max_speed = 0.5)
-system <- transform(told, easting = easting - 562000 + 4321000, northing = northing - 5134000 + 3210000, ok = dop > 1)
-hand_in("system", system, crs = "EPSG:3035", unit = "dm", use = "ok", animal = "animal")
-hand_in("truths", system, c(33, 90), crs = 3035, use = seq_len(nrow(system)) %% 5 > 0)
+        until = as.POSIXct("2024-05-10 12:00", tz = "UTC"), max_dop = "6", max_speed = 0.5)
+system <- transform(told, easting = easting - 562000 + 4321000, northing = northing - 5134000 + 3210000)
+hand_in("system", system, crs = "EPSG:3035", unit = "dm", animal = "animal")
+hand_in("filtered", system, c(33, 90), crs = 3035, filter = function(fixes) subset(fixes, easting %% 2 == 0))
 one <- subset(transform(told, easting = easting - 562000, northing = northing - 5134000), animal == "Cilla", -animal)
 hand_in("grid", one, name = "Fox", since = "2024-04-20 05:00")
 degrees <- transform(told, lon = 15 + (easting - 500000) / 77000, lat = 46 + (northing - 5095000) / 111000)
-hand_in("degrees", degrees[!is.na(degrees$lon), c("animal", "timestamp", "lon", "lat")], zone = "33N", use = TRUE)
+hand_in("degrees", degrees[!is.na(degrees$lon), c("animal", "timestamp", "lon", "lat")])
 many <- data.frame(animal = paste0("deer", rep(1:70, each = 9)), second = 3600 * 0:8, easting = head(deer$utm.easting, 630),
                    northing = head(deer$utm.northing, 630))
 hand_in("many", many, 95, skip_unnamed = TRUE)

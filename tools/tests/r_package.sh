@@ -20,8 +20,6 @@ without_program() {
 rm -rf r_package
 mkdir r_package
 cd r_package || exit 1
-holds 'its forms of letters are those of the package for Python' \
-    cmp "$top/r/inst/extdata/letters.csv" "$top/python/homerange/letters.csv"
 holds 'its template of the page is that of the package for Python' \
     cmp "$top/r/inst/extdata/page.html" "$top/python/homerange/page.html"
 for layer in ranges fixes; do

@@ -61,9 +61,10 @@ kept_by_quantile <- function(easting, northing, level) {
 # Makes a call when a test ends, the last one first.
 at_end <- function(call, frame) do.call(on.exit, list(call, add = TRUE, after = FALSE), envir = frame)
 
-# A program that does as this script says, in a folder that is gone when the test ends.
+# A program that does as this script says in the place of homerange, in a folder that is gone when the test ends.
 local_program <- function(script, frame = parent.frame()) {
   folder <- local_folder(frame)
+  file.symlink(split_program(), file.path(folder, "homerange-split"))
   path <- file.path(folder, "program")
   writeLines(c("#!/bin/sh", script), path)
   Sys.chmod(path, "755")
@@ -78,4 +79,10 @@ local_folder <- function(frame = parent.frame()) {
   dir.create(folder)
   at_end(bquote(unlink(.(folder), recursive = TRUE)), frame)
   folder
+}
+
+# Fixes with another column.
+transform_fixes <- function(fixes, column, value) {
+  fixes[[column]] <- value
+  fixes
 }

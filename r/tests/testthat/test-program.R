@@ -5,7 +5,7 @@ fixes <- function() {
 }
 
 test_that("each status has its class, and animals stand for files", {
-  skip_on_os("windows")
+  skip_without_split()
   classes <- paste0("homerange_", c("file", "option", "memory", "output", "cut"), "_error")
   for (status in seq_along(classes)) {
     # The fifth and sixth arguments are the files.
@@ -17,7 +17,7 @@ test_that("each status has its class, and animals stand for files", {
 })
 
 test_that("files and animals are numbers in a folder that is gone afterwards", {
-  skip_on_os("windows")
+  skip_without_split()
   folder <- local_folder()
   said <- file.path(folder, "said")
   local_program(sprintf("echo \"$@\" >'%s'; cat \"$5\" >>'%s'; exit 3", said, said))
@@ -32,7 +32,7 @@ test_that("files and animals are numbers in a folder that is gone afterwards", {
 })
 
 test_that("a program that cannot run is an error of its own", {
-  skip_on_os("windows")
+  skip_without_split()
   local_program("exit 70")
   expect_error(quietly(home_range(fixes())), "ended with status 70", class = "homerange_program_error")
   local_program("kill -9 $$")
@@ -40,7 +40,7 @@ test_that("a program that cannot run is an error of its own", {
 })
 
 test_that("a report that is cut off or of other animals is refused", {
-  skip_on_os("windows")
+  skip_without_split()
   local_program("echo animal,b,fixes,1")
   expect_error(quietly(home_range(fixes())), "there is no end line", class = "homerange_report_error")
   lines <- c("animal,b,fixes,1", "box,b,0,0,0,0", "row,b,1,0,1,0", "corner,b,1,0,0", "percent,b,50,1,1,0", "end,1")
@@ -186,7 +186,7 @@ test_that("ranges know which program made them, and by which call", {
 
 test_that("a file that the program refuses is told by its animal", {
   skip_without_program()
-  many <- data.frame(animal = "the hare", second = 0, easting = rep(1, 1048577), northing = 1)
+  many <- data.frame(animal = "the hare", second = 60, easting = rep(1, 1048577), northing = 1)
   expect_error(quietly(home_range(many)), "^homerange: the hare: more than 1048576 records after the header$",
                class = "homerange_file_error")
 })

@@ -1,16 +1,13 @@
-# Tables of sf: in, and polygons out.
+# Points of sf and reference systems: in, and polygons out.
 
-points_of <- function(crs = 32633) {
+hare_points <- function(crs = 32633) {
   sf::st_as_sf(walk("hare", 50, 21), coords = c("easting", "northing"), crs = crs)
 }
-
-# The same points in longitude and latitude.
-degrees <- function() sf::st_transform(points_of(), 4326)
 
 test_that("points of a projected CRS go in, and polygons of this CRS come out", {
   skip_without_program()
   skip_if_not_installed("sf")
-  points <- points_of()
+  points <- hare_points()
   ranges <- quietly(home_range(points))
   for (level in c(50, 95, 100)) {
     range <- sf::st_as_sf(ranges, level)
@@ -31,7 +28,7 @@ test_that("ranges without an area are lines and points", {
   skip_if_not_installed("sf")
   fixes <- data.frame(id = c("one", "two", "two", "three", "three", "three"), date = as.Date("2024-05-01") + 0:5,
                       x = c(1, 1, 2, 1, 2, 1), y = c(1, 1, 2, 1, 1, 2))
-  ranges <- sf::st_as_sf(quietly(home_range(fixes, crs = 32633)), 100)
+  ranges <- sf::st_as_sf(quietly(home_range(fixes, crs = 3035)), 100)
   expect_identical(as.character(sf::st_geometry_type(ranges)), c("POINT", "LINESTRING", "POLYGON"))
   expect_equal(ranges$hectares, c(0, 0, 0.00005))
 })
@@ -39,56 +36,147 @@ test_that("ranges without an area are lines and points", {
 test_that("decimetres come out as metres", {
   skip_without_program()
   skip_if_not_installed("sf")
-  ranges <- sf::st_as_sf(quietly(home_range(points_of(), unit = "dm")))
+  ranges <- sf::st_as_sf(quietly(home_range(hare_points(), unit = "dm")))
   expect_equal(as.numeric(sf::st_area(ranges)) / 10000, ranges$hectares)
 })
 
-test_that("a table whose coordinates cannot be taken is refused, with the call that helps", {
+test_that("points in degrees are projected, whatever their geographic system is", {
   skip_without_program()
   skip_if_not_installed("sf")
-  refused <- function(points, message) {
-    expect_error(quietly(home_range(points)), message, fixed = TRUE, class = "homerange_data_error")
+  wanted <- as.data.frame(read_fixes(hare_points(), quiet = TRUE))
+  for (crs in list(4326, 4269, "OGC:CRS84", "+proj=longlat +ellps=GRS80")) {
+    found <- read_fixes(sf::st_transform(hare_points(), crs), quiet = TRUE)
+    expect_lte(max(abs(found$easting - wanted$easting), abs(found$northing - wanted$northing)), 1)
+    expect_identical(facts_of(found)$zone, "33N")
   }
-  refused(degrees(), "no plane coordinates: sf::st_transform(x, 32633)")
-  refused(sf::st_set_crs(degrees(), NA), "no CRS: sf::st_transform(sf::st_set_crs(x, 4326), 32633)")
-  refused(sf::st_set_crs(points_of(), NA), "no CRS: sf::st_set_crs(x, 32633) where they are of UTM zone 33 north")
-  # Feet of New York, zone 18.
-  new_york <- walk("hare", 50, 21, at = c(981000, 199000))
-  feet <- sf::st_as_sf(new_york, coords = c("easting", "northing"), crs = 2263)
-  refused(feet, "is not the metre but US survey foot: sf::st_transform(x, 32618)")
-  refused(sf::st_transform(points_of(), 3857), "stretches areas: sf::st_transform(x, 32633)")
-  melbourne <- data.frame(id = "a", date = as.Date("2024-05-01"), x = 144.9, y = -37.8)
-  south <- sf::st_as_sf(melbourne, coords = c("x", "y"), crs = 4326)
-  refused(south, "sf::st_transform(x, 32755)")
-  shapes <- sf::st_sfc(sf::st_point(1:2), sf::st_linestring(diag(2)), crs = 32633)
-  lines <- sf::st_set_geometry(points_of()[1:2, ], shapes)
-  refused(lines, "row 2: the geometry is a LINESTRING and no POINT")
-  refused(sf::st_cast(points_of(), "MULTIPOINT"), "row 1: the geometry is a MULTIPOINT and no POINT: sf::st_cast(x, \"POINT\")")
-  measured <- sf::st_set_geometry(points_of()[1:2, ], sf::st_sfc(sf::st_point(c(5e5, 5e6, 1, 1)), sf::st_point(), crs = 32633))
-  expect_equal(quietly(home_range(measured))$fixes$row, 1)
-  empty <- points_of()
-  sf::st_geometry(empty)[3] <- sf::st_point()
-  expect_match(capture_messages(home_range(empty)), "1 records have no coordinates: left out", all = FALSE)
-  expect_equal(nrow(homerange_curve(quietly(home_range(empty[!sf::st_is_empty(empty), ])))), 49)
-  expect_equal(nrow(homerange_curve(quietly(home_range(empty, use = !sf::st_is_empty(empty))))), 49)
-  expect_error(quietly(home_range(points_of(), easting = "x", northing = "y")), "brings its own",
-               class = "homerange_option_error")
+  expect_message(read_fixes(sf::st_transform(hare_points(), 4269)), "points of NAD83 are turned into longitude and latitude of WGS 84",
+                 class = "homerange_guessed_note")
 })
 
-test_that("the call that helps does", {
+test_that("points that cannot be taken are refused, with the call that helps", {
+  skip_without_split()
+  skip_if_not_installed("sf")
+  refused <- function(points, message, ...) {
+    expect_error(read_fixes(points, ..., quiet = TRUE), message, fixed = TRUE, class = "homerange_data_error")
+  }
+  degrees <- sf::st_transform(hare_points(), 4326)
+  refused(sf::st_set_crs(degrees, NA), "the points have no CRS, and lie as longitude and latitude do: sf::st_set_crs(x, 4326) says so")
+  # Feet of New York, zone 18.
+  feet <- sf::st_as_sf(walk("hare", 50, 21, at = c(981000, 199000)), coords = c("easting", "northing"), crs = 2263)
+  refused(feet, "is not the metre but US survey foot: sf::st_transform(x, 32618)")
+  refused(sf::st_transform(hare_points(), 3857), "stretches areas: sf::st_transform(x, 32633)")
+  refused(sf::st_as_sf(data.frame(x = 1, y = 2, z = 3), coords = c("x", "y", "z"), crs = 4978), "x: WGS 84 is no plane of eastings")
+  shapes <- sf::st_sfc(sf::st_point(1:2), sf::st_linestring(diag(2)), crs = 32633)
+  refused(sf::st_set_geometry(hare_points()[1:2, ], shapes), "row 2: point easting is '<linestring>' and not a number")
+  refused(sf::st_cast(hare_points(), "MULTIPOINT"), "row 1: point easting is '<multipoint>'")
+  renamed <- hare_points()
+  names(renamed)[3] <- "shape"
+  refused(renamed, "x has no geometry where sf looks for it: sf::st_geometry(x) <- \"COLUMN\" says where it is")
+  expect_error(read_fixes(hare_points(), crs = 3035), "crs: points of sf bring their own", class = "homerange_option_error")
+  refused(hare_points(), "the coordinates are of the zone 32N, and the CRS WGS 84 / UTM zone 33N is that of 33N: give one", zone = "32N")
+  expect_identical(facts_of(read_fixes(hare_points(), zone = "33 n", quiet = TRUE))$zone, "33N")
+})
+
+test_that("missing points are left out, and further dimensions are not looked at", {
+  skip_without_split()
+  skip_if_not_installed("sf")
+  empty <- hare_points()
+  sf::st_geometry(empty)[3] <- sf::st_point()
+  expect_message(fixes <- read_fixes(empty), "1 records have no coordinates: left out")
+  expect_identical(nrow(fixes), 49L)
+  measured <- sf::st_set_geometry(hare_points()[1:2, ], sf::st_sfc(sf::st_point(c(5e5, 5e6, 1, 1)), sf::st_point(), crs = 32633))
+  expect_identical(read_fixes(measured, quiet = TRUE)$easting, 5e5)
+})
+
+test_that("the geometry is left alone where coordinates are named, and no title is taken twice", {
+  skip_without_split()
+  skip_if_not_installed("sf")
+  points <- cbind(hare_points(), x = 5e5 + 0:49, y = 5e6 + 0:49)
+  expect_identical(read_fixes(points, easting = "x", northing = "y", quiet = TRUE)$easting, 5e5 + 0:49)
+  points[["point easting"]] <- 1
+  expect_identical(read_fixes(points, quiet = TRUE)$easting, sf::st_coordinates(hare_points())[, "X"], ignore_attr = TRUE)
+})
+
+# A session of its own, since a fault of this kind ends it.
+ends_well <- function(...) {
+  code <- c("library(homerange)", "s <- sf::st_as_sf(data.frame(id = 'a', date = as.Date('2024-05-01') + 0:2, x = c(1, 900, 1), y = c(1, 1, 900)),
+    coords = c('x', 'y'))", ..., "f <- read_fixes(x, quiet = TRUE); r <- home_range(f, 100)
+    cat(summary(r)$hectares, is.null(attr(f, 'homerange')$crs), '\\n')")
+  path <- tempfile(fileext = ".R")
+  on.exit(unlink(path))
+  writeLines(code, path)
+  suppressWarnings(system2(file.path(R.home("bin"), "Rscript"), path, stdout = TRUE, stderr = TRUE))
+}
+
+test_that("a system of a site in metres is one of no known place, and one in feet is refused", {
   skip_without_program()
   skip_if_not_installed("sf")
-  projected <- summary(quietly(home_range(sf::st_transform(degrees(), 32633))))
-  expect_equal(projected$hectares, summary(quietly(home_range(points_of())))$hectares, tolerance = 0.01)
+  site <- function(unit) paste0("ENGCRS[\"Site\",EDATUM[\"Site\"],CS[Cartesian,2],AXIS[\"x\",east],AXIS[\"y\",north],LENGTHUNIT[", unit, "]]")
+  metres <- "40.41005 TRUE "  # half of 899 by 899 metres
+  expect_identical(ends_well("x <- s"), metres)
+  expect_identical(ends_well("x <- sf::st_set_crs(s, 'LOCAL_CS[\"farm\",UNIT[\"metre\",1]]')"), metres)
+  expect_identical(ends_well(paste0("x <- sf::st_set_crs(s, '", site("\"metre\",1"), "')")), metres)
+  file <- "f <- tempfile(fileext = '.gpkg'); sf::st_write(s, f, quiet = TRUE); x <- sf::st_read(f, quiet = TRUE)"
+  expect_identical(utils::tail(ends_well(file), 1), metres)
+  feet <- ends_well(paste0("x <- sf::st_set_crs(s, '", site("\"foot\",0.3048"), "')"))
+  expect_match(feet, "x: the unit of the coordinates is not the metre but foot", all = FALSE)
 })
 
 test_that("the CRS of columns is that of the argument", {
   skip_without_program()
   skip_if_not_installed("sf")
   fixes <- walk("hare", 20, 3)
-  expect_identical(sf::st_crs(sf::st_as_sf(quietly(home_range(fixes)))), sf::NA_crs_)
-  expect_identical(sf::st_crs(sf::st_as_sf(quietly(home_range(fixes, crs = 25833)))), sf::st_crs(25833))
-  expect_error(quietly(home_range(fixes, crs = 4326)), "sf::st_transform(sf::st_as_sf(x", fixed = TRUE,
-               class = "homerange_data_error")
-  expect_error(quietly(home_range(fixes, crs = NA)), "no such coordinate reference system", class = "homerange_crs_error")
+  shapes_of <- function(...) sf::st_crs(sf::st_as_sf(quietly(home_range(fixes, ...))))
+  expect_identical(shapes_of(), sf::NA_crs_)
+  expect_identical(shapes_of(crs = 25833), sf::st_crs(25833))
+  expect_identical(shapes_of(crs = 32633), sf::st_crs(32633))
+  record <- facts_of(read_fixes(fixes, crs = 25833, quiet = TRUE))$record
+  expect_true("option,crs,EPSG:25833 (ETRS89 / UTM zone 33N)" %in% record)
+  expect_true("option,zone,33N" %in% facts_of(read_fixes(fixes, crs = 32633, quiet = TRUE))$record)
+  refused <- function(text, kind, ...) expect_error(read_fixes(fixes, ..., quiet = TRUE), text, class = paste0("homerange_", kind, "_error"))
+  refused("WGS 84 has longitude and latitude, .*: name their columns by lon and lat, without crs", "crs", crs = 4326)
+  refused("no such coordinate reference system", "crs", crs = NA)
+  refused("crs: one coordinate reference system is wanted", "crs", crs = 1:2)
+  refused("crs: ", "crs", crs = "EPSG:999999")
+  refused("the coordinates are of the zone 33N, and the CRS ETRS89 / UTM zone 33N is none of UTM", "zone", crs = 25833, zone = "33N")
+  expect_identical(facts_of(read_fixes(fixes, crs = "LOCAL_CS[\"farm\",UNIT[\"metre\",1]]", quiet = TRUE))$crs, NULL)
+})
+
+test_that("an amt track says its CRS", {
+  skip_without_split()
+  skip_if_not_installed("sf")
+  table <- data.frame(id = "hare", t_ = as.POSIXct("2024-05-01", tz = "UTC") + 0:1, x_ = 562000 + 0:1, y_ = 5134000)
+  attr(table, "crs_") <- sf::st_crs(32633)
+  expect_identical(facts_of(read_fixes(table, quiet = TRUE))$zone, "33N")
+  attr(table, "crs_") <- sf::NA_crs_
+  expect_null(facts_of(read_fixes(table, quiet = TRUE))$zone)
+  attr(table, "crs_") <- sf::st_crs(4326)
+  expect_error(read_fixes(table, quiet = TRUE), "which are no plane coordinates", class = "homerange_crs_error")
+})
+
+test_that("a reference system of wrong areas is refused or said", {
+  skip_without_split()
+  skip_if_not_installed("sf")
+  points <- sf::st_as_sf(data.frame(id = "hare", x = 562000 + c(0, 200), y = 5134000), coords = c("x", "y"), crs = 32633)
+  # By how many per cent areas are too great there: the squared secant of the latitude, and what PROJ's own factors say.
+  wrong <- c("3395" = "109.", "4087" = "44.", "3832" = "109.")
+  for (code in names(wrong)) {
+    message <- paste0("areas of hare are ", wrong[[code]], "[0-9]*[.]?[0-9]* % too great on this grid")
+    expect_error(read_fixes(sf::st_transform(points, as.numeric(code)), quiet = TRUE), message, class = "homerange_scale_error")
+  }
+  expect_message(read_fixes(sf::st_transform(points, 31468)), "areas of hare are 0[.][0-9]+ % too great on this grid",
+                 class = "homerange_scale_note")
+  expect_null(facts_of(read_fixes(sf::st_transform(points, 3035), quiet = TRUE))$zone)
+})
+
+test_that("fixes are points of sf, where they were", {
+  skip_without_split()
+  skip_if_not_installed("sf")
+  table <- walk("a", 9, 1, at = c(-50, 20))
+  fixes <- read_fixes(table, quiet = TRUE)
+  points <- sf::st_as_sf(fixes)
+  expect_identical(sf::st_crs(points), sf::NA_crs_)
+  expect_equal(sf::st_coordinates(points), as.matrix(table[c("easting", "northing")]), ignore_attr = TRUE)
+  expect_identical(points$easting, table$easting)
+  expect_identical(sf::st_crs(sf::st_as_sf(read_fixes(deer, quiet = TRUE))), sf::st_crs(32633))
 })

@@ -1,7 +1,7 @@
 # Some animals of home ranges, and several home ranges together, against the ranges of a table of those.
 
 without_call <- function(ranges) {
-  unclass(ranges)[setdiff(names(ranges), c("call", "cache", "notes", "options", "is_part", "is_projected", "fixes"))]
+  unclass(ranges)[setdiff(names(ranges), c("call", "cache", "notes", "read", "is_part", "fixes"))]
 }
 
 test_that("some animals are those of a table of them", {

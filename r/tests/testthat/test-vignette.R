@@ -7,12 +7,12 @@ test_that("the export is the table of deer, as Movebank writes it", {
   text <- export()
   expect_identical(text$visible == "true", deer$visible[order(deer$timestamp, deer$individual.local.identifier)])
   skip_without_split()
-  expect_message(found <- read_export(system.file("extdata", "deer.csv", package = "homerange")), "1 outliers: use 0")
-  wanted <- deer[order(deer$timestamp, deer$individual.local.identifier), ]
-  expect_identical(found$use, wanted$visible)
-  columns <- c("individual.local.identifier", "timestamp", "utm.easting", "utm.northing", "utm.zone")
-  in_metres <- transform(wanted, utm.easting = floor(utm.easting + 0.5), utm.northing = floor(utm.northing + 0.5))
-  expect_equal(found[columns], in_metres[columns], ignore_attr = TRUE)
+  expect_message(found <- read_fixes(system.file("extdata", "deer.csv", package = "homerange")), "1 outliers: left out")
+  wanted <- deer[order(deer$individual.local.identifier, deer$timestamp), ]
+  used <- wanted[wanted$visible, ]
+  in_metres <- data.frame(animal = used$individual.local.identifier, time = used$timestamp, easting = floor(used$utm.easting + 0.5),
+                          northing = floor(used$utm.northing + 0.5))
+  expect_equal(as.data.frame(found), in_metres)
   skip_if_not_installed("sf")
   points <- sf::st_as_sf(wanted, coords = c("utm.easting", "utm.northing"), crs = 32633)
   degrees <- sf::st_coordinates(sf::st_transform(points, 4326))

@@ -1,11 +1,11 @@
-# run_r.R CASES: whether the package for R makes of each table the tracks that are wanted, or refuses it with the kind and the
-# record: as a frame with types, and as a frame of text. CASES is the folder that unpack.py wrote.
+# run_r.R CASES: whether the package for R has of each table the fixes that are wanted, or refuses it with the kind and the
+# record: as a frame with types, and as a frame of text. CASES is the folder that unpack.py wrote; HOMERANGE names the program.
 invisible(Sys.setlocale("LC_CTYPE", "C.UTF-8"))
 script <- sub("^--file=", "", grep("^--file=", commandArgs(), value = TRUE))
 package <- file.path(dirname(normalizePath(script)), "..", "..", "..", "r")
-options(homerange.extdata = file.path(package, "inst", "extdata"))
 homerange <- new.env()
 for (file in list.files(file.path(package, "R"), "[.]R$", full.names = TRUE)) sys.source(file, homerange)
+homerange$split_program <- function() file.path(dirname(Sys.getenv("HOMERANGE")), "homerange-split")
 
 lines_of <- function(case, name) {
   path <- file.path(case, name)
@@ -20,30 +20,26 @@ options_of <- function(case) {
   lapply(values, function(value) if (is.na(value)) TRUE else if (grepl("^-?[0-9]+$", value)) as.numeric(value) else value)
 }
 
-# The text of each track that is wanted, or that was made, by the name of its file.
+# The text of each track that is wanted, by the name of its file.
 texts_in <- function(folder) {
   paths <- setdiff(list.files(folder, all.files = TRUE, no.. = TRUE), "split.txt")
   texts <- lapply(file.path(folder, paths), function(path) rawToChar(readBin(path, "raw", file.size(path))))
   `names<-`(texts, sub("[.]csv$", "", paths))
 }
 
-# The tracks of the table as a frame that is read so, as files would have them.
+# The fixes of the table as a frame that is read so, as files would have them.
 as_frame <- function(case, ...) {
   frame <- read.csv(file.path(case, "table.csv"), check.names = FALSE, encoding = "UTF-8", ...)
-  options <- options_of(case)
-  lists <- intersect(names(options), c("animal", "time", "sensor", "argos_class", "fix_type"))
-  options[lists] <- lapply(options[lists], function(value) homerange$words_of(value, "value"))
-  read <- suppressMessages(homerange$read_frame(frame, homerange$new_asked(options)))
+  fixes <- do.call(homerange$read_fixes, c(list(frame), options_of(case), quiet = TRUE))
+  whole <- homerange$whole_fixes(fixes)
   shift <- c(lines_of(case, "shift"), "0,0")[1]
-  if (sprintf("%.0f,%.0f", read$shift[1], read$shift[2]) != shift) stop("shifted by ", paste(read$shift, collapse = ","))
-  fixes <- read$fixes
-  animals <- unique(fixes$animal)
-  files <- homerange$file_names(animals)
-  is_other <- files != animals
-  if (!setequal(paste0(files, "\t", animals)[is_other], lines_of(case, "names"))) stop("files are named ", toString(files))
-  fixes$animal <- files[match(fixes$animal, animals)]
-  lines <- sprintf("%s,%.0f,%.0f,%.0f\n", fixes$animal, fixes$moment, fixes$easting, fixes$northing)
-  lapply(split(lines, fixes$animal), function(own) paste0(c("animal,second,easting,northing\n", own), collapse = ""))
+  if (sprintf("%.0f,%.0f", whole$shift[1], whole$shift[2]) != shift) stop("shifted by ", paste(whole$shift, collapse = ","))
+  files <- homerange$facts_of(fixes)$files
+  is_other <- files != names(files)
+  if (!setequal(paste0(files, "\t", names(files))[is_other], lines_of(case, "names"))) stop("files are named ", toString(files))
+  own <- unname(files[whole$fixes$animal])
+  lines <- sprintf("%s,%.0f,%.0f,%.0f\n", own, whole$fixes$moment, whole$fixes$easting, whole$fixes$northing)
+  lapply(split(lines, own), function(track) paste0(c("animal,second,easting,northing\n", track), collapse = ""))
 }
 
 as_typed_frame <- function(case) as_frame(case)

@@ -1,11 +1,11 @@
-# Exports: arguments become options of homerange-split, its refusals become errors, and a table has what it made.
+# Arguments become options of homerange-split, its refusals become errors, and what it says has its kind.
 
 # Puts a program in the place of homerange-split: a script of a shell that gets the options, and before them where its words are
 # to be written, a line for each.
 local_split <- function(script, frame = parent.frame()) {
   folder <- local_folder(frame)
   for (name in c("homerange", "homerange-split")) {
-    lines <- c("#!/bin/sh", "printf '%s\\n' \"$@\" >\"$0.words\"", "for word in \"$@\"; do case $word in --into=*) into=${word#--into=};; esac; done", script)
+    lines <- c("#!/bin/sh", "printf '%s\\n' \"$@\" >\"$0.words\"", script)
     writeLines(lines, file.path(folder, name))
   }
   Sys.chmod(file.path(folder, c("homerange", "homerange-split")), "755")
@@ -18,10 +18,10 @@ test_that("arguments become options", {
   skip_on_os("windows")
   words <- local_split("exit 70")
   expect_words <- function(wanted, ...) {
-    expect_error(read_export("a b.csv", ...), "homerange-split ended with status 70: it says no more", class = "homerange_program_error")
+    expect_error(read_fixes("a b.csv", ...), "homerange-split ended with status 70: it says no more", class = "homerange_program_error")
     lines <- readLines(words, encoding = "UTF-8")
     own <- lines[!startsWith(lines, "--into=")]
-    expect_identical(own, c("--machine", "--mark", wanted, "--", "a b.csv"))
+    expect_identical(own, c("--machine", wanted, "--", "a b.csv"))
     into <- sub("^--into=", "", lines[startsWith(lines, "--into=")])
     expect_true(startsWith(into, "/") && !dir.exists(dirname(into)))
   }
@@ -39,38 +39,72 @@ test_that("arguments become options", {
   expect_words(c("--since=2024-05-01 10:00", "--every=90min"), since = "2024-05-01 10:00", every = "90min")
   expect_words("--every=7200s", every = 2)
   expect_words("--every=1200s", every = 1 / 3)
+  expect_words("--every=1800s", every = as.difftime(30, units = "mins"))
   expect_words(c("--skip-lines=100000", "--header=Acquisition"), skip_lines = 1e5, header = "Acquisition")
   expect_words(c("--encoding=latin-1", "--name=-x", "--tz=Europe/Berlin"), encoding = "latin-1", name = "-x", tz = "Europe/Berlin")
   expect_words(c("--lon=\u00e4", "--lat=it's $HOME", "--dop=d"), lon = "\u00e4", lat = "it's $HOME", dop = "d")
-  expect_error(read_export("-"), class = "homerange_program_error")
-  expect_identical(tail(readLines(words), 1), "./-")
+  expect_error(read_fixes("-"), class = "homerange_program_error")
+  expect_identical(utils::tail(readLines(words), 1), "./-")
+})
+
+test_that("lengths of time and speeds are taken by their class", {
+  skip_if_not_installed("lubridate")
+  expect_identical(text_of_length(lubridate::dhours(6)), "21600s")
+  expect_identical(text_of_length(lubridate::hours(6)), "21600s")
+  expect_identical(text_of_length(lubridate::days(1) + lubridate::minutes(1)), "86460s")
+  expect_error(text_of_length(lubridate::period(1, "month")), "every: one length of time is wanted", class = "homerange_option_error")
+  skip_if_not_installed("units")
+  expect_identical(text_of_length(units::set_units(30, "min")), "1800s")
+  expect_identical(text_of_speed(units::set_units(1.8, "km/h")), "0.5")
+  expect_identical(text_of_speed(units::set_units(0.25, "m/s")), "0.25")
+  expect_error(text_of_speed(units::set_units(1, "m")), "max_speed is in m, which is no speed", class = "homerange_option_error")
+  expect_error(text_of_length(units::set_units(1, "m")), "and not units", class = "homerange_option_error")
+  expect_error(text_of_number("max_dop", units::set_units(5, "1")), "max_dop: one number is wanted, and not units",
+               class = "homerange_option_error")
 })
 
 test_that("what no option can say is refused", {
   skip_on_os("windows")
   words <- local_split("exit 70")
   refused <- function(message, ...) {
-    fault <- expect_error(read_export("export.csv", ...), class = "homerange_option_error")
+    fault <- expect_error(read_fixes("export.csv", ...), class = "homerange_option_error")
     expect_match(conditionMessage(fault), message, fixed = TRUE)
     expect_false(file.exists(words))
   }
-  refused("there is no option form; there are animal, time, ", form = "x")
+  refused("there is no option form; there are animal, argos, ", form = "x")
+  refused("there is no option use", use = TRUE)
   refused("there is no option mark", mark = TRUE)
   refused("there is no option without a name", "33N")
+  refused("zone is there twice", zone = "33N", zone = "33N")
   refused("from: one text is wanted", from = c("lotek", "argos"))
   refused("zone: one text is wanted", zone = 33)
   refused("skip_lines: a whole number from 0 is wanted", skip_lines = NA)
   refused("skip_unnamed: TRUE or FALSE is wanted", skip_unnamed = "yes")
   refused("sensor: text is wanted", sensor = NA)
   refused("animal: 'a,b' has a comma, which stands between words", animal = c("a,b", "c"))
-  refused("max-dop is -1 and not a number from 0", max_dop = -1)
-  refused("every='often' is not a second or more", every = "often")
-  refused("every=1.0001 is no whole number of seconds", every = 1.0001)
+  refused("animal: the name of one column is wanted, or of several", animal = 2)
+  refused("max_dop: one number is wanted, and not 2 values", max_dop = 1:2)
+  refused("max_dop: one number is wanted, and not Date", max_dop = as.Date("2024-05-01"))
+  refused("every is not a second or more", every = 0)
+  refused("every is no whole number of seconds", every = 1.0001)
+  refused("every: one length of time is wanted, such as \"2h\" or \"30min\", and not TRUE", every = TRUE)
   refused("since: one time is wanted", since = c("2024-05-01", "2024-05-02"))
-  refused("TRUE is no time in UTC", until = TRUE)
+  refused("since: one time is wanted, such as \"2024-05-01\" or \"2024-05-01 00:30:04\", and a number may be a day or a second",
+          since = 20240401)
+  refused("until: one time is wanted", until = TRUE)
+  refused("until: one time is wanted", until = as.Date(NA))
   refused("lon: its text cannot be told to the program", lon = "a\xe4")
   refused("lon: its text cannot be told to the program", lon = strrep("a", 70000))
-  expect_error(read_export(c("a", "b")), "file: the name of one file is wanted", class = "homerange_option_error")
+  refused("crs: of files it is not known", crs = 32633)
+  expect_error(read_fixes("export.csv", quiet = 1), "quiet: TRUE or FALSE is wanted", class = "homerange_option_error")
+})
+
+test_that("options of files are refused beside a frame", {
+  frame <- data.frame(animal = "a", second = 0, easting = 1, northing = 1)
+  for (option in list(list(encoding = "latin-1"), list(skip_lines = 1), list(header = "a"), list(from = "gpx"))) {
+    expect_error(do.call(read_fixes, c(list(frame), option)), paste0(names(option), ": this is for files"),
+                 class = "homerange_option_error")
+  }
 })
 
 test_that("refusals become errors", {
@@ -79,7 +113,7 @@ test_that("refusals become errors", {
   expect_refusal <- function(status, line, kind, text, number = NULL) {
     writeLines(line, record)
     local_split(sprintf("cat '%s' >&2; exit %d", record, status))
-    fault <- expect_error(read_export("export.csv"), class = paste0("homerange_", kind, "_error"))
+    fault <- expect_error(read_fixes("export.csv"), class = paste0("homerange_", kind, "_error"))
     expect_identical(conditionMessage(fault), text)
     expect_identical(fault$record, number)
     expect_identical(inherits(fault, "homerange_data_error"), status == 1 && kind != "program")
@@ -87,41 +121,24 @@ test_that("refusals become errors", {
   expect_refusal(1, "number,export.csv,3,\"x is '1,5', so\"", "number", "export.csv: record 3: x is '1,5', so", 3)
   expect_refusal(1, "text,export.csv,,\"export.csv is no GPX, \u00e4\"", "text", "export.csv is no GPX, \u00e4")
   expect_refusal(1, "unread,export.csv,2,not read yet", "unread", "export.csv: record 2: not read yet", 2)
-  expect_refusal(2, "option,export.csv,,--unit: km is neither m nor dm", "option", "--unit: km is neither m nor dm")
+  expect_refusal(2, "option,export.csv,,--unit: km is neither m nor dm", "option", "unit: km is neither m nor dm")
   expect_refusal(3, "memory,export.csv,,not enough memory", "memory", "not enough memory")
   expect_refusal(4, "output,export.csv,,tracks: No space left on device", "output", "tracks: No space left on device")
   expect_refusal(1, "split: no record", "program", "homerange-split ended with status 1: split: no record")
-  expect_refusal(70, "other,export.csv,,x", "program", "homerange-split ended with status 70: other,export.csv,,x")
+  expect_refusal(70, "number,export.csv,,x", "program", "homerange-split ended with status 70: number,export.csv,,x")
 })
 
-test_that("a table has the fixes of all tracks", {
-  skip_on_os("windows")
-  made <- local_folder()
-  write <- function(name, ...) writeLines(c(...), file.path(made, name), useBytes = TRUE)
-  write("b_\u00e4.csv", "animal,second,easting,northing,use", "b_\u00e4,1714522200,9997495,100,1", "b_\u00e4,1714522205,9997000,201,0")
-  write("a.csv", "animal,second,easting,northing,use", "a,1714522100,9997500,100,1", "a,1714522200,9997501,100,1")
-  write("split.txt", "export,x.csv", paste0("sha256,", strrep("0", 64)), "unit,dm", "zone,33N", "shift,1000000,0", "option,mark",
-        "said,1 outliers: use 0", "said,coordinates are shifted by 1000000 m east and 0 m north",
-        "said,columns: a; 2 animals, box 0.001 by 0.001 km", "said,not read: note",
-        paste0("track,b_\u00e4,2,1,", strrep("1", 64)), paste0("track,a,2,2,", strrep("2", 64)), "tool,homerange-split 1.0.0 (logic 0123456789abcdef)")
-  local_split(sprintf("cp -r '%s' \"$into\"", made))
-  told <- list()
-  table <- withCallingHandlers(read_export("export.csv", unit = "dm", tz = "Europe/Berlin"), homerange_note = function(note) {
-    told <<- c(told, list(c(class(note)[1], conditionMessage(note))))
-    invokeRestart("muffleMessage")
-  })
-  expect_identical(told, list(
-    c("homerange_left_out_note", "homerange: 1 outliers: use 0\n"),
-    c("homerange_guessed_note", "homerange: columns: a; 2 animals, box 0.001 by 0.001 km\n"),
-    c("homerange_guessed_note", "homerange: not read: note\n")
-  ))
-  wanted <- data.frame(
-    individual.local.identifier = c("a", "b_\u00e4", "a", "b_\u00e4"),
-    timestamp = as.POSIXct("2024-05-01 02:08:20", tz = "Europe/Berlin") + c(0, 100, 100, 105),
-    utm.easting = c(-250, -250.5, -249.9, -300), utm.northing = c(10, 10, 10, 20.1), utm.zone = "33N", use = c(TRUE, TRUE, TRUE, FALSE)
+test_that("options in the program's text are said as arguments", {
+  said <- c(
+    "--max-dop: no column has it" = "max_dop: no column has it", "name it, as by --dop COLUMN" = "name it, as by dop = \"COLUMN\"",
+    "such as --zone 33N" = "such as zone = \"33N\"", "say so by --lon 'a b' --lat y --zone 33N; or" =
+      "say so by lon = \"a b\", lat = \"y\", zone = \"33N\"; or",
+    "such as --argos-class 3,2,1 (none is" = "such as argos_class = \"3,2,1\" (none is", "by --na=x" = "by na = \"x\"",
+    "and --skip-unnamed leaves such records out" = "and skip_unnamed = TRUE leaves such records out",
+    "take these, by --lon and --lat and more" = "take these, by lon and lat and more", "without --tz times are" = "without tz times are",
+    "read by --from gpx" = "read by from = \"gpx\"", "leave --tz out, or" = "leave tz out, or", "a -- b" = "a -- b"
   )
-  expect_equal(table, wanted)
-  expect_identical(attr(table$timestamp, "tzone"), "Europe/Berlin")
+  expect_identical(vapply(names(said), as_arguments, "", USE.NAMES = FALSE), unname(said))
 })
 
 test_that("each line that is said has its kind", {
@@ -133,6 +150,7 @@ test_that("each line that is said has its kind", {
     "2 records lie in the hour that comes twice in Europe/Berlin: records 5, 6" = "guessed",
     "UTM coordinates are those of the export; zone: 33N 5" = "guessed",
     "longitude and latitude are projected into zone 33N; fixes by zone: 33N 5" = "guessed",
+    "days and hours are those of Europe/Berlin, the zone of when?" = "guessed",
     "columns: a, what?" = "guessed", "not read: a, what?" = "guessed",
     "2 of 3 animals have one record: is id the animal?" = "asked",
     "animals 'fox' and 'Fox' differ in blanks or capitals alone: are they one?" = "asked",
@@ -147,24 +165,4 @@ test_that("each line that is said has its kind", {
     "no fix of a is used, which homerange refuses" = "limit", "animal 'a/b?' is named a_b_" = "renamed"
   )
   expect_identical(vapply(names(of), kind_of_said, ""), of)
-})
-
-test_that("an export is read as a table", {
-  skip_without_split()
-  path <- file.path(local_folder(), "export.csv")
-  lines <- c("device_id,UTC_datetime,hdop,Latitude,Longitude", "7,2024-09-20 00:00:20,1,46.356742,15.805899",
-             "7,2024-09-20 05:00:20,1,46.356742,15.805899", "7,2024-09-20 06:00:20,9,46.358710,15.807277", "7,2024-09-20 07:00:20,,,")
-  writeLines(lines, path)
-  expect_error(quietly(read_export(path)), "the columns are those of ornitela", class = "homerange_columns_error")
-  expect_message(table <- read_export(path, from = "ornitela", max_dop = 5), "1 fixes have a DOP above 5: left out",
-                 class = "homerange_left_out_note")
-  expect_equal(table$utm.easting, c(562000, 562000))
-  expect_identical(table$timestamp, as.POSIXct(c("2024-09-20 00:00:20", "2024-09-20 05:00:20"), tz = "UTC"))
-  expect_identical(quietly(home_range(table))$animals$animal, "7")
-  writeLines(c(lines[1], "7,2024-09-20 00:00:20,1,46.356742"), path)
-  expect_error(quietly(read_export(path, from = "ornitela")), "record 1: 4 fields where 5 are wanted", class = "homerange_fields_error")
-  writeLines(c("animal,second,easting,northing", "a,0,-250.5,10", "a,60,-300,20"), path)
-  expect_identical(quietly(read_export(path))[c("second", "easting", "northing")],
-                   data.frame(second = c(0, 60), easting = c(-250, -300), northing = c(10, 20)))
-  expect_equal(quietly(read_export(path, unit = "dm"))$easting, c(-250.5, -300))
 })

@@ -1,0 +1,205 @@
+# How the columns of a data frame are written as the cells of a text, by their classes: docs/TABLES.md, Frames.
+#
+# Cells are text in UTF-8, "" where they are missing. A class of which nothing is known is written by its name, as <complex>,
+# which the program refuses where it reads that column.
+
+most_exact <- 2^53
+most_days <- 4e6  # from 1970: the calendar of R is slow beyond
+metres_of_units <- c(m = 1, metre = 1, meter = 1, km = 1000)
+degrees_of_units <- c("\u00b0", "degree", "arc_degree", "degrees")
+
+# The cells of a column.
+cells_of_column <- function(column, title) {
+  if (inherits(column, "POSIXlt")) column <- as.POSIXct(column)
+  if (is.list(column) || is.complex(column) || is.raw(column) || NCOL(column) > 1) return(cells_of_class(column))
+  if (!is.null(dim(column))) column <- as.vector(column)
+  if (is.factor(column)) return(cells_of_text(levels(column), as.integer(column), title))
+  if (is.character(column)) return(cells_of_text(unique(as.vector(column)), match(column, unique(column)), title))
+  if (inherits(column, "integer64")) return(digits_of_integer64(column))
+  if (inherits(column, "POSIXct")) return(cells_of_moments(as.numeric(column)))
+  if (inherits(column, "Date")) return(cells_of_days(floor(as.numeric(column))))
+  if (inherits(column, c("ITime", "hms"))) return(cells_of_clocks(column))
+  if (inherits(column, "units")) return(cells_of_units(column))
+  if (has_own_class(column)) return(cells_of_class(column))
+  if (is.logical(column)) return(c("false", "true")[column + 1L])
+  if (is.integer(column)) as.character(column) else cells_of_numbers(as.vector(unclass(column)))
+}
+
+# Whether cells mean something else than the numbers or truths they are kept as.
+has_own_class <- function(column) isS4(column) || length(setdiff(oldClass(column), c("AsIs", "noquote"))) > 0
+
+cells_of_class <- function(column) rep(paste0("<", class(column)[1], ">"), NROW(column))
+
+# The cells of a column of text, by its different texts and the place of each cell among them. One that cannot be UTF-8 is
+# refused by its row.
+cells_of_text <- function(kinds, place, title) {
+  kinds <- in_utf8(kinds)
+  bad <- which(!is.na(kinds) & !validUTF8(kinds))
+  if (length(bad)) {
+    refuse("text", readable(title), " is no text in UTF-8: iconv(x, \"latin1\", \"UTF-8\") makes it of another encoding",
+           record = which(place %in% bad)[1])
+  }
+  quoted(kinds)[place]
+}
+
+# Texts as fields: those with commas, quotes or ends of lines stand in quotes.
+quoted <- function(texts) {
+  needs <- grepl("[,\"\r\n]", texts, useBytes = TRUE)
+  texts[needs] <- paste0("\"", gsub("\"", "\"\"", texts[needs], fixed = TRUE), "\"")
+  texts
+}
+
+# Text in UTF-8. Bytes of no declared encoding are UTF-8 where they can be, and else of the locale. In one of ASCII alone,
+# such as that of a job without LANG, enc2utf8 would write them as <c3><bc>.
+in_utf8 <- function(text) {
+  is_plain <- Encoding(text) == "unknown" & validUTF8(text)
+  if (all(is_plain)) return(`Encoding<-`(text, "UTF-8"))
+  Encoding(text[is_plain]) <- "UTF-8"
+  others <- text[!is_plain]
+  is_known <- Encoding(others) != "unknown" | !is.na(iconv(others, "", "UTF-8"))
+  is_good <- is_known & validEnc(others)
+  others[is_good] <- enc2utf8(others[is_good])
+  text[!is_plain] <- others
+  text
+}
+
+# Text in UTF-8, with <e4> for a byte that is none, of which R could not be asked anything.
+readable <- function(text) {
+  text <- in_utf8(text)
+  is_bad <- !is.na(text) & !validUTF8(text)
+  text[is_bad] <- iconv(text[is_bad], "UTF-8", "UTF-8", sub = "byte")
+  text
+}
+
+# The fewest digits that give numbers back, without an exponent below 2^53.
+cells_of_numbers <- function(numbers) {
+  numbers <- numbers + 0  # of -0 too, which is 0
+  size <- abs(numbers)
+  is_plain <- is.finite(numbers) & size < 1e15 & (size >= 1e-4 | size == 0)
+  cells <- sprintf("%.15g", numbers)
+  is_plain[is_plain] <- as.numeric(cells[is_plain]) == numbers[is_plain]
+  cells[!is_plain] <- vapply(numbers[!is_plain], odd_number, "")
+  cells
+}
+
+# The text of a number that has more than 15 digits, an exponent, or no end.
+odd_number <- function(number) {
+  if (is.na(number)) return("")
+  if (is.infinite(number)) return(if (number > 0) "inf" else "-inf")
+  digits <- 15
+  while (digits < 17 && as.numeric(sprintf("%.*e", digits - 1, number)) != number) digits <- digits + 1
+  parts <- strsplit(sprintf("%.*e", digits - 1, number), "e", fixed = TRUE)[[1]]
+  if (abs(number) >= most_exact) return(paste0(without_zeros(parts[1]), "e", parts[2]))
+  without_zeros(sprintf("%.*f", max(digits - 1 - as.numeric(parts[2]), 0), number))
+}
+
+# Decimals without zeros at their end.
+without_zeros <- function(texts) {
+  has_point <- grepl(".", texts, fixed = TRUE)
+  texts[has_point] <- sub("[.]?0*$", "", texts[has_point])
+  texts
+}
+
+# The digits of integers of 64 bits, which the package bit64 keeps in the bits of doubles.
+digits_of_integer64 <- function(column) {
+  bits <- matrix(readBin(writeBin(as.vector(unclass(column)), raw(), endian = "little"), "integer", 4 * length(column), 2,
+                         signed = FALSE, endian = "little"), 4)
+  is_missing <- bits[4, ] == 32768 & colSums(bits[1:3, , drop = FALSE]) == 0
+  is_negative <- bits[4, ] >= 32768
+  bits[, is_negative] <- 65535 - bits[, is_negative]
+  high <- numeric(ncol(bits))
+  low <- as.numeric(is_negative)  # of two's complement
+  low <- low + bits[1, ] + 65536 * bits[2, ]
+  for (limb in 3:4) {
+    place <- bits[limb, ] * c(4294967296, 281474976710656)[limb - 2]
+    high <- high + place %/% 1e8
+    low <- low + place %% 1e8
+  }
+  high <- high + low %/% 1e8
+  digits <- ifelse(high > 0, sprintf("%.0f%08.0f", high, low %% 1e8), sprintf("%.0f", low))
+  ifelse(is_missing, "", paste0(ifelse(is_negative, "-", ""), digits))
+}
+
+# Moments of UTC, from seconds since 1970.
+cells_of_moments <- function(seconds) {
+  whole <- floor(seconds)
+  day <- whole %/% 86400
+  cells <- paste0(cells_of_days(day), "T", clock_texts(whole - 86400 * day), decimals_of(seconds), "Z")
+  is_far <- !is.finite(seconds) | abs(day) > most_days
+  cells[is_far] <- ifelse(is.na(seconds[is_far]), "", "<POSIXct>")
+  cells
+}
+
+# The different values of a vector, whose values are often all the same.
+distinct <- function(values) {
+  if (length(values) && isTRUE(all(values == values[1]))) values[1] else unique(values)
+}
+
+# What a function makes of the different values of a vector, put where they stand.
+by_distinct <- function(values, action) {
+  kinds <- distinct(values)
+  found <- action(kinds)
+  if (length(kinds) == 1) rep(found, length(values)) else found[match(values, kinds)]
+}
+
+# Days since 1970 as dates.
+cells_of_days <- function(days) {
+  by_distinct(days, function(kinds) {
+    is_near <- is.finite(kinds) & abs(kinds) <= most_days
+    cells <- ifelse(is.na(kinds), "", "<Date>")
+    cells[is_near] <- format(.Date(kinds[is_near]))
+    cells
+  })
+}
+
+# Whole seconds of a day as its clock has them.
+clock_texts <- function(seconds) {
+  by_distinct(seconds, function(kinds) sprintf("%02.0f:%02.0f:%02.0f", kinds %/% 3600, kinds %/% 60 %% 60, kinds %% 60))
+}
+
+# The decimals of seconds behind their point, as few as give them back and nine at most.
+decimals_of <- function(seconds) {
+  part <- seconds - floor(seconds)
+  texts <- rep("", length(seconds))
+  has_part <- which(part > 0)
+  if (!length(has_part)) return(texts)
+  places <- rep(9, length(has_part))
+  for (place in 8:1) {
+    scaled <- round(seconds[has_part] * 10^place)
+    places[scaled < most_exact & scaled / 10^place == seconds[has_part]] <- place
+  }
+  wholes <- ifelse(places < 9, round(part[has_part] * 10^places), floor(part[has_part] * 1e9))
+  texts[has_part] <- without_zeros(sprintf(".%0*.0f", places, wholes))
+  texts
+}
+
+# Clocks of days, of data.table or hms; what is none is written by its class.
+cells_of_clocks <- function(column) {
+  seconds <- as.numeric(unclass(column))
+  is_clock <- is.finite(seconds) & seconds >= 0 & seconds < 86400
+  cells <- ifelse(is.na(seconds), "", paste0("<", class(column)[1], ">"))
+  cells[is_clock] <- paste0(clock_texts(floor(seconds[is_clock])), decimals_of(seconds[is_clock]))
+  cells
+}
+
+# Lengths in metres, degrees and numbers without a unit; other units are written by their names.
+cells_of_units <- function(column) {
+  name <- name_of_unit(column)
+  values <- as.vector(unclass(column))
+  if (name %in% c("", "1", degrees_of_units)) return(cells_of_numbers(as.numeric(values)))
+  if (name %in% names(metres_of_units)) return(cells_of_numbers(values * metres_of_units[[name]]))
+  metres <- in_unit(column, "m")
+  if (is.null(metres)) rep(paste0("<units ", name, ">"), length(column)) else cells_of_numbers(metres)
+}
+
+# The name of a column's unit, such as m/s.
+name_of_unit <- function(column) {
+  unit <- attr(column, "units")
+  paste(c(paste(unit$numerator, collapse = "*"), unit$denominator), collapse = "/")
+}
+
+# The numbers of something with a unit in another; NULL where it is not of that kind, or the package units is not there.
+in_unit <- function(value, unit) {
+  if (!requireNamespace("units", quietly = TRUE)) return(NULL)
+  tryCatch(as.vector(units::drop_units(units::set_units(value, unit, mode = "standard"))), error = function(fault) NULL)
+}

@@ -1,0 +1,105 @@
+# Groups of an animal's fixes, each of which has a range of its own: periods of a calendar, or what a column or the call says.
+
+# Seasons are named by their months, since those of north and south have other names.
+seasons <- c("Dec-Feb", "Mar-May", "Jun-Aug", "Sep-Nov")
+periods <- list(
+  year = function(day) sprintf("%04.0f", day$year),
+  month = function(day) sprintf("%04.0f-%02.0f", day$year, day$month),
+  season = function(day) {
+    first <- day$year - (day$month <= 2)  # of a winter, whose December is that of the year before
+    name <- seasons[day$month %% 12 %/% 3 + 1]
+    ifelse(name == seasons[1], sprintf("%04.0f-%04.0f %s", first, first + 1, name), sprintf("%04.0f %s", day$year, name))
+  }
+)
+
+# Fixes in the order of animals, groups and times, by names that say animal and group; and what these names mean.
+grouped_fixes <- function(whole, labels) {
+  fixes <- whole$fixes
+  group <- labels[fixes$row]
+  key <- paste(match(fixes$animal, unique(fixes$animal)), match(group, unique(group)))
+  first <- which(!duplicated(key))
+  first <- first[order(match(fixes$animal[first], unique(fixes$animal)), first)]
+  known <- list2DF(list(animal = paste(fixes$animal[first], group[first]), of = fixes$animal[first], group = group[first]))
+  twice <- which(duplicated(known$animal))
+  if (length(twice)) {
+    other <- known$of[match(known$animal[twice[1]], known$animal)]
+    refuse("name", "by: '", other, "' and '", known$of[twice[1]], "' both have a range named '", known$animal[twice[1]],
+           "': rename one")
+  }
+  place <- match(key, key[first])
+  fixes$animal <- known$animal[place]
+  fixes <- fixes[order(place, method = "radix"), ]
+  row.names(fixes) <- NULL
+  list(shift = whole$shift, fixes = fixes, groups = known)
+}
+
+# The group of each fix. Where a frame was read, values are those of its rows.
+labels_of <- function(fixes, by, frame = NULL) {
+  if (is.function(by)) return(labels_of(fixes, by(fixes)))
+  if (is_text(by) && by %in% names(periods)) return(labels_of_period(fixes, by))
+  if (is_text(by) && nrow(fixes) > 1) {
+    if (!by %in% names(fixes)) {
+      refuse("option", "by: \"", by, "\" is none of ", paste0("\"", names(periods), "\"", collapse = ", "),
+             ", and no column of the fixes")
+    }
+    by <- fixes[[by]]
+  } else if (!is.null(frame)) {
+    return(check_labels(text_of_groups(values_of(by, frame$number, "rows"))[frame$rows], frame$rows))
+  }
+  check_labels(text_of_groups(values_of(by, nrow(fixes), "fixes")), seq_len(nrow(fixes)))
+}
+
+# A value for each of so many rows or fixes.
+values_of <- function(by, number, what) {
+  if (length(by) != number || is.list(by)) {
+    refuse("option", "by: \"year\", \"month\", \"season\", a column, a function of the fixes, or a group for each of the ",
+           number, " ", what, " is wanted")
+  }
+  by
+}
+
+# Groups as text; what is no name of one is missing.
+text_of_groups <- function(by) {
+  if (is.numeric(by) && !is.object(by) && any(by != floor(by), na.rm = TRUE)) {
+    odd <- which(by != floor(by))[1]
+    refuse("option", "row ", odd, ": by has a group that is ", cells_of_numbers(by[odd]), ", a number that is not whole", record = odd)
+  }
+  if (is.character(by) || is.factor(by)) in_utf8(as.character(by)) else cells_of_column(by, "by")
+}
+
+# Refuses a fix of no group, by its row.
+check_labels <- function(labels, rows) {
+  odd <- rows[is.na(labels) | labels == ""]
+  if (length(odd)) {
+    refuse("option", "row ", odd[1], ": by has no group: leave fixes without a group out, as by subset(fixes, ..)", record = odd[1])
+  }
+  labels
+}
+
+# The period of each fix, by the clock of the fixes.
+labels_of_period <- function(fixes, by) {
+  if (by %in% names(fixes)) {
+    refuse("option", "by: \"", by, "\" is a period and a column of the fixes: by = fixes$", by, " takes the column")
+  }
+  if (!"time" %in% names(fixes)) refuse("option", "by: numbers of a column 'second' have no calendar")
+  by_distinct(900 * (as.numeric(fixes$time) %/% 900), function(quarters) {  # in which no clock is moved
+    day <- as.POSIXlt(.POSIXct(quarters, tz = facts_of(fixes)$tz), tz = facts_of(fixes)$tz)
+    periods[[by]](list(year = day$year + 1900, month = day$mon + 1))
+  })
+}
+
+# A table with a column of animals, which where ranges are by groups gets one of groups behind it.
+with_groups <- function(ranges, table) {
+  if (is.null(ranges$groups)) return(table)
+  place <- match(table$animal, ranges$groups$animal)
+  table$animal <- ranges$groups$of[place]
+  at <- match("animal", names(table))
+  list2DF(c(as.list(table)[seq_len(at)], list(group = ranges$groups$group[place]), as.list(table)[-seq_len(at)]))
+}
+
+# Refuses ranges of groups, of which it is not known what was left out of each.
+check_whole <- function(ranges, what) {
+  if (!is.null(ranges$groups)) {
+    refuse("option", what, " is of whole ranges, and these are by groups: make those of one group alone, as by subset(fixes, ..)")
+  }
+}

@@ -1,0 +1,159 @@
+# What a call says of how a table is read, as words of the command line of homerange-split. docs/TABLES.md says what each option
+# does; those of the program are given here by the same names, with _ for hyphens.
+
+column_options <- c("animal", "time")  # which may be several titles between commas
+text_options <- c("argos", "dop", "easting", "encoding", "fix", "from", "header", "lat", "lon", "name", "northing", "time_format",
+                  "tz", "unit", "zone")
+word_options <- c("argos_class", "fix_type", "na", "sensor")  # which may be several words between commas
+bound_options <- c("since", "until")
+other_options <- c("crs", "every", "max_dop", "max_speed", "skip_lines", "skip_unnamed")
+options_of_reading <- c(column_options, text_options, word_options, bound_options, other_options)
+options_of_files <- c("encoding", "header", "skip_lines")  # which a frame has not
+longest_word <- 65536  # bytes of a word of a command line; the system takes some more
+longest_length <- 2^40  # seconds
+
+is_number <- function(value) is.numeric(value) && length(value) == 1 && is.finite(value)
+is_text <- function(value) is.character(value) && length(value) == 1 && !is.na(value)
+is_truth <- function(value) isTRUE(value) || isFALSE(value)
+
+# The options that are given; NULL is no wish, and so is a zone of times that is empty.
+options_given <- function(options) {
+  odd <- setdiff(names(options), options_of_reading)
+  if (length(odd) || length(options) > sum(nzchar(names(options)))) {
+    refuse("option", "there is no option ", if (any(nzchar(odd))) odd[nzchar(odd)][1] else "without a name", "; there are ",
+           paste(sort(options_of_reading), collapse = ", "))
+  }
+  twice <- names(options)[duplicated(names(options))]
+  if (length(twice)) refuse("option", twice[1], " is there twice")
+  given <- options[!vapply(options, is.null, NA)]
+  given[!(names(given) == "tz" & vapply(given, identical, NA, ""))]
+}
+
+# Options as words; the reference system is not one of them.
+words_of_options <- function(given) {
+  given <- given[names(given) != "crs"]
+  words <- vapply(names(given), function(option) word_of_option(option, given[[option]]), "")
+  unname(words[nzchar(words)])
+}
+
+# An option with its value as a word, "" where it is no wish.
+word_of_option <- function(option, value) {
+  name <- paste0("--", gsub("_", "-", option, fixed = TRUE))
+  if (option == "skip_unnamed") {
+    if (!is_truth(value)) refuse("option", option, ": TRUE or FALSE is wanted")
+    return(if (value) name else "")
+  }
+  paste0(name, "=", text_for_program(text_of_option(option, value), option))
+}
+
+# A text in UTF-8 that a word of a command line can be.
+text_for_program <- function(text, what) {
+  is_utf8 <- Encoding(text) != "bytes" && validUTF8(in_utf8(text))
+  if (!is_utf8 || nchar(text, "bytes") > longest_word) {
+    refuse("option", what, ": its text cannot be told to the program: is it UTF-8, and short?")
+  }
+  in_utf8(text)
+}
+
+# The value of an option as text.
+text_of_option <- function(option, value) {
+  if (option %in% column_options) return(text_of_titles(option, value))
+  if (option %in% word_options) return(text_of_words(option, value))
+  if (option %in% bound_options) return(text_of_bound(option, value))
+  switch(option, every = text_of_length(value), max_dop = text_of_number(option, value), max_speed = text_of_speed(value),
+         skip_lines = text_of_count(option, value), text_of_text(option, value))
+}
+
+text_of_text <- function(option, value) {
+  if (!is_text(value)) refuse("option", option, ": one text is wanted")
+  as.vector(value)
+}
+
+# The title of a column, or several.
+text_of_titles <- function(option, value) {
+  if (!is.character(value) || !length(value) || anyNA(value)) {
+    refuse("option", option, ": the name of one column is wanted, or of several")
+  }
+  if (length(value) == 1) as.vector(value) else with_commas(option, as.vector(value))
+}
+
+# One word, several between commas, or several words and numbers.
+text_of_words <- function(option, value) {
+  if (is.factor(value)) value <- as.character(value)
+  if (is.numeric(value) && !is.object(value)) value <- cells_of_numbers(value)
+  if (!is.character(value) || !length(value) || anyNA(value)) refuse("option", option, ": text is wanted")
+  if (length(value) == 1) as.vector(value) else with_commas(option, as.vector(value))
+}
+
+with_commas <- function(option, words) {
+  odd <- words[grepl(",", words, fixed = TRUE)]
+  if (length(odd)) refuse("option", option, ": '", odd[1], "' has a comma, which stands between words")
+  paste(words, collapse = ",")
+}
+
+# A number, of a plain class or as text, of which the program says whether it can be right.
+text_of_number <- function(option, value) {
+  if (is_text(value)) return(as.vector(value))
+  if (is.object(value) || !is_number(value)) refuse("option", option, ": one number is wanted, and not ", what_it_is(value))
+  cells_of_numbers(as.numeric(value))
+}
+
+# A value that was given, as a refusal has it.
+what_it_is <- function(value) {
+  if (is.object(value) || !is.atomic(value)) return(class(value)[1])
+  if (length(value) != 1) return(paste(length(value), "values"))
+  if (is.character(value)) paste0("\"", value, "\"") else if (is.numeric(value)) format(value, digits = 15) else format(value)
+}
+
+text_of_count <- function(option, value) {
+  if (is.object(value) || !is_number(value) || value < 0 || value != floor(value)) {
+    refuse("option", option, ": a whole number from 0 is wanted")
+  }
+  sprintf("%.0f", value)
+}
+
+# Metres a second, of a number or of units of speed.
+text_of_speed <- function(value) {
+  if (!inherits(value, "units") || length(value) != 1) return(text_of_number("max_speed", value))
+  speed <- if (name_of_unit(value) == "m/s") as.vector(unclass(value)) else in_unit(value, "m/s")
+  if (is.null(speed)) refuse("option", "max_speed is in ", name_of_unit(value), ", which is no speed, or wants the package units")
+  text_of_number("max_speed", round(speed, 6))
+}
+
+# A text, a day, or another moment in UTC.
+text_of_bound <- function(option, value) {
+  if (is_text(value)) return(as.vector(value))
+  if (length(value) != 1 && !inherits(value, "POSIXlt") || !inherits(value, c("Date", "POSIXt"))) {
+    number <- if (is.numeric(value) && !is.object(value)) ", and a number may be a day or a second"
+    refuse("option", option, ": one time is wanted, such as \"2024-05-01\" or \"2024-05-01 00:30:04\"", number)
+  }
+  cell <- cells_of_column(value, option)
+  if (length(cell) != 1 || cell == "") refuse("option", option, ": one time is wanted, such as \"2024-05-01\"")
+  cell
+}
+
+# A length of time: text such as 2h, a number of hours, or a length of R, of lubridate or of units, in whole seconds.
+text_of_length <- function(every) {
+  if (is_text(every)) return(as.vector(every))
+  seconds <- seconds_of_length(every)
+  if (is.null(seconds) || length(seconds) != 1 || !is.finite(seconds)) {
+    refuse("option", "every: one length of time is wanted, such as \"2h\" or \"30min\", and not ", what_it_is(every))
+  }
+  if (round(seconds) < 1 || seconds >= longest_length) refuse("option", "every is not a second or more, such as \"2h\" or \"30min\"")
+  if (abs(seconds - round(seconds)) > 1e-6) {
+    refuse("option", "every is no whole number of seconds: write such as \"90min\" or \"5s\"")
+  }
+  sprintf("%.0fs", round(seconds))
+}
+
+# The seconds of a length of time; NULL of what is none, or of months and years, which are not of one length.
+seconds_of_length <- function(every) {
+  if (inherits(every, "difftime")) return(as.numeric(every, units = "secs"))
+  if (inherits(every, "units")) return(in_unit(every, "s"))
+  if (inherits(every, "Duration")) return(as.numeric(every@.Data))
+  if (inherits(every, "Period")) {
+    if (any(every@year != 0, every@month != 0)) return(NULL)
+    return(86400 * every@day + 3600 * every@hour + 60 * every@minute + every@.Data)
+  }
+  if (is.numeric(every) && !is.object(every)) 3600 * every
+}

@@ -1,0 +1,90 @@
+# Where the fixes of a frame are, where that is not in columns of their own: points of sf, and reference systems that are named.
+# docs/TABLES.md, Frames.
+
+# What the program is told of the places of a frame: further columns, and options; beside these the reference system of a plane
+# that is that of no zone, and a line to say.
+places_of <- function(x, given) {
+  names_places <- any(c("easting", "northing", "lon", "lat") %in% names(given))
+  if (!inherits(x, "sf") || names_places) return(places_of_columns(x, given, names_places))
+  if (!is.null(given$crs)) refuse("option", "crs: points of sf bring their own, and sf::st_set_crs(x, ..) gives them another")
+  if (!has_sf()) refuse("crs", "a table of sf wants the package sf, which is not installed")
+  shapes <- tryCatch(sf::st_geometry(x), error = function(fault) refuse("columns", "x has no geometry where sf looks for it: ",
+                                                                       "sf::st_geometry(x) <- \"COLUMN\" says where it is"))
+  shapes <- sf::st_zm(shapes)
+  crs <- sf::st_crs(shapes)
+  at <- coordinates_of(shapes)
+  has_place <- !is_without_place(crs, "x")
+  if (!has_place && is.na(crs) && look_like_degrees(at)) {
+    refuse("degrees", "the points have no CRS, and lie as longitude and latitude do: sf::st_set_crs(x, 4326) says so where they are")
+  }
+  if (has_place && is_in_degrees(crs, "x", function() at)) return(points_in_degrees(x, shapes, at, crs))
+  plane <- plane_of(if (has_place) crs, given)
+  points <- points_as_columns(x, shapes, at, c("easting", "northing"))
+  list(columns = points$columns, words = c(plane$words, points$words), crs = plane$crs)
+}
+
+# The eastings and northings of points, NA where there is none.
+coordinates_of <- function(shapes) {
+  is_point <- as.character(sf::st_geometry_type(shapes)) == "POINT" & !sf::st_is_empty(shapes)
+  at <- matrix(NA_real_, length(shapes), 2)
+  if (any(is_point)) at[is_point, ] <- sf::st_coordinates(shapes[is_point])[, 1:2]
+  at
+}
+
+# Whether all of some coordinates may be degrees, and are no whole metres.
+look_like_degrees <- function(at) {
+  at <- at[is.finite(rowSums(at)), , drop = FALSE]
+  nrow(at) > 0 && all(abs(at[, 1]) <= 180 & abs(at[, 2]) <= 90) && any(at != round(at))
+}
+
+# The columns of points, and the options that name them. What is no point is written by its kind.
+points_as_columns <- function(x, shapes, at, sides) {
+  kinds <- as.character(sf::st_geometry_type(shapes))
+  odd <- which(kinds != "POINT" & !sf::st_is_empty(shapes))
+  titles <- vapply(paste("point", c(easting = "easting", northing = "northing", lon = "longitude", lat = "latitude")[sides]),
+                   free_title, "", names(x), USE.NAMES = FALSE)
+  columns <- lapply(1:2, function(side) replace(cells_of_numbers(at[, side]), odd, paste0("<", tolower(kinds[odd]), ">")))
+  list(columns = `names<-`(columns, titles), words = paste0("--", sides, "=", titles))
+}
+
+# A title that is not among these: this one, or with a number behind it.
+free_title <- function(title, titles) {
+  found <- c(title, paste(title, seq_len(length(titles)) + 1))
+  found[!found %in% titles][1]
+}
+
+# Points of a geographic system, as degrees of WGS 84.
+points_in_degrees <- function(x, shapes, at, crs) {
+  is_there <- is.finite(rowSums(at))
+  is_other <- !(crs$epsg %in% 4326 || crs == sf::st_crs("OGC:CRS84"))
+  if (is_other && any(is_there)) at[is_there, ] <- in_degrees(at[is_there, , drop = FALSE], crs)
+  line <- if (is_other) paste0("points of ", crs$Name, " are turned into longitude and latitude of WGS 84")
+  c(list(line = line), points_as_columns(x, shapes, at, c("lon", "lat")))
+}
+
+# What is told of columns whose reference system is named, or is that of an amt track.
+places_of_columns <- function(x, given, names_places) {
+  crs <- given$crs
+  if (is.null(crs) && !names_places) crs <- attr(x, "crs_", exact = TRUE)
+  if (is.null(crs) || inherits(crs, "crs") && is.na(crs)) return(NULL)
+  crs <- named_crs(crs)
+  if (is_without_place(crs, "crs")) return(NULL)
+  points <- "the points, as by sf::st_as_sf(x, coords = c(EASTING, NORTHING), crs = ..)"
+  if (is_in_degrees(crs, points, function() matrix(0, 0, 2))) {
+    refuse("crs", "crs: ", crs$Name, " has longitude and latitude, which are no plane coordinates: name their columns by lon and ",
+           "lat, without crs")
+  }
+  plane_of(crs, given)
+}
+
+# What is told of a plane: its zone, or what it is.
+plane_of <- function(crs, given) {
+  if (is.null(crs)) return(NULL)
+  zone <- zone_of_crs(crs)
+  if (!is.null(given$zone) && !identical(zone, toupper(sub("^0?([0-9]+) ?", "\\1", given$zone)))) {
+    refuse("zone", "the coordinates are of the zone ", given$zone, ", and the CRS ", one_line(crs$Name), " is ",
+           if (is.null(zone)) "none of UTM" else paste("that of", zone), ": give one of the two")
+  }
+  if (is.null(zone)) return(list(crs = crs, words = paste0("--crs=", text_of_crs(crs))))
+  list(words = if (is.null(given$zone)) paste0("--zone=", zone))
+}

@@ -1,0 +1,141 @@
+# Reads a table of fixes: a file, or a data frame, which the program gets as text. docs/TABLES.md says how.
+
+# The fixes of a file or of a data frame.
+read_fixes <- function(x, ..., quiet = FALSE) {
+  local_numbers()
+  if (!is_truth(quiet)) refuse("option", "quiet: TRUE or FALSE is wanted")
+  read_table(x, list(...), quiet)$fixes
+}
+
+# The fixes, and beside them what was said, and of a frame which of how many rows each is.
+read_table <- function(x, options, quiet) {
+  given <- options_given(options)
+  read <- in_folder(function(folder) if (is_text(x)) read_file(x, given, folder) else read_frame(x, given, folder))
+  if (!quiet) for (line in read$notes) tell_note(line, kind_of_said(line))
+  read
+}
+
+# The fixes of a file of text.
+read_file <- function(path, given, folder) {
+  if (!is.null(given$crs)) refuse("option", "crs: of files it is not known to the program: read the file as a data frame")
+  full <- if (path == "-") "./-" else text_for_program(path.expand(path), "x")  # the program takes - for standard input
+  into <- file.path(folder, "tracks")
+  run_split(full, words_of_options(given), into, function(kind, record, text) {
+    is_of_table <- kind %in% kinds_of_tables && !startsWith(text, full)
+    refuse(kind, if (is_of_table) paste0(path, ": "), if (!is.null(record)) sprintf("record %.0f: ", record), text, record = record)
+  })
+  record <- read_record(file.path(into, "split.txt"))
+  fixes <- read_tracks(into, record)
+  tz <- if (is.null(given$tz)) "UTC" else given$tz
+  found <- new_fixes(table_of_fixes(fixes, record, tz, NULL), facts_of_record(record, file.path(into, "split.txt"), tz))
+  list(fixes = found, notes = record$said)
+}
+
+# The fixes of a data frame.
+read_frame <- function(x, given, folder) {
+  check_frame(x, given)
+  if (is.null(given$animal)) given$animal <- attr(x, "track_id_column", exact = TRUE)  # of move2
+  if (is.null(given$time)) given$time <- attr(x, "time_column", exact = TRUE)
+  given <- given[!vapply(given, is.null, NA)]
+  places <- places_of(x, given)
+  clock <- clock_of_frame(x, given)
+  text <- file.path(folder, name_of_frame)
+  into <- file.path(folder, "tracks")
+  with_rows(x, write_frame(columns_of(x), places$columns, text))
+  words <- c("--records", words_of_options(given), places$words, if (!is.null(clock$tz)) paste0("--tz=", clock$tz))
+  run_split(text, words, into, function(kind, record, text) refuse_row(x, kind, record, gsub(folder, "", text, fixed = TRUE)))
+  record <- read_record(file.path(into, "split.txt"))
+  if (!is.null(places$crs) && !is.null(record$zone)) {
+    refuse("zone", "the coordinates are of the zone ", record$zone, ", and the CRS ", places$crs$Name, " is none of UTM: give one")
+  }
+  fixes <- read_tracks(into, record)
+  rows <- records_of_fixes(into, record, fixes)
+  tz <- c(given$tz, clock$tz, "UTC")[1]
+  table <- table_of_fixes(fixes, record, tz, rows_of_columns(columns_of(x), rows))
+  scale <- if (!is.null(places$crs)) check_scale(table, places$crs)
+  notes <- c(places$line, clock$line, record$said, scale)
+  facts <- facts_of_record(record, file.path(into, "split.txt"), tz, places$crs, notes)
+  list(fixes = new_fixes(table, facts), notes = notes, frame = list(rows = rows, number = nrow(x)))
+}
+
+check_frame <- function(x, given) {
+  if (!is.data.frame(x)) {
+    help <- ", or an sf of points, or the name of one file"
+    if (inherits(x, "Spatial")) help <- ": sf::st_as_sf(x) makes one of it"
+    if (inherits(x, "ltraj")) help <- ": adehabitatLT::ld(x) makes one of it"
+    refuse("empty", "a data frame is wanted", help)
+  }
+  if (nrow(x) == 0) refuse("empty", "there are no rows")
+  odd <- c(intersect(options_of_files, names(given)), if (identical(given$from, "gpx")) "from")
+  if (length(odd)) refuse("option", odd[1], ": this is for files, and not for a data frame")
+}
+
+# The columns of a frame but for the geometry of sf.
+columns_of <- function(x) {
+  columns <- as.list(x)
+  if (inherits(x, "sf")) columns[setdiff(seq_along(columns), match(attr(x, "sf_column"), names(columns)))] else columns
+}
+
+# The further columns of the fixes, which are these rows of a frame.
+rows_of_columns <- function(columns, rows) {
+  if (identical(rows, seq_along(rows)) && length(rows) == NROW(columns[[1]])) return(columns)
+  lapply(columns, function(column) if (length(dim(column)) == 2) column[rows, , drop = FALSE] else column[rows])
+}
+
+# Makes a call; a record of what it refuses is a row of the frame.
+with_rows <- function(x, call) {
+  tryCatch(call, homerange_data_error = function(fault) refuse_row(x, fault$kind, fault$record, conditionMessage(fault)))
+}
+
+# Refuses a table with the row that has the fault, by its label.
+refuse_row <- function(x, kind, record, text) {
+  text <- gsub("\\brecord ([0-9]+)\\b", "row \\1", text, perl = TRUE)
+  if (is.null(record)) refuse(kind, text)
+  label <- row.names(x)[record]
+  where <- if (label == record) paste0("row ", label, ": ") else paste0("row ", label, " (x[", record, ", ]): ")
+  refuse(kind, where, text, record = record)
+}
+
+# The zone by whose clock days and hours of a frame are counted: that of its only column with one, where none is named.
+clock_of_frame <- function(x, given) {
+  if (!is.null(given$tz)) return(NULL)
+  is_time <- vapply(as.list(x), inherits, NA, "POSIXt")
+  zones <- vapply(as.list(x)[is_time], zone_of_times, "")
+  if (length(unique(zones)) != 1 || zones[[1]] == "UTC") return(NULL)
+  column <- readable(names(x)[is_time][1])
+  if (!zones[[1]] %in% OlsonNames()) {
+    return(list(line = paste0("days and hours are those of UTC, since the zone ", zones[[1]], " of ", column, " has no name")))
+  }
+  list(tz = zones[[1]], line = paste0("days and hours are those of ", zones[[1]], ", the zone of ", column))
+}
+
+# The zone of date-times. What R has without one is by the clock of the session, whose TZ goes before what R remembers of it.
+zone_of_times <- function(times) {
+  zone <- c(attr(times, "tzone"), "")[1]
+  if (zone == "") zone <- Sys.getenv("TZ")
+  if (zone == "") zone <- c(suppressWarnings(Sys.timezone()), "UTC")[1]
+  if (is.na(zone)) return("UTC")
+  zone <- sub("^:", "", zone)
+  if (zone %in% c("GMT", "Etc/UTC", "Etc/GMT")) "UTC" else zone
+}
+
+# The fixes of tracks as a table: animal, time in a zone or seconds since a start of one's own, eastings and northings in metres.
+table_of_fixes <- function(fixes, record, tz, more) {
+  scale <- units_known[[record$unit]]$scale
+  is_calendar <- all(fixes$second >= 1e8 & fixes$second < 1e10)
+  time <- if (is_calendar) list(time = .POSIXct(fixes$second, tz = tz)) else list(second = fixes$second)
+  own <- c(list(animal = unname(own_names(record)[record$tracks$animal])[fixes$track]), time,
+           list(easting = fixes$easting / scale - record$shift[1], northing = fixes$northing / scale - record$shift[2]))
+  list2DF(c(own, more[setdiff(names(more), names(own))]))
+}
+
+# What goes with fixes: of their record and what else is known.
+facts_of_record <- function(record, path, tz, crs = NULL, notes = record$said) {
+  names <- own_names(record)
+  left <- record$left
+  left$animal <- ifelse(left$animal == "", "", names[left$animal])
+  if (is.null(crs) && !is.null(record$zone) && has_sf()) crs <- sf::st_crs(code_of_zone(record$zone))
+  list(unit = record$unit, zone = record$zone, crs = crs, tz = tz, notes = notes, left_out = left,
+       fixes = `names<-`(record$tracks$used, names[record$tracks$animal]), files = files_of(record),
+       record = readLines(path, encoding = "UTF-8", warn = FALSE))
+}

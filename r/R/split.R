@@ -1,0 +1,101 @@
+# Has the program homerange-split make tracks of a table of text, and reads back what it made: the record, the tracks, and what
+# became of each record of the table.
+
+# What a line says is of a kind, by how it begins or ends; one of none says what was left out.
+kinds_of_said <- c(
+  "^coordinates are shifted " = "moved", "^coordinates are rounded " = "rounded", "^animal '.*' is named " = "renamed",
+  "^(no column has a usual title|times are read as|all fixes are of the sensor|coordinates are those of|columns:|not read:) " = "guessed",
+  "^(UTM coordinates are|longitude and latitude are|days and hours are|points of) " = "guessed",
+  "^[0-9]+ records lie in the hour that comes twice in " = "guessed",
+  "[?]$" = "asked", "^areas of .* on this grid$" = "scale", " come before an earlier one: sorted by time$" = "sorted",
+  "^[0-9]+ records of .* have the second of the one before.*: kept$" = "same",
+  ", (more than the 1048576 that homerange takes|which homerange refuses)$" = "limit"
+)
+
+kind_of_said <- function(line) {
+  fits <- vapply(names(kinds_of_said), grepl, NA, line)
+  if (any(fits)) kinds_of_said[[which(fits)[1]]] else "left_out"
+}
+
+# Has the program split a table of text into the tracks of a folder; what it refuses is refused by this function, which is given
+# the kind, the record and the text.
+run_split <- function(path, words, into, refuse_table) {
+  program <- split_program()
+  fault <- tempfile("fault", dirname(into))
+  on.exit(unlink(fault))
+  call <- vapply(c("--machine", words, paste0("--into=", into), "--", path), function(word) shQuote(in_bytes(word)), "")
+  status <- suppressWarnings(system2(program, call, stdout = FALSE, stderr = fault))
+  if (status != 0) refuse_split(status, fault, refuse_table)
+}
+
+# A text as its bytes in UTF-8, whatever the locale is: so the system gets it.
+in_bytes <- function(text) `Encoding<-`(in_utf8(text), "unknown")
+
+# Stops with what the program refuses: a record of CSV of the kind, the file, the number of the record that has the fault, and
+# the text.
+refuse_split <- function(status, fault, refuse_table) {
+  said <- tryCatch(utils::read.csv(fault, header = FALSE, colClasses = "character", na.strings = character(), encoding = "UTF-8"),
+                   error = function(error) data.frame())
+  known <- c(kinds_of_tables, "option", "memory", "output")
+  if (!status %in% 1:4 || nrow(said) != 1 || ncol(said) != 4 || !said[[1]] %in% known) {
+    lines <- c(readLines(fault, warn = FALSE, encoding = "UTF-8"), "it says no more")
+    refuse("program", "homerange-split ended with status ", status, ": ", lines[1])
+  }
+  refuse_table(said[[1]], if (nzchar(said[[3]])) as.numeric(said[[3]]), as_arguments(said[[4]]))
+}
+
+# Options of the command line in a text, as arguments of R. A word behind one is its value, unless it goes on with the sentence.
+as_arguments <- function(text) {
+  form <- paste0("--([a-z]+(?:-[a-z]+)*)(?:([= ])(?!(?:and|or|is|out|times|leaves|names|of|to|for|in|that|beside|where|a|the|",
+                 "takes|was|has)\\b)('[^']*'|[^ ;:?()]*[^ ,;:?().]))?")
+  places <- gregexpr(form, text, perl = TRUE)
+  regmatches(text, places) <- lapply(regmatches(text, places), function(found) vapply(found, as_argument, ""))
+  gsub("\" ([a-z_]+ = \")", "\", \\1", text)  # several stand one behind the other
+}
+
+# An option of the command line, with its value where it has one, as an argument.
+as_argument <- function(option) {
+  name <- gsub("-", "_", sub("^--([a-z-]+).*", "\\1", option), fixed = TRUE)
+  value <- gsub("^'|'$", "", sub("^--[a-z-]+[= ]?", "", option))
+  if (name == "skip_unnamed") "skip_unnamed = TRUE" else if (nzchar(value)) paste0(name, " = \"", value, "\"") else name
+}
+
+# The tracks of a folder, one below the other in the order of the record: the place of the track, and seconds, eastings and
+# northings in whole units.
+read_tracks <- function(folder, record) {
+  tracks <- lapply(record$tracks$animal, function(animal) {
+    path <- in_bytes(file.path(folder, paste0(animal, ".csv")))
+    scan(path, list(NULL, second = 0, easting = 0, northing = 0), sep = ",", skip = 1, quote = "", quiet = TRUE)[-1]
+  })
+  numbers <- vapply(tracks, function(track) length(track$second), 0L)
+  if (!identical(as.numeric(numbers), record$tracks$records)) refuse("program", "the tracks are not those of their record")
+  bound <- lapply(c(second = "second", easting = "easting", northing = "northing"), function(column) {
+    unlist(lapply(tracks, `[[`, column), use.names = FALSE)
+  })
+  c(list(track = rep(seq_along(tracks), numbers)), bound)
+}
+
+# Which record of the table each fix of the tracks is: those of a track stand by time, and of one time by their order.
+records_of_fixes <- function(folder, record, fixes) {
+  records <- scan(file.path(folder, "records.txt"), list(NULL, file = "", second = 0, nanosecond = 0, reason = ""), sep = ",",
+                  skip = 1, quote = "", quiet = TRUE, encoding = "UTF-8", na.strings = "")
+  used <- which(records$reason == "" | is.na(records$reason))
+  track <- by_distinct(records$file[used], function(files) match(unescaped(files), record$tracks$animal))
+  rows <- used[order(track, records$second[used], records$nanosecond[used], method = "radix")]
+  if (!identical(records$second[rows], fixes$second)) refuse("program", "the records of the table are not those of its tracks")
+  rows
+}
+
+# The animals' own names, by the names of their files: where both differ, a line says so.
+own_names <- function(record) {
+  files <- setdiff(c(record$tracks$animal, record$left$animal), "")
+  names <- `names<-`(files, files)
+  form <- "^animal '(.*)' is named (.*)$"
+  lines <- grep(form, record$said, value = TRUE)
+  known <- unescaped(sub(form, "\\2", lines))
+  names[known] <- unescaped(sub(form, "\\1", lines))
+  names <- names[files]
+  twice <- names[duplicated(names)]
+  names[names %in% twice] <- files[names %in% twice]
+  names
+}

@@ -1,0 +1,53 @@
+# Units of coordinates, by their names: what they are called, how many a metre has, the limit of the grid, and how many of twice
+# its areas a hectare has.
+units_known <- list(
+  m = list(name = "metres", scale = 1, limit = 16777216, hectare = 20000),
+  dm = list(name = "decimetres", scale = 10, limit = 134217728, hectare = 2000000)
+)
+whole_million <- 1e6  # metres by which local grids are shifted
+nearly_whole <- 1e-6
+
+# Fixes as the program takes them: seconds, and eastings and northings in whole units, to which a shift in metres is added where
+# they are off the program's grid. Rows stand by animal, in the order of time.
+whole_fixes <- function(fixes) {
+  check_fixes_read(fixes)
+  unit <- units_known[[facts_of(fixes)$unit]]
+  second <- whole_numbers(as.numeric(fixes[[column_of_time(fixes)]]), "time")
+  easting <- whole_numbers(unit$scale * fixes$easting, "easting")
+  northing <- whole_numbers(unit$scale * fixes$northing, "northing")
+  shift <- c(shift_of(easting, unit), shift_of(northing, unit))
+  animal <- as.character(fixes$animal)
+  rows <- order(match(animal, unique(animal)), second, method = "radix")
+  list(shift = shift, fixes = list2DF(list(
+    row = rows, animal = animal[rows], time = fixes[[column_of_time(fixes)]][rows], moment = second[rows],
+    easting = easting[rows] + unit$scale * shift[1], northing = northing[rows] + unit$scale * shift[2]
+  )))
+}
+
+# Refuses fixes that are no longer those that were read.
+check_fixes_read <- function(fixes) {
+  if (!nrow(fixes)) refuse("empty", "no fix is left")
+  if (!has_columns(fixes)) refuse("columns", "fixes have columns animal, time or second, easting and northing: ", read_anew)
+  if (is.null(facts_of(fixes))) refuse("option", read_anew)
+  if (anyNA(fixes$animal) || any(as.character(fixes$animal) == "")) refuse("animal", "there is a fix without an animal: ", read_anew)
+}
+
+read_anew <- "fixes were changed: read them anew by read_fixes"
+
+whole_numbers <- function(numbers, column) {
+  if (!is.numeric(numbers) || !all(is.finite(numbers))) refuse("number", column, " is not of numbers alone: ", read_anew)
+  wholes <- round(numbers)
+  if (any(abs(numbers - wholes) > nearly_whole)) refuse("number", column, " has a number that is not whole: ", read_anew)
+  wholes
+}
+
+# By how many metres coordinates are shifted so that they are on the program's grid.
+shift_of <- function(wholes, unit) {
+  least <- min(wholes)
+  if (least >= 0 && max(wholes) <= unit$limit) return(0)
+  shift <- -whole_million * floor(least / unit$scale / whole_million)
+  if (max(wholes) + unit$scale * shift > unit$limit) {
+    refuse("grid", "fixes lie farther from each other than a grid of ", sprintf("%.0f", unit$limit), " ", unit$name)
+  }
+  shift
+}

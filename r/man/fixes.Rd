@@ -1,0 +1,54 @@
+\name{fixes}
+\alias{fixes}
+\alias{print.homerange_fixes}
+\alias{format.homerange_fixes}
+\alias{summary.homerange_fixes}
+\alias{[.homerange_fixes}
+\alias{rbind.homerange_fixes}
+\alias{as.data.frame.homerange_fixes}
+\alias{st_as_sf.homerange_fixes}
+\title{Fixes That Were Read}
+\description{Prints fixes, takes some of them, binds those of several tables, and turns them into points or a data frame.}
+\usage{
+\method{print}{homerange_fixes}(x, ...)
+
+\method{format}{homerange_fixes}(x, ...)
+
+\method{summary}{homerange_fixes}(object, ...)
+
+\method{[}{homerange_fixes}(x, ...)
+
+\method{rbind}{homerange_fixes}(..., deparse.level = 1)
+
+\method{as.data.frame}{homerange_fixes}(x, row.names = NULL, optional = FALSE, ...)
+
+\method{st_as_sf}{homerange_fixes}(x, ...)
+}
+\arguments{
+\item{x, object}{fixes, from \code{\link{read_fixes}}.}
+\item{...}{of \code{[} rows and columns, as of a data frame; of \code{rbind} fixes, which have the same unit, reference system,
+  zone of times and columns; of \code{print} arguments of the print of a data frame; else none.}
+\item{row.names}{names for the rows.}
+\item{deparse.level, optional}{not used.}
+}
+\details{
+Rows that are taken by \code{[}, \code{subset}, \code{head} or the verbs of dplyr stay fixes, with what is known of them. Those that
+were taken away are counted by \code{\link{homerange_left_out}} for the reason \code{use}. Without a column that fixes have it is a
+data frame alone. An animal may have fixes in several tables that are bound.
+
+\code{print} says what was taken for what, the span in time and place, the reference system and what was left out, and shows the
+first rows.
+}
+\value{
+Of \code{print} the fixes, invisibly; of \code{format} the lines above the rows; of \code{summary} a data frame with a row for each
+animal: \code{animal}, \code{fixes}, \code{first}, \code{last} and \code{left_out}. Of \code{[} and \code{rbind} fixes, of
+\code{as.data.frame} a data frame alone, and of \code{st_as_sf} a table of points.
+}
+\examples{
+fixes <- tryCatch(read_fixes(deer, quiet = TRUE), homerange_program_error = function(fault) NULL)
+if (!is.null(fixes)) {
+  print(fixes)
+  april <- subset(fixes, time < as.POSIXct("2024-05-01", tz = "UTC"))
+  summary(april)
+}
+}

@@ -1,0 +1,214 @@
+# Fixes that were read: of a file and of a frame, by the program; what they keep where rows are taken away or bound.
+
+# Two animals by turns, not in the order of time, with a fix that failed, an outlier, and a column of the user's own.
+frame <- function() {
+  data.frame(
+    animal = c("fox", "hare/1", "fox", "fox", "hare/1", "fox"),
+    when = as.POSIXct("2024-05-01 02:00", tz = "Europe/Berlin") + 3600 * c(1, 0, 0, 2, 1, 3),
+    x = c(562000.4, 562010, 562100.6, 562200, NA, 562900), y = 5134000 + 0:5, visible = c(TRUE, TRUE, TRUE, TRUE, TRUE, FALSE),
+    note = letters[1:6]
+  )
+}
+
+read_quietly <- function(...) read_fixes(..., quiet = TRUE)
+named <- function(x = frame(), ...) read_quietly(x, time = "when", easting = "x", northing = "y", ...)
+
+test_that("fixes of a frame are those that are used, by animal and time, with its own columns", {
+  skip_without_split()
+  fixes <- named(zone = "33N")
+  wanted <- data.frame(
+    animal = c("fox", "fox", "fox", "hare/1"), time = as.POSIXct("2024-05-01 02:00", tz = "Europe/Berlin") + 3600 * c(0, 1, 2, 0),
+    easting = c(562101, 562000, 562200, 562010), northing = c(5134002, 5134000, 5134003, 5134001),
+    when = as.POSIXct("2024-05-01 02:00", tz = "Europe/Berlin") + 3600 * c(0, 1, 2, 0), x = c(562100.6, 562000.4, 562200, 562010),
+    y = 5134000 + c(2, 0, 3, 1), visible = TRUE, note = c("c", "a", "d", "b")
+  )
+  expect_s3_class(fixes, c("homerange_fixes", "data.frame"), exact = TRUE)
+  expect_identical(as.data.frame(fixes), wanted)
+  facts <- facts_of(fixes)
+  expect_identical(facts[c("unit", "zone", "tz")], list(unit = "m", zone = "33N", tz = "Europe/Berlin"))
+  expect_identical(facts$fixes, c(fox = 3, "hare/1" = 1))
+  expect_identical(as.list(facts$left_out), list(animal = c("fox", "hare/1"), reason = c("outlier", "coordinates"), fixes = c(1, 1)))
+  expect_true(all(c("export,fixes.csv", "option,tz,Europe/Berlin", "option,zone,33N") %in% facts$record))
+  expect_true("days and hours are those of Europe/Berlin, the zone of when" %in% facts$notes)
+})
+
+test_that("fixes of a file are read by the same rules", {
+  skip_without_split()
+  path <- file.path(local_folder(), "export.csv")
+  lines <- c("device_id,UTC_datetime,hdop,Latitude,Longitude", "7,2024-09-20 05:00:20,1,46.356742,15.805899",
+             "7,2024-09-20 00:00:20,1,46.356742,15.805899", "7,2024-09-20 06:00:20,9,46.358710,15.807277", "7,2024-09-20 07:00:20,,,")
+  writeLines(lines, path)
+  expect_error(read_quietly(path), "the columns are those of ornitela: read them by from = \"ornitela\"", class = "homerange_columns_error")
+  expect_message(fixes <- read_fixes(path, from = "ornitela", max_dop = 5), "1 fixes have a DOP above 5: left out",
+                 class = "homerange_left_out_note")
+  times <- as.POSIXct(c("2024-09-20 00:00:20", "2024-09-20 05:00:20"), tz = "UTC")
+  # By PROJ: 562000.28 and 5134000.76.
+  expect_identical(as.data.frame(fixes), data.frame(animal = "7", time = times, easting = c(562000, 562000), northing = c(5134001, 5134001)))
+  expect_identical(facts_of(fixes)$zone, "33N")
+  writeLines(c(lines[1], "7,2024-09-20 00:00:20,1,46.356742"), path)
+  expect_error(read_quietly(path, from = "ornitela"), "record 1: 4 fields where 5 are wanted", class = "homerange_fields_error")
+  writeLines(c("animal,second,easting,northing", "a,0,-250.5,10", "a,60,-300,20"), path)
+  expect_identical(as.data.frame(read_quietly(path)),
+                   data.frame(animal = "a", second = c(0, 60), easting = c(-250, -300), northing = c(10, 20)))
+  expect_identical(read_quietly(path, unit = "dm")$easting, c(-250.5, -300))
+})
+
+test_that("a frame and its file come to the same fixes", {
+  skip_without_split()
+  path <- file.path(local_folder(), "deer.csv")
+  table <- transform(deer, timestamp = format(timestamp, "%Y-%m-%d %H:%M:%S"))
+  write.csv(table, path, row.names = FALSE)
+  columns <- c("animal", "time", "easting", "northing")
+  expect_identical(as.data.frame(read_quietly(path)), as.data.frame(read_quietly(deer))[columns])
+  expect_identical(as.data.frame(read_quietly(table))[columns], as.data.frame(read_quietly(deer))[columns])
+})
+
+test_that("a row that is refused is named by its label", {
+  skip_without_split()
+  table <- frame()
+  table$x[2] <- Inf
+  fault <- expect_error(named(table), "^row 2: x is 'inf' and not a number", class = "homerange_number_error")
+  expect_identical(fault$record, 2)
+  row.names(table) <- paste0("r", 1:6)
+  expect_error(named(table), "^row r2 [(]x\\[2, \\][)]: x is 'inf'", class = "homerange_number_error")
+  table$note[3] <- "\xff"
+  fault <- expect_error(named(table), "^row r3 [(]x\\[3, \\][)]: note is no text in UTF-8", class = "homerange_text_error")
+  expect_identical(fault$record, 3L)
+  table <- frame()
+  table$when[4] <- NA
+  expect_error(named(table), "^row 4: there is no when", class = "homerange_time_error")
+  expect_error(named(animal = "name"), "animal: there is no column 'name'", class = "homerange_columns_error")
+})
+
+test_that("columns of classes are read as meant, or refused by name", {
+  skip_without_split()
+  expect_error(named(transform(frame(), x = complex(real = y))), "row 1: x is '<complex>'", class = "homerange_number_error")
+  expect_error(named(transform(frame(), when = as.difftime(1:6, units = "mins"))), "row 1: when is '<difftime>'", class = "homerange_time_error")
+  expect_identical(nrow(named(transform(frame(), note = complex(real = y)))), 4L)
+  table <- transform(frame(), date = as.Date("2024-05-01"))
+  table$time <- structure(rep(36000L, 6), class = "ITime")
+  fixes <- read_quietly(table[setdiff(names(table), "when")], time = c("date", "time"))
+  expect_identical(unique(fixes$time), as.POSIXct("2024-05-01 10:00", tz = "UTC"))
+})
+
+test_that("what is no table is refused", {
+  skip_without_split()
+  refused <- function(x, text) expect_error(read_quietly(x), text, fixed = TRUE, class = "homerange_empty_error")
+  refused(list(1), "a data frame is wanted, or an sf of points, or the name of one file")
+  refused(c("a", "b"), "a data frame is wanted")
+  refused(structure(list(), class = "ltraj"), "a data frame is wanted: adehabitatLT::ld(x) makes one of it")
+  refused(frame()[0, ], "there are no rows")
+})
+
+test_that("a move2 table says which columns it has", {
+  skip_without_split()
+  table <- `names<-`(frame(), c("deployment", "when", "x", "y", "visible", "id"))
+  attr(table, "track_id_column") <- "deployment"
+  attr(table, "time_column") <- "when"
+  expect_identical(unique(read_quietly(table)$animal), c("fox", "hare/1"))
+})
+
+test_that("hours are those of the column's zone, where it has a name, and else of UTC", {
+  skip_without_split()
+  zone_of <- function(own, ...) facts_of(named(transform(frame(), when = `attr<-`(when, "tzone", own)), ...))$tz
+  expect_identical(zone_of("Asia/Tokyo"), "Asia/Tokyo")
+  expect_identical(zone_of("GMT"), "UTC")
+  expect_identical(zone_of("Asia/Tokyo", tz = "Europe/Berlin"), "Europe/Berlin")
+  old <- Sys.getenv("TZ", NA)
+  on.exit(if (is.na(old)) Sys.unsetenv("TZ") else Sys.setenv(TZ = old))
+  Sys.setenv(TZ = ":Asia/Kolkata")
+  expect_identical(zone_of(""), "Asia/Kolkata")
+  Sys.setenv(TZ = "CET-1CEST")
+  expect_identical(zone_of(""), "UTC")
+  expect_true("days and hours are those of UTC, since the zone CET-1CEST of when has no name" %in%
+                facts_of(named(transform(frame(), when = `attr<-`(when, "tzone", ""))))$notes)
+  # A day of Berlin begins at 22:00 of UTC.
+  expect_identical(nrow(named(since = "2024-05-01 03:30")), 1L)
+})
+
+test_that("rows that are taken away keep what is known, and columns that are needed make fixes", {
+  skip_without_split()
+  fixes <- named(zone = "33N")
+  for (some in list(fixes[2:3, ], subset(fixes, easting < 562201), utils::head(fixes, 2), fixes[fixes$animal == "fox", c(1:4, 9)])) {
+    expect_s3_class(some, "homerange_fixes")
+    expect_identical(facts_of(some), facts_of(fixes))
+  }
+  expect_identical(class(fixes[c("animal", "easting")]), "data.frame")
+  expect_null(facts_of(fixes[c("animal", "easting")]))
+  expect_identical(fixes[["note"]], c("c", "a", "d", "b"))
+  expect_identical(fixes[2, "note"], "a")
+  expect_identical(class(as.data.frame(fixes)), "data.frame")
+})
+
+test_that("what was taken away since is left out for use", {
+  skip_without_split()
+  fixes <- named()
+  left <- left_since(fixes[-1, ])
+  expect_identical(left$reason, c("outlier", "coordinates", "use"))
+  expect_identical(left$fixes, c(1, 1, 1))
+  ranges <- quietly(home_range(fixes[fixes$animal == "fox", ][-1, ], 100))
+  expect_identical(as.list(homerange_left_out(ranges)), list(
+    animal = c("fox", "fox", "hare/1", "hare/1"), reason = c("outlier", "use", "coordinates", "use"), fixes = c(1, 1, 1, 1)))
+})
+
+test_that("fixes that are alike are bound", {
+  skip_without_split()
+  fixes <- named()
+  both <- rbind(fixes[fixes$animal == "fox", ], named(transform(frame(), animal = paste(animal, 2))))
+  expect_s3_class(both, "homerange_fixes")
+  expect_identical(both$animal, c("fox", "fox", "fox", "fox 2", "fox 2", "fox 2", "hare/1 2"))
+  expect_identical(facts_of(both)$fixes, c(fox = 3, "hare/1" = 1, "fox 2" = 3, "hare/1 2" = 1))
+  expect_null(facts_of(both)$record)
+  expect_identical(summary(quietly(home_range(both, 100)))$fixes, c(3, 3, 1))
+  refused <- function(other, text) expect_error(rbind(fixes, other), text, fixed = TRUE, class = "homerange_option_error")
+  refused(named(unit = "dm"), "they differ in their unit")
+  refused(named(zone = "33N"), "they differ in their zone")
+  refused(named(tz = "UTC"), "they differ in their zone of times")
+  refused(named(frame()[-6]), "some have no column 'note'")
+  refused(frame(), "and not to data.frame")
+})
+
+test_that("their print says what was taken", {
+  skip_without_split()
+  said <- utils::capture.output(print(named(zone = "33N")))
+  expect_identical(said[1:5], c(
+    "4 fixes of 2 animals, 2024-05-01 02:00:00 to 2024-05-01 04:00:00 Europe/Berlin",
+    "in a box of 0.200 by 0.003 km, in whole metres", "of UTM zone 33N", "read: animal, when, x, y",
+    "not read: note"))
+  expect_identical(said[6], "left out: 1 for outlier, 1 for coordinates")
+  many <- utils::capture.output(print(read_quietly(deer)))
+  expect_identical(many[length(many)], "... and 1,073 more fixes")
+  table <- summary(named())
+  expect_identical(as.list(table[c("animal", "fixes", "left_out")]), list(animal = c("fox", "hare/1"), fixes = c(3L, 1L), left_out = c(1, 1)))
+  expect_identical(format(table$last), c("2024-05-01 04:00:00", "2024-05-01 02:00:00"))
+})
+
+test_that("ranges of fixes are those of their table, and options are not told twice", {
+  skip_without_program()
+  fixes <- read_quietly(deer)
+  wanted <- quietly(home_range(deer))
+  found <- home_range(fixes)
+  expect_identical(summary(found), summary(wanted))
+  mixed <- fixes[order(fixes$easting), ]
+  expect_setequal(quietly(home_range(mixed))$animals$animal, c("Asta", "Bruno", "Cilla"))
+  expect_identical(homerange_curve(quietly(home_range(mixed)))$hectares[mixed$animal == "none"], numeric())
+  expect_error(home_range(fixes, zone = "33N"), "zone: these fixes are read already", class = "homerange_option_error")
+  expect_error(home_range(fixes, 95, NULL, "33N"), "there is an argument too many", class = "homerange_option_error")
+})
+
+test_that("fixes that were changed are refused", {
+  skip_without_program()
+  fixes <- named()
+  refused <- function(fixes, text, kind) {
+    expect_error(quietly(home_range(fixes)), text, class = paste0("homerange_", kind, "_error"))
+  }
+  refused(transform_fixes(fixes, "easting", fixes$easting + 0.5), "easting has a number that is not whole: fixes were changed", "number")
+  refused(transform_fixes(fixes, "easting", NA_real_), "easting is not of numbers alone", "number")
+  refused(transform_fixes(fixes, "time", NULL), "fixes have columns animal, time or second", "columns")
+  refused(transform_fixes(fixes, "animal", NA), "there is a fix without an animal", "animal")
+  refused(transform_fixes(fixes, "easting", c(0, 1e8, 0, 0)), "fixes lie farther from each other", "grid")
+  refused(fixes[0, ], "no fix is left", "empty")
+  moved <- quietly(home_range(transform_fixes(fixes, "easting", fixes$easting - 1e6), 100))
+  expect_identical(moved$shift, c(1e6, 0))
+  expect_identical(homerange_corners(moved)[["hare/1"]], cbind(easting = -437990, northing = 5134001))
+})

@@ -1,0 +1,130 @@
+# Ranges by groups of an animal's fixes, against hulls by base R of the fixes that belong to these.
+
+# Two animals with a fix every 20 days from December 2022 on, whose rows take turns.
+frame <- function() {
+  times <- as.POSIXct("2022-12-20", tz = "UTC") + 86400 * 20 * 0:39
+  found <- do.call(rbind, lapply(c("fox", "otter"), function(name) {
+    own <- walk(name, 40, nchar(name))
+    data.frame(animal = name, time = times, easting = own$easting, northing = own$northing)
+  }))
+  found[order(found$time), ]
+}
+
+read_frame_quietly <- function(...) read_fixes(..., quiet = TRUE)
+
+# The areas of groups in hectares, by animal and group, in the order of animals and of times.
+wanted_areas <- function(table, groups) {
+  rows <- order(match(table$animal, unique(table$animal)), table$time)
+  key <- paste(table$animal, groups)[rows]
+  table <- table[rows, ]
+  vapply(split(table, factor(key, unique(key))), function(own) doubled(own$easting, own$northing) / 20000, 0)
+}
+
+areas_of <- function(ranges) {
+  table <- summary(ranges)
+  table <- table[table$level == 100, ]
+  `names<-`(table$hectares, paste(table$animal, table$group))
+}
+
+season_of <- function(time) {
+  month <- as.numeric(format(time, "%m"))
+  year <- as.numeric(format(time, "%Y"))
+  winter <- paste0(year - (month < 12), "-", year + (month == 12), " Dec-Feb")
+  ifelse(month %in% c(12, 1, 2), winter, paste(year, c("", "", rep(c("Mar-May", "Jun-Aug", "Sep-Nov"), each = 3))[month]))
+}
+
+test_that("ranges are by the calendar", {
+  skip_without_program()
+  fixes <- read_frame_quietly(frame())
+  labels <- list(season = season_of, year = function(time) format(time, "%Y"), month = function(time) format(time, "%Y-%m"))
+  for (by in names(labels)) {
+    wanted <- wanted_areas(frame(), labels[[by]](frame()$time))
+    said <- capture_messages(ranges <- home_range(fixes, 100, by = by))
+    expect_identical(said, paste0("homerange: ranges are by group: ", length(wanted), " of 2 animals\n"))
+    expect_identical(areas_of(ranges), wanted)
+  }
+})
+
+test_that("a winter has the December of the year before", {
+  skip_without_program()
+  ranges <- quietly(home_range(frame()[frame()$animal == "fox", ], 100, by = "season"))
+  expect_identical(ranges$animals$animal[1:2], c("fox 2022-2023 Dec-Feb", "fox 2023 Mar-May"))
+})
+
+test_that("periods go by the clock of tz", {
+  skip_without_program()
+  # Half past eleven in the evening of UTC on the last of May is June in Slovenia.
+  table <- data.frame(animal = "a", time = as.POSIXct(c("2024-05-31 12:00", "2024-05-31 23:30"), tz = "UTC"), easting = 1:2,
+                      northing = 1:2)
+  groups <- function(...) summary(quietly(home_range(table, 100, by = "month", ...)))$group
+  expect_identical(groups(), "2024-05")
+  expect_identical(groups(tz = "Europe/Ljubljana"), c("2024-05", "2024-06"))
+})
+
+test_that("groups are those of a column, of values and of a function, of fixes and of a frame", {
+  skip_without_program()
+  table <- cbind(frame(), sex = rep_len(c("f", "m", "m"), 80), herd = rep_len(1:7, 80))
+  wanted <- wanted_areas(table, table$sex)
+  fixes <- read_frame_quietly(table)
+  expect_identical(areas_of(quietly(home_range(fixes, 100, by = "sex"))), wanted)
+  expect_identical(areas_of(quietly(home_range(fixes, 100, by = factor(fixes$sex)))), wanted)
+  expect_identical(areas_of(quietly(home_range(fixes, 100, by = function(own) own$sex))), wanted)
+  expect_identical(areas_of(quietly(home_range(table, 100, by = "sex"))), wanted)
+  expect_identical(areas_of(quietly(home_range(table, 100, by = table$sex))), wanted)
+  expect_identical(areas_of(quietly(home_range(fixes, 100, by = "herd"))), wanted_areas(table, table$herd))
+  marked <- cbind(table, visible = seq_len(80) %% 5 > 0)
+  found <- areas_of(quietly(home_range(marked, 100, by = marked$sex)))
+  expect_identical(found, wanted_areas(table[marked$visible, ], table$sex[marked$visible]))
+})
+
+test_that("what is no group is refused", {
+  skip_without_program()
+  table <- cbind(frame(), sex = "f", year = 1)
+  fixes <- read_frame_quietly(table)
+  refused <- function(by, text, ...) expect_error(quietly(home_range(fixes, by = by, ...)), text, fixed = TRUE, class = "homerange_option_error")
+  refused("week", "by: \"week\" is none of \"year\", \"month\", \"season\", and no column of the fixes")
+  refused("year", "by: \"year\" is a period and a column of the fixes: by = fixes$year takes the column")
+  refused(5, "a group for each of the 80 fixes is wanted")
+  refused(rep("a", 79), "a group for each of the 80 fixes is wanted")
+  refused(rep(1.5, 80), "row 1: by has a group that is 1.5, a number that is not whole")
+  refused(as.list(1:80), "a group for each of the 80 fixes is wanted")
+  refused(replace(rep("a", 80), 5, NA), "row 5: by has no group: leave fixes without a group out")
+  seconds <- walk("a", 9, 1)
+  expect_error(quietly(home_range(seconds, by = "month")), "by: numbers of a column 'second' have no calendar",
+               class = "homerange_option_error")
+  both <- rbind(walk("a", 6, 1), walk("a 1", 6, 2))
+  expect_error(quietly(home_range(both, by = rep(c("1 2", "2"), each = 6))), "'a' and 'a 1' both have a range named 'a 1 2': rename one",
+               class = "homerange_name_error")
+})
+
+test_that("tables have animal and group, and overlaps the names of both", {
+  skip_without_program()
+  ranges <- quietly(home_range(frame(), c(50, 100), by = "year", zone = "33N"))
+  tables <- list(summary(ranges), as.data.frame(ranges), homerange_growth(ranges), homerange_curve(ranges))
+  if (requireNamespace("sf", quietly = TRUE)) {
+    reserve <- sf::st_buffer(sf::st_sfc(sf::st_point(c(562000, 5134000)), crs = 32633), 1e5)
+    shares <- homerange_share(ranges, reserve)
+    expect_equal(shares$share[shares$hectares > 0], rep(1, sum(shares$hectares > 0)))
+    tables <- c(tables, list(sf::st_drop_geometry(sf::st_as_sf(ranges)), shares))
+  }
+  for (table in tables) {
+    expect_identical(names(table)[1:2], c("animal", "group"))
+    expect_setequal(table$animal, c("fox", "otter"))
+    expect_setequal(table$group, c("2022", "2023", "2024", "2025"))
+  }
+  expect_true(all(is.na(summary(ranges)$left_out)))
+  expect_identical(rownames(homerange_overlap(ranges))[1:2], c("fox 2022", "fox 2023"))
+  expect_error(homerange_left_out(ranges), "what was left out is of whole ranges", class = "homerange_option_error")
+  expect_identical(unique(summary(ranges["fox 2023"])$group), "2023")
+  expect_identical(summary(c(ranges["fox 2023"], ranges["otter 2024"])), summary(ranges[c("fox 2023", "otter 2024")]))
+})
+
+test_that("evidence and pages are of whole ranges", {
+  skip_without_program()
+  ranges <- quietly(home_range(frame(), by = "year"))
+  folder <- local_folder()
+  expect_error(homerange_evidence(ranges, file.path(folder, "a")), "evidence is of whole ranges, and these are by groups",
+               class = "homerange_option_error")
+  expect_error(write_page(ranges, file.path(folder, "b")), "a page is of whole ranges", class = "homerange_option_error")
+  expect_length(list.files(folder), 0)
+})
