@@ -1,4 +1,4 @@
-# How the columns of a data frame are written as the cells of a text, by their classes: docs/TABLES.md, Frames.
+# How the columns of a data frame are written as the cells of a text, by their classes: docs/TABLES.md, Data frames.
 #
 # Cells are text in UTF-8, "" where they are missing. A class of which nothing is known is written by its name, as <complex>,
 # which the program refuses where it reads that column.

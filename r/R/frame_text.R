@@ -1,4 +1,4 @@
-# A data frame as the text of a table, which the program reads as that of a file: docs/TABLES.md, Frames.
+# A data frame as the text of a table, which the program reads as that of a file: docs/TABLES.md, Data frames.
 
 name_of_frame <- "fixes.csv"  # of the text, in records
 signs_between_fields <- "[;\t]"  # of other tables than those with commas

@@ -1,5 +1,5 @@
 # Where the fixes of a frame are, where that is not in columns of their own: points of sf, and reference systems that are named.
-# docs/TABLES.md, Frames.
+# docs/TABLES.md, Data frames.
 
 # What the program is told of the places of a frame: further columns, and options; beside these the reference system of a plane
 # that is that of no zone, and a line to say.
