@@ -19,6 +19,10 @@ const RECORD: &[u8] =
 track,Vesna,4,3,9cf90bef112438f2194b5265ced5b68a45f8ab7fde95c8b65e9072a0e16cc96c\n\
 track,Bor,5,5,12070a74d292604b939978fc0de24a5e02e6293ecac4af595a0e2c997a41bdb9\ntool,t\n";
 
+// What is expected of the text of three records.
+const LISTED: &[u8] =
+    b"record,file,second,nanosecond,reason\n1,Bor,1714521610,500000000,\n2,,,,coordinates\n3,Vesna,,,no dop\n";
+
 // The file of a track.
 fn file(
     alloc: Global,
@@ -108,9 +112,6 @@ fn each_record_has_its_line(rt: HostRuntime) -> Result<(), Fail> {
         },
     ];
     let text = fates_text(alloc, &names, &fates)?;
-    assert!(rt;
-        text.as_slice()
-            == b"record,file,second,nanosecond,reason\n1,Bor,1714521610,500000000,\n2,,,,coordinates\n3,Vesna,,,no dop\n"
-    );
+    assert!(rt; text.as_slice() == LISTED);
     Ok(())
 }
