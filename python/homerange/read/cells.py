@@ -60,7 +60,7 @@ def moments(times: NDArray[Any], has_zone: bool) -> Cells:
         times, unit = times.astype("datetime64[s]"), "s"
     rest = numpy.where(numpy.isnat(times), 0, times.astype("int64"))
     needed = next(name for name, parts in PARTS.items() if not (rest % max(PARTS[unit] // parts, 1)).any())
-    text = "\n".join(numpy.datetime_as_string(times, unit=needed).tolist()).replace("NaT", "")
+    text = "\n".join(numpy.datetime_as_string(times.astype(f"datetime64[{needed}]")).tolist()).replace("NaT", "")
     if not has_zone:
         return text.replace("T", " ").split("\n")
     return [f"{time}Z" if time else "" for time in text.split("\n")]
@@ -174,5 +174,5 @@ def moment_cell(value: clock.datetime) -> str:
 CLASSES: tuple[tuple[Any, Callable[[Any], str]], ...] = (
     (str, str), (numpy.timedelta64, odd_cell), ((bool, numpy.bool_), lambda value: TRUTHS[bool(value)]), ((int, numpy.integer), whole_cell),
     ((float, numpy.floating), float_cell), (Decimal, decimal_cell), (clock.datetime, moment_cell),
-    (clock.date, lambda value: value.isoformat()), (clock.time, lambda value: value.isoformat()),
+    (clock.date, lambda value: str(value.isoformat())), (clock.time, lambda value: str(value.isoformat())),
     (pandas.Period, lambda value: moment_cell(value.to_timestamp())))

@@ -122,7 +122,8 @@ class Fixes(pandas.DataFrame):
         return geopandas.GeoDataFrame(pandas.DataFrame(self), geometry=places, crs=reading_of(self).system)
 
     def __repr__(self) -> str:
-        return f"{told(self)}\n\n{super().__repr__()}" if is_known(self) else super().__repr__()
+        table = str(super().__repr__())
+        return f"{told(self)}\n\n{table}" if is_known(self) else table
 
     def _repr_html_(self) -> str | None:
         table = super()._repr_html_()

@@ -150,7 +150,7 @@ def has_times(values: pandas.Series) -> bool:
     kind = inner_type(values.dtype)
     if is_time(kind) or isinstance(kind, pandas.PeriodDtype) or "timestamp" in str(kind):
         return True
-    return kind == object and pandas.api.types.infer_dtype(values, skipna=True) == "datetime"
+    return bool(kind == object and pandas.api.types.infer_dtype(values, skipna=True) == "datetime")
 
 
 def inner_type(kind: Any) -> Any:
