@@ -4,6 +4,7 @@ is nothing, and what no table of fixes has is named by its class, as <complex>, 
 from __future__ import annotations
 
 import datetime as clock
+import re
 from decimal import Decimal
 from typing import Any, Callable, List
 
@@ -16,6 +17,7 @@ EXACT = 2 ** 53  # from here on numbers of floating point are not all whole numb
 WIDTHS = {"float16": 2 ** 11, "float32": 2 ** 24}  # the same of narrower ones
 MOST_BITS = 13_000  # of a whole number, which Python writes with up to 4,300 digits
 PARTS = {"s": 1, "ms": 10 ** 3, "us": 10 ** 6, "ns": 10 ** 9}  # of a second
+IANA = re.compile("[A-Za-z]+(/[A-Za-z0-9_+-]+)*")  # how a time zone is named
 TRUTHS = {True: "true", False: "false"}
 
 
@@ -43,6 +45,14 @@ def cells_of(series: pandas.Series) -> Cells:
 def is_time(kind: Any) -> bool:
     """Whether a class of columns is that of date-times."""
     return isinstance(kind, pandas.DatetimeTZDtype) or isinstance(kind, numpy.dtype) and kind.kind == "M"
+
+
+def zone_name(zone: Any) -> str | None:
+    """The name of a time zone; of one without a name what it says of itself."""
+    if zone is None:
+        return None
+    name = str(getattr(zone, "key", None) or getattr(zone, "zone", None) or zone)
+    return "UTC" if name in ("utc", "tzutc()") else name
 
 
 def times_of(series: pandas.Series) -> Cells:

@@ -13,7 +13,7 @@ import numpy
 import pandas
 
 from ..errors import refuse
-from .cells import Cells, cells_of, is_time
+from .cells import IANA, Cells, cells_of, is_time, zone_name
 from .systems import TITLES, TITLES_OF_DEGREES, columns_of_points, crs_named, is_local, options_of
 
 if TYPE_CHECKING:
@@ -168,14 +168,6 @@ def zones_in(values: pandas.Series) -> set[str | None]:
     return {zone_name(zone)}
 
 
-def zone_name(zone: Any) -> str | None:
-    """The name of a time zone; of one without a name what it says of itself."""
-    if zone is None:
-        return None
-    name = str(getattr(zone, "key", None) or getattr(zone, "zone", None) or zone)
-    return "UTC" if name in ("utc", "tzutc()") else name
-
-
 def zone_of_times(columns: Sequence[Column], options: Mapping[str, Any]) -> tuple[Any, list[str]]:
     """The time zone for the program: the one that is named, or the only one that columns of date-times have, where no other
     column may be the time; and what is to be said of it."""
@@ -191,7 +183,7 @@ def zone_of_times(columns: Sequence[Column], options: Mapping[str, Any]) -> tupl
               and (column.title in named or not named and plain(column.title) in TIMES)]
     if len(zones) > 1 or None in found or others or options.get("from_") is not None:
         return None, [f"days and hours are those of UTC, since times are of {', '.join(zones)} and of other clocks"]
-    if not re.fullmatch("[A-Za-z]+(/[A-Za-z0-9_+-]+)*", zones[0]):
+    if not IANA.fullmatch(zones[0]):
         return None, [f"days and hours are those of UTC, since the zone {zones[0]} of {[*times][0]} has no name"]
     return zones[0], []
 
