@@ -43,7 +43,7 @@ def crs_named(crs: Any) -> Any:
 
 def is_local(crs: Any) -> bool:
     """Whether a system, or none, is a plane without a place on the Earth."""
-    return crs is None or bool(crs.is_engineering)
+    return crs is None or bool(getattr(crs, "is_engineering", False))
 
 
 def check_plane(crs: Any) -> None:

@@ -185,7 +185,7 @@ def zone_of_times(columns: Sequence[Column], options: Mapping[str, Any]) -> tupl
         return None, [f"days and hours are those of UTC, since times are of {', '.join(zones)} and of other clocks"]
     if not IANA.fullmatch(zones[0]):
         return None, [f"days and hours are those of UTC, since the zone {zones[0]} of {[*times][0]} has no name"]
-    return zones[0], []
+    return zones[0], [f"days and hours are those of {zones[0]}, the zone of {[*times][0]}"]
 
 
 def is_number(values: pandas.Series) -> bool:
