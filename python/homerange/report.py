@@ -188,7 +188,7 @@ class Animal:
 
     def take_rows(self, keeps_rows: bool) -> None:
         """The rows of the first 1, 2, .. fixes. The last is that of all."""
-        form = re.compile(f"(?:row,{re.escape(self.name)},[0-9]+,{NUMBER},{NUMBER},{NUMBER}\n)*")
+        form = re.compile(f"(?:row,{re.escape(self.name)},{NUMBER},{NUMBER},{NUMBER},{NUMBER}\n)*")
         last = (0, 0, 0)
         for first in range(1, self.fixes + 1, PIECE):
             numbers = range(first, min(first + PIECE, self.fixes + 1))
@@ -216,10 +216,10 @@ class Animal:
         """The rows of so many fixes, if a text is they; none where it has to be looked at line by line."""
         if not form.fullmatch(text):
             return []
-        fields = text.replace("\n", ",").split(",")
-        seconds, corners, areas = (list(map(int, fields[at:-1:6])) for at in (3, 4, 5))
+        fields = [*map(int, text.replace(f"row,{self.name},", "").replace("\n", ",")[:-1].split(","))]
+        seconds, corners, areas = fields[1::4], fields[2::4], fields[3::4]
         rises = [before[0], *seconds] == sorted([before[0], *seconds]) and [before[2], *areas] == sorted([before[2], *areas])
-        if not rises or fields[2:-1:6] != list(map(str, numbers)):
+        if not rises or fields[::4] != [*numbers]:
             return []
         self.write(text)
         return list(zip(seconds, corners, areas))
