@@ -6,6 +6,7 @@ from __future__ import annotations
 import datetime as clock
 import re
 import sys
+from itertools import chain, count
 from pathlib import Path
 from typing import TYPE_CHECKING, Any, Mapping, NamedTuple, NoReturn, Sequence
 
@@ -140,9 +141,8 @@ def points_of(frame: pandas.DataFrame) -> geopandas.GeoSeries | None:
 def title_of_place(option: str, columns: Sequence[Column]) -> str:
     """The title of a column of points, which the frame has not."""
     title, titles = {**TITLES, **TITLES_OF_DEGREES}[option], {column.title for column in columns}
-    while title in titles:
-        title = f"{title} "
-    return title
+    several = (f"{title} {number}" for number in count(2))
+    return next(found for found in chain([title], several) if found not in titles)
 
 
 def has_times(values: pandas.Series) -> bool:
