@@ -65,7 +65,7 @@ def labels_of(table: ReadTable, by: Any) -> list[str]:
     fixes, labels = table.fixes, table.fixes.index
     if is_period(by):
         if by in (fixes if table.frame is None else table.frame):
-            refuse(f"by={by!r} is a period of the calendar, and a column too: rename the column")
+            refuse(f"by={by!r} is a period of the calendar, and a column too: by=fixes[{by!r}] takes the column")
         return periods(fixes, by)
     if isinstance(by, str):
         if [*fixes.columns].count(by) != 1:
@@ -98,10 +98,11 @@ def aligned(series: pandas.Series, frame: pandas.DataFrame) -> pandas.Series:
 def given(values: pandas.Series, labels: pandas.Index) -> list[str]:
     """The groups that values say, each of which has to be there."""
     cells = cells_of(values)
-    odd = next((at for at, cell in enumerate(cells) if not cell or UNPRINTABLE.search(cell)), None)
+    has_parts = pandas.api.types.is_float_dtype(values.dtype)
+    odd = next((at for at, cell in enumerate(cells) if not cell or UNPRINTABLE.search(cell) or has_parts and not cell.lstrip("-").isdecimal()), None)
     if odd is not None:
-        what = f"a group that is {cells[odd]!r}, with a control character" if cells[odd] else "no group"
-        refuse(f"{row_named(labels, odd)}: by has {what}; {REMEDY}", "option", odd + 1)
+        what = f"a group that is {cells[odd]!r}, {'a number that is not whole' if has_parts else 'with a control character'}"
+        refuse(f"{row_named(labels, odd)}: by has {what if cells[odd] else 'no group'}; {REMEDY}", "option", odd + 1)
     return cells
 
 

@@ -20,7 +20,6 @@ from .program import Program, checksum_of, find_program, find_split_program, pro
 from .ranges import HomeRanges, check_whole, ranges_of
 from .read.call import split_table
 from .read.reading import SINCE_1970, times_of
-from .read.systems import options_of
 from .read.text import NAME, text_of_frame, write_text
 from .read.tracks import own_names, path_of_track
 from .read.words import words_of_options
@@ -113,7 +112,7 @@ def split_again(ranges: HomeRanges, tracks: Tracks, into: Path) -> None:
     frame = pandas.DataFrame({
         "animal": whole["animal"], **times, "easting": whole["easting"] / unit.per_metre - east,
         "northing": whole["northing"] / unit.per_metre - north}).reset_index(drop=True)
-    text = text_of_frame(frame, {"unit": ranges.unit, **options_of(ranges.crs, None)})
+    text = text_of_frame(frame, {"unit": ranges.unit, "crs": ranges.crs})
     with tempfile.TemporaryDirectory(prefix="homerange-") as room:
         write_text(text, Path(room, NAME))
         split_table(NAME, str(into.absolute()), words_of_options(text.options), find_split_program(ranges.named), room)

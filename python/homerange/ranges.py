@@ -20,7 +20,7 @@ from .growth import share
 from .outer import count_inside, outer_kept
 from .overview import Facts, Row, facts_of, reasons_of, rows_of
 from .program import MOST_ANIMALS, Program, Runs, checksum_of, find_program, program_of
-from .read.fixes import Fixes, is_of_fixes, reading_of
+from .read.fixes import Fixes, clock_of, is_of_fixes, reading_of
 from .read.reading import ReadTable, read_table, tell, times_of
 from .read.systems import crs_named
 from .record import Record, read_record
@@ -387,7 +387,7 @@ def home_range(
     own = reading_of(table.fixes)
     tell(tracks.notes[len(own.notes) if table.fixes is x else 0:])  # what was said when they were read is not said again
     report = Runs(found.path, tracks.by_name, ",".join(map(str, wanted)), own.unit).report(shown, jobs)
-    ranges = HomeRanges(report, tracks, crs=own.system, tz=own.tz, program=found)
+    ranges = HomeRanges(report, tracks, crs=own.system, tz=clock_of(table.fixes), program=found)
     ranges.jobs, ranges.groups = jobs, groups
     return ranges
 

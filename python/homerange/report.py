@@ -21,7 +21,7 @@ Row = tuple[int, int, int]  # second, corners and area after a fix
 Rows = list[Row]
 
 TEXT: dict[str, Any] = {"encoding": "utf-8", "errors": "surrogateescape", "newline": "\n"}
-NUMBER = "(?:0|[1-9][0-9]{0,16}+)"  # digits alone, at most those of the greatest area, and no zero before others
+NUMBER = "(?:0|[1-9][0-9]{0,16})"  # digits alone, at most those of the greatest area, and no zero before others
 NUMBERS = [re.compile(",".join([f"({NUMBER})"] * count) + "\n") for count in range(5)]  # so many at the end of a line
 PIECE = 1_000  # rows that are read together
 NAME = re.compile('[^\x00-\x1f\x7f,"]{1,32}')
@@ -188,7 +188,7 @@ class Animal:
 
     def take_rows(self, keeps_rows: bool) -> None:
         """The rows of the first 1, 2, .. fixes. The last is that of all."""
-        form = re.compile(f"(?:row,{re.escape(self.name)},[0-9]++,{NUMBER},{NUMBER},{NUMBER}\n)*+")
+        form = re.compile(f"(?:row,{re.escape(self.name)},{NUMBER},{NUMBER},{NUMBER},{NUMBER}\n)*")
         last = (0, 0, 0)
         for first in range(1, self.fixes + 1, PIECE):
             numbers = range(first, min(first + PIECE, self.fixes + 1))
@@ -216,10 +216,10 @@ class Animal:
         """The rows of so many fixes, if a text is they; none where it has to be looked at line by line."""
         if not form.fullmatch(text):
             return []
-        fields = text.replace("\n", ",").split(",")
-        seconds, corners, areas = (list(map(int, fields[at:-1:6])) for at in (3, 4, 5))
+        fields = [*map(int, text.replace(f"row,{self.name},", "").replace("\n", ",")[:-1].split(","))]
+        seconds, corners, areas = fields[1::4], fields[2::4], fields[3::4]
         rises = [before[0], *seconds] == sorted([before[0], *seconds]) and [before[2], *areas] == sorted([before[2], *areas])
-        if not rises or fields[2:-1:6] != list(map(str, numbers)):
+        if not rises or fields[::4] != [*numbers]:
             return []
         self.write(text)
         return list(zip(seconds, corners, areas))

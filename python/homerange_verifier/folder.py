@@ -12,13 +12,17 @@ from typing import Mapping
 from .intake import SIGNATURES, SUMS, Intake
 from .lines import Fault
 
+PIECE = 2 ** 20  # bytes of a file that are read together
 SUM = re.compile("([0-9a-f]{64})  (.+)")
 ARMOUR = re.compile(b"-----BEGIN SSH SIGNATURE-----\n([A-Za-z0-9+/=\n]+)\n-----END SSH SIGNATURE-----\n")
 
 
 def checksum_of(path: Path) -> str:
+    found = hashlib.sha256()
     with open(path, "rb") as file:
-        return hashlib.file_digest(file, "sha256").hexdigest()
+        while piece := file.read(PIECE):
+            found.update(piece)
+    return found.hexdigest()
 
 
 def lines_of(path: Path) -> list[str]:

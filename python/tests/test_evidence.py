@@ -117,6 +117,10 @@ def test_evidence_of_fixes_that_were_chosen_and_bound(tmp_path, splitter):
         areas = pandas.read_csv(folder / "summary.csv").set_index(["animal", "level"])["hectares"]
         assert {name: areas[name, 100] for name in ("vixen", "a_b")} == {
             name: found.hectares(name.replace("_", "/")) for name in ("vixen", "a_b")}
+    laea = home_range(read_fixes(frame.assign(easting=frame["easting"] + 3_759_000, northing=frame["northing"] - 1_924_000), crs=3035).iloc[1:])
+    laea.evidence(tmp_path / "laea")
+    assert "option,crs,EPSG:3035 (ETRS89-extended / LAEA Europe)" in lines_of(tmp_path / "laea")[0]
+    assert verify(tmp_path / "laea")[0] == 3
     # Moved as a whole fixes are shifted otherwise, and have the areas that they had.
     moved = home_range(chosen.assign(easting=chosen["easting"] - 7_000_000))
     moved.evidence(tmp_path / "moved")

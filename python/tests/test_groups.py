@@ -120,6 +120,7 @@ def test_rows_without_a_group(frame):
     ("week", "by: there is no column 'week', and it is none of 'year', 'season', 'month'"), (5, "by=5 is none of 'year', 'season', 'month'"),
     ({"a": 1}, "by=.* is none of"), (["a"] * 79, "by is 79 values for 80 rows"), (lambda fixes: 5, "by is 5 for 80 rows"),
     (pandas.Series(["a"] * 79), "by is a Series with another index than the frame"),
+    (pandas.Series([1.5] * 80), "row .*: by has a group that is '1.5', a number that is not whole"),
     (["a\tb"] * 80, "row .*: by has a group that is 'a.*b', with a control character")])
 def test_what_is_refused(frame, by, said):
     with pytest.raises(FrameError, match=said):
@@ -131,7 +132,7 @@ def test_periods_want_a_calendar(frame):
     for table in (seconds, seconds.assign(second=[1, 2, 3])):
         with pytest.raises(FrameError, match="by='year': seconds have no calendar"):
             home_range(table, by="year")
-    with pytest.raises(FrameError, match="by='year' is a period of the calendar, and a column too: rename the column"):
+    with pytest.raises(FrameError, match="by='year' is a period of the calendar, and a column too: by=fixes\\['year'\\] takes"):
         home_range(frame.assign(year=1), by="year")
 
 

@@ -91,16 +91,20 @@ def test_points_are_columns(tmp_path):
     frame = frame_of(a=SQUARE[:2])[["animal", "timestamp"]].assign(**{"point easting": 1})
     metres = geopandas.GeoDataFrame(frame.copy(), geometry=geopandas.points_from_xy([500000.5, None], [5000000, None]), crs=32633)
     text, options, _ = written(metres, tmp_path)
-    assert text == (f"animal,timestamp,point easting,point easting ,point northing\na,{TIMES[0]},1,500000.5,5000000\na,{TIMES[1]},1,,\n")
-    assert options == {"zone": "33N", "easting": "point easting ", "northing": "point northing"}
+    assert text == (f"animal,timestamp,point easting,point easting 2,point northing\na,{TIMES[0]},1,500000.5,5000000\na,{TIMES[1]},1,,\n")
+    assert options == {"zone": "33N", "easting": "point easting 2", "northing": "point northing"}
     laea = metres.set_crs(3035, allow_override=True)
     assert written(laea, tmp_path)[1]["crs"] == "EPSG:3035 (ETRS89-extended / LAEA Europe)"
     assert written(metres, tmp_path, easting="point easting", northing="point easting")[1] == {
         "easting": "point easting", "northing": "point easting"}
     none = geopandas.GeoDataFrame(frame[["animal", "timestamp", "point easting"]].copy(), geometry=geopandas.points_from_xy([1, 2], [3, 4]))
-    assert written(none, tmp_path)[1] == {"easting": "point easting ", "northing": "point northing"} and written(none, tmp_path)[2].crs is None
+    assert written(none, tmp_path)[1] == {"easting": "point easting 2", "northing": "point northing"} and written(none, tmp_path)[2].crs is None
+    degrees = geopandas.GeoDataFrame(frame.copy(), geometry=geopandas.points_from_xy([15.5, 15.25], [46, 46.5]))
+    with pytest.raises(FrameError, match="the points have no CRS, and lie as longitude and latitude do: frame.set_crs") as fault:
+        written(degrees, tmp_path)
+    assert fault.value.kind == "degrees"
     mixed = metres.assign(geometry=[metres.geometry[0], metres.geometry[0].buffer(1)])
-    assert written(mixed, tmp_path)[0].split("\n")[2].endswith(",<Polygon>,<Polygon>")
+    assert written(mixed, tmp_path)[0].split("\n")[2].endswith(",<polygon>,<polygon>")
 
 
 def test_points_in_degrees_are_of_wgs_84(tmp_path):

@@ -12,7 +12,7 @@ from qgis.core import (
 )
 from qgis.PyQt.QtGui import QIcon
 
-from .layers import PLACES, LayerFault, boundary_of, check_crs, crs_of, frame_of
+from .layers import PLACES, LayerFault, boundary_of, check_crs, chosen, crs_of, frame_of
 from .program import ProgramFault, load, program
 from .sinks import (
     BOUNDED, CORNERS, CURVE, OVERLAPS, RANGES, SHAPES, corner_features, curve_features, fields_of, overlap_features,
@@ -22,13 +22,14 @@ from .sinks import (
 HERE = Path(__file__).parent
 UNITS = ("m", "dm")
 FIELDS = (("ANIMAL", "Field of the animal"), ("TIME", "Field of the time"), ("USE", "Field of which fixes are used"))
-# Filters as text, by the argument of home_range: what they are called.
+# Filters of fixes that were read, as text.
+CALENDAR = {"months": "Months, such as 5,6,7", "hours": "Two hours of the day, such as 18,6 for the night"}
+# Filters as text, by the argument of read_fixes: what they are called.
 FILTERS = {
-    "since": "First moment or day, such as 2024-05-01", "until": "Last moment or day",
-    "months": "Months, such as 5,6,7", "hours": "Two hours of the day, such as 18,6 for the night",
+    "since": "First moment or day, such as 2024-05-01", "until": "Last moment or day", **CALENDAR,
     "every": "One fix in each piece of time, such as 2h", "sensor": "Types of sensors, such as gps",
     "argos_class": "Argos classes, such as 3,2,1", "fix_type": "Types of fixes, such as 3D",
-    "tz": "Time zone of days and hours, such as Europe/Ljubljana"}
+    "tz": "Time zone of days, hours and texts of times, such as Europe/Ljubljana"}
 BOUNDS = {"max_dop": "Greatest dilution of precision", "max_speed": "Greatest speed from the last kept fix, in metres a second"}
 OUTPUTS = {"RANGES": "Ranges", "CORNERS": "Corners", "CURVE": "Area curve", "OVERLAPS": "Overlaps"}
 COLUMNS = {"CORNERS": CORNERS, "CURVE": CURVE, "OVERLAPS": OVERLAPS}
@@ -125,7 +126,7 @@ class RangesAlgorithm(QgsProcessingAlgorithm):
             self.addParameter(parameter)
 
     def wishes(self, parameters, context):
-        """The arguments of home_range."""
+        """What is wished of fixes, by the names of arguments."""
         wished = {name.lower(): self.parameterAsString(parameters, name, context) for name, _ in FIELDS}
         wished.update((name, self.parameterAsString(parameters, name.upper(), context)) for name in FILTERS)
         found = {name: text for name, text in wished.items() if text}
@@ -161,14 +162,15 @@ class RangesAlgorithm(QgsProcessingAlgorithm):
             raise QgsProcessingException(self.invalidSourceError(parameters, "INPUT"))
         check_crs(source, context.project())
         wishes = self.wishes(parameters, context)
-        frame = frame_of(source, watch, pandas)
+        levels, calendar = wishes.pop("levels"), {name: wishes.pop(name, None) for name in CALENDAR}
+        frame = frame_of(source, watch, pandas, wishes.pop("use", None))
         # They go to the log.
         warnings.filterwarnings("ignore", category=package.HomeRangeNote)
         warnings.filterwarnings("ignore", category=package.HomeRangeInfo)
         easting, northing = PLACES
+        fixes = package.read_fixes(frame, easting=easting, northing=northing, crs=crs_of(source), program=program(), **wishes)
         ranges = package.home_range(
-            frame, easting=easting, northing=northing, crs=crs_of(source), program=program(),
-            progress=lambda done, of: watch.at(done / of, READ, MADE), **wishes)
+            chosen(fixes, **calendar), levels, program=program(), progress=lambda done, of: watch.at(done / of, READ, MADE))
         watch.say(ranges)
         bounds = self.parameterAsSource(parameters, "BOUNDARY", context)
         boundary = None if bounds is None else boundary_of(bounds, geopandas)

@@ -41,13 +41,13 @@ def is_missing(value):
 
 
 def value_of(value):
-    """A field as a cell. A date-time of a zone is a moment; of others QGIS keeps the clock alone, as of a GeoPackage's."""
+    """A field as a cell. A date-time of a zone is a moment; of others QGIS keeps the clock alone, as of a GeoPackage's, which is
+    taken for that of UTC."""
     if is_missing(value):
         return None
     if isinstance(value, QDateTime):
-        if value.timeSpec() == Qt.LocalTime:
-            return value.toPyDateTime()
-        return value.toUTC().toPyDateTime().replace(tzinfo=datetime.timezone.utc)
+        moment = value if value.timeSpec() == Qt.LocalTime else value.toUTC()
+        return moment.toPyDateTime().replace(tzinfo=datetime.timezone.utc)
     return value.toPyDate() if isinstance(value, QDate) else value
 
 
@@ -71,9 +71,9 @@ def column_of(values, kind, pandas):
     return pandas.Series(values, dtype="object" if kind in (QVariant.String, QVariant.Bool, QVariant.Date) else None)
 
 
-def frame_of(source, watch, pandas):
+def frame_of(source, watch, pandas, use):
     """The features of a layer as a frame, with those of its fields that a table of fixes may have, and behind them two
-    columns of the places of its points."""
+    columns of the places of its points. A field that says which fixes are used is the column use."""
     fields = [field for field in source.fields() if field.type() in TAKEN]
     places = [source.fields().lookupField(field.name()) for field in fields]
     cells, east, north = [[] for _ in fields], [], []
@@ -91,10 +91,35 @@ def frame_of(source, watch, pandas):
         north.append(northing)
     if not east:
         raise LayerFault("The layer has no features")
-    columns = {field.name(): column_of(own, field.type(), pandas) for field, own in zip(fields, cells)}
+    names = [field.name() for field in fields]
+    if use is not None and use not in names:
+        raise LayerFault(f"The field {use} says of no fix whether it is used: its type is neither a truth, a number nor a text")
+    # Where another field is named, one that is called use says nothing.
+    columns = {"use" if name == use else name: column_of(own, field.type(), pandas) for name, field, own in zip(names, fields, cells)
+               if name == use or use is None or name != "use"}
     for title, own in zip(PLACES, (east, north)):
         columns[title] = pandas.Series(own, dtype="float64")
     return pandas.DataFrame(columns)
+
+
+def chosen(fixes, months, hours):
+    """The fixes of some months, and of the hours from a first one to a second, which is not among them."""
+    wished = [name for name, wish in (("months", months), ("hours", hours)) if wish is not None]
+    if wished and "time" not in fixes:
+        raise LayerFault(f"{wished[0]}: the fixes have no calendar")
+    if months is not None:
+        if not all(1 <= month <= 12 for month in months):
+            raise LayerFault(f"months: {months} are not months from 1 to 12")
+        fixes = fixes[fixes["time"].dt.month.isin(months)]
+    return fixes if hours is None else fixes[at_hours(fixes["time"].dt.hour, hours)]
+
+
+def at_hours(own, hours):
+    """Which hours are from a first one to a second, over midnight where that is less."""
+    if len(hours) != 2 or hours[0] == hours[1] or not all(0 <= hour <= 24 for hour in hours):
+        raise LayerFault(f"hours: {hours} are not two different hours from 0 to 24, such as 18,6")
+    first, last = hours
+    return (own >= first) & (own < last) if first < last else (own >= first) | (own < last)
 
 
 def crs_of(source):

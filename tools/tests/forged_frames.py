@@ -15,6 +15,7 @@ AGAIN = "is another one than is made again: line"
 ANIMALS, PAGE = f"animals.csv {AGAIN}", f"report.html {AGAIN} [0-9]+ has"
 CANNOT = "tables, layers and page cannot be made of this folder: "
 NO_TOOL = "split.txt has a line 'tool' that is none of what makes tracks"
+EXPORT = "^export: .*\nexport sha256: .*\n"  # in the record of the run
 EUROPE = "EPSG:3035 (ETRS89-extended / LAEA Europe)"
 
 
@@ -53,20 +54,22 @@ of_record("no zone", f"{PAGE} .*, and .*reference system not known.* is wanted",
           old="^zone,33N", new="zone,none")
 of_record("another system than a zone", f"{PAGE} .*33N.*, and .*EPSG:3035",
           "ranges.gpkg has '.*' in row [0-9] of gpkg_spatial_ref_sys",
+          old="^zone,33N", new=f"zone,none\noption,crs,{EUROPE}")
+of_record("a line of older records", "split.txt has a line 'crs', which older records of data frames have",
           old="^zone,33N", new=f"zone,none\ncrs,{EUROPE}")
 of_record("a shift", f"{PAGE} .*559,000.*, and .*-441,000",
-          "ranges.gpkg has 560456.0 in row 1 of gpkg_contents, column 6; -439544.0 is",
+          "ranges.gpkg has [0-9.]+ in row 1 of gpkg_contents, column 6; -[0-9.]+ is",
           old="^zone,33N", new="zone,33N\nshift,1000000,0")
 of_record("the checksum of a track", "tracks/Cilla.csv is not the file that split.txt says",
           old="^(track,Cilla,[0-9]+,[0-9]+),.*", new=r"\1," + 64 * "0")
-of_record("a count of used fixes", "Cilla.csv has 145 records of which 145 are used, and .* says 145 and 144",
-          f"{CANNOT}the report has 145",
-          old="^track,Cilla,145,145,", new="track,Cilla,145,144,")
-of_record("a count of records", "Cilla.csv has 145 records of which 145 are used, and .* says 150 and 145",
+of_record("a count of used fixes", "Cilla.csv has 155 records of which 155 are used, and .* says 155 and 154",
+          f"{CANNOT}the report has 155",
+          old="^track,Cilla,155,155,", new="track,Cilla,155,154,")
+of_record("a count of records", "Cilla.csv has 155 records of which 155 are used, and .* says 160 and 155",
           f"{ANIMALS} 3 has 'Cilla,360",
-          old="^track,Cilla,145,145,", new="track,Cilla,150,145,")
+          old="^track,Cilla,155,155,", new="track,Cilla,160,155,")
 of_record("another unit", "the tracks are in dm, by split.txt, and the run was made in m", old="^unit,m", new="unit,dm")
-of_record("a second zone", "tracks/split.txt: line 3 is 'zone,33N', which does not fit there", old="^zone,33N",
+of_record("a second zone", "tracks/split.txt: line 5 is 'zone,33N', which does not fit there", old="^zone,33N",
           new="zone,34N\nzone,33N")
 of_record("another option", f"{PAGE} .*max-dop 6.*, and .*max-dop 9.* is wanted", old="^option,max-dop,6",
           new="option,max-dop,9")
@@ -75,8 +78,8 @@ of_record("what was said", f"{PAGE} .*154 fixes have.*, and .*104 fixes have.* i
 of_record("an animal without a range is taken out", f"{PAGE} .*Without a range.*, and '<p class=\"note\"></p>' is wanted",
           old="^left,gone,.*\n", new="")
 of_record("half an export", "tracks/split.txt has no line 'sha256': is it a record of split?", CANNOT,
-          old="^unit,m", new="export,export.csv\nunit,m")
-of_record("what makes no tracks", NO_TOOL, old="^tool,homerange for (Python|R) .*",
+          old="^sha256,.*\n", new="")
+of_record("what makes no tracks", NO_TOOL, old="^tool,homerange-split .*",
           new=f"tool,homerange for Excel 1.0.0,{64 * '0'}")
 of_record("what makes tracks says more", NO_TOOL, old="^(tool,.*)", new=r"\1 at the park")
 
@@ -91,27 +94,34 @@ def _(hand):
 
 @forgery("a zone in the layers, and another system on the page", "split.txt has a zone and another reference system")
 def _(hand):
-    hand.record("^zone,33N", f"zone,33N\ncrs,{EUROPE}")
+    hand.record("^zone,33N", f"zone,33N\noption,crs,{EUROPE}")
     hand.sealed_sub("report.html", r"EPSG:32633 \(WGS 84 / UTM zone 33N\)", EUROPE, 0)
 
 
 @forgery("nothing of an export in the record of the run", "evidence.txt names another export than split.txt")
 def _(hand):
-    hand.sealed_sub("evidence.txt", "^export: none\n", "")
+    hand.sealed_sub("evidence.txt", EXPORT, "")
 
 
-@forgery("an export that there was not, in both records", f"{PAGE} .*in the data.*, and .*in the export.* is wanted",
+@forgery("no export in either record", f"{PAGE} .*in the export.*, and .*in the data.* is wanted",
+         "not looked at: whether the tracks are those of the data frame that they were made of")
+def _(hand):
+    hand.sealed_sub("evidence.txt", EXPORT, "export: none\n")
+    hand.record("^export,.*\nsha256,.*\n", "")
+
+
+@forgery("another export in both records", f"{PAGE} .*fixes.csv.*, and .*deer.csv.* is wanted",
          "not looked at: whether the tracks are those of an export: name it behind the folder")
 def _(hand):
-    hand.sealed_sub("evidence.txt", "^export: none", f"export: export.csv\nexport sha256: {64 * 'a'}")
-    hand.record("^unit,m", f"export,export.csv\nsha256,{64 * 'a'}\nunit,m")
+    hand.sealed_sub("evidence.txt", "^export: fixes.csv", "export: deer.csv")
+    hand.record("^export,fixes.csv", "export,deer.csv")
 
 
 @forgery("the record is taken away", "not looked at: from what the tracks were made: they have no record", ANIMALS, PAGE,
          "ranges.gpkg has too many rows in gpkg_spatial_ref_sys")
 def _(hand):
     hand.path("tracks/split.txt").unlink()
-    hand.sealed_sub("evidence.txt", "^export: none\n", "")
+    hand.sealed_sub("evidence.txt", EXPORT, "")
 
 
 @forgery("a fix is moved, run again and sealed", f"summary.csv {AGAIN}", PAGE,
@@ -135,18 +145,18 @@ def _(hand):
 
 of_record("another code", f"{PAGE} .*EPSG:3035.*, and .*EPSG:3034.* is wanted",
           "ranges.gpkg has .* of gpkg_spatial_ref_sys, column 1",
-          old="^crs,EPSG:3035", new="crs,EPSG:3034", forgeries=of_system)
+          old="^option,crs,EPSG:3035", new="option,crs,EPSG:3034", forgeries=of_system)
 of_record("no system", f"{PAGE} .*EPSG:3035.*, and .*not known.* is wanted",
           "ranges.gpkg has .* of gpkg_spatial_ref_sys, column 1",
-          old="^crs,.*\n", new="", forgeries=of_system)
+          old="^option,crs,.*\n", new="", forgeries=of_system)
 of_record("a zone", f"{PAGE} .*EPSG:3035.*, and .*33N.* is wanted", "ranges.gpkg has .* of gpkg_spatial_ref_sys, column 1",
-          old="^zone,none\ncrs,.*", new="zone,33N", forgeries=of_system)
+          old="^zone,none\noption,animal,animal\noption,crs,.*", new="zone,33N\noption,animal,animal", forgeries=of_system)
 
 
 @of_system("another name in the record and on the page",
            "not known: whether the reference system 'EPSG:3035 .seen by the authority.'")
 def _(hand):
-    hand.record("^crs,EPSG:3035 .*", "crs,EPSG:3035 (seen by the authority)")
+    hand.record("^option,crs,EPSG:3035 .*", "option,crs,EPSG:3035 (seen by the authority)")
     hand.sealed_sub("report.html", r"EPSG:3035 \(ETRS89-extended / LAEA Europe\)", "EPSG:3035 (seen by the authority)", 0)
 
 

@@ -60,18 +60,18 @@ def frame(at, names=("Asta/1", "Žiga, Ä"), steps=60):
 
 
 def make_frames(folder):
-    """Evidence of frames: filtered in a zone, in another reference system with rows that are not in use, without one, and of a
+    """Evidence of frames: filtered in a zone, of some of the fixes that were read, in another reference system, without one, and of a
     herd."""
     import geopandas
 
-    from homerange import home_range
+    from homerange import home_range, read_fixes
 
-    fixes = frame((561_000, 5_134_000))
-    filtered = home_range(fixes, zone="33N", tz="Europe/Ljubljana", max_dop="6", every=6, hours=(3, 22.5))
-    filtered.evidence(folder / "of_zone", title="Wolves & <i>dogs</i>", study="x\ny \ufeff", made=date(2024, 5, 1))
+    fixes = read_fixes(frame((561_000, 5_134_000)), zone="33N", tz="Europe/Ljubljana", max_dop="6", every=6)
+    home_range(fixes).evidence(folder / "of_zone", title="Wolves & <i>dogs</i>", study="x\ny \ufeff", made=date(2024, 5, 1))
+    home_range(fixes[fixes["time"].dt.hour >= 4]).evidence(folder / "of_hours", made=date(2024, 5, 1))
     wood = geopandas.GeoSeries.from_wkt(["POLYGON ((4321000 3210000, 4322000 3210000, 4321500 3211000, 4321000 3210000))"],
                                         crs="EPSG:3035")
-    europe = home_range(frame((4_321_000, 3_210_000)), levels=(33, 90), crs="EPSG:3035", unit="dm", use=fixes["dop"] > 1)
+    europe = home_range(frame((4_321_000, 3_210_000)), levels=(33, 90), crs="EPSG:3035", unit="dm")
     europe.evidence(folder / "of_europe", reserve=wood, reserve_name='wood & "x"', species="Canis lupus", by="Ana")
     home_range(frame((100, 100)), levels=(7, 100)).evidence(folder / "of_nothing", tz="Pacific/Honolulu")
     herd = frame((561_000, 5_134_000), [f"deer {number}" for number in range(70)], 9)

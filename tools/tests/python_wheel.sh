@@ -52,7 +52,7 @@ ranges = homerange.home_range(fixes)
 points = list(zip(fixes["easting"], fixes["northing"]))
 assert ranges.hectares("fox") == area2(hull(points)) / 20000
 assert ranges.program.path == f"{homerange.__path__[0]}/release/homerange" and ranges.program.version.startswith("homerange 1.")
-assert len(homerange.read_export("export.csv")) == 8' "$top/python/tests"
+assert len(homerange.read_fixes("export.csv")) == 8' "$top/python/tests"
 
     # Each command, beside what the scripts of the clone or the program itself make.
     "$top/release/homerange-split" --into wheel/tracks "$top/examples/export.csv" 2>wheel/said

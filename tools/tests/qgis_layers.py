@@ -169,6 +169,16 @@ def test_a_field_of_use_is_obeyed():
     assert run(layer)[0]["fox", 100]["hectares"] > 1.0
 
 
+def test_months_and_hours_are_chosen_by_the_clock_of_the_zone():
+    fields = "animal:string,timestamp:datetime"
+    moments = [QDateTime(2024, 5, 31, hour, 30, 0, 0, Qt.UTC) for hour in (8, 12, 16, 20, 23)]
+    layer = layer_of([(row[0], "fox", moment) for row, moment in zip(square(), moments)], fields=fields)
+    for parameters, fixes in (({"MONTHS": "5"}, 5), ({"MONTHS": "5", "TZ": "Europe/Ljubljana"}, 4), ({"HOURS": "12,17"}, 2),
+                              ({"HOURS": "18,6"}, 2), ({"HOURS": "18,6", "TZ": "Europe/Ljubljana"}, 3)):
+        assert run(layer, **parameters)[0]["fox", 100]["fixes"] == fixes, parameters
+    assert "no calendar" in refusal(layer_of(square("fox")), MONTHS="5")
+
+
 def test_selected_features_alone_are_taken():
     layer = layer_of([*square("fox"), ("POINT(501000 5001000)", "fox")])
     layer.selectByExpression("$x < 500500")

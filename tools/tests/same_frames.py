@@ -12,29 +12,29 @@ sys.path.insert(0, str(TOOLS.parent / "python"))
 
 import pandas
 
-from homerange import home_range, read_report
+from homerange import home_range, read_fixes, read_report
 from homerange.program import find_program
 
 OWN = ("made: ", "commit: ", "tool,")  # how lines begin that say what made a folder, and when
 CALLS = {
     "deer": {},
     "told": {
-        "levels": (50, 95, 100), "zone": "33N", "tz": "Europe/Ljubljana", "every": 6, "since": date(2024, 4, 2),
-        "until": datetime(2024, 5, 10, 12, tzinfo=timezone.utc), "hours": (3, 22.5), "months": (5, 4), "max_dop": "6",
-        "max_speed": 0.5},
-    "system": {"crs": "EPSG:3035", "unit": "dm", "use": "ok", "animal": "animal"},
-    "truths": {"levels": (33, 90), "crs": 3035, "use": lambda frame: [at % 5 > 0 for at in range(1, len(frame) + 1)]},
+        "zone": "33N", "tz": "Europe/Ljubljana", "every": 6, "since": date(2024, 4, 2),
+        "until": datetime(2024, 5, 10, 12, tzinfo=timezone.utc), "max_dop": "6", "max_speed": 0.5},
+    "system": {"crs": "EPSG:3035", "unit": "dm", "animal": "animal"},
+    "filtered": {"crs": 3035},
     "grid": {"name": "Fox", "since": "2024-04-20 05:00"},
-    "degrees": {"zone": "33N", "use": True},
-    "many": {"levels": 95, "skip_unnamed": True}}
+    "degrees": {},
+    "many": {"skip_unnamed": True}}
+LEVELS = {"filtered": (33, 90), "many": 95}
 
 
 def hand_in(folder, name, words):
-    """Makes the evidence of a table as a data frame."""
-    frame = pandas.read_csv(folder / f"{name}.csv")
-    words = {word: value(frame) if callable(value) else value for word, value in words.items()}
+    """Makes the evidence of a table as a data frame, of all or some of the fixes."""
+    fixes = read_fixes(pandas.read_csv(folder / f"{name}.csv"), **words)
+    chosen = fixes[fixes["easting"] % 2 == 0] if name == "filtered" else fixes
     title = "<b> & deer" if name == "deer" else None
-    home_range(frame, **words).evidence(folder / "by_python" / name, title=title, made=DAY)
+    home_range(chosen, LEVELS.get(name, (50, 95, 100))).evidence(folder / "by_python" / name, title=title, made=DAY)
 
 
 def hand_in_again(folder):

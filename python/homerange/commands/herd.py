@@ -29,7 +29,7 @@ from typing import Callable, Iterator, Sequence
 
 from ..bar import progress_of
 from ..errors import HomeRangeError, ReportError, one_line
-from ..program import CLONE, PACKAGE
+from ..program import CLONE, PACKAGE, checksum_of
 from ..record import difference_from_record, record_in
 from ..report import TEXT, Animal, Lines
 from .options import Options, program_of_command
@@ -75,8 +75,7 @@ def check_record(out: Path, animals: dict[str, int]) -> None:
 
 def sum_of(path: str) -> str:
     """The line that sha256sum has for a file."""
-    with open(path, "rb") as file:
-        checksum = hashlib.file_digest(file, "sha256").hexdigest()
+    checksum = checksum_of(path)
     plain = path.replace("\\", "\\\\")
     return f"{chr(92) * (plain != path)}{checksum}  {plain}"
 

@@ -4,6 +4,7 @@ is nothing, and what no table of fixes has is named by its class, as <complex>, 
 from __future__ import annotations
 
 import datetime as clock
+import re
 from decimal import Decimal
 from typing import Any, Callable, List
 
@@ -16,6 +17,7 @@ EXACT = 2 ** 53  # from here on numbers of floating point are not all whole numb
 WIDTHS = {"float16": 2 ** 11, "float32": 2 ** 24}  # the same of narrower ones
 MOST_BITS = 13_000  # of a whole number, which Python writes with up to 4,300 digits
 PARTS = {"s": 1, "ms": 10 ** 3, "us": 10 ** 6, "ns": 10 ** 9}  # of a second
+IANA = re.compile("[A-Za-z]+(/[A-Za-z0-9_+-]+)*")  # how a time zone is named
 TRUTHS = {True: "true", False: "false"}
 
 
@@ -45,6 +47,14 @@ def is_time(kind: Any) -> bool:
     return isinstance(kind, pandas.DatetimeTZDtype) or isinstance(kind, numpy.dtype) and kind.kind == "M"
 
 
+def zone_name(zone: Any) -> str | None:
+    """The name of a time zone; of one without a name what it says of itself."""
+    if zone is None:
+        return None
+    name = str(getattr(zone, "key", None) or getattr(zone, "zone", None) or zone)
+    return "UTC" if name in ("utc", "tzutc()") else name
+
+
 def times_of(series: pandas.Series) -> Cells:
     """The cells of date-times: in UTC, with a Z, where they have a zone, and else by their own clock. None are turned into another
     unit, in which they may have no place."""
@@ -60,7 +70,7 @@ def moments(times: NDArray[Any], has_zone: bool) -> Cells:
         times, unit = times.astype("datetime64[s]"), "s"
     rest = numpy.where(numpy.isnat(times), 0, times.astype("int64"))
     needed = next(name for name, parts in PARTS.items() if not (rest % max(PARTS[unit] // parts, 1)).any())
-    text = "\n".join(numpy.datetime_as_string(times, unit=needed).tolist()).replace("NaT", "")
+    text = "\n".join(numpy.datetime_as_string(times.astype(f"datetime64[{needed}]")).tolist()).replace("NaT", "")
     if not has_zone:
         return text.replace("T", " ").split("\n")
     return [f"{time}Z" if time else "" for time in text.split("\n")]
@@ -174,5 +184,5 @@ def moment_cell(value: clock.datetime) -> str:
 CLASSES: tuple[tuple[Any, Callable[[Any], str]], ...] = (
     (str, str), (numpy.timedelta64, odd_cell), ((bool, numpy.bool_), lambda value: TRUTHS[bool(value)]), ((int, numpy.integer), whole_cell),
     ((float, numpy.floating), float_cell), (Decimal, decimal_cell), (clock.datetime, moment_cell),
-    (clock.date, lambda value: value.isoformat()), (clock.time, lambda value: value.isoformat()),
+    (clock.date, lambda value: str(value.isoformat())), (clock.time, lambda value: str(value.isoformat())),
     (pandas.Period, lambda value: moment_cell(value.to_timestamp())))

@@ -11,6 +11,7 @@ import pandas
 
 from ..errors import refuse
 from ..zones import crs_of, text_of_crs
+from .cells import IANA, zone_name
 
 if TYPE_CHECKING:
     import geopandas
@@ -122,7 +123,8 @@ class Fixes(pandas.DataFrame):
         return geopandas.GeoDataFrame(pandas.DataFrame(self), geometry=places, crs=reading_of(self).system)
 
     def __repr__(self) -> str:
-        return f"{told(self)}\n\n{super().__repr__()}" if is_known(self) else super().__repr__()
+        table = str(super().__repr__())
+        return f"{told(self)}\n\n{table}" if is_known(self) else table
 
     def _repr_html_(self) -> str | None:
         table = super()._repr_html_()
@@ -145,6 +147,12 @@ def reading_of(fixes: Fixes) -> Reading:
     """How fixes were read, which has to be known."""
     return fixes.reading if fixes.reading is not None else refuse(
         "it is not known how these fixes were read, since they were joined to others: read them anew by read_fixes")
+
+
+def clock_of(fixes: Fixes) -> str:
+    """The zone of the times of fixes, which may be another than that by which they were read."""
+    name = zone_name(getattr(fixes["time"].dtype, "tz", None)) if "time" in fixes else None
+    return name if name is not None and IANA.fullmatch(name) else reading_of(fixes).tz
 
 
 def told(fixes: Fixes) -> str:
@@ -172,5 +180,5 @@ def head(fixes: Fixes, reading: Reading) -> str:
     sizes = [(fixes[title].max() - fixes[title].min()) / 1000 for title in PLACES]
     title = "time" if "time" in fixes else "second"
     ends = [str(end.date()) if isinstance(end, pandas.Timestamp) else f"second {end}" for end in (fixes[title].min(), fixes[title].max())]
-    span = f"from {ends[0]} to {ends[1]}" + (f" in {reading.tz}" if title == "time" else "")
+    span = f"from {ends[0]} to {ends[1]}" + (f" in {clock_of(fixes)}" if title == "time" else "")
     return f"{counted}, {span}, box {sizes[0]:.3f} by {sizes[1]:.3f} km; {system}"

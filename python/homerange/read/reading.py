@@ -162,9 +162,9 @@ def fixes_of(whole: Whole, record: Record, folder: Path, tz: str | None, crs: An
     is_calendar = len(whole.second) and SINCE_1970[0] <= whole.second.min() and whole.second.max() < SINCE_1970[1]
     when = {"time": times_of(pandas.Series(whole.second), clock)} if is_calendar else {"second": whole.second}
     fixes = Fixes({"animal": whole.per_fix(names), **when, "easting": east, "northing": north})
-    middles = {name: tuple(float(side[part].mean()) for side in (east, north)) for name, part in zip(names, parts_of(whole.counts))}
+    middles = {name: (float(east[part].mean()), float(north[part].mean())) for name, part in zip(names, parts_of(whole.counts))}
     said = [as_arguments(line) for line in record.said]
-    shown = [*said, *notes, *scale_said(crs, record.zone, middles)]
+    shown = [*notes, *said, *scale_said(crs, record.zone, middles)]
     fixes.reading = Reading(
         record.unit, record.zone, crs, clock, record.shift, tuple(shown), left_out(record, own), dict(zip(names, whole.counts)),
         {name: file for file, name in own.items()}, (folder / "tracks" / "split.txt").read_bytes())

@@ -43,7 +43,7 @@ def crs_named(crs: Any) -> Any:
 
 def is_local(crs: Any) -> bool:
     """Whether a system, or none, is a plane without a place on the Earth."""
-    return crs is None or bool(crs.is_engineering)
+    return crs is None or bool(getattr(crs, "is_engineering", False))
 
 
 def check_plane(crs: Any) -> None:
@@ -79,11 +79,24 @@ def columns_of_points(points: geopandas.GeoSeries) -> tuple[dict[str, pandas.Ser
     turned into those of WGS 84."""
     crs = points.crs
     if crs is None or not crs.is_geographic:
+        sides = dict(zip(TITLES, sides_of(points)))
         if crs is not None:
             check_plane(crs)
-        return dict(zip(TITLES, sides_of(points))), []
-    sides = dict(zip(TITLES_OF_DEGREES, sides_of(points, DEGREES)))
-    return sides, [] if crs == DEGREES else [f"points of {crs.name} are turned into longitude and latitude of WGS 84"]
+        elif are_degrees(*sides.values()):
+            refuse("the points have no CRS, and lie as longitude and latitude do: frame.set_crs(4326) says so where they are", "degrees")
+        return sides, []
+    is_of_program = crs.equals(type(crs).from_user_input(DEGREES), ignore_axis_order=True)
+    said = [] if is_of_program else [f"points of {crs.name} are turned into longitude and latitude of WGS 84"]
+    return dict(zip(TITLES_OF_DEGREES, sides_of(points, DEGREES))), said
+
+
+def are_degrees(east: pandas.Series, north: pandas.Series) -> bool:
+    """Whether all of some coordinates may be degrees, and are no whole metres."""
+    pairs = [pandas.to_numeric(side, errors="coerce").to_numpy() for side in (east, north)]
+    is_there = numpy.isfinite(pairs[0]) & numpy.isfinite(pairs[1])
+    own = [side[is_there] for side in pairs]
+    is_near = bool((numpy.abs(own[0]) <= 180).all() and (numpy.abs(own[1]) <= 90).all())
+    return bool(is_there.any()) and is_near and bool((own[0] % 1 > 0).any() or (own[1] % 1 > 0).any())
 
 
 def sides_of(points: geopandas.GeoSeries, into: str | None = None) -> tuple[pandas.Series, pandas.Series]:
@@ -100,7 +113,7 @@ def sides_of(points: geopandas.GeoSeries, into: str | None = None) -> tuple[pand
     for at in numpy.flatnonzero(~is_point & ~is_empty).tolist():
         found = [side.astype(object) for side in found]
         for side in found:
-            side.iat[at] = f"<{kinds[at]}>"
+            side.iat[at] = f"<{kinds[at].lower()}>"
     return found[0], found[1]
 
 

@@ -6,6 +6,7 @@ from __future__ import annotations
 import datetime as clock
 import re
 import sys
+from itertools import chain, count
 from pathlib import Path
 from typing import TYPE_CHECKING, Any, Mapping, NamedTuple, NoReturn, Sequence
 
@@ -13,7 +14,7 @@ import numpy
 import pandas
 
 from ..errors import refuse
-from .cells import Cells, cells_of, is_time
+from .cells import IANA, Cells, cells_of, is_time, zone_name
 from .systems import TITLES, TITLES_OF_DEGREES, columns_of_points, crs_named, is_local, options_of
 
 if TYPE_CHECKING:
@@ -140,9 +141,8 @@ def points_of(frame: pandas.DataFrame) -> geopandas.GeoSeries | None:
 def title_of_place(option: str, columns: Sequence[Column]) -> str:
     """The title of a column of points, which the frame has not."""
     title, titles = {**TITLES, **TITLES_OF_DEGREES}[option], {column.title for column in columns}
-    while title in titles:
-        title = f"{title} "
-    return title
+    several = (f"{title} {number}" for number in count(2))
+    return next(found for found in chain([title], several) if found not in titles)
 
 
 def has_times(values: pandas.Series) -> bool:
@@ -150,7 +150,7 @@ def has_times(values: pandas.Series) -> bool:
     kind = inner_type(values.dtype)
     if is_time(kind) or isinstance(kind, pandas.PeriodDtype) or "timestamp" in str(kind):
         return True
-    return kind == object and pandas.api.types.infer_dtype(values, skipna=True) == "datetime"
+    return bool(kind == object and pandas.api.types.infer_dtype(values, skipna=True) == "datetime")
 
 
 def inner_type(kind: Any) -> Any:
@@ -168,14 +168,6 @@ def zones_in(values: pandas.Series) -> set[str | None]:
     return {zone_name(zone)}
 
 
-def zone_name(zone: Any) -> str | None:
-    """The name of a time zone; of one without a name what it says of itself."""
-    if zone is None:
-        return None
-    name = str(getattr(zone, "key", None) or getattr(zone, "zone", None) or zone)
-    return "UTC" if name in ("utc", "tzutc()") else name
-
-
 def zone_of_times(columns: Sequence[Column], options: Mapping[str, Any]) -> tuple[Any, list[str]]:
     """The time zone for the program: the one that is named, or the only one that columns of date-times have, where no other
     column may be the time; and what is to be said of it."""
@@ -191,9 +183,9 @@ def zone_of_times(columns: Sequence[Column], options: Mapping[str, Any]) -> tupl
               and (column.title in named or not named and plain(column.title) in TIMES)]
     if len(zones) > 1 or None in found or others or options.get("from_") is not None:
         return None, [f"days and hours are those of UTC, since times are of {', '.join(zones)} and of other clocks"]
-    if not re.fullmatch("[A-Za-z]+(/[A-Za-z0-9_+-]+)*", zones[0]):
+    if not IANA.fullmatch(zones[0]):
         return None, [f"days and hours are those of UTC, since the zone {zones[0]} of {[*times][0]} has no name"]
-    return zones[0], []
+    return zones[0], [f"days and hours are those of {zones[0]}, the zone of {[*times][0]}"]
 
 
 def is_number(values: pandas.Series) -> bool:

@@ -53,7 +53,8 @@ def read_tracks(folder: Path, record: Record) -> Whole:
 def track_in(folder: Path, name: str) -> NDArray[numpy.int64]:
     """The seconds, eastings and northings of the track of an animal."""
     with open(path_of_track(folder, name), encoding="utf-8", newline="") as file:
-        return pandas.read_csv(file, dtype="int64", usecols=NUMBERS, quoting=csv.QUOTE_NONE)[NUMBERS].to_numpy()
+        track = pandas.read_csv(file, dtype="int64", usecols=NUMBERS, quoting=csv.QUOTE_NONE)
+    return numpy.asarray(track[NUMBERS], dtype="int64")
 
 
 def rows_of(folder: Path, whole: Whole) -> NDArray[numpy.int64]:

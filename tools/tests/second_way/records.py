@@ -59,7 +59,8 @@ class Split:
     def system(self) -> str | None:
         """The reference system as it is written; None where none is known."""
         if self.zone is None:
-            return self.single.get("crs")
+            named = [unescaped(value) for name, _, value in self.options if name == "crs"]
+            return named[0] if named and self.has_export else self.single.get("crs")
         return f"EPSG:{326 if self.zone.endswith('N') else 327}{self.zone[:-1]:0>2} (WGS 84 / UTM zone {self.zone})"
 
     @property
