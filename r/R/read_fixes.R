@@ -37,7 +37,7 @@ read_frame <- function(x, given, folder) {
   if (is.null(given$animal)) given$animal <- attr(x, "track_id_column", exact = TRUE)  # of move2
   if (is.null(given$time)) given$time <- attr(x, "time_column", exact = TRUE)
   given <- given[!vapply(given, is.null, NA)]
-  places <- places_of(x, given)
+  places <- places_of_frame(x, given)
   clock <- clock_of_frame(x, given)
   text <- file.path(folder, name_of_frame)
   into <- file.path(folder, "tracks")
