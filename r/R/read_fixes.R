@@ -54,7 +54,7 @@ read_frame <- function(x, given, folder) {
   table <- table_of_fixes(fixes, record, tz, rows_of_columns(columns_of(x), rows))
   check_names(x, table$animal, rows)
   scale <- if (!is.null(places$crs)) check_scale(table, places$crs)
-  notes <- c(places$line, clock$line, record$said, scale)
+  notes <- c(groups_of_dplyr(x), places$line, clock$line, record$said, scale)
   facts <- facts_of_record(record, file.path(into, "split.txt"), tz, places$crs, notes)
   list(fixes = new_fixes(table, facts), notes = notes, frame = list(rows = rows, number = nrow(x)))
 }
@@ -81,6 +81,12 @@ columns_of <- function(x) {
 rows_of_columns <- function(columns, rows) {
   if (identical(rows, seq_along(rows)) && length(rows) == NROW(columns[[1]])) return(columns)
   lapply(columns, function(column) if (length(dim(column)) == 2) column[rows, , drop = FALSE] else column[rows])
+}
+
+# What is said of a table of dplyr that is by groups.
+groups_of_dplyr <- function(x) {
+  by <- setdiff(names(attr(x, "groups", exact = TRUE)), ".rows")
+  if (length(by) > 1) paste0("groups of the table are not looked at (", paste(by, collapse = ", "), "): by makes ranges of groups")
 }
 
 # Refuses names of animals that are the class of a column of which no cell is known.

@@ -97,6 +97,19 @@ test_that("columns of classes are read as meant, or refused by name", {
   expect_identical(unique(fixes$time), as.POSIXct("2024-05-01 10:00", tz = "UTC"))
 })
 
+test_that("a table of groups says that these are not looked at", {
+  skip_without_split()
+  skip_if_not_installed("dplyr")
+  table <- cbind(frame(), season = rep(c("a", "b"), 3))
+  expect_message(read_fixes(dplyr::group_by(table, animal, season), time = "when"), "groups of the table are not looked at (animal, season): by",
+                 fixed = TRUE, class = "homerange_guessed_note")
+  expect_false(any(grepl("groups", facts_of(named(dplyr::group_by(table, animal)))$notes)))
+  fixes <- named(table)
+  some <- dplyr::filter(fixes, season == "a")
+  expect_s3_class(some, "homerange_fixes")
+  expect_identical(facts_of(some), facts_of(fixes))
+})
+
 test_that("what is no table is refused", {
   skip_without_split()
   refused <- function(x, text) expect_error(read_quietly(x), text, fixed = TRUE, class = "homerange_empty_error")
