@@ -1,45 +1,70 @@
 # How the columns of a data frame are written as the cells of a text, by their classes: docs/TABLES.md, Data frames.
 #
 # Cells are text in UTF-8, "" where they are missing. A class of which nothing is known is written by its name, as <complex>,
-# which the program refuses where it reads that column.
+# which the program refuses where it reads that column. A column is written in parts, one behind the other in each cell: texts
+# by their kinds and the place of each cell among these, or numbers with decimals.
 
 most_exact <- 2^53
+most_short <- 1e15  # below which a number has no more digits than a double holds
+most_places <- 9  # decimals of numbers that are written without a look at each
 most_days <- 4e6  # from 1970: the calendar of R is slow beyond
 metres_of_units <- c(m = 1, metre = 1, meter = 1, km = 1000)
 degrees_of_units <- c("\u00b0", "degree", "arc_degree", "degrees")
 
-# The cells of a column.
-cells_of_column <- function(column, title) {
+# The parts of a column.
+parts_of_column <- function(column, title) {
   if (inherits(column, "POSIXlt")) column <- as.POSIXct(column)
-  if (is.list(column) || is.complex(column) || is.raw(column) || NCOL(column) > 1) return(cells_of_class(column))
+  if (is.list(column) || is.complex(column) || is.raw(column) || NCOL(column) > 1) return(parts_of_class(column))
   if (!is.null(dim(column))) column <- as.vector(column)
-  if (is.factor(column)) return(cells_of_text(levels(column), as.integer(column), title))
-  if (is.character(column)) return(cells_of_text(unique(as.vector(column)), match(column, unique(column)), title))
-  if (inherits(column, "integer64")) return(digits_of_integer64(column))
-  if (inherits(column, "POSIXct")) return(cells_of_moments(as.numeric(column)))
-  if (inherits(column, "Date")) return(cells_of_days(floor(as.numeric(column))))
-  if (inherits(column, c("ITime", "hms"))) return(cells_of_clocks(column))
-  if (inherits(column, "units")) return(cells_of_units(column))
-  if (has_own_class(column)) return(cells_of_class(column))
-  if (is.logical(column)) return(c("false", "true")[column + 1L])
-  if (is.integer(column)) as.character(column) else cells_of_numbers(as.vector(unclass(column)))
+  if (is.factor(column)) return(parts_of_text(levels(column), as.integer(column), title))
+  if (is.character(column)) {
+    kinds <- distinct(as.vector(column))
+    return(parts_of_text(kinds, places_of(column, kinds), title))
+  }
+  if (inherits(column, "integer64")) return(parts_of_cells(digits_of_integer64(column)))
+  if (inherits(column, "POSIXct")) return(parts_of_moments(as.numeric(column)))
+  if (inherits(column, "Date")) return(list(part_of_days(floor(as.numeric(column)), "")))
+  if (inherits(column, c("ITime", "hms"))) return(parts_of_cells(cells_of_clocks(column)))
+  if (inherits(column, "units")) return(parts_of_units(column))
+  if (has_own_class(column)) return(parts_of_class(column))
+  if (is.logical(column)) return(list(part_of_kinds(c("false", "true"), column + 1L)))
+  parts_of_numbers(as.numeric(unclass(column)))
+}
+
+# The cells of a column as texts.
+cells_of_column <- function(column, title) texts_of_parts(parts_of_column(column, title))
+
+texts_of_parts <- function(parts) do.call(paste0, lapply(parts, texts_of_part))
+
+texts_of_part <- function(part) {
+  if (!is.null(part$numbers)) return(cells_of_numbers(part$numbers))
+  texts <- part$kinds[part$place]
+  replace(texts, is.na(texts), "")
+}
+
+# A part of texts: its kinds, and the place of each cell among them.
+part_of_kinds <- function(kinds, place) list(kinds = kinds, place = place)
+
+parts_of_cells <- function(cells) {
+  kinds <- distinct(cells)
+  list(part_of_kinds(kinds, places_of(cells, kinds)))
 }
 
 # Whether cells mean something else than the numbers or truths they are kept as.
 has_own_class <- function(column) isS4(column) || length(setdiff(oldClass(column), c("AsIs", "noquote"))) > 0
 
-cells_of_class <- function(column) rep(paste0("<", class(column)[1], ">"), NROW(column))
+parts_of_class <- function(column) list(part_of_kinds(paste0("<", class(column)[1], ">"), rep(1L, NROW(column))))
 
-# The cells of a column of text, by its different texts and the place of each cell among them. One that cannot be UTF-8 is
-# refused by its row.
-cells_of_text <- function(kinds, place, title) {
+# A column of text, by its different texts and the place of each cell among them. One that cannot be UTF-8 is refused by its
+# row.
+parts_of_text <- function(kinds, place, title) {
   kinds <- in_utf8(kinds)
   bad <- which(!is.na(kinds) & !validUTF8(kinds))
   if (length(bad)) {
     refuse("text", readable(title), " is no text in UTF-8: iconv(x, \"latin1\", \"UTF-8\") makes it of another encoding",
            record = which(place %in% bad)[1])
   }
-  quoted(kinds)[place]
+  list(part_of_kinds(quoted(kinds), place))
 }
 
 # Texts as fields: those with commas, quotes or ends of lines stand in quotes.
@@ -69,6 +94,23 @@ readable <- function(text) {
   is_bad <- !is.na(text) & !validUTF8(text)
   text[is_bad] <- iconv(text[is_bad], "UTF-8", "UTF-8", sub = "byte")
   text
+}
+
+# Numbers: those with few decimals and digits, or else their texts.
+parts_of_numbers <- function(numbers) {
+  places <- places_of_decimals(numbers)
+  if (is.na(places)) parts_of_cells(cells_of_numbers(numbers)) else list(list(numbers = numbers, places = places))
+}
+
+# How many decimals all of some numbers have; NA where one has too many, or has no end.
+places_of_decimals <- function(numbers) {
+  numbers <- numbers[!is.na(numbers)]
+  size <- max(abs(numbers), 0)
+  for (places in 0:most_places) {
+    if (size * 10^places >= most_short) return(NA)
+    if (all(round(numbers * 10^places) / 10^places == numbers)) return(places)
+  }
+  NA
 }
 
 # The fewest digits that give numbers back, without an exponent below 2^53.
@@ -120,14 +162,17 @@ digits_of_integer64 <- function(column) {
   ifelse(is_missing, "", paste0(ifelse(is_negative, "-", ""), digits))
 }
 
-# Moments of UTC, from seconds since 1970.
-cells_of_moments <- function(seconds) {
+# Moments of UTC, from seconds since 1970: the day, the clock, and decimals where there are some.
+parts_of_moments <- function(seconds) {
   whole <- floor(seconds)
   day <- whole %/% 86400
-  cells <- paste0(cells_of_days(day), "T", clock_texts(whole - 86400 * day), decimals_of(seconds), "Z")
   is_far <- !is.finite(seconds) | abs(day) > most_days
-  cells[is_far] <- ifelse(is.na(seconds[is_far]), "", "<POSIXct>")
-  cells
+  clock <- whole - 86400 * day
+  clock[is_far] <- NA
+  has_part <- isTRUE(any(seconds > whole))
+  parts <- list(part_of_days(day, "T", "<POSIXct>"), part_of_clocks(clock, if (has_part) "" else "Z"))
+  if (!has_part) return(parts)
+  c(parts, parts_of_cells(ifelse(is_far, "", paste0(decimals_of(seconds), "Z"))))
 }
 
 # The different values of a vector, whose values are often all the same.
@@ -135,26 +180,29 @@ distinct <- function(values) {
   if (length(values) && isTRUE(all(values == values[1]))) values[1] else unique(values)
 }
 
+# The place of each value among the different ones.
+places_of <- function(values, kinds) if (length(kinds) == 1) rep(1L, length(values)) else match(values, kinds)
+
 # What a function makes of the different values of a vector, put where they stand.
 by_distinct <- function(values, action) {
   kinds <- distinct(values)
-  found <- action(kinds)
-  if (length(kinds) == 1) rep(found, length(values)) else found[match(values, kinds)]
+  action(kinds)[places_of(values, kinds)]
 }
 
-# Days since 1970 as dates.
-cells_of_days <- function(days) {
-  by_distinct(days, function(kinds) {
-    is_near <- is.finite(kinds) & abs(kinds) <= most_days
-    cells <- ifelse(is.na(kinds), "", "<Date>")
-    cells[is_near] <- format(.Date(kinds[is_near]))
-    cells
-  })
+# Days since 1970 as dates, with what stands behind them. Those that are too far are written by their class.
+part_of_days <- function(days, behind, far = "<Date>") {
+  kinds <- distinct(days)
+  is_near <- is.finite(kinds) & abs(kinds) <= most_days
+  texts <- ifelse(is.na(kinds), "", far)
+  texts[is_near] <- paste0(format(.Date(kinds[is_near])), behind)
+  part_of_kinds(texts, places_of(days, kinds))
 }
 
-# Whole seconds of a day as its clock has them.
-clock_texts <- function(seconds) {
-  by_distinct(seconds, function(kinds) sprintf("%02.0f:%02.0f:%02.0f", kinds %/% 3600, kinds %/% 60 %% 60, kinds %% 60))
+# Whole seconds of a day as its clock has them, with what stands behind them.
+part_of_clocks <- function(seconds, behind) {
+  kinds <- distinct(seconds)
+  texts <- sprintf("%02.0f:%02.0f:%02.0f", kinds %/% 3600, kinds %/% 60 %% 60, kinds %% 60)
+  part_of_kinds(ifelse(is.na(kinds), "", paste0(texts, behind)), places_of(seconds, kinds))
 }
 
 # The decimals of seconds behind their point, as few as give them back and nine at most.
@@ -178,18 +226,19 @@ cells_of_clocks <- function(column) {
   seconds <- as.numeric(unclass(column))
   is_clock <- is.finite(seconds) & seconds >= 0 & seconds < 86400
   cells <- ifelse(is.na(seconds), "", paste0("<", class(column)[1], ">"))
-  cells[is_clock] <- paste0(clock_texts(floor(seconds[is_clock])), decimals_of(seconds[is_clock]))
+  own <- seconds[is_clock]
+  cells[is_clock] <- paste0(texts_of_part(part_of_clocks(floor(own), "")), decimals_of(own))
   cells
 }
 
 # Lengths in metres, degrees and numbers without a unit; other units are written by their names.
-cells_of_units <- function(column) {
+parts_of_units <- function(column) {
   name <- name_of_unit(column)
   values <- as.vector(unclass(column))
-  if (name %in% c("", "1", degrees_of_units)) return(cells_of_numbers(as.numeric(values)))
-  if (name %in% names(metres_of_units)) return(cells_of_numbers(values * metres_of_units[[name]]))
+  if (name %in% c("", "1", degrees_of_units)) return(parts_of_numbers(as.numeric(values)))
+  if (name %in% names(metres_of_units)) return(parts_of_numbers(values * metres_of_units[[name]]))
   metres <- in_unit(column, "m")
-  if (is.null(metres)) rep(paste0("<units ", name, ">"), length(column)) else cells_of_numbers(metres)
+  if (is.null(metres)) parts_of_cells(rep(paste0("<units ", name, ">"), length(column))) else parts_of_numbers(metres)
 }
 
 # The name of a column's unit, such as m/s.

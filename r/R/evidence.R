@@ -224,18 +224,19 @@ run_in <- function(folder, program, words) {
 # The ranges of the report that was made in a folder, by the names of the files, once it is seen that they are these.
 ranges_of_report <- function(x, folder, clean, record) {
   made <- read_report(file.path(folder, "report.txt"))
+  known <- unclass(x)
   at <- match(made$animals$animal, clean)
   if (anyNA(at) || length(at) != length(clean)) refuse("check", "the report has other animals than the tracks")
   for (table in c("animals", "rows", "corners", "percents")) {
-    own <- x[[table]][order(match(match(x[[table]]$animal, x$animals$animal), at)), ]
+    own <- known[[table]][order(match(match(known[[table]]$animal, x$animals$animal), at)), ]
     numbers <- setdiff(names(own), c("animal", "time"))
-    if (!identical(unname(as.list(own[numbers])), unname(as.list(made[[table]][numbers])))) refuse_other_numbers()
+    if (!identical(unname(as.list(own[numbers])), unname(as.list(unclass(made)[[table]][numbers])))) refuse_other_numbers()
   }
   if (made$unit != x$unit || any(x$overlaps[at, at, drop = FALSE] != made$overlaps)) refuse_other_numbers()
   made$fixes <- x$fixes
   made$fixes$animal <- clean[match(x$fixes$animal, x$animals$animal)]
   made$fixes <- made$fixes[order(match(made$fixes$animal, made$animals$animal)), ]
-  for (known in c("crs", "shift", "zone", "notes", "tz", "left_out")) made[[known]] <- x[[known]]
+  for (slot in c("crs", "shift", "zone", "notes", "tz", "left_out")) made[[slot]] <- known[[slot]]
   if (is.null(record)) made else with_record(made, record)
 }
 

@@ -52,8 +52,10 @@ check_bound <- function(one, first) {
   if (length(odd)) refuse("option", "fixes are not bound, since some have no column '", odd[1], "'")
 }
 
-# A reference system as it is compared: one has several forms of text.
-comparable <- function(fact) if (inherits(fact, "crs")) text_of_crs(fact) else fact
+# A fact as it is compared: a reference system has several forms of text, and a program lies at several paths.
+comparable <- function(fact) {
+  if (inherits(fact, "crs")) text_of_crs(fact) else if (is.list(fact)) fact$checksum else fact
+}
 
 # What is known of fixes that are bound.
 bound_facts <- function(facts) {

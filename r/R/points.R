@@ -3,7 +3,7 @@
 
 # What the program is told of the places of a frame: further columns, and options; beside these the reference system of a plane
 # that is that of no zone, and a line to say.
-places_of <- function(x, given) {
+places_of_frame <- function(x, given) {
   names_places <- any(c("easting", "northing", "lon", "lat") %in% names(given))
   if (!inherits(x, "sf") || names_places) return(places_of_columns(x, given, names_places))
   if (!is.null(given$crs)) refuse("option", "crs: points of sf bring their own, and sf::st_set_crs(x, ..) gives them another")

@@ -37,7 +37,7 @@ read_frame <- function(x, given, folder) {
   if (is.null(given$animal)) given$animal <- attr(x, "track_id_column", exact = TRUE)  # of move2
   if (is.null(given$time)) given$time <- attr(x, "time_column", exact = TRUE)
   given <- given[!vapply(given, is.null, NA)]
-  places <- places_of(x, given)
+  places <- places_of_frame(x, given)
   clock <- clock_of_frame(x, given)
   text <- file.path(folder, name_of_frame)
   into <- file.path(folder, "tracks")
@@ -52,8 +52,9 @@ read_frame <- function(x, given, folder) {
   rows <- records_of_fixes(into, record, fixes)
   tz <- c(given$tz, clock$tz, "UTC")[1]
   table <- table_of_fixes(fixes, record, tz, rows_of_columns(columns_of(x), rows))
+  check_names(x, table$animal, rows)
   scale <- if (!is.null(places$crs)) check_scale(table, places$crs)
-  notes <- c(places$line, clock$line, record$said, scale)
+  notes <- c(groups_of_dplyr(x), places$line, clock$line, record$said, scale)
   facts <- facts_of_record(record, file.path(into, "split.txt"), tz, places$crs, notes)
   list(fixes = new_fixes(table, facts), notes = notes, frame = list(rows = rows, number = nrow(x)))
 }
@@ -80,6 +81,22 @@ columns_of <- function(x) {
 rows_of_columns <- function(columns, rows) {
   if (identical(rows, seq_along(rows)) && length(rows) == NROW(columns[[1]])) return(columns)
   lapply(columns, function(column) if (length(dim(column)) == 2) column[rows, , drop = FALSE] else column[rows])
+}
+
+# What is said of a table of dplyr that is by groups.
+groups_of_dplyr <- function(x) {
+  by <- setdiff(names(attr(x, "groups", exact = TRUE)), ".rows")
+  if (length(by) > 1) paste0("groups of the table are not looked at (", paste(by, collapse = ", "), "): by makes ranges of groups")
+}
+
+# Refuses names of animals that are the class of a column of which no cell is known.
+check_names <- function(x, animals, rows) {
+  odd <- which(grepl("^<.*>$", animals))[1]
+  if (is.na(odd)) return(invisible())
+  row <- rows[odd]
+  same <- Filter(function(column) identical(cells_of_column(column, "x")[row], animals[odd]), columns_of(x))
+  is_text <- any(vapply(same, function(column) is.character(column) || is.factor(column), NA))
+  if (length(same) && !is_text) refuse_row(x, "name", row, paste0(readable(names(same))[1], " is ", animals[odd], ", which is no name"))
 }
 
 # Makes a call; a record of what it refuses is a row of the frame.
@@ -126,7 +143,7 @@ table_of_fixes <- function(fixes, record, tz, more) {
   time <- if (is_calendar) list(time = .POSIXct(fixes$second, tz = tz)) else list(second = fixes$second)
   own <- c(list(animal = unname(own_names(record)[record$tracks$animal])[fixes$track]), time,
            list(easting = fixes$easting / scale - record$shift[1], northing = fixes$northing / scale - record$shift[2]))
-  list2DF(c(own, more[setdiff(names(more), names(own))]))
+  list2DF(c(own, more[!names(more) %in% names(own)]))
 }
 
 # What goes with fixes: of their record and what else is known.

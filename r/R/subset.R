@@ -1,4 +1,4 @@
-# Some of the animals of home ranges, and the animals of several together.
+# Some of the animals of home ranges, the animals of several together, and what functions of R say of them.
 
 tables_of_animals <- c("animals", "rows", "corners", "percents", "fixes", "left_out", "groups")
 
@@ -14,10 +14,26 @@ tables_of_animals <- c("animals", "rows", "corners", "percents", "fixes", "left_
   if (length(odd)) refuse("option", "there is no animal ", if (is.na(odd[1])) "at this place" else odd[1])
   if (anyDuplicated(names)) refuse("option", "animal ", names[duplicated(names)][1], " is named twice")
   if (!length(names)) refuse("option", "no animal is named")
-  for (table in tables_of_animals) x[table] <- list(rows_of_names(x[[table]], names))
+  for (table in tables_of_animals) x[table] <- list(rows_of_names(unclass(x)[[table]], names))
   x$overlaps <- x$overlaps[names, names, drop = FALSE]
   as_part(x)
 }
+
+# The animals are what home ranges have: their number, their names, the range of one, and a list of those of each.
+length.home_range <- function(x) nrow(x$animals)
+
+names.home_range <- function(x) x$animals$animal
+
+`[[.home_range` <- function(x, i) {
+  if (length(i) != 1) refuse("option", "the name or the place of one animal is wanted")
+  x[i]
+}
+
+as.list.home_range <- function(x, ...) `names<-`(lapply(seq_along(x), function(at) x[at]), names(x))
+
+unique.home_range <- function(x, ...) x
+
+rbind.home_range <- function(..., deparse.level = 1) c.home_range(...)
 
 # The rows of a table that are of these animals, in their order.
 rows_of_names <- function(table, names) {
@@ -42,13 +58,14 @@ c.home_range <- function(...) {
   all <- list(...)
   for (one in all) check_alike(one, all[[1]])
   whole <- all[[1]]
-  for (table in tables_of_animals) whole[table] <- list(joined_tables(lapply(all, `[[`, table)))
+  parts <- lapply(all, unclass)
+  for (table in tables_of_animals) whole[table] <- list(joined_tables(lapply(parts, `[[`, table)))
   if (anyDuplicated(whole$animals$animal)) {
     refuse("option", "animal ", whole$animals$animal[duplicated(whole$animals$animal)][1], " is in two of them")
   }
-  whole$notes <- unlist(lapply(all, `[[`, "notes"))
+  whole$notes <- unlist(lapply(parts, `[[`, "notes"))
   whole <- as_part(whole)
-  whole$overlaps <- joined_overlaps(whole, lapply(all, `[[`, "overlaps"))
+  whole$overlaps <- joined_overlaps(whole, lapply(parts, `[[`, "overlaps"))
   whole
 }
 
@@ -56,7 +73,7 @@ c.home_range <- function(...) {
 check_alike <- function(one, first) {
   check_ranges(one)
   what <- c(unit = "unit", shift = "shift", zone = "zone", crs = "CRS", tz = "zone of times", program = "program")
-  differs <- !vapply(names(what), function(own) identical(one[[own]], first[[own]]), NA)
+  differs <- !vapply(names(what), function(own) identical(comparable(unclass(one)[[own]]), comparable(unclass(first)[[own]])), NA)
   if (any(differs)) refuse("option", "they differ in their ", what[differs][1])
   if (is.null(one$groups) != is.null(first$groups)) refuse("option", "they differ: those of one are by groups")
   if (!identical(unique(one$percents$level), unique(first$percents$level))) refuse("option", "they differ in their levels")

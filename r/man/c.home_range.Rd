@@ -1,26 +1,49 @@
 \name{c.home_range}
 \alias{c.home_range}
 \alias{[.home_range}
+\alias{[[.home_range}
+\alias{as.list.home_range}
+\alias{length.home_range}
+\alias{names.home_range}
+\alias{rbind.home_range}
+\alias{unique.home_range}
 \title{Some Animals, and Animals of Several Tables}
 \description{Takes some of the animals of home ranges, and puts those of several home ranges together.}
 \usage{
 \method{[}{home_range}(x, i)
 
+\method{[[}{home_range}(x, i)
+
 \method{c}{home_range}(...)
+
+\method{rbind}{home_range}(..., deparse.level = 1)
+
+\method{as.list}{home_range}(x, ...)
+
+\method{length}{home_range}(x)
+
+\method{names}{home_range}(x)
+
+\method{unique}{home_range}(x, ...)
 }
 \arguments{
 \item{x}{a home range, from \code{\link{home_range}} or \code{\link{read_report}}.}
-\item{i}{the animals, by their names, their places or truths, in the wanted order.}
-\item{...}{home ranges of different animals, which have the same unit, levels, reference system, shift, zone of times and
-  program.}
+\item{i}{the animals, by their names, their places or truths, in the wanted order; of \code{[[} one of them.}
+\item{...}{of \code{c} and \code{rbind} home ranges of different animals, which have the same unit, levels, reference system, shift,
+  zone of times and program; else none.}
+\item{deparse.level}{not used.}
 }
 \details{
 Overlaps of animals of different parts are counted from the fixes, as the program counts them; where a part is a report without
 its fixes they are \code{NA}. \code{\link{homerange_evidence}} takes neither, but the ranges of one call or one report.
 }
-\value{An object of class \code{home_range}, as of \code{\link{home_range}}.}
+\value{
+An object of class \code{home_range}, as of \code{\link{home_range}}. \code{length} is the number of animals, \code{names} are
+theirs, and \code{as.list}, and so \code{lapply}, has the range of each.
+}
 \examples{
 report <- read_report(system.file("extdata", "report.txt", package = "homerange"))
 report[c("otter", "fox")]
+vapply(report, function(one) summary(one)$hectares[1], 0)
 c(report["otter"], report["fox"])
 }

@@ -123,3 +123,21 @@ test_that("the text has all columns below their titles, and further ones behind 
   Sys.setlocale("LC_CTYPE", "C")
   expect_identical(charToRaw(text_of(data.frame(a = "Sch\xc3\xa4fer"))), charToRaw("a\nSch\xc3\xa4fer\n"))
 })
+
+test_that("cells that are written as bytes are those that are written as texts", {
+  set.seed(3)
+  number <- 200
+  some <- function(values) replace(values, sample(number, 20), NA)
+  table <- list(
+    id = some(sample(c("a", "\u00e4\u00f6", "with, comma", "say \"no\""), number, TRUE)), whole = some(round(stats::runif(number, -1e6, 1e6))),
+    two = some(round(stats::runif(number, -10, 1e5), 2)), nine = round(stats::runif(number), 9), zero = rep(c(0, -0), 100),
+    time = some(.POSIXct(1714557600 + round(stats::runif(number, -1e9, 1e9), 1), "UTC")), truth = some(stats::runif(number) > 0.5),
+    none = rep(NA_real_, number), odd = c(1 / 3, rep(1e17, number - 1)), count = some(sample(-5:5, number, TRUE)), empty = rep("", number)
+  )
+  by_bytes <- text_of(table)
+  lines <- do.call(paste, c(unname(Map(cells_of_column, table, names(table))), sep = ","))
+  expect_identical(by_bytes, paste0(paste(c(names(table)), collapse = ","), "\n", paste0(lines, "\n", collapse = "")))
+  table$long <- strrep("x", seq_len(number))
+  lines <- paste(lines, table$long, sep = ",")
+  expect_identical(text_of(table), paste0(paste(c(names(table)), collapse = ","), "\n", paste0(lines, "\n", collapse = "")))
+})

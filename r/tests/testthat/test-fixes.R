@@ -85,10 +85,29 @@ test_that("columns of classes are read as meant, or refused by name", {
   expect_error(named(transform(frame(), x = complex(real = y))), "row 1: x is '<complex>'", class = "homerange_number_error")
   expect_error(named(transform(frame(), when = as.difftime(1:6, units = "mins"))), "row 1: when is '<difftime>'", class = "homerange_time_error")
   expect_identical(nrow(named(transform(frame(), note = complex(real = y)))), 4L)
+  expect_error(named(transform(frame(), animal = complex(real = 1))), "row 2: animal is <complex>, which is no name", class = "homerange_name_error")
+  expect_identical(unique(named(transform(frame(), animal = "<complex>", note = complex(real = y)))$animal), "<complex>")
+  for (title in c(NA, "")) {
+    fixes <- named(`names<-`(cbind(frame(), 1), c(names(frame()), title)))
+    expect_identical(dim(fixes), c(4L, 10L))
+  }
   table <- transform(frame(), date = as.Date("2024-05-01"))
   table$time <- structure(rep(36000L, 6), class = "ITime")
   fixes <- read_quietly(table[setdiff(names(table), "when")], time = c("date", "time"))
   expect_identical(unique(fixes$time), as.POSIXct("2024-05-01 10:00", tz = "UTC"))
+})
+
+test_that("a table of groups says that these are not looked at", {
+  skip_without_split()
+  skip_if_not_installed("dplyr")
+  table <- cbind(frame(), season = rep(c("a", "b"), 3))
+  expect_message(read_fixes(dplyr::group_by(table, animal, season), time = "when"), "groups of the table are not looked at (animal, season): by",
+                 fixed = TRUE, class = "homerange_guessed_note")
+  expect_false(any(grepl("groups", facts_of(named(dplyr::group_by(table, animal)))$notes)))
+  fixes <- named(table)
+  some <- dplyr::filter(fixes, season == "a")
+  expect_s3_class(some, "homerange_fixes")
+  expect_identical(facts_of(some), facts_of(fixes))
 })
 
 test_that("what is no table is refused", {

@@ -76,3 +76,20 @@ test_that("no evidence is made of parts", {
     expect_error(homerange_evidence(part, tempfile()), "with all their animals", class = "homerange_option_error")
   }
 })
+
+test_that("functions of R speak of animals", {
+  report <- read_report(system.file("extdata", "report.txt", package = "homerange"))
+  animals <- c("fox", "badger", "otter")
+  expect_identical(length(report), 3L)
+  expect_identical(names(report), animals)
+  expect_identical(report[["otter"]]$animals$animal, "otter")
+  expect_identical(report[[2]]$animals$animal, "badger")
+  expect_error(report[[c("fox", "otter")]], "one animal is wanted", class = "homerange_option_error")
+  expect_error(report[["wolf"]], "there is no animal wolf", class = "homerange_option_error")
+  expect_identical(names(rev(report)), rev(animals))
+  expect_identical(names(utils::head(report, 2)), animals[1:2])
+  expect_identical(names(utils::tail(report, 1)), "otter")
+  expect_identical(names(unique(report)), animals)
+  expect_identical(vapply(report, function(one) one$animals$fixes, 0), `names<-`(report$animals$fixes, animals))
+  expect_identical(names(rbind(report["otter"], report["fox"])), c("otter", "fox"))
+})

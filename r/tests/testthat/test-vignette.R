@@ -14,7 +14,8 @@ test_that("the export is the table of deer, as Movebank writes it", {
                           northing = floor(used$utm.northing + 0.5))
   expect_equal(as.data.frame(found), in_metres)
   skip_if_not_installed("sf")
-  points <- sf::st_as_sf(wanted, coords = c("utm.easting", "utm.northing"), crs = 32633)
+  by_time <- deer[order(deer$timestamp, deer$individual.local.identifier), ]
+  points <- sf::st_as_sf(by_time, coords = c("utm.easting", "utm.northing"), crs = 32633)
   degrees <- sf::st_coordinates(sf::st_transform(points, 4326))
   expect_equal(unname(degrees), unname(as.matrix(text[c("location-long", "location-lat")])), tolerance = 1e-7)
 })
