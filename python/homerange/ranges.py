@@ -173,8 +173,8 @@ class HomeRanges:
             "last_quarter": [share(own.quarter, own.area2) for own in found]})
 
     def left_out(self) -> pandas.DataFrame:
-        """How many fixes were left out of the frame, a row for each ``animal`` and ``reason``, with ``fixes``. The reasons
-        are those of docs/TABLES.md, and use, where the argument or the column of that name left them out."""
+        """How many fixes were left out of the table, a row for each ``animal`` and ``reason``, with ``fixes``. The reasons
+        are those of docs/TABLES.md, and use, of fixes that were read and are not among those that were handed in."""
         rows = [(name, reason, count) for (name, reason), count in sorted(self.reasons().items()) if count]
         return pandas.DataFrame(rows, columns=["animal", "reason", "fixes"])
 
@@ -451,7 +451,7 @@ def ranges_of(report: Report, path: Path, files: Sequence[Path], crs: Any, tz: s
 def check_whole(ranges: HomeRanges, what: str) -> None:
     """Refuses ranges of groups, of which it is not known what was left out of each."""
     if ranges.groups:
-        refuse(f"{what} is of whole ranges, and these are by groups: make those of one group alone, as by since, until or use")
+        refuse(f"{what} is of whole ranges, and these are by groups: make those of one group alone, as by since and until, or of its fixes")
 
 
 def boundary_of(ranges: HomeRanges, reserve: Any) -> Any:

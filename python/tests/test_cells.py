@@ -76,6 +76,12 @@ def test_random_numbers_come_back():
     assert [numpy.float32(cell) for cell in cells_of(pandas.Series(narrow))] == narrow.tolist()
 
 
+def test_decimals_of_metres_are_the_shortest():
+    random = numpy.random.default_rng(3)
+    values = numpy.concatenate([random.integers(0, 10 ** 9, 2000) / 1000, random.integers(0, 10 ** 15, 2000) / 1000, [0.001, 0.5, 999.999, -0.0]])
+    assert cells_of(pandas.Series(values)) == [repr(value) if value % 1 else str(int(value)) for value in values.tolist()]
+
+
 def test_arrow():
     arrow = pytest.importorskip("pyarrow")
     moments = arrow.array([1714557600], arrow.timestamp("s", "Europe/Ljubljana"))

@@ -159,6 +159,12 @@ def test_what_has_no_text_is_no_name(splitter):
     assert fixes["animal"].tolist() == ["<list>"] * 4 and fixes["note"].tolist() == [[1], [2], [3], [4]]
 
 
+def test_names_that_look_the_same_where_they_are_said_are_two(splitter):
+    frame = frame_of(**{"a\tb": SQUARE, "a\\x09b": SQUARE[:3]})
+    fixes = read_fixes(frame)
+    assert fixes["animal"].nunique() == 2 and sorted(fixes.groupby("animal").size()) == [3, 4]
+
+
 @pytest.fixture
 def fixes(splitter):
     return read_fixes(frame_of(a=SQUARE, b=SQUARE).assign(sex=list("ffffmmmm"), hectares=1.5))

@@ -103,7 +103,7 @@ def _(hand):
 @of_laea("a table beside a system of words alone", "summary.csv is another one than is made again: line 2 has",
          "not looked at: layers and page: the reference system 'grid of the park' has no code and no definition")
 def _(hand):
-    hand.sub("tracks/split.txt", "^crs,.*", "crs,grid of the park")
+    hand.sub("tracks/split.txt", "^option,crs,.*", "option,crs,grid of the park")
     hand.sub("summary.csv", "[0-9]$", "")
     hand.seal_files()
 

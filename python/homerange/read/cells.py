@@ -15,6 +15,7 @@ from numpy.typing import NDArray
 Cells = List[str]
 EXACT = 2 ** 53  # from here on numbers of floating point are not all whole numbers
 WIDTHS = {"float16": 2 ** 11, "float32": 2 ** 24}  # the same of narrower ones
+MOST_SHORT = 1e12  # below which numbers of floating point are closer to each other than thousandths
 MOST_BITS = 13_000  # of a whole number, which Python writes with up to 4,300 digits
 PARTS = {"s": 1, "ms": 10 ** 3, "us": 10 ** 6, "ns": 10 ** 9}  # of a second
 IANA = re.compile("[A-Za-z]+(/[A-Za-z0-9_+-]+)*")  # how a time zone is named
@@ -76,6 +77,13 @@ def moments(times: NDArray[Any], has_zone: bool) -> Cells:
     return [f"{time}Z" if time else "" for time in text.split("\n")]
 
 
+def texts(several: Cells) -> NDArray[Any]:
+    """Texts as an array, which can be put behind others."""
+    found = numpy.empty(len(several), dtype=object)
+    found[:] = several
+    return found
+
+
 def plain_cells(values: NDArray[Any]) -> Cells:
     """The cells of numbers, or truths, of numpy."""
     if values.dtype.kind == "b":
@@ -98,6 +106,10 @@ def float_cells(values: NDArray[Any]) -> Cells:
         return joined(values.astype("int64").tolist())
     if values.dtype != numpy.float64:
         return [float_cell(value) for value in values]
+    if bool(numpy.isfinite(values).all()) and values.min() >= 0 and values.max() < MOST_SHORT:
+        parts = numpy.rint(values * 1000)
+        if (parts / 1000 == values).all():
+            return short_cells(parts.astype("int64"))
     # Python writes others so small with an exponent.
     is_plain = numpy.isfinite(values) & (sizes < most) & ((sizes >= 1e-4) | (values == 0))
     if is_plain.all() and not is_whole.any():
@@ -105,6 +117,15 @@ def float_cells(values: NDArray[Any]) -> Cells:
     cells = joined(values.tolist())
     for at in numpy.flatnonzero(is_whole | ~is_plain).tolist():
         cells[at] = float_cell(values[at])
+    return cells
+
+
+def short_cells(thousandths: NDArray[Any]) -> Cells:
+    """The cells of numbers with at most three decimals. What stands before the point occurs often, and is written once each."""
+    whole, rest = numpy.divmod(thousandths, 1000)
+    at, own = pandas.factorize(whole)
+    ends = texts(["", *(f".{end:03}".rstrip("0") for end in range(1, 1000))])
+    cells: Cells = (texts(joined(own.tolist()))[at] + ends[rest]).tolist()
     return cells
 
 

@@ -101,7 +101,7 @@ class Fixes(pandas.DataFrame):
         """Keeps how they were read, of all that were bound."""
         super().__finalize__(other, method=method, **words)
         if method == "concat":
-            own = [each for each in other.objs if isinstance(each, Fixes)]
+            own = [each for each in getattr(other, "objs", None) or getattr(other, "input_objs", ()) if isinstance(each, Fixes)]
             known = [each.reading for each in own if each.reading is not None]
             is_whole = sum(map(len, own)) == len(self) or len(own) == 1 and len(own[0]) == len(self)
             self.reading = bound(known) if known and is_whole and len(known) == len(own) else None

@@ -6,6 +6,7 @@ from __future__ import annotations
 import csv
 import os
 import re
+from collections import Counter
 from pathlib import Path
 from typing import Any, Iterable, Mapping, NamedTuple
 
@@ -75,12 +76,14 @@ def rows_of(folder: Path, whole: Whole) -> NDArray[numpy.int64]:
 
 
 def own_names(record: Record) -> dict[str, str]:
-    """The name that each animal has in its table, by that in files, of all that have another one."""
+    """The name that each animal has in its table, by that in files, of all that have another one. Names that differ in what is
+    escaped where they are said are not told apart, and stay those of files."""
     known, found = {*record.tracks, *(name for name, _, _ in record.left)}, dict[str, str]()
     for said in map(NAMED.fullmatch, record.said):
         if said and said[2] in known:
             found[unescaped(said[2])] = said[1]
-    return found
+    counts = Counter(found.get(name, name) for name in map(unescaped, known))
+    return {file: name for file, name in found.items() if counts[name] == 1}
 
 
 def left_out(record: Record, own: Mapping[str, str]) -> dict[tuple[str, str], int]:
