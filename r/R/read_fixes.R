@@ -117,6 +117,7 @@ with_rows <- function(x, call) {
 # Refuses a table with the row that has the fault, by its label.
 refuse_row <- function(x, kind, record, text) {
   text <- gsub("\\brecord ([0-9]+)\\b", "row \\1", text, perl = TRUE)
+  if (grepl("'<[A-Za-z][^<>]*>'", text)) text <- paste0(text, "; of this class no cell is known: make text, numbers or times of it")
   if (is.null(record)) refuse(kind, text)
   label <- row.names(x)[record]
   where <- if (label == record) paste0("row ", label, ": ") else paste0("row ", label, " (x[", record, ", ]): ")
