@@ -11,13 +11,6 @@ refuse <- function(kind, ..., record = NULL) {
   stop(errorCondition(one_line(paste0(...)), class = c(classes, "homerange_error"), kind = kind, record = record))
 }
 
-# Makes a call; what it refuses is refused with this text before it.
-with_prefix <- function(prefix_of, call) {
-  tryCatch(call, homerange_data_error = function(fault) {
-    refuse(fault$kind, prefix_of(fault$record), conditionMessage(fault), record = fault$record)
-  })
-}
-
 # Text with its control characters and separators of lines escaped.
 one_line <- function(text) {
   form <- "[\\x01-\\x1f\\x7f]|\\xc2[\\x80-\\x9f]|\\xe2\\x80[\\xa8\\xa9]"
@@ -35,39 +28,10 @@ escaped <- function(text) {
   paste(signs, collapse = "")
 }
 
-# What is said, which tell tells, and how many fixes of which animal were left out for which reason.
-new_said <- function(tell) {
-  said <- new.env()
-  said$tell <- tell
-  said$lines <- character()
-  said$left <- data.frame(animal = character(), reason = character(), fixes = numeric())
-  said
-}
-
-# Says a text, behind its count if it has one; what counts 0 is not said. What is said is of a kind: what was guessed, left out,
-# sorted, moved or rounded, or what is asked.
-say <- function(said, count, ..., kind = "left_out") {
-  if (identical(as.numeric(count), 0)) return(invisible())
-  line <- one_line(paste0(if (!is.null(count)) paste0(sprintf("%.0f", count), " "), ...))
-  said$lines <- c(said$lines, line)
-  said$tell(line, kind)
-}
-
 # Tells a line as a message with the classes homerange_KIND_note and homerange_note.
 tell_note <- function(line, kind) {
   classes <- c(paste0("homerange_", kind, "_note"), "homerange_note", "message", "condition")
   message(structure(class = classes, list(message = paste0("homerange: ", one_line(line), "\n"), call = NULL)))
-}
-
-# Counts fixes of these animals as left out for this reason.
-leave_out <- function(said, animals, reason) {
-  names <- unique(animals)
-  if (!length(names)) return(invisible())
-  counts <- tabulate(match(animals, names), length(names))
-  known <- match(paste(reason, names), paste(said$left$reason, said$left$animal))
-  old <- !is.na(known)
-  said$left$fixes[known[old]] <- said$left$fixes[known[old]] + counts[old]
-  said$left <- rbind(said$left, data.frame(animal = names[!old], reason = rep(reason, sum(!old)), fixes = counts[!old]))
 }
 
 # Has numbers written by digits, with a point, until the function in this frame ends, whatever the options of the session are.

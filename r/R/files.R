@@ -2,9 +2,6 @@
 
 lines_written <- 50000  # at once
 
-# A file of the package's data. A script that runs the code of a clone names the folder.
-data_file <- function(name) file.path(getOption("homerange.extdata", system.file("extdata", package = "homerange")), name)
-
 # Refuses what cannot be the name of a file that is to be written.
 check_path <- function(path) {
   if (!is_text(path) || !nzchar(path)) refuse("option", "path: the name of one file is wanted")

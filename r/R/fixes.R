@@ -42,7 +42,9 @@ joined_columns <- function(columns) {
 
 # Refuses fixes that cannot be bound to others.
 check_bound <- function(one, first) {
-  if (!inherits(one, "homerange_fixes")) refuse("option", "fixes are bound to fixes that read_fixes has read, and not to ", what_it_is(one))
+  if (!inherits(one, "homerange_fixes")) {
+    refuse("option", "fixes are bound to fixes that read_fixes has read, and not to ", what_it_is(one))
+  }
   own <- facts_of(one)
   facts <- facts_of(first)
   what <- c(unit = "unit", zone = "zone", crs = "CRS", tz = "zone of times")
@@ -83,7 +85,8 @@ left_since <- function(fixes) {
   now <- tabulate(match(as.character(fixes$animal), names(facts$fixes)), length(facts$fixes))
   gone <- facts$fixes - now
   gone <- gone[gone > 0]
-  rbind(facts$left_out, list2DF(list(animal = as.character(names(gone)), reason = rep("use", length(gone)), fixes = unname(gone))))
+  since <- list(animal = as.character(names(gone)), reason = rep("use", length(gone)), fixes = unname(gone))
+  rbind(facts$left_out, list2DF(since))
 }
 
 # A row for each animal: how many fixes, from when to when, and how many were left out.

@@ -40,7 +40,8 @@ write_bytes <- function(parts, output) {
   }
 }
 
-# A part of texts with the bytes of its kinds: a matrix that has each in a column, with 0 behind it. The last is for a missing one.
+# A part of texts with the bytes of its kinds: a matrix that has each in a column, with 0 behind it. The last is for what is
+# missing.
 with_bytes <- function(part) {
   if (!is.null(part$numbers)) return(part)
   kinds <- c(replace(part$kinds, is.na(part$kinds), ""), "")

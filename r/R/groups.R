@@ -62,7 +62,8 @@ values_of <- function(by, number, what) {
 text_of_groups <- function(by) {
   if (is.numeric(by) && !is.object(by) && any(by != floor(by), na.rm = TRUE)) {
     odd <- which(by != floor(by))[1]
-    refuse("option", "row ", odd, ": by has a group that is ", cells_of_numbers(by[odd]), ", a number that is not whole", record = odd)
+    number <- cells_of_numbers(by[odd])
+    refuse("option", "row ", odd, ": by has a group that is ", number, ", a number that is not whole", record = odd)
   }
   if (is.character(by) || is.factor(by)) in_utf8(as.character(by)) else cells_of_column(by, "by")
 }
@@ -71,7 +72,8 @@ text_of_groups <- function(by) {
 check_labels <- function(labels, rows) {
   odd <- rows[is.na(labels) | labels == ""]
   if (length(odd)) {
-    refuse("option", "row ", odd[1], ": by has no group: leave fixes without a group out, as by subset(fixes, ..)", record = odd[1])
+    refuse("option", "row ", odd[1], ": by has no group: leave fixes without a group out, as by subset(fixes, ..)",
+           record = odd[1])
   }
   labels
 }

@@ -15,9 +15,9 @@ home_range <- function(x, levels = c(50, 95, 100), by = NULL, ..., progress = in
     note <- paste0("ranges are by group: ", nrow(whole$groups), " of ", count_of(length(unique(whole$groups$of)), "animal"))
     if (!quiet) tell_note(note, "guessed")
   }
+  words <- c("--unit", facts_of(read$fixes)$unit, "--percent", levels)
   report <- in_folder(function(folder) {
-    files <- write_tracks(whole$fixes, folder)
-    run_all(program, files, unique(whole$fixes$animal), c("--unit", facts_of(read$fixes)$unit, "--percent", levels), isTRUE(progress))
+    run_all(program, write_tracks(whole$fixes, folder), unique(whole$fixes$animal), words, isTRUE(progress))
   })
   if (!identical(report$rows$second, whole$fixes$moment)) refuse("check", "the report has not the times of the fixes")
   ranges <- ranges_of_fixes(report, whole, read$fixes, if (!is.null(by)) note)
@@ -31,8 +31,8 @@ fixes_to_take <- function(x, options, quiet) {
   if (!inherits(x, "homerange_fixes")) return(read_table(x, options, quiet))
   if (length(options)) {
     name <- c(names(options), "")[1]
-    refuse("option", if (nzchar(name)) paste0(name, ": ") else "there is an argument too many: ", "these fixes are read already, and ",
-           "options of reading go to read_fixes")
+    what <- if (nzchar(name)) name else "there is an argument too many"
+    refuse("option", what, ": these fixes are read already, and options of reading go to read_fixes")
   }
   list(fixes = x)
 }

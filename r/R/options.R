@@ -139,7 +139,9 @@ text_of_length <- function(every) {
   if (is.null(seconds) || length(seconds) != 1 || !is.finite(seconds)) {
     refuse("option", "every: one length of time is wanted, such as \"2h\" or \"30min\", and not ", what_it_is(every))
   }
-  if (round(seconds) < 1 || seconds >= longest_length) refuse("option", "every is not a second or more, such as \"2h\" or \"30min\"")
+  if (round(seconds) < 1 || seconds >= longest_length) {
+    refuse("option", "every is not a second or more, such as \"2h\" or \"30min\"")
+  }
   if (abs(seconds - round(seconds)) > 1e-6) {
     refuse("option", "every is no whole number of seconds: write such as \"90min\" or \"5s\"")
   }

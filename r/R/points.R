@@ -15,7 +15,8 @@ places_of_frame <- function(x, given) {
   at <- coordinates_of(shapes)
   has_place <- !is_without_place(crs, "x")
   if (!has_place && is.na(crs) && look_like_degrees(at)) {
-    refuse("degrees", "the points have no CRS, and lie as longitude and latitude do: sf::st_set_crs(x, 4326) says so where they are")
+    refuse("degrees", "the points have no CRS, and lie as longitude and latitude do: sf::st_set_crs(x, 4326) says so where ",
+           "they are")
   }
   if (has_place && is_in_degrees(crs, "x", function() at)) return(points_in_degrees(x, shapes, at, crs))
   plane <- plane_of(if (has_place) crs, given)
@@ -71,8 +72,8 @@ places_of_columns <- function(x, given, names_places) {
   if (is_without_place(crs, "crs")) return(NULL)
   points <- "the points, as by sf::st_as_sf(x, coords = c(EASTING, NORTHING), crs = ..)"
   if (is_in_degrees(crs, points, function() matrix(0, 0, 2))) {
-    refuse("crs", "crs: ", crs$Name, " has longitude and latitude, which are no plane coordinates: name their columns by lon and ",
-           "lat, without crs")
+    refuse("crs", "crs: ", crs$Name, " has longitude and latitude, which are no plane coordinates: name their columns by lon ",
+           "and lat, without crs")
   }
   plane_of(crs, given)
 }

@@ -1,7 +1,5 @@
 # Finds the programs homerange and homerange-split, and runs homerange.
 
-held_programs <- new.env(parent = emptyenv())  # those of packages whose checksum was looked at
-
 # The path of the program.
 homerange_program <- function() normalizePath(found_program(getNamespaceInfo("homerange", "path")))
 
@@ -47,13 +45,10 @@ packed_path <- function(folder, name) file.path(folder, "bin", name)
 
 # The path of a program that was installed with the package, which has to have the checksum that was.
 held_program <- function(path) {
-  if (is.null(held_programs[[path]])) {
-    sums <- file.path(dirname(path), "SHA256SUMS")
-    lines <- if (file.exists(sums)) readLines(sums, warn = FALSE)
-    if (!file.exists(path) || !paste0(checksum_of(path), "  release/", basename(path)) %in% lines) {
-      refuse("program", path, " is not the program that was installed with the package: install the package again")
-    }
-    held_programs[[path]] <- TRUE
+  sums <- file.path(dirname(path), "SHA256SUMS")
+  lines <- if (file.exists(sums)) readLines(sums, warn = FALSE)
+  if (!file.exists(path) || !paste0(checksum_of(path), "  release/", basename(path)) %in% lines) {
+    refuse("program", path, " is not the program that was installed with the package: install the package again")
   }
   path
 }

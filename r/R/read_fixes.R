@@ -21,8 +21,8 @@ read_file <- function(path, given, folder) {
   full <- if (path == "-") "./-" else text_for_program(path.expand(path), "x")  # the program takes - for standard input
   into <- file.path(folder, "tracks")
   run_split(full, words_of_options(given), into, function(kind, record, text) {
-    is_of_table <- kind %in% kinds_of_tables && !startsWith(text, full)
-    refuse(kind, if (is_of_table) paste0(path, ": "), if (!is.null(record)) sprintf("record %.0f: ", record), text, record = record)
+    file <- if (kind %in% kinds_of_tables && !startsWith(text, full)) paste0(path, ": ")
+    refuse(kind, file, if (!is.null(record)) sprintf("record %.0f: ", record), text, record = record)
   })
   record <- read_record(file.path(into, "split.txt"))
   fixes <- read_tracks(into, record)
@@ -34,28 +34,36 @@ read_file <- function(path, given, folder) {
 # The fixes of a data frame.
 read_frame <- function(x, given, folder) {
   check_frame(x, given)
-  if (is.null(given$animal)) given$animal <- attr(x, "track_id_column", exact = TRUE)  # of move2
-  if (is.null(given$time)) given$time <- attr(x, "time_column", exact = TRUE)
-  given <- given[!vapply(given, is.null, NA)]
+  given <- with_columns_of(x, given)
   places <- places_of_frame(x, given)
   clock <- clock_of_frame(x, given)
   text <- file.path(folder, name_of_frame)
-  into <- file.path(folder, "tracks")
   with_rows(x, write_frame(columns_of(x), places$columns, text))
   words <- c("--records", words_of_options(given), places$words, if (!is.null(clock$tz)) paste0("--tz=", clock$tz))
+  into <- file.path(folder, "tracks")
   run_split(text, words, into, function(kind, record, text) refuse_row(x, kind, record, gsub(folder, "", text, fixed = TRUE)))
+  fixes_of_frame(x, into, c(given$tz, clock$tz, "UTC")[1], places$crs, c(groups_of_dplyr(x), places$line, clock$line))
+}
+
+# The options of a table of move2, which says itself which columns have the animal and the time.
+with_columns_of <- function(x, given) {
+  if (is.null(given$animal)) given$animal <- attr(x, "track_id_column", exact = TRUE)
+  if (is.null(given$time)) given$time <- attr(x, "time_column", exact = TRUE)
+  given
+}
+
+# The fixes of a frame, of which the program has made the tracks in a folder.
+fixes_of_frame <- function(x, into, tz, crs, lines) {
   record <- read_record(file.path(into, "split.txt"))
-  if (!is.null(places$crs) && !is.null(record$zone)) {
-    refuse("zone", "the coordinates are of the zone ", record$zone, ", and the CRS ", places$crs$Name, " is none of UTM: give one")
+  if (!is.null(crs) && !is.null(record$zone)) {
+    refuse("zone", "the coordinates are of the zone ", record$zone, ", and the CRS ", crs$Name, " is none of UTM: give one of the two")
   }
   fixes <- read_tracks(into, record)
   rows <- records_of_fixes(into, record, fixes)
-  tz <- c(given$tz, clock$tz, "UTC")[1]
   table <- table_of_fixes(fixes, record, tz, rows_of_columns(columns_of(x), rows))
   check_names(x, table$animal, rows)
-  scale <- if (!is.null(places$crs)) check_scale(table, places$crs)
-  notes <- c(groups_of_dplyr(x), places$line, clock$line, record$said, scale)
-  facts <- facts_of_record(record, file.path(into, "split.txt"), tz, places$crs, notes)
+  notes <- c(lines, record$said, if (!is.null(crs)) check_scale(table, crs))
+  facts <- facts_of_record(record, file.path(into, "split.txt"), tz, crs, notes)
   list(fixes = new_fixes(table, facts), notes = notes, frame = list(rows = rows, number = nrow(x)))
 }
 
@@ -86,7 +94,8 @@ rows_of_columns <- function(columns, rows) {
 # What is said of a table of dplyr that is by groups.
 groups_of_dplyr <- function(x) {
   by <- setdiff(names(attr(x, "groups", exact = TRUE)), ".rows")
-  if (length(by) > 1) paste0("groups of the table are not looked at (", paste(by, collapse = ", "), "): by makes ranges of groups")
+  if (length(by) < 2) return(NULL)
+  paste0("groups of the table are not looked at (", paste(by, collapse = ", "), "): by makes ranges of groups")
 }
 
 # Refuses names of animals that are the class of a column of which no cell is known.
@@ -96,7 +105,8 @@ check_names <- function(x, animals, rows) {
   row <- rows[odd]
   same <- Filter(function(column) identical(cells_of_column(column, "x")[row], animals[odd]), columns_of(x))
   is_text <- any(vapply(same, function(column) is.character(column) || is.factor(column), NA))
-  if (length(same) && !is_text) refuse_row(x, "name", row, paste0(readable(names(same))[1], " is ", animals[odd], ", which is no name"))
+  if (!length(same) || is_text) return(invisible())
+  refuse_row(x, "name", row, paste0(readable(names(same))[1], " is ", animals[odd], ", which is no name"))
 }
 
 # Makes a call; a record of what it refuses is a row of the frame.
@@ -107,6 +117,7 @@ with_rows <- function(x, call) {
 # Refuses a table with the row that has the fault, by its label.
 refuse_row <- function(x, kind, record, text) {
   text <- gsub("\\brecord ([0-9]+)\\b", "row \\1", text, perl = TRUE)
+  if (grepl("'<[A-Za-z][^<>]*>'", text)) text <- paste0(text, "; of this class no cell is known: make text, numbers or times of it")
   if (is.null(record)) refuse(kind, text)
   label <- row.names(x)[record]
   where <- if (label == record) paste0("row ", label, ": ") else paste0("row ", label, " (x[", record, ", ]): ")

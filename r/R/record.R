@@ -42,7 +42,8 @@ read_record <- function(path) {
   list(
     export = single$export, checksum = single$sha256, unit = single$unit, zone = if (single$zone != "none") single$zone,
     shift = if (is.null(single$shift)) c(0, 0) else as.numeric(strsplit(single$shift, ",")[[1]]),
-    crs = if (is.null(single$crs)) options$crs else single$crs, options = options, said = of_kind("said"), left = left_of_lines(of_kind("left")),
+    crs = if (is.null(single$crs)) options$crs else single$crs, options = options, said = of_kind("said"),
+    left = left_of_lines(of_kind("left")),
     tracks = tracks_of_lines(of_kind("track")), tools = of_kind("tool")
   )
 }

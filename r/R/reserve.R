@@ -21,6 +21,7 @@ boundary_of <- function(ranges, reserve) {
   if (!inherits(reserve, c("sf", "sfc", "sfg"))) refuse("option", "reserve: an sf geometry is wanted")
   own <- crs_or_none(ranges)
   shapes <- if (inherits(reserve, "sfg")) sf::st_sfc(reserve, crs = own) else sf::st_geometry(reserve)
+  if (is_without_place(sf::st_crs(shapes), "reserve")) shapes <- sf::st_set_crs(shapes, NA)
   if (is.na(sf::st_crs(shapes)) != is.na(own)) {
     refuse("crs", if (is.na(own)) "the ranges have no CRS, and the reserve has: name it, as by home_range(x, crs = 32633)" else
       "the reserve has no CRS, and the ranges have: name it, as by sf::st_set_crs(reserve, 32633)")

@@ -4,7 +4,7 @@
 # Whether what the check wants is there; where it is not, says what is skipped.
 is_r_ready() {
     is_here R 'the package for R' && is_here pandoc 'the package for R' || return 1
-    for package in sf sp testthat knitr rmarkdown; do
+    for package in bit64 dplyr lubridate sf sp testthat units knitr rmarkdown; do
         Rscript -e "library($package)" >/dev/null 2>&1 || {
             skip "the package for R: no $package"
             return 1

@@ -82,7 +82,8 @@ test_that("a row that is refused is named by its label", {
 
 test_that("columns of classes are read as meant, or refused by name", {
   skip_without_split()
-  expect_error(named(transform(frame(), x = complex(real = y))), "row 1: x is '<complex>'", class = "homerange_number_error")
+  expect_error(named(transform(frame(), x = complex(real = y))), "row 1: x is '<complex>' .*: make text, numbers or times of it$",
+               class = "homerange_number_error")
   expect_error(named(transform(frame(), when = as.difftime(1:6, units = "mins"))), "row 1: when is '<difftime>'", class = "homerange_time_error")
   expect_identical(nrow(named(transform(frame(), note = complex(real = y)))), 4L)
   expect_error(named(transform(frame(), animal = complex(real = 1))), "row 2: animal is <complex>, which is no name", class = "homerange_name_error")

@@ -56,3 +56,17 @@ test_that("there are no arguments that are swallowed", {
   refused(plot(ranges, pch = 2))
   expect_error(homerange_overlap(ranges, "share"), "share: TRUE or FALSE", class = "homerange_option_error")
 })
+
+test_that("a boundary of the system of a site is one without a system", {
+  skip_without_program()
+  skip_if_not_installed("sf")
+  ranges <- quietly(home_range(walk("a", 40, 1)))
+  whole <- sf::st_buffer(sf::st_sfc(sf::st_point(c(562000, 5134000))), 1e5)
+  file <- file.path(local_folder(), "reserve.gpkg")
+  suppressMessages(sf::st_write(whole, file, quiet = TRUE))
+  expect_equal(homerange_share(ranges, sf::st_read(file, quiet = TRUE))$share, 1)
+  site <- sf::st_set_crs(whole, "LOCAL_CS[\"farm\",UNIT[\"metre\",1]]")
+  expect_equal(homerange_share(ranges, site)$share, 1)
+  expect_error(homerange_share(quietly(home_range(walk("a", 40, 1), zone = "33N")), site), "the reserve has no CRS",
+               class = "homerange_crs_error")
+})

@@ -1,3 +1,5 @@
+# Fixes in the whole units that the program takes, from metres.
+
 # Units of coordinates, by their names: what they are called, how many a metre has, the limit of the grid, and how many of twice
 # its areas a hectare has.
 units_known <- list(
@@ -29,7 +31,8 @@ check_fixes_read <- function(fixes) {
   if (!nrow(fixes)) refuse("empty", "no fix is left")
   if (!has_columns(fixes)) refuse("columns", "fixes have columns animal, time or second, easting and northing: ", read_anew)
   if (is.null(facts_of(fixes))) refuse("option", read_anew)
-  if (anyNA(fixes$animal) || any(as.character(fixes$animal) == "")) refuse("animal", "there is a fix without an animal: ", read_anew)
+  animal <- as.character(fixes$animal)
+  if (anyNA(animal) || any(animal == "")) refuse("animal", "there is a fix without an animal: ", read_anew)
 }
 
 read_anew <- "fixes were changed: read them anew by read_fixes"
