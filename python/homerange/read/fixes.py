@@ -57,7 +57,8 @@ def bound(readings: Iterable[Reading]) -> Reading:
     check_alike(parts)
     if len(parts) == 1:
         return parts[0]
-    left, counts = (sum(map(Counter, own), Counter()) for own in zip(*((part.left, part.counts) for part in parts)))
+    left: Counter[tuple[str, str]] = sum((Counter(part.left) for part in parts), Counter())
+    counts: Counter[str] = sum((Counter(part.counts) for part in parts), Counter())
     shift = max(part.shift[0] for part in parts), max(part.shift[1] for part in parts)
     return replace(
         parts[0], shift=shift, notes=tuple(dict.fromkeys(note for part in parts for note in part.notes)), left=dict(left),
