@@ -3,12 +3,12 @@
     ranges = home_range(frame)
     ranges.summary()
 
-``home_range`` takes a data frame of fixes (a location with its time), a file of them, or what ``read_fixes`` read of either, and has the
-program make the minimum convex polygon of each animal, its percent polygons, its table of incremental area analysis, and the
-overlaps. ``read_report`` reads a report that the program made elsewhere. Both answer with ``HomeRanges``; ``plot_curve`` and
-``plot_ranges`` draw it, ``write_layers`` writes a GeoPackage, ``write_page`` a page to hand in, and ``share_inside`` says how much of each
-range lies in a reserve. ``read_fixes`` has the program homerange-split read an export of Movebank or of a collar, or a data frame, and
-answers with ``Fixes``, a data frame of pandas. docs/TABLES.md says how tables are read.
+``home_range`` takes a data frame of fixes (a location with its time), a file of them, or what ``read_fixes`` read of either,
+and has the program make the minimum convex polygon of each animal, its percent polygons, its table of incremental area analysis,
+and the overlaps. ``read_report`` reads a report that the program made elsewhere. Both answer with ``HomeRanges``; ``plot_curve``
+and ``plot_ranges`` draw it, ``write_layers`` writes a GeoPackage, ``write_page`` a page to hand in, and ``share_inside`` says how
+much of each range lies in a reserve. ``read_fixes`` has the program homerange-split read an export of Movebank or of a collar, or
+a data frame, and answers with ``Fixes``, a data frame of pandas. docs/TABLES.md says how tables are read.
 
 The numbers are those of the programs, which are proved. This package writes data frames as text for them, and says in warnings of
 the class ``HomeRangeNote`` what the programs left out or changed; it is tested and not proved.

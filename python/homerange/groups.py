@@ -1,5 +1,5 @@
-"""Groups of an animal's fixes, each of which has a range of its own: the periods of a calendar, or what a column, a value for each fix
-or a function says."""
+"""Groups of an animal's fixes, each of which has a range of its own: the periods of a calendar, or what a column, a value for
+each fix or a function says."""
 
 from __future__ import annotations
 
@@ -49,8 +49,8 @@ PERIODS: dict[str, Callable[[int, int], str]] = {"year": year_of, "season": seas
 
 def check_by(by: Any) -> None:
     """Refuses what says no groups, before a table is looked at."""
-    is_list = pandas.api.types.is_list_like(by) and hasattr(by, "__len__") and not isinstance(by, (dict, set, frozenset, pandas.DataFrame))
-    if not isinstance(by, str) and not is_list and not callable(by):
+    is_list = pandas.api.types.is_list_like(by) and hasattr(by, "__len__")
+    if not isinstance(by, str) and not callable(by) and (not is_list or isinstance(by, (dict, set, frozenset, pandas.DataFrame))):
         refuse(f"by={by!r} is none of {', '.join(map(repr, PERIODS))}, no column of the fixes, no value for each of them, and no "
                "function of them")
 
@@ -99,7 +99,8 @@ def given(values: pandas.Series, labels: pandas.Index) -> list[str]:
     """The groups that values say, each of which has to be there."""
     cells = cells_of(values)
     has_parts = pandas.api.types.is_float_dtype(values.dtype)
-    odd = next((at for at, cell in enumerate(cells) if not cell or UNPRINTABLE.search(cell) or has_parts and not cell.lstrip("-").isdecimal()), None)
+    odd = next((at for at, cell in enumerate(cells)
+                if not cell or UNPRINTABLE.search(cell) or has_parts and not cell.lstrip("-").isdecimal()), None)
     if odd is not None:
         what = f"a group that is {cells[odd]!r}, {'a number that is not whole' if has_parts else 'with a control character'}"
         refuse(f"{row_named(labels, odd)}: by has {what if cells[odd] else 'no group'}; {REMEDY}", "option", odd + 1)

@@ -1,5 +1,5 @@
-"""Which fixes of a track decide a polygon: those that a level keeps, and the outermost of them; by whole numbers where rounded ones do
-not tell it."""
+"""Which fixes of a track decide a polygon: those that a level keeps, and the outermost of them; by whole numbers where rounded
+ones do not tell it."""
 
 from __future__ import annotations
 

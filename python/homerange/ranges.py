@@ -451,7 +451,7 @@ def ranges_of(report: Report, path: Path, files: Sequence[Path], crs: Any, tz: s
 def check_whole(ranges: HomeRanges, what: str) -> None:
     """Refuses ranges of groups, of which it is not known what was left out of each."""
     if ranges.groups:
-        refuse(f"{what} is of whole ranges, and these are by groups: make those of one group alone, as by since and until, or of its fixes")
+        refuse(f"{what} is of whole ranges, and these are by groups: make those of one group alone, of its fixes")
 
 
 def boundary_of(ranges: HomeRanges, reserve: Any) -> Any:

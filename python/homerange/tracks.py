@@ -22,6 +22,7 @@ from .read.fixes import PLACES, Fixes, reading_of
 from .report import Report, polygon_of
 from .units import UNITS, Unit
 
+Whole = NDArray[numpy.int64]
 ROWS = 1_000  # of a file that are read or written together
 SLACK = 1e-6  # of a unit by which a coordinate may miss a whole one
 STEP = 1_000_000  # metres by which a local grid is shifted
@@ -85,7 +86,7 @@ def seconds_of(fixes: Fixes) -> NDArray[numpy.int64]:
     return numpy.asarray(whole.astype("int64"))
 
 
-def whole_units(fixes: Fixes, unit: Unit, shift: tuple[int, int]) -> tuple[NDArray[numpy.int64], NDArray[numpy.int64], tuple[int, int]]:
+def whole_units(fixes: Fixes, unit: Unit, shift: tuple[int, int]) -> tuple[Whole, Whole, tuple[int, int]]:
     """The eastings and northings of fixes in whole units, as they were read, with a shift by which they are on the grid."""
     sides = [fixes[title].to_numpy() for title in PLACES]
     for title, side in zip(PLACES, sides):
@@ -106,7 +107,8 @@ def side_shift(title: str, metres: NDArray[Any], unit: Unit, shift: int) -> int:
     for added in (shift, -STEP * floor(least / STEP)):
         if 0 <= least + added and unit.per_metre * (most + added) <= unit.limit:
             return added
-    refuse(f"{title}s go from {least:.2f} to {most:.2f}, which is wider than a grid of {unit.limit // unit.per_metre} metres", "grid")
+    refuse(f"{title}s go from {least:.2f} to {most:.2f}, which is wider than a grid of {unit.limit // unit.per_metre} metres",
+           "grid")
 
 
 def track_text(name: str, track: pandas.DataFrame) -> bytes:

@@ -1,5 +1,9 @@
 """Data frames of made-up fixes, what was noted of them, and programs that stand in for others."""
+import re
+from contextlib import contextmanager
+
 import pandas
+import pytest
 
 from homerange import HomeRangeNote
 from homerange.program import find_split_program
@@ -18,6 +22,14 @@ def noted(warned):
     """The texts of the notes among warnings, but for questions."""
     notes = [str(warning.message) for warning in warned if warning.category is HomeRangeNote]
     return [note for note in notes if not note.endswith("?")]
+
+
+@contextmanager
+def told(text, category=UserWarning):
+    """Whether a warning has this text, whatever others there are."""
+    with pytest.warns(category) as warned:
+        yield warned
+    assert any(re.search(text, str(warning.message)) for warning in warned), [str(warning.message) for warning in warned]
 
 
 def with_splitter(program):

@@ -50,7 +50,7 @@ def test_cells(kind, values, wanted):
     (["2024-05-01 10:00:00.000000001"], ["2024-05-01 10:00:00.000000001"]),
 ])
 def test_times_have_the_decimals_that_they_need(times, wanted):
-    series = pandas.Series(pandas.to_datetime(times))
+    series = pandas.Series([pandas.Timestamp(time) if time else pandas.NaT for time in times])
     assert cells_of(series) == wanted
     assert cells_of(series.dt.tz_localize("UTC")) == [f"{time.replace(' ', 'T')}Z" if time else "" for time in wanted]
 

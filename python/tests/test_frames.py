@@ -3,7 +3,7 @@ from datetime import date, datetime, timedelta, timezone
 
 import pandas
 import pytest
-from frames import START, frame_of, noted
+from frames import START, frame_of, noted, told
 
 from homerange import FrameError, HomeRangeInfo, HomeRangeNote, home_range, read_fixes
 
@@ -148,7 +148,7 @@ def test_several_sensors_are_refused():
 
 def test_an_animal_without_a_fix_is_said():
     frame = frame_of(a=SQUARE, b=SQUARE).assign(visible=[True] * 4 + [False] * 4)
-    with pytest.warns(HomeRangeNote, match="^no fix of 'b' is left: no file"):
+    with told("^no fix of 'b' is left: no file"):
         assert home_range(frame).animals == ["a"]
     fixes = read_fixes(frame_of(a=SQUARE, b=SQUARE))
     only = home_range(fixes[fixes["animal"] == "a"])
@@ -298,7 +298,7 @@ def test_fixes_in_another_order_give_the_same_ranges():
 
 def test_longitude_and_latitude_are_projected_or_refused_with_what_helps():
     frame = frame_of(a=[(15.8, 46.3), (15.9, 46.4)]).rename(columns={"easting": "location-long", "northing": "location-lat"})
-    with pytest.warns(HomeRangeInfo, match="longitude and latitude are projected into zone 33N; fixes by zone: 33N 2"):
+    with told("^longitude and latitude are projected into zone 33N; fixes by zone: 33N 2"):
         assert home_range(frame).crs == "EPSG:32633"
     degrees = frame_of(a=[(15.8, 46.3), (15.9, 46.4)])
     with pytest.warns(HomeRangeNote) as notes:

@@ -1,9 +1,9 @@
 """GeoDataFrames: which are taken, which are refused, and the CRS of the answers."""
 import pytest
 from exact import cloud, hull
-from frames import frame_of
+from frames import frame_of, told
 
-from homerange import FrameError, HomeRangeInfo, HomeRangeNote, home_range
+from homerange import FrameError, HomeRangeNote, home_range
 
 geopandas = pytest.importorskip("geopandas")
 POINTS = cloud(5, 30)
@@ -47,12 +47,12 @@ def test_points_without_a_crs_are_metres_of_no_place():
 
 @pytest.mark.parametrize("crs", ["EPSG:4326", "OGC:CRS84", "EPSG:4979"])
 def test_points_in_degrees_are_projected(crs):
-    with pytest.warns(HomeRangeInfo, match="longitude and latitude are projected into zone 33N"):
+    with told("^longitude and latitude are projected into zone 33N"):
         found = home_range(geo().to_crs(crs))
     assert found.corners() == {"vixen": hull(POINTS)} and found.crs == "EPSG:32633"
     degrees = geo().to_crs(crs)
     assert home_range(degrees.to_crs(degrees.estimate_utm_crs())).corners() == found.corners()
-    with pytest.warns(HomeRangeNote, match="rounded"):
+    with told("rounded"):
         other = home_range(degrees, zone="34N")
     assert other.crs == "EPSG:32634"
     assert other.polygons().to_crs(32633).geometry[0].hausdorff_distance(found.polygons().geometry[0]) < 1.5

@@ -95,8 +95,8 @@ def frame_of(source, watch, pandas, use):
     if use is not None and use not in names:
         raise LayerFault(f"The field {use} says of no fix whether it is used: its type is neither a truth, a number nor a text")
     # Where another field is named, one that is called use says nothing.
-    columns = {"use" if name == use else name: column_of(own, field.type(), pandas) for name, field, own in zip(names, fields, cells)
-               if name == use or use is None or name != "use"}
+    columns = {"use" if name == use else name: column_of(own, field.type(), pandas)
+               for name, field, own in zip(names, fields, cells) if use in (None, name) or name != "use"}
     for title, own in zip(PLACES, (east, north)):
         columns[title] = pandas.Series(own, dtype="float64")
     return pandas.DataFrame(columns)

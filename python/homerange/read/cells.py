@@ -203,7 +203,7 @@ def moment_cell(value: clock.datetime) -> str:
 
 # How values of some classes are written; a class that is a kind of another stands before it.
 CLASSES: tuple[tuple[Any, Callable[[Any], str]], ...] = (
-    (str, str), (numpy.timedelta64, odd_cell), ((bool, numpy.bool_), lambda value: TRUTHS[bool(value)]), ((int, numpy.integer), whole_cell),
-    ((float, numpy.floating), float_cell), (Decimal, decimal_cell), (clock.datetime, moment_cell),
+    (str, str), (numpy.timedelta64, odd_cell), ((bool, numpy.bool_), lambda value: TRUTHS[bool(value)]),
+    ((int, numpy.integer), whole_cell), ((float, numpy.floating), float_cell), (Decimal, decimal_cell), (clock.datetime, moment_cell),
     (clock.date, lambda value: str(value.isoformat())), (clock.time, lambda value: str(value.isoformat())),
     (pandas.Period, lambda value: moment_cell(value.to_timestamp())))

@@ -5,7 +5,7 @@ from __future__ import annotations
 import html
 from collections import Counter
 from dataclasses import dataclass, field, replace
-from typing import TYPE_CHECKING, Any, Callable, Iterable
+from typing import TYPE_CHECKING, Any, Callable, Iterable, Sequence
 
 import pandas
 
@@ -52,25 +52,28 @@ class Reading:
 
 def bound(readings: Iterable[Reading]) -> Reading:
     """How fixes were read that are bound of several, which have to be of one unit, reference system and zone of times."""
-    parts: list[Reading] = []
-    for reading in readings:
-        parts += [part for part in reading.parts or (reading,) if part not in parts]
-    first = parts[0]
-    for part in parts:
-        for what, one, other in (("unit", first.unit, part.unit), ("reference system", first.system_text, part.system_text),
-                                 ("time zone", first.tz, part.tz)):
-            if one != other:
-                refuse(f"fixes of the {what} {one or 'not known'} and of {other or 'not known'} are not bound: read them alike")
+    several = [part for reading in readings for part in reading.parts or (reading,)]
+    parts = [part for at, part in enumerate(several) if part not in several[:at]]
+    check_alike(parts)
     if len(parts) == 1:
-        return first
-    left, counts, names = Counter[tuple[str, str]](), Counter[str](), dict[str, str]()
-    for part in parts:
-        left.update(part.left)
-        counts.update(part.counts)
-        names.update(part.names)
+        return parts[0]
+    left: Counter[tuple[str, str]] = sum((Counter(part.left) for part in parts), Counter())
+    counts: Counter[str] = sum((Counter(part.counts) for part in parts), Counter())
     shift = max(part.shift[0] for part in parts), max(part.shift[1] for part in parts)
-    notes = tuple(dict.fromkeys(note for part in parts for note in part.notes))
-    return replace(first, shift=shift, notes=notes, left=dict(left), counts=dict(counts), names=names, record=None, parts=tuple(parts))
+    return replace(
+        parts[0], shift=shift, notes=tuple(dict.fromkeys(note for part in parts for note in part.notes)), left=dict(left),
+        counts=dict(counts), names={name: own for part in parts for name, own in part.names.items()}, record=None, parts=tuple(parts))
+
+
+def check_alike(parts: Sequence[Reading]) -> None:
+    """Refuses fixes that cannot be bound to each other."""
+    facts: dict[str, list[str | None]] = {
+        "unit": [part.unit for part in parts], "reference system": [part.system_text for part in parts],
+        "time zone": [part.tz for part in parts]}
+    for what, own in facts.items():
+        other = next((one for one in own if one != own[0]), own[0])
+        if other != own[0]:
+            refuse(f"fixes of the {what} {own[0] or 'not known'} and of {other or 'not known'} are not bound: read them alike")
 
 
 class Fixes(pandas.DataFrame):
@@ -101,7 +104,8 @@ class Fixes(pandas.DataFrame):
         """Keeps how they were read, of all that were bound."""
         super().__finalize__(other, method=method, **words)
         if method == "concat":
-            own = [each for each in getattr(other, "objs", None) or getattr(other, "input_objs", ()) if isinstance(each, Fixes)]
+            several: Any = getattr(other, "objs", None) or getattr(other, "input_objs", ())
+            own = [each for each in several if isinstance(each, Fixes)]
             known = [each.reading for each in own if each.reading is not None]
             is_whole = sum(map(len, own)) == len(self) or len(own) == 1 and len(own[0]) == len(self)
             self.reading = bound(known) if known and is_whole and len(known) == len(own) else None
@@ -179,6 +183,7 @@ def head(fixes: Fixes, reading: Reading) -> str:
         return f"{counted}; {system}"
     sizes = [(fixes[title].max() - fixes[title].min()) / 1000 for title in PLACES]
     title = "time" if "time" in fixes else "second"
-    ends = [str(end.date()) if isinstance(end, pandas.Timestamp) else f"second {end}" for end in (fixes[title].min(), fixes[title].max())]
+    ends = [str(end.date()) if isinstance(end, pandas.Timestamp) else f"second {end}"
+            for end in (fixes[title].min(), fixes[title].max())]
     span = f"from {ends[0]} to {ends[1]}" + (f" in {clock_of(fixes)}" if title == "time" else "")
     return f"{counted}, {span}, box {sizes[0]:.3f} by {sizes[1]:.3f} km; {system}"

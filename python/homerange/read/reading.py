@@ -33,7 +33,7 @@ TAKEN = ("columns: ", "UTM coordinates are", "coordinates are those", "longitude
 
 
 class ReadTable(NamedTuple):
-    """A table that was read: its fixes, the frame, None where it was a file, and of each fix its row there, where that was asked."""
+    """A table that was read: its fixes; the frame, None where it was a file; and of each fix its row there, where that was asked."""
 
     fixes: Fixes
     frame: pandas.DataFrame | None = None
@@ -68,7 +68,9 @@ def read_fixes(x: Any, *, program: str | os.PathLike[str] | None = None, **optio
     return table.fixes
 
 
-def read_table(x: Any, options: Mapping[str, Any], program: str | os.PathLike[str] | None = None, has_columns: bool = True) -> ReadTable:
+def read_table(
+    x: Any, options: Mapping[str, Any], program: str | os.PathLike[str] | None = None, has_columns: bool = True,
+) -> ReadTable:
     """The fixes of a file or a frame, of a frame with its own columns if they are wanted."""
     own = frame_given(x)
     words_of_options({**options, "crs": None})  # what cannot be right is refused before anything is looked for
@@ -89,8 +91,8 @@ def read_file(path: Path, options: Mapping[str, Any], folder: Path, program: str
         split_table(str(path), str(folder / "tracks"), words_of_options(found), program)
     except FrameError as fault:
         shown, text = one_line(str(path)), as_arguments(str(fault), fault.kind)
-        place = "" if fault.record is None else f"record {fault.record}: "
-        raise FrameError(f"{place}{text}" if text.startswith(shown) else f"{shown}: {place}{text}", fault.kind, fault.record) from None
+        text = text if fault.record is None else f"record {fault.record}: {text}"
+        raise FrameError(text if text.startswith(shown) else f"{shown}: {text}", fault.kind, fault.record) from None
     record = read_record(folder / "tracks" / "split.txt")
     whole = read_tracks(folder / "tracks", record)
     return ReadTable(fixes_of(whole, record, folder, options.get("tz"), crs, []))
@@ -137,13 +139,14 @@ def refuse_odd(record: Record, text: Text) -> None:
     """Refuses animals that are named by what has no text, such as lists."""
     own = own_names(record)
     odd = {name for name in map(lambda name: own.get(name, name), record.tracks) if ODD.fullmatch(name)}
-    named, taken = titles_named(text.options.get("animal")), next((line for line in record.said if line.startswith("columns: ")), "")
+    named = titles_named(text.options.get("animal"))
+    taken = next((line for line in record.said if line.startswith("columns: ")), "")
     for column in text.columns if odd else ():
         is_animal = column.title in named or taken.startswith(f"columns: {column.title},")
         at = odd_row(column, odd) if is_animal else None
         if at is not None:
-            kind = type(column.values.iloc[at]).__name__
-            refuse(f"{row_named(text.labels, at)}: {column.title} is of the class {kind}, which is no name: make it text", "name", at + 1)
+            what = f"{column.title} is of the class {type(column.values.iloc[at]).__name__}"
+            refuse(f"{row_named(text.labels, at)}: {what}, which is no name: make it text", "name", at + 1)
 
 
 def odd_row(column: Column, odd: set[str]) -> int | None:

@@ -9,6 +9,7 @@ from typing import TYPE_CHECKING, Any, Mapping
 
 import numpy
 import pandas
+from numpy.typing import NDArray
 
 from ..errors import refuse
 from ..zones import REFUSED, TOLD, scale_of_crs, text_of_crs, zone_of, zone_of_crs
@@ -83,7 +84,8 @@ def columns_of_points(points: geopandas.GeoSeries) -> tuple[dict[str, pandas.Ser
         if crs is not None:
             check_plane(crs)
         elif are_degrees(*sides.values()):
-            refuse("the points have no CRS, and lie as longitude and latitude do: frame.set_crs(4326) says so where they are", "degrees")
+            refuse("the points have no CRS, and lie as longitude and latitude do: frame.set_crs(4326) says so where they are",
+                   "degrees")
         return sides, []
     is_of_program = crs.equals(type(crs).from_user_input(DEGREES), ignore_axis_order=True)
     said = [] if is_of_program else [f"points of {crs.name} are turned into longitude and latitude of WGS 84"]
@@ -105,16 +107,17 @@ def sides_of(points: geopandas.GeoSeries, into: str | None = None) -> tuple[pand
     kinds, is_empty = points.geom_type.to_numpy(), (points.isna() | points.is_empty).to_numpy()
     is_point = (kinds == "Point") & ~is_empty
     own = points[is_point] if into is None else points[is_point].to_crs(into)
-    found = []
-    for side in (own.x, own.y):
-        values = numpy.full(len(points), numpy.nan)
-        values[is_point] = side
-        found.append(pandas.Series(values))
-    for at in numpy.flatnonzero(~is_point & ~is_empty).tolist():
-        found = [side.astype(object) for side in found]
-        for side in found:
-            side.iat[at] = f"<{kinds[at].lower()}>"
-    return found[0], found[1]
+    odd = {at: f"<{kinds[at].lower()}>" for at in numpy.flatnonzero(~is_point & ~is_empty).tolist()}
+    return side_of(own.x, is_point, odd), side_of(own.y, is_point, odd)
+
+
+def side_of(values: pandas.Series, is_point: NDArray[numpy.bool_], odd: Mapping[int, str]) -> pandas.Series:
+    """One coordinate of points, whose other rows are odd or missing."""
+    found = numpy.full(len(is_point), numpy.nan)
+    found[is_point] = values
+    side = pandas.Series(found, dtype=object if odd else None)
+    side.iloc[[*odd]] = [*odd.values()]
+    return side
 
 
 def scale_said(crs: Any, zone: str | None, middles: Mapping[str, tuple[float, float]]) -> list[str]:

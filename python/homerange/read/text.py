@@ -90,7 +90,8 @@ def columns_of(frame: pandas.DataFrame, options: Mapping[str, Any]) -> list[Colu
         return found
     first = found[0].title
     if ";" in first or "\t" in first:
-        refuse(f"the first column is titled {first!r}, whose sign would be taken for what stands between fields: rename it", "columns")
+        refuse(f"the first column is titled {first!r}, whose sign would be taken for what stands between fields: rename it",
+               "columns")
     return found
 
 

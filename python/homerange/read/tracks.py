@@ -1,5 +1,5 @@
-"""Reads back what the program made of a table: its record, the tracks, and which record of the table is which fix. Names of files have
-no backslash, so one in the record stands for a sign that ends lines."""
+"""Reads back what the program made of a table: its record, the tracks, and which record of the table is which fix. Names of files
+have no backslash, so one in the record stands for a sign that ends lines."""
 
 from __future__ import annotations
 
@@ -63,8 +63,9 @@ def rows_of(folder: Path, whole: Whole) -> NDArray[numpy.int64]:
     file stand in the order of their moments, and those of one moment in that of the table."""
     with open(folder / "records.txt", encoding="utf-8", newline="") as file:
         table = pandas.read_csv(
-            file, usecols=["file", "second", "nanosecond", "reason"], keep_default_na=False, na_values={"second": [""], "nanosecond": [""]},
-            dtype={"file": "category", "second": "float64", "nanosecond": "float64", "reason": "category"}, quoting=csv.QUOTE_NONE)
+            file, usecols=["file", "second", "nanosecond", "reason"], keep_default_na=False, quoting=csv.QUOTE_NONE,
+            na_values={"second": [""], "nanosecond": [""]},
+            dtype={"file": "category", "second": "float64", "nanosecond": "float64", "reason": "category"})
     rows = numpy.flatnonzero((table["reason"] == "").to_numpy())
     second, part = (table[title].to_numpy()[rows] for title in ("second", "nanosecond"))
     files = table["file"].cat
