@@ -60,7 +60,7 @@ fixes_of_frame <- function(x, into, tz, crs, lines) {
   }
   fixes <- read_tracks(into, record)
   rows <- records_of_fixes(into, record, fixes)
-  table <- table_of_fixes(fixes, record, tz, rows_of_columns(columns_of(x), rows))
+  table <- table_of_fixes(fixes, record, tz, rows_of_columns(columns_of(x), rows, nrow(x)))
   check_names(x, table$animal, rows)
   notes <- c(lines, record$said, if (!is.null(crs)) check_scale(table, crs))
   facts <- facts_of_record(record, file.path(into, "split.txt"), tz, crs, notes)
@@ -75,6 +75,7 @@ check_frame <- function(x, given) {
     refuse("empty", "a data frame is wanted", help)
   }
   if (nrow(x) == 0) refuse("empty", "there are no rows")
+  if (ncol(x) == 0) refuse("columns", "there are no columns")
   odd <- c(intersect(options_of_files, names(given)), if (identical(given$from, "gpx")) "from")
   if (length(odd)) refuse("option", odd[1], ": this is for files, and not for a data frame")
 }
@@ -85,9 +86,9 @@ columns_of <- function(x) {
   if (inherits(x, "sf")) columns[setdiff(seq_along(columns), match(attr(x, "sf_column"), names(columns)))] else columns
 }
 
-# The further columns of the fixes, which are these rows of a frame.
-rows_of_columns <- function(columns, rows) {
-  if (identical(rows, seq_along(rows)) && length(rows) == NROW(columns[[1]])) return(columns)
+# The further columns of the fixes, which are these rows of a frame of so many.
+rows_of_columns <- function(columns, rows, number) {
+  if (identical(rows, seq_len(number))) return(columns)
   lapply(columns, function(column) if (length(dim(column)) == 2) column[rows, , drop = FALSE] else column[rows])
 }
 

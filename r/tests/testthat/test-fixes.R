@@ -118,6 +118,7 @@ test_that("what is no table is refused", {
   refused(c("a", "b"), "a data frame is wanted")
   refused(structure(list(), class = "ltraj"), "a data frame is wanted: adehabitatLT::ld(x) makes one of it")
   refused(frame()[0, ], "there are no rows")
+  expect_error(read_quietly(frame()[integer()]), "there are no columns", class = "homerange_columns_error")
 })
 
 test_that("a move2 table says which columns it has", {
