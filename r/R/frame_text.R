@@ -40,20 +40,27 @@ write_bytes <- function(parts, output) {
   }
 }
 
-# A part of texts with the bytes of its kinds: a matrix that has each in a column, with 0 behind it. The last is for what is
-# missing.
+# A part of texts with the bytes of its kinds, of which the last is for what is missing.
 with_bytes <- function(part) {
   if (!is.null(part$numbers)) return(part)
-  kinds <- c(replace(part$kinds, is.na(part$kinds), ""), "")
-  widths <- nchar(kinds, "bytes")
-  bytes <- matrix(as.raw(0), max(widths), length(kinds))
-  bytes[rep((seq_along(kinds) - 1) * max(widths), widths) + sequence(widths)] <- charToRaw(paste(kinds, collapse = ""))
-  list(bytes = bytes, place = replace(part$place, is.na(part$place), length(kinds)))
+  kinds <- c(part$kinds, "")
+  list(bytes = matrix_of_bytes(kinds), place = replace(part$place, is.na(part$place), length(kinds)))
+}
+
+# The bytes of texts, each in a column, with 0 behind it.
+matrix_of_bytes <- function(texts) {
+  texts[is.na(texts)] <- ""
+  widths <- nchar(texts, "bytes") + 1L
+  bytes <- writeBin(texts, raw(), useBytes = TRUE)
+  if (all(widths == widths[1])) return(matrix(bytes, widths[1]))
+  found <- matrix(as.raw(0), max(widths), length(texts))
+  found[rep((seq_along(texts) - 1) * max(widths), widths) + sequence(widths)] <- bytes
+  found
 }
 
 # The bytes of some cells, a vector for each place, with 0 where a cell has none.
 bytes_of_part <- function(part, rows) {
-  if (!is.null(part$numbers)) return(bytes_of_numbers(part$numbers[rows], part$places))
+  if (!is.null(part$numbers)) return(bytes_of_numbers(part$numbers[rows], part$decimals))
   place <- part$place[rows]
   lapply(seq_len(nrow(part$bytes)), function(at) part$bytes[at, place])
 }
