@@ -3,6 +3,8 @@
 name_of_frame <- "fixes.csv"  # of the text, in records
 signs_between_fields <- "[;\t]"  # of other tables than those with commas
 widest_kind <- 64  # bytes of a text among those whose cells are written as bytes
+widest_number <- 17  # bytes of a number among these
+bytes_at_once <- 4e6
 
 # Writes the text of a data frame: its columns, and then further columns of cells.
 write_frame <- function(columns, more, path) {
@@ -14,8 +16,8 @@ write_frame <- function(columns, more, path) {
   output <- file(path, "wb")
   on.exit(close(output))
   writeLines(enc2utf8(paste(quoted(titles), collapse = ",")), output, useBytes = TRUE)
-  is_narrow <- length(parts) > 1 && all(vapply(unlist(parts, recursive = FALSE), is_narrow, NA))
-  if (is_narrow) write_bytes(lapply(parts, lapply, with_bytes), output) else write_texts(parts, output)
+  by_bytes <- length(parts) > 1 && all(vapply(unlist(parts, recursive = FALSE), is_narrow, NA))
+  if (by_bytes) write_bytes(lapply(parts, lapply, with_bytes), output) else write_texts(parts, output)
 }
 
 # Whether a part of cells is of numbers, or of texts that are all short.
@@ -32,8 +34,9 @@ write_bytes <- function(parts, output) {
   own <- parts[[1]][[1]]
   number <- max(length(own$place), length(own$numbers))
   between <- list(as.raw(44))  # a comma
-  for (start in seq(1, number, lines_written)) {
-    rows <- start:min(start + lines_written - 1, number)
+  step <- max(1, bytes_at_once %/% sum(vapply(unlist(parts, recursive = FALSE), width_of_part, 0)))
+  for (start in seq(1, number, step)) {
+    rows <- start:min(start + step - 1, number)
     cells <- lapply(parts, function(column) c(between, unlist(lapply(column, bytes_of_part, rows), recursive = FALSE)))
     lines <- do.call(rbind, c(unlist(unname(cells), recursive = FALSE)[-1], list(as.raw(10))))
     writeBin(lines[lines != as.raw(0)], output)
@@ -46,6 +49,8 @@ with_bytes <- function(part) {
   kinds <- c(part$kinds, "")
   list(bytes = matrix_of_bytes(kinds), place = replace(part$place, is.na(part$place), length(kinds)))
 }
+
+width_of_part <- function(part) if (is.null(part$bytes)) widest_number else as.numeric(nrow(part$bytes))
 
 # The bytes of texts, each in a column, with 0 behind it.
 matrix_of_bytes <- function(texts) {
