@@ -99,7 +99,7 @@ readable <- function(text) {
 # Numbers: those with few decimals and digits, or else their texts.
 parts_of_numbers <- function(numbers) {
   places <- places_of_decimals(numbers)
-  if (is.na(places)) parts_of_cells(cells_of_numbers(numbers)) else list(list(numbers = numbers, places = places))
+  if (is.na(places)) parts_of_cells(cells_of_numbers(numbers)) else list(list(numbers = numbers, decimals = places))
 }
 
 # How many decimals all of some numbers have; NA where one has too many, or has no end.

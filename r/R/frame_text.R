@@ -3,6 +3,8 @@
 name_of_frame <- "fixes.csv"  # of the text, in records
 signs_between_fields <- "[;\t]"  # of other tables than those with commas
 widest_kind <- 64  # bytes of a text among those whose cells are written as bytes
+widest_number <- 17  # bytes of a number among these
+bytes_at_once <- 4e6
 
 # Writes the text of a data frame: its columns, and then further columns of cells.
 write_frame <- function(columns, more, path) {
@@ -14,8 +16,8 @@ write_frame <- function(columns, more, path) {
   output <- file(path, "wb")
   on.exit(close(output))
   writeLines(enc2utf8(paste(quoted(titles), collapse = ",")), output, useBytes = TRUE)
-  is_narrow <- length(parts) > 1 && all(vapply(unlist(parts, recursive = FALSE), is_narrow, NA))
-  if (is_narrow) write_bytes(lapply(parts, lapply, with_bytes), output) else write_texts(parts, output)
+  by_bytes <- length(parts) > 1 && all(vapply(unlist(parts, recursive = FALSE), is_narrow, NA))
+  if (by_bytes) write_bytes(lapply(parts, lapply, with_bytes), output) else write_texts(parts, output)
 }
 
 # Whether a part of cells is of numbers, or of texts that are all short.
@@ -32,28 +34,38 @@ write_bytes <- function(parts, output) {
   own <- parts[[1]][[1]]
   number <- max(length(own$place), length(own$numbers))
   between <- list(as.raw(44))  # a comma
-  for (start in seq(1, number, lines_written)) {
-    rows <- start:min(start + lines_written - 1, number)
+  step <- max(1, bytes_at_once %/% sum(vapply(unlist(parts, recursive = FALSE), width_of_part, 0)))
+  for (start in seq(1, number, step)) {
+    rows <- start:min(start + step - 1, number)
     cells <- lapply(parts, function(column) c(between, unlist(lapply(column, bytes_of_part, rows), recursive = FALSE)))
     lines <- do.call(rbind, c(unlist(unname(cells), recursive = FALSE)[-1], list(as.raw(10))))
     writeBin(lines[lines != as.raw(0)], output)
   }
 }
 
-# A part of texts with the bytes of its kinds: a matrix that has each in a column, with 0 behind it. The last is for what is
-# missing.
+# A part of texts with the bytes of its kinds, of which the last is for what is missing.
 with_bytes <- function(part) {
   if (!is.null(part$numbers)) return(part)
-  kinds <- c(replace(part$kinds, is.na(part$kinds), ""), "")
-  widths <- nchar(kinds, "bytes")
-  bytes <- matrix(as.raw(0), max(widths), length(kinds))
-  bytes[rep((seq_along(kinds) - 1) * max(widths), widths) + sequence(widths)] <- charToRaw(paste(kinds, collapse = ""))
-  list(bytes = bytes, place = replace(part$place, is.na(part$place), length(kinds)))
+  kinds <- c(part$kinds, "")
+  list(bytes = matrix_of_bytes(kinds), place = replace(part$place, is.na(part$place), length(kinds)))
+}
+
+width_of_part <- function(part) if (is.null(part$bytes)) widest_number else as.numeric(nrow(part$bytes))
+
+# The bytes of texts, each in a column, with 0 behind it.
+matrix_of_bytes <- function(texts) {
+  texts[is.na(texts)] <- ""
+  widths <- nchar(texts, "bytes") + 1L
+  bytes <- writeBin(texts, raw(), useBytes = TRUE)
+  if (all(widths == widths[1])) return(matrix(bytes, widths[1]))
+  found <- matrix(as.raw(0), max(widths), length(texts))
+  found[rep((seq_along(texts) - 1) * max(widths), widths) + sequence(widths)] <- bytes
+  found
 }
 
 # The bytes of some cells, a vector for each place, with 0 where a cell has none.
 bytes_of_part <- function(part, rows) {
-  if (!is.null(part$numbers)) return(bytes_of_numbers(part$numbers[rows], part$places))
+  if (!is.null(part$numbers)) return(bytes_of_numbers(part$numbers[rows], part$decimals))
   place <- part$place[rows]
   lapply(seq_len(nrow(part$bytes)), function(at) part$bytes[at, place])
 }

@@ -8,7 +8,7 @@ home_range <- function(x, levels = c(50, 95, 100), by = NULL, ..., progress = in
   levels <- checked_levels(levels)
   if (!is_truth(quiet)) refuse("option", "quiet: TRUE or FALSE is wanted")
   program <- homerange_program()  # refuses now, and not after all has been read, where there is none
-  read <- fixes_to_take(x, list(...), quiet)
+  read <- fixes_to_take(x, list(...), quiet, has_rows = !is.null(by))
   whole <- whole_fixes(read$fixes)
   if (!is.null(by)) {
     whole <- grouped_fixes(whole, labels_of(read$fixes, by, read$frame))
@@ -27,8 +27,8 @@ home_range <- function(x, levels = c(50, 95, 100), by = NULL, ..., progress = in
 }
 
 # Fixes that were read, or those of a table with the rows of a frame that they are.
-fixes_to_take <- function(x, options, quiet) {
-  if (!inherits(x, "homerange_fixes")) return(read_table(x, options, quiet))
+fixes_to_take <- function(x, options, quiet, has_rows) {
+  if (!inherits(x, "homerange_fixes")) return(read_table(x, options, quiet, has_rows))
   if (length(options)) {
     name <- c(names(options), "")[1]
     what <- if (nzchar(name)) name else "there is an argument too many"

@@ -44,9 +44,12 @@ points_as_columns <- function(x, shapes, at, sides) {
   odd <- which(kinds != "POINT" & !sf::st_is_empty(shapes))
   titles <- vapply(paste("point", c(easting = "easting", northing = "northing", lon = "longitude", lat = "latitude")[sides]),
                    free_title, "", names(x), USE.NAMES = FALSE)
-  columns <- lapply(1:2, function(side) replace(cells_of_numbers(at[, side]), odd, paste0("<", tolower(kinds[odd]), ">")))
+  columns <- lapply(1:2, function(side) replace(cells_of_numbers(at[, side]), odd, paste0("<", in_small(kinds[odd]), ">")))
   list(columns = `names<-`(columns, titles), words = paste0("--", sides, "=", titles))
 }
+
+# Words of letters without accents in small ones, which in Turkish has others for I.
+in_small <- function(words) chartr("ABCDEFGHIJKLMNOPQRSTUVWXYZ", "abcdefghijklmnopqrstuvwxyz", words)
 
 # A title that is not among these: this one, or with a number behind it.
 free_title <- function(title, titles) {

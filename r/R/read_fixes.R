@@ -7,10 +7,11 @@ read_fixes <- function(x, ..., quiet = FALSE) {
   read_table(x, list(...), quiet)$fixes
 }
 
-# The fixes, and beside them what was said, and of a frame which of how many rows each is.
-read_table <- function(x, options, quiet) {
+# The fixes, and beside them what was said. Of a frame they have its further columns, and it is known which of how many rows each
+# is, unless that is not wanted.
+read_table <- function(x, options, quiet, has_rows = TRUE) {
   given <- options_given(options)
-  read <- in_folder(function(folder) if (is_text(x)) read_file(x, given, folder) else read_frame(x, given, folder))
+  read <- in_folder(function(folder) if (is_text(x)) read_file(x, given, folder) else read_frame(x, given, folder, has_rows))
   if (!quiet) for (line in read$notes) tell_note(line, kind_of_said(line))
   read
 }
@@ -32,17 +33,18 @@ read_file <- function(path, given, folder) {
 }
 
 # The fixes of a data frame.
-read_frame <- function(x, given, folder) {
+read_frame <- function(x, given, folder, has_rows) {
   check_frame(x, given)
   given <- with_columns_of(x, given)
   places <- places_of_frame(x, given)
   clock <- clock_of_frame(x, given)
   text <- file.path(folder, name_of_frame)
   with_rows(x, write_frame(columns_of(x), places$columns, text))
-  words <- c("--records", words_of_options(given), places$words, if (!is.null(clock$tz)) paste0("--tz=", clock$tz))
+  words <- c(if (has_rows) "--records", words_of_options(given), places$words, if (!is.null(clock$tz)) paste0("--tz=", clock$tz))
   into <- file.path(folder, "tracks")
   run_split(text, words, into, function(kind, record, text) refuse_row(x, kind, record, gsub(folder, "", text, fixed = TRUE)))
-  fixes_of_frame(x, into, c(given$tz, clock$tz, "UTC")[1], places$crs, c(groups_of_dplyr(x), places$line, clock$line))
+  lines <- c(groups_of_dplyr(x), places$line, clock$line)
+  fixes_of_frame(x, into, c(given$tz, clock$tz, "UTC")[1], places$crs, lines, has_rows)
 }
 
 # The options of a table of move2, which says itself which columns have the animal and the time.
@@ -53,15 +55,15 @@ with_columns_of <- function(x, given) {
 }
 
 # The fixes of a frame, of which the program has made the tracks in a folder.
-fixes_of_frame <- function(x, into, tz, crs, lines) {
+fixes_of_frame <- function(x, into, tz, crs, lines, has_rows) {
   record <- read_record(file.path(into, "split.txt"))
   if (!is.null(crs) && !is.null(record$zone)) {
     refuse("zone", "the coordinates are of the zone ", record$zone, ", and the CRS ", crs$Name, " is none of UTM: give one of the two")
   }
   fixes <- read_tracks(into, record)
-  rows <- records_of_fixes(into, record, fixes)
-  table <- table_of_fixes(fixes, record, tz, rows_of_columns(columns_of(x), rows))
-  check_names(x, table$animal, rows)
+  rows <- if (has_rows) records_of_fixes(into, record, fixes)
+  table <- table_of_fixes(fixes, record, tz, if (has_rows) rows_of_columns(columns_of(x), rows, nrow(x)))
+  check_names(x, table$animal)
   notes <- c(lines, record$said, if (!is.null(crs)) check_scale(table, crs))
   facts <- facts_of_record(record, file.path(into, "split.txt"), tz, crs, notes)
   list(fixes = new_fixes(table, facts), notes = notes, frame = list(rows = rows, number = nrow(x)))
@@ -75,6 +77,7 @@ check_frame <- function(x, given) {
     refuse("empty", "a data frame is wanted", help)
   }
   if (nrow(x) == 0) refuse("empty", "there are no rows")
+  if (ncol(x) == 0) refuse("columns", "there are no columns")
   odd <- c(intersect(options_of_files, names(given)), if (identical(given$from, "gpx")) "from")
   if (length(odd)) refuse("option", odd[1], ": this is for files, and not for a data frame")
 }
@@ -85,9 +88,9 @@ columns_of <- function(x) {
   if (inherits(x, "sf")) columns[setdiff(seq_along(columns), match(attr(x, "sf_column"), names(columns)))] else columns
 }
 
-# The further columns of the fixes, which are these rows of a frame.
-rows_of_columns <- function(columns, rows) {
-  if (identical(rows, seq_along(rows)) && length(rows) == NROW(columns[[1]])) return(columns)
+# The further columns of the fixes, which are these rows of a frame of so many.
+rows_of_columns <- function(columns, rows, number) {
+  if (identical(rows, seq_len(number))) return(columns)
   lapply(columns, function(column) if (length(dim(column)) == 2) column[rows, , drop = FALSE] else column[rows])
 }
 
@@ -98,15 +101,15 @@ groups_of_dplyr <- function(x) {
   paste0("groups of the table are not looked at (", paste(by, collapse = ", "), "): by makes ranges of groups")
 }
 
-# Refuses names of animals that are the class of a column of which no cell is known.
-check_names <- function(x, animals, rows) {
-  odd <- which(grepl("^<.*>$", animals))[1]
+# Refuses a name of an animal that is the class of a column of which no cell is known.
+check_names <- function(x, animals) {
+  odd <- grep("^<.*>$", unique(animals), value = TRUE)[1]
   if (is.na(odd)) return(invisible())
-  row <- rows[odd]
-  same <- Filter(function(column) identical(cells_of_column(column, "x")[row], animals[odd]), columns_of(x))
-  is_text <- any(vapply(same, function(column) is.character(column) || is.factor(column), NA))
-  if (!length(same) || is_text) return(invisible())
-  refuse_row(x, "name", row, paste0(readable(names(same))[1], " is ", animals[odd], ", which is no name"))
+  same <- Filter(function(column) odd %in% cells_of_column(column, "x"), columns_of(x))
+  is_text <- vapply(same, function(column) is.character(column) || is.factor(column), NA)
+  if (!length(same) || any(is_text)) return(invisible())
+  row <- match(odd, cells_of_column(same[[1]], "x"))
+  refuse_row(x, "name", row, paste0(readable(names(same))[1], " is ", odd, ", which is no name"))
 }
 
 # Makes a call; a record of what it refuses is a row of the frame.

@@ -86,7 +86,7 @@ test_that("columns of classes are read as meant, or refused by name", {
                class = "homerange_number_error")
   expect_error(named(transform(frame(), when = as.difftime(1:6, units = "mins"))), "row 1: when is '<difftime>'", class = "homerange_time_error")
   expect_identical(nrow(named(transform(frame(), note = complex(real = y)))), 4L)
-  expect_error(named(transform(frame(), animal = complex(real = 1))), "row 2: animal is <complex>, which is no name", class = "homerange_name_error")
+  expect_error(named(transform(frame(), animal = complex(real = 1))), "row 1: animal is <complex>, which is no name", class = "homerange_name_error")
   expect_identical(unique(named(transform(frame(), animal = "<complex>", note = complex(real = y)))$animal), "<complex>")
   for (title in c(NA, "")) {
     fixes <- named(`names<-`(cbind(frame(), 1), c(names(frame()), title)))
@@ -118,6 +118,7 @@ test_that("what is no table is refused", {
   refused(c("a", "b"), "a data frame is wanted")
   refused(structure(list(), class = "ltraj"), "a data frame is wanted: adehabitatLT::ld(x) makes one of it")
   refused(frame()[0, ], "there are no rows")
+  expect_error(read_quietly(frame()[integer()]), "there are no columns", class = "homerange_columns_error")
 })
 
 test_that("a move2 table says which columns it has", {

@@ -88,6 +88,17 @@ test_that("missing points are left out, and further dimensions are not looked at
   expect_identical(read_fixes(measured, quiet = TRUE)$easting, 5e5)
 })
 
+test_that("points alone are fixes of one animal in the order of rows", {
+  skip_without_split()
+  skip_if_not_installed("sf")
+  for (order in list(1:50, 50:1)) {
+    points <- sf::st_sf(geometry = sf::st_geometry(hare_points())[order])
+    fixes <- read_fixes(points, name = "hare", quiet = TRUE)
+    expect_identical(names(fixes), c("animal", "second", "easting", "northing"))
+    expect_identical(fixes$easting, unname(sf::st_coordinates(points)[, "X"]))
+  }
+})
+
 test_that("the geometry is left alone where coordinates are named, and no title is taken twice", {
   skip_without_split()
   skip_if_not_installed("sf")
