@@ -12,7 +12,10 @@ import sys
 import tempfile
 from concurrent.futures import ThreadPoolExecutor
 from pathlib import Path
-from typing import Any, Callable, Mapping, NamedTuple, Sequence
+from typing import Any, Callable, Mapping, NamedTuple, Sequence, Tuple
+
+import numpy
+from numpy.typing import NDArray
 
 from .errors import FAULTS, UNPRINTABLE, ProgramError, ReportError, one_line, path_of
 from .report import Report, lines_of, overlaps_of, parse
@@ -23,6 +26,7 @@ PIECE = 2 ** 20  # bytes of a file that are read together
 ROWS = 1_000  # of a track that are written together
 PACKAGE = Path(__file__).resolve().parent
 Progress = Callable[[int, int], object]  # is called with how many of how many runs are done
+Step = Tuple[Sequence[str], ...]  # a run: the animals of a group, or of a pair of groups
 OWN = PACKAGE / "release" / "homerange"  # what a wheel has
 SPLIT = "homerange-split"  # what lies beside the program
 
@@ -135,7 +139,7 @@ def _write_tracks(folder: str, tracks: Mapping[str, Any]) -> None:
                 file.write(f"{number},%d,%d,%d\n" * (len(cells) // 3) % cells)
 
 
-def steps_of(names: Sequence[str]) -> list[tuple[Sequence[str], ...]]:
+def steps_of(names: Sequence[str]) -> list[Step]:
     """The runs of animals: one of all. More than 64 are put in groups of 32, of which each has a run for its tables, and
     each pair of groups one for its overlaps."""
     size = len(names) if len(names) <= MOST_ANIMALS else GROUP
@@ -160,13 +164,13 @@ class Runs:
         self.numbers = {name: number for number, name in enumerate(tracks)}
         self.steps = steps_of(list(tracks))
 
-    def text(self, folder: str, step: tuple[Sequence[str], ...]) -> str:
+    def text(self, folder: str, step: Step) -> str:
         """The report of a step, of a pair of groups the overlaps alone."""
         numbers = [self.numbers[name] for group in step for name in group]
         text = _call(self.program, self.levels, self.unit, folder, numbers, list(self.tracks))
         return text if len(step) == 1 else text[text.find("\noverlap,") + 1:]
 
-    def add(self, report: Report, step: tuple[Sequence[str], ...], text: str) -> None:
+    def add(self, report: Report, step: Step, text: str) -> None:
         """Takes into the report what a step gave."""
         names = {str(self.numbers[name]): name for group in step for name in group}
         fixes = {number: len(self.tracks[name]) for number, name in names.items()}
@@ -182,17 +186,44 @@ class Runs:
         report.overlaps.update({(names[one], names[other]): count for (one, other), count in overlaps.items()})
 
     def report(self, progress: Progress | None = None, jobs: int | None = None) -> Report:
-        """The report of all tracks, by so many processors."""
+        """The report of all tracks, by so many processors. Of animals in two groups those are run whose boxes meet; no polygon
+        covers a fix outside its box."""
         report = Report(self.unit, {}, {})
         with tempfile.TemporaryDirectory(prefix="homerange-") as folder, workers(jobs) as pool:
             _write_tracks(folder, self.tracks)
-            texts = pool.map(lambda step: self.text(folder, step), self.steps)
             try:
-                for done, (step, text) in enumerate(zip(self.steps, texts), 1):
-                    self.add(report, step, text)
-                    if progress is not None:
-                        progress(done, len(self.steps))
+                self.run(report, [step for step in self.steps if len(step) == 1], folder, pool, progress)
+                pairs = [step for step in self.steps if len(step) == 2]
+                report.overlaps.update((pair, 0) for step in pairs for pair in itertools.product(*step))
+                report.overlaps.update((pair, 0) for step in pairs for pair in itertools.product(*reversed(step)))
+                self.run(report, [*filter(None, (meeting(report, *step) for step in pairs))], folder, pool, progress)
             except BaseException:
                 pool.shutdown(cancel_futures=True)
                 raise
+        if progress is not None:
+            progress(len(self.steps), len(self.steps))
         return report
+
+    def run(self, report: Report, steps: Sequence[Step], folder: str, pool: ThreadPoolExecutor, progress: Progress | None) -> None:
+        """Makes runs, and takes into the report what they gave."""
+        before = len(self.steps) - len(steps) if steps and len(steps[0]) == 2 else 0
+        texts = pool.map(lambda step: self.text(folder, step), steps)
+        for done, (step, text) in enumerate(zip(steps, texts), before + 1):
+            self.add(report, step, text)
+            if progress is not None and done < len(self.steps):
+                progress(done, len(self.steps))
+
+
+def boxes_of(report: Report, names: Sequence[str]) -> NDArray[numpy.int64]:
+    """The boxes of animals: the least and the greatest easting, then those of northings."""
+    corners = (numpy.array(report.tables[name].corners, dtype="int64") for name in names)
+    return numpy.array([[*one.min(axis=0), *one.max(axis=0)] for one in corners])[:, [0, 2, 1, 3]]
+
+
+def meeting(report: Report, one: Sequence[str], other: Sequence[str]) -> Step | None:
+    """The animals of two groups whose boxes meet that of one in the other group; None where there are none."""
+    a, b = boxes_of(report, one)[:, None], boxes_of(report, other)
+    meets = (a[..., 0] <= b[:, 1]) & (b[:, 0] <= a[..., 1]) & (a[..., 2] <= b[:, 3]) & (b[:, 2] <= a[..., 3])
+    if not meets.any():
+        return None
+    return [*itertools.compress(one, meets.any(axis=1))], [*itertools.compress(other, meets.any(axis=0))]

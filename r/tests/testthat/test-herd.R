@@ -42,6 +42,35 @@ test_that("64 animals take one run and 65 six, and the plan compares every pair 
   }
 })
 
+# A folder with programs of which the first writes the first word of each of its calls.
+counting_programs <- function(folder) {
+  script <- file.path(folder, "homerange")
+  writeLines(c("#!/bin/sh", paste("echo \"$1\" >>", shQuote(file.path(folder, "calls"))), paste("exec", shQuote(homerange_program()), "\"$@\"")), script)
+  Sys.chmod(script)
+  file.symlink(split_program(), file.path(folder, "homerange-split"))
+  script
+}
+
+test_that("groups whose boxes do not meet have no run", {
+  skip_without_program()
+  skip_without_split()
+  folder <- tempfile("programs")
+  dir.create(folder)
+  script <- counting_programs(folder)
+  old <- Sys.getenv("HOMERANGE", NA)
+  on.exit(if (is.na(old)) Sys.unsetenv("HOMERANGE") else Sys.setenv(HOMERANGE = old))
+  Sys.setenv(HOMERANGE = script)
+  for (apart in c(101, 100, 99)) {
+    east <- apart * rep(0:69, each = 4) + c(0, 100, 100, 0)
+    fixes <- data.frame(animal = rep(paste("deer", 1:70), each = 4), second = 0:3, easting = east, northing = c(0, 0, 100, 100))
+    overlap <- homerange_overlap(quietly(home_range(fixes, 100)))
+    expect_equal(sum(readLines(file.path(folder, "calls")) != "--version"), if (apart > 100) 3 else 5)
+    unlink(file.path(folder, "calls"))
+    distance <- abs(row(overlap) - col(overlap))
+    expect_identical(unname(overlap), 4 * (distance == 0) + 2 * (distance == 1 & apart <= 100))
+  }
+})
+
 test_that("a bar shows how far the runs have come", {
   skip_without_program()
   fixes <- herd(65, 3)
