@@ -1,5 +1,4 @@
 """The folder of evidence of ranges: its files, what the verifier of the repository says of them, and what is refused."""
-import datetime
 import hashlib
 import os
 import shutil

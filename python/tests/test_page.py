@@ -8,7 +8,7 @@ from pathlib import Path
 
 import pytest
 from exact import area2, cloud, covers, hull, nearest
-from frames import START, frame_of
+from frames import START, frame_of, told
 from pages import DASH, Page, area, day, length, rounded, share
 from test_growth import SPLIT, by_definition
 
@@ -178,7 +178,7 @@ def test_one_pair_and_several_that_do_not_meet(tmp_path):
 
 def test_animals_of_a_frame_without_a_range_are_named(tmp_path):
     frame = frame_of(a=cloud(6, 40), b=[(1, 2), (3, 4)])
-    with pytest.warns(HomeRangeNote, match="no fix of 'b' is left"):
+    with told("no fix of 'b' is left"):
         page = page_of(home_range(frame.assign(visible=frame["animal"] == "a")), tmp_path)
     assert "Without a range, since none of their fixes is used (fixes of the data): b (2)." in page.text
     assert "Of 42 fixes of the data 2 were left out: 2 marked as outliers." in page.text

@@ -27,7 +27,7 @@ def test_all_columns_are_written(tmp_path):
 
 
 def test_many_rows_are_written_piece_by_piece(tmp_path, monkeypatch):
-    monkeypatch.setattr("homerange.read.text.ROWS", 3)
+    monkeypatch.setattr("homerange.read.text.CELLS", 13)  # of three rows of four columns
     frame = frame_of(a=SQUARE, b=SQUARE, c=SQUARE)
     text, _, _ = written(frame, tmp_path)
     assert [line.split(",")[0] for line in text.split("\n")] == ["animal", *"aaaabbbbcccc", ""]

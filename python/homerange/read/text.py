@@ -20,7 +20,7 @@ from .systems import TITLES, TITLES_OF_DEGREES, columns_of_points, crs_named, is
 if TYPE_CHECKING:
     import geopandas
 
-ROWS = 2 ** 16  # that are written together
+CELLS = 2 ** 18  # that are written together
 NAME = "fixes.csv"
 COORDINATES = ("easting", "northing", "lon", "lat")
 OF_FILES = ("encoding", "skip_lines", "header")  # options
@@ -195,10 +195,11 @@ def is_number(values: pandas.Series) -> bool:
 
 def write_text(text: Text, path: Path) -> None:
     """Writes the text of a frame."""
+    rows = max(CELLS // len(text.columns), 1)
     with open(path, "wb") as file:
         file.write(encoded([[title] for title in quoted([column.title for column in text.columns])], text, None))
-        for first in range(0, len(text.labels), ROWS):
-            cells = [quoted_of(column.values.iloc[first:first + ROWS]) for column in text.columns]
+        for first in range(0, len(text.labels), rows):
+            cells = [quoted_of(column.values.iloc[first:first + rows]) for column in text.columns]
             file.write(encoded(cells, text, first))
 
 
