@@ -38,19 +38,38 @@ read_frame <- function(x, given, folder, has_rows) {
   given <- with_columns_of(x, given)
   places <- places_of_frame(x, given)
   clock <- clock_of_frame(x, given)
-  text <- file.path(folder, name_of_frame)
-  with_rows(x, write_frame(columns_of(x), places$columns, text))
-  words <- c(if (has_rows) "--records", words_of_options(given), places$words, if (!is.null(clock$tz)) paste0("--tz=", clock$tz))
-  into <- file.path(folder, "tracks")
-  run_split(text, words, into, function(kind, record, text) refuse_row(x, kind, record, gsub(folder, "", text, fixed = TRUE)))
+  with_rows(x, write_frame(columns_of(x), places$columns, file.path(folder, name_of_frame)))
+  words <- c(if (has_rows) "--records", words_of_options(given), places$words)
+  into <- split_frame(x, folder, words, clock$tz)
+  if (!is.null(clock$tz) && !is_taken(clock$column, into)) {
+    clock <- NULL  # since other times were read, which may be of another zone
+    unlink(into, recursive = TRUE)
+    split_frame(x, folder, words, NULL)
+  }
   lines <- c(groups_of_dplyr(x), places$line, clock$line)
   fixes_of_frame(x, into, c(given$tz, clock$tz, "UTC")[1], places$crs, lines, has_rows)
 }
 
+# Has the program split the text of a frame in a folder, and answers the folder of its tracks.
+split_frame <- function(x, folder, words, tz) {
+  into <- file.path(folder, "tracks")
+  words <- c(words, if (!is.null(tz)) paste0("--tz=", tz))
+  run_split(file.path(folder, name_of_frame), words, into, function(kind, record, text) {
+    refuse_row(x, kind, record, gsub(folder, "", text, fixed = TRUE))
+  })
+  into
+}
+
+# Whether a column is among those that the program says to have taken.
+is_taken <- function(title, into) {
+  taken <- grep("^columns: ", read_record(file.path(into, "split.txt"))$said, value = TRUE)
+  any(vapply(c(", ", ";"), function(end) grepl(paste0(" ", one_line(title), end), taken, fixed = TRUE), NA))
+}
+
 # The options of a table of move2, which says itself which columns have the animal and the time.
 with_columns_of <- function(x, given) {
-  if (is.null(given$animal)) given$animal <- attr(x, "track_id_column", exact = TRUE)
-  if (is.null(given$time)) given$time <- attr(x, "time_column", exact = TRUE)
+  if (is.null(given[["animal"]])) given[["animal"]] <- attr(x, "track_id_column", exact = TRUE)
+  if (is.null(given[["time"]])) given[["time"]] <- attr(x, "time_column", exact = TRUE)
   given
 }
 
@@ -120,7 +139,9 @@ with_rows <- function(x, call) {
 # Refuses a table with the row that has the fault, by its label.
 refuse_row <- function(x, kind, record, text) {
   text <- gsub("\\brecord ([0-9]+)\\b", "row \\1", text, perl = TRUE)
-  if (grepl("'<[A-Za-z][^<>]*>'", text)) text <- paste0(text, "; of this class no cell is known: make text, numbers or times of it")
+  if (grepl("'<[A-Za-z][^<>]*>'", text)) {
+    text <- paste0(text, "; of this class no cell is known: make text, numbers or times of it")
+  }
   if (is.null(record)) refuse(kind, text)
   label <- row.names(x)[record]
   where <- if (label == record) paste0("row ", label, ": ") else paste0("row ", label, " (x[", record, ", ]): ")
@@ -137,7 +158,7 @@ clock_of_frame <- function(x, given) {
   if (!zones[[1]] %in% OlsonNames()) {
     return(list(line = paste0("days and hours are those of UTC, since the zone ", zones[[1]], " of ", column, " has no name")))
   }
-  list(tz = zones[[1]], line = paste0("days and hours are those of ", zones[[1]], ", the zone of ", column))
+  list(tz = zones[[1]], column = column, line = paste0("days and hours are those of ", zones[[1]], ", the zone of ", column))
 }
 
 # The zone of date-times. What R has without one is by the clock of the session, whose TZ goes before what R remembers of it.

@@ -147,6 +147,15 @@ test_that("hours are those of the column's zone, where it has a name, and else o
   expect_identical(nrow(named(since = "2024-05-01 03:30")), 1L)
 })
 
+test_that("the zone of a column that is not read moves no time of another", {
+  skip_without_split()
+  table <- transform(frame(), timestamp = "2024-05-01 10:00:00")
+  fixes <- read_quietly(table, easting = "x", northing = "y")
+  expect_identical(unique(fixes$time), as.POSIXct("2024-05-01 10:00", tz = "UTC"))
+  expect_identical(facts_of(fixes)$tz, "UTC")
+  expect_false(any(grepl("^option,tz|Berlin", c(facts_of(fixes)$record, facts_of(fixes)$notes))))
+})
+
 test_that("rows that are taken away keep what is known, and columns that are needed make fixes", {
   skip_without_split()
   fixes <- named(zone = "33N")
