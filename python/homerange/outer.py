@@ -1,10 +1,10 @@
 """Which fixes of a track decide a polygon: those that a level keeps, and the outermost of them; by whole numbers where rounded
-ones do not tell it."""
+ones do not tell it. And how many fixes polygons cover."""
 
 from __future__ import annotations
 
 import math
-from typing import Any
+from typing import Any, Mapping
 
 import numpy
 import pandas
@@ -69,12 +69,29 @@ def ends_of(east: NDArray[Any], north: NDArray[Any]) -> list[tuple[int, int]]:
     return [pair for end in ends for pair in zip(east[first].tolist(), end.tolist())]
 
 
-def count_inside(track: Any, polygon: Corners) -> int:
-    """How many fixes of a track a polygon covers, its edges included. Coordinates are below 2 ** 28, so that all products are
-    whole numbers of 64 bits."""
-    east, north = track["easting"].to_numpy("int64"), track["northing"].to_numpy("int64")
+def counts_within(tracks: Mapping[str, pandas.DataFrame], polygons: Mapping[str, Corners]) -> dict[tuple[str, str], int]:
+    """How many fixes of each track each polygon covers, its edges included. Coordinates are below 2 ** 28, so that all products
+    are whole numbers of 64 bits."""
+    names = [*tracks]
+    owner = numpy.repeat(numpy.arange(len(names)), [len(track) for track in tracks.values()])
+    sides = (numpy.concatenate([track[title].to_numpy("int64") for track in tracks.values()]) for title in ("easting", "northing"))
+    east, north = sides
+    order = east.argsort(kind="stable")
+    east, north, owner = east[order], north[order], owner[order]
+    counts = {other: numpy.bincount(owner[covered(east, north, polygon)], minlength=len(names)).tolist()
+              for other, polygon in polygons.items()}
+    return {(name, other): own[at] for other, own in counts.items() for at, name in enumerate(names)}
+
+
+def covered(east: NDArray[numpy.int64], north: NDArray[numpy.int64], polygon: Corners) -> NDArray[numpy.intp]:
+    """The places of the points that a polygon covers, of points in the order of eastings."""
     eastings, northings = zip(*polygon)
-    is_in = (min(eastings) <= east) & (east <= max(eastings)) & (min(northings) <= north) & (north <= max(northings))
+    first, end = numpy.searchsorted(east, min(eastings)), numpy.searchsorted(east, max(eastings), "right")
+    east, north = east[first:end], north[first:end]
+    is_in = (min(northings) <= north) & (north <= max(northings))
     for (e, n), (next_e, next_n) in zip(polygon, [*polygon[1:], polygon[0]]):
-        is_in &= (next_e - e) * (north - n) >= (next_n - n) * (east - e)
-    return int(is_in.sum())
+        # Those south of an edge of the southern chain, which goes east, or north of one of the northern are not covered.
+        begin, stop = numpy.searchsorted(east, min(e, next_e)), numpy.searchsorted(east, max(e, next_e), "right")
+        own_e, own_n = east[begin:stop], north[begin:stop]
+        is_in[begin:stop] &= (next_e - e) * (own_n - n) >= (next_n - n) * (own_e - e)
+    return first + numpy.flatnonzero(is_in)

@@ -17,7 +17,7 @@ from .bar import progress_of
 from .errors import ReportError, path_of, refuse
 from .groups import Group, check_by, group_tracks, is_period, labels_of
 from .growth import share
-from .outer import count_inside, outer_kept
+from .outer import counts_within, outer_kept
 from .overview import Facts, Row, facts_of, reasons_of, rows_of
 from .program import MOST_ANIMALS, Program, Runs, checksum_of, find_program, program_of
 from .read.fixes import Fixes, clock_of, is_of_fixes, reading_of
@@ -220,8 +220,7 @@ class HomeRanges:
         self.corners(level)
         polygons = self._corners[level]
         tracks = {} if self._tracks is None else self._tracks.by_name
-        return {(name, other): count_inside(track, polygon)
-                for name, track in tracks.items() for other, polygon in polygons.items()}
+        return counts_within(tracks, polygons) if tracks else {}
 
     def _level(self, level: Any) -> int:
         """A level of these ranges."""
