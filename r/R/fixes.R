@@ -59,9 +59,11 @@ comparable <- function(fact) {
   if (inherits(fact, "crs")) text_of_crs(fact) else if (is.list(fact)) fact$checksum else fact
 }
 
-# What is known of fixes that are bound.
+# What is known of fixes that are bound. Those of one reading are what they were.
 bound_facts <- function(facts) {
+  facts <- facts[!duplicated(facts)]
   found <- facts[[1]]
+  if (length(facts) == 1) return(found)
   found$notes <- unlist(lapply(facts, `[[`, "notes"))
   found$record <- NULL  # there is none of all
   found$files <- NULL
@@ -118,9 +120,10 @@ format.homerange_fixes <- function(x, ...) {
   local_numbers()
   facts <- facts_of(x)
   asked <- grepl("[?]$", facts$notes)
-  read <- grep("^(columns: |not read: )", facts$notes, value = TRUE)
+  read <- unique(grep("^(columns: |not read: )", facts$notes, value = TRUE))
   c(paste0(count_of(nrow(x), "fix", "fixes"), " of ", count_of(length(unique(x$animal)), "animal"), span_text(x)),
-    box_text(x), system_text(facts), sub(";.*", "", sub("^columns", "read", read)), left_text(left_since(x)), facts$notes[asked])
+    box_text(x), system_text(facts), unique(sub("; [0-9]+ animals, box .*", "", sub("^columns", "read", read))),
+    left_text(left_since(x)), facts$notes[asked])
 }
 
 # From when to when fixes are.

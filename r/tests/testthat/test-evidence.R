@@ -104,7 +104,9 @@ test_that("fixes that were filtered or bound are split again, and those of a fil
   expect_identical(readLines(file.path(some, "tracks", "old_boar.csv"))[-1],
                    c("old_boar,1714523400,562200,5134000", "old_boar,1714525200,562200,5134200", "old_boar,1714528800,562000,5134200"))
   expect_identical(attr(verified(some), "status"), 3L)
-  both <- rbind(fixes[fixes$animal == "vixen", ], fixes[fixes$animal != "vixen", ])
+  again <- rbind(fixes[fixes$animal == "vixen", ], fixes[fixes$animal != "vixen", ])
+  expect_identical(record_of(local_evidence(quietly(home_range(again, 100)))), whole)
+  both <- rbind(fixes, read_fixes(path, since = "2024-05-01", quiet = TRUE)[7, ])
   expect_identical(record_of(local_evidence(quietly(home_range(both, 100))))[1], "export,fixes.csv")
   moved <- transform_fixes(fixes[fixes$animal != "one", ], "easting", fixes$easting[fixes$animal != "one"] - 3e6)
   expect_identical(grep("^shift,", record_of(local_evidence(quietly(home_range(moved, 100)))), value = TRUE), "shift,3000000,0")
