@@ -81,8 +81,15 @@ overlaps_at_level <- function(ranges, level) {
   names <- ranges$animals$animal
   number <- length(names)
   fixes <- ranges$fixes
-  animal <- match(fixes$animal, names)
-  counts_in <- function(ring) tabulate(animal[is_within(fixes$easting, fixes$northing, ring)], number)
+  order <- order(fixes$easting, method = "radix")
+  easting <- fixes$easting[order]
+  northing <- fixes$northing[order]
+  animal <- match(fixes$animal, names)[order]
+  counts_in <- function(ring) {
+    ends <- findInterval(range(ring[, 1]) - c(0.5, 0), easting)  # between whole numbers
+    rows <- ends[1] + seq_len(ends[2] - ends[1])
+    tabulate(animal[rows][is_within(easting[rows], northing[rows], ring)], number)
+  }
   counts <- vapply(whole_rings(ranges, level), counts_in, numeric(number))
   matrix(counts, number, dimnames = list(names, names))
 }
