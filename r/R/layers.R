@@ -17,14 +17,14 @@ write_layers <- function(ranges, path) {
   Sys.setenv(OGR_CURRENT_DATE = no_date)
   on.exit(if (is.na(before)) Sys.unsetenv("OGR_CURRENT_DATE") else Sys.setenv(OGR_CURRENT_DATE = before))
   if (any(has_area)) write_layer(polygons[has_area, ], path, "ranges")
-  write_layer(layer_of_fixes(ranges), path, "fixes", "SPATIAL_INDEX=NO")
+  write_fixes(ranges, path)
   sf::st_write(qgis_styles(c("ranges"[any(has_area)], "fixes")), path, "layer_styles", quiet = TRUE, append = TRUE,
                layer_options = "FID=id")
 }
 
 # Of shapes without a reference system sf says that they have none: they get an undefined one of metres.
-write_layer <- function(layer, path, name, options = NULL) {
-  suppressMessages(sf::st_write(layer, path, name, quiet = TRUE, append = TRUE, layer_options = options))
+write_layer <- function(layer, path, name) {
+  suppressMessages(sf::st_write(layer, path, name, quiet = TRUE, append = TRUE))
 }
 
 # The polygons of all levels, those of an animal together, with its times and the unit.
@@ -44,12 +44,25 @@ layer_of_polygons <- function(ranges) {
   shapes[order(place), c("animal", whole, "hectares", "first", "last", "unit")]
 }
 
-# The fixes, numbered by the order of time.
-layer_of_fixes <- function(ranges) {
+# Adds the layer of fixes, numbered by the order of time. GDAL makes it of a text: by sf a point takes ten times as long.
+write_fixes <- function(ranges, path) {
+  crs <- crs_or_none(ranges)
+  system <- if (is.na(crs)) "LOCAL_CS[\"Undefined Cartesian SRS\"]" else crs$wkt
+  in_folder(function(folder) {
+    text <- file.path(folder, "fixes.csv")
+    write_frame(columns_of_layer(ranges), NULL, text)
+    writeLines("\"String\",\"Integer\",\"DateTime\",\"CoordX\",\"CoordY\"", file.path(folder, "fixes.csvt"))
+    options <- c("-f", "GPKG", "-nln", "fixes", "-nlt", "POINT", "-lco", "SPATIAL_INDEX=NO", "-a_srs", system, "-oo",
+                 "KEEP_GEOM_COLUMNS=NO", "-gt", "unlimited")
+    sf::gdal_utils("vectortranslate", text, path, c(if (file.exists(path)) "-update", options), quiet = TRUE)
+  })
+}
+
+# The columns of that text.
+columns_of_layer <- function(ranges) {
   metres <- in_metres(ranges, ranges$fixes[c("easting", "northing")])
-  fixes <- data.frame(animal = ranges$fixes$animal, n = sequence(ranges$animals$fixes), time = layer_time(ranges$fixes$moment),
-                      x = metres[, 1], y = metres[, 2])
-  sf::st_as_sf(fixes, coords = c("x", "y"), crs = crs_or_none(ranges))
+  list(animal = as.character(ranges$fixes$animal), n = sequence(ranges$animals$fixes), time = layer_time(ranges$fixes$moment),
+       x = metres[, 1], y = metres[, 2])
 }
 
 # Times of UTC, as tables have them.
