@@ -16,12 +16,21 @@ is_number <- function(value) is.numeric(value) && length(value) == 1 && is.finit
 is_text <- function(value) is.character(value) && length(value) == 1 && !is.na(value)
 is_truth <- function(value) isTRUE(value) || isFALSE(value)
 
+# What is no option, and what to do in its place.
+elsewhere <- c(
+  use = "choose the rows of the table before, as by x[x$use, ]",
+  months = "choose among the fixes, as by fixes[format(fixes$time, \"%m\") %in% c(\"05\", \"06\"), ]",
+  hours = "choose among the fixes, as by fixes[format(fixes$time, \"%H\") < \"06\", ]",
+  mark = "fixes that are not used are left out and counted", to = "until is the last moment"
+)
+
 # The options that are given; NULL is no wish, and so is a zone of times that is empty.
 options_given <- function(options) {
   odd <- setdiff(names(options), options_of_reading)
   if (length(odd) || length(options) > sum(nzchar(names(options)))) {
-    refuse("option", "there is no option ", if (any(nzchar(odd))) odd[nzchar(odd)][1] else "without a name", "; there are ",
-           paste(sort(options_of_reading), collapse = ", "))
+    name <- c(odd[nzchar(odd)], "without a name")[1]
+    known <- paste0("; there are ", paste(sort(options_of_reading), collapse = ", "))
+    refuse("option", "there is no option ", name, if (name %in% names(elsewhere)) paste0(": ", elsewhere[[name]]) else known)
   }
   twice <- names(options)[duplicated(names(options))]
   if (length(twice)) refuse("option", twice[1], " is there twice")

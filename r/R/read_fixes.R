@@ -18,18 +18,27 @@ read_table <- function(x, options, quiet, has_rows = TRUE) {
 
 # The fixes of a file of text.
 read_file <- function(path, given, folder) {
-  if (!is.null(given$crs)) refuse("option", "crs: of files it is not known to the program: read the file as a data frame")
+  places <- places_of_columns(NULL, given, TRUE)
   full <- if (path == "-") "./-" else text_for_program(path.expand(path), "x")  # the program takes - for standard input
   into <- file.path(folder, "tracks")
-  run_split(full, words_of_options(given), into, function(kind, record, text) {
+  run_split(full, c(words_of_options(given), places$words), into, function(kind, record, text) {
     file <- if (kind %in% kinds_of_tables && !startsWith(text, full)) paste0(path, ": ")
     refuse(kind, file, if (!is.null(record)) sprintf("record %.0f: ", record), text, record = record)
   })
+  fixes_of_table(into, if (is.null(given$tz)) "UTC" else given$tz, places$crs, NULL, function(record, fixes) NULL)
+}
+
+# The fixes of the tracks of a table, and what is to be said of them: by the clock of a zone, in a reference system that is known
+# otherwise than by a zone of UTM, and with further columns.
+fixes_of_table <- function(into, tz, crs, lines, further) {
   record <- read_record(file.path(into, "split.txt"))
+  if (!is.null(crs) && !is.null(record$zone)) {
+    refuse("zone", "the coordinates are of the zone ", record$zone, ", and the CRS ", crs$Name, " is none of UTM: give one of the two")
+  }
   fixes <- read_tracks(into, record)
-  tz <- if (is.null(given$tz)) "UTC" else given$tz
-  found <- new_fixes(table_of_fixes(fixes, record, tz, NULL), facts_of_record(record, file.path(into, "split.txt"), tz))
-  list(fixes = found, notes = record$said)
+  table <- table_of_fixes(fixes, record, tz, further(record, fixes))
+  notes <- c(lines, record$said, if (!is.null(crs)) check_scale(table, crs))
+  list(fixes = new_fixes(table, facts_of_record(record, file.path(into, "split.txt"), tz, crs, notes)), notes = notes)
 }
 
 # The fixes of a data frame.
@@ -75,17 +84,13 @@ with_columns_of <- function(x, given) {
 
 # The fixes of a frame, of which the program has made the tracks in a folder.
 fixes_of_frame <- function(x, into, tz, crs, lines, has_rows) {
-  record <- read_record(file.path(into, "split.txt"))
-  if (!is.null(crs) && !is.null(record$zone)) {
-    refuse("zone", "the coordinates are of the zone ", record$zone, ", and the CRS ", crs$Name, " is none of UTM: give one of the two")
-  }
-  fixes <- read_tracks(into, record)
-  rows <- if (has_rows) records_of_fixes(into, record, fixes)
-  table <- table_of_fixes(fixes, record, tz, if (has_rows) rows_of_columns(columns_of(x), rows, nrow(x)))
-  check_names(x, table$animal)
-  notes <- c(lines, record$said, if (!is.null(crs)) check_scale(table, crs))
-  facts <- facts_of_record(record, file.path(into, "split.txt"), tz, crs, notes)
-  list(fixes = new_fixes(table, facts), notes = notes, frame = list(rows = rows, number = nrow(x)))
+  rows <- NULL
+  read <- fixes_of_table(into, tz, crs, lines, function(record, fixes) {
+    if (has_rows) rows <<- records_of_fixes(into, record, fixes)
+    if (has_rows) rows_of_columns(columns_of(x), rows, nrow(x))
+  })
+  check_names(x, read$fixes$animal)
+  c(read, list(frame = list(rows = rows, number = nrow(x))))
 }
 
 check_frame <- function(x, given) {
@@ -182,7 +187,7 @@ table_of_fixes <- function(fixes, record, tz, more) {
 }
 
 # What goes with fixes: of their record and what else is known.
-facts_of_record <- function(record, path, tz, crs = NULL, notes = record$said) {
+facts_of_record <- function(record, path, tz, crs, notes) {
   names <- own_names(record)
   left <- record$left
   left$animal <- ifelse(left$animal == "", "", names[left$animal])

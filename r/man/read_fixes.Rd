@@ -23,8 +23,8 @@ read_fixes(x, ..., quiet = FALSE)
     \code{POSIXct} column, which is said, and else UTC.}
   \item{\code{zone}}{the UTM zone of the coordinates, such as \code{"33N"}; longitude and latitude are projected into it,
     and without it into that of most fixes.}
-  \item{\code{crs}}{the reference system of columns in metres, as \code{sf::st_crs} takes it, such as 3035. Points of sf bring
-    their own.}
+  \item{\code{crs}}{the reference system of columns in metres, of a data frame or a file, as \code{sf::st_crs} takes it, such as
+    3035. Points of sf bring their own.}
   \item{\code{since}, \code{until}}{the first and the last time: a day (a \code{Date}, or text such as \code{"2024-05-31"}), a
     \code{POSIXct}, or text such as \code{"2024-05-31 18:00"}. Both are included; a day of \code{until} to its end.}
   \item{\code{every}}{one fix in each piece of time is used: text such as \code{"2h"} or \code{"30min"}, a \code{difftime}, a

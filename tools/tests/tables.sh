@@ -30,6 +30,6 @@ if python3 -c 'import pandas, pyproj' 2>errors; then
 else
     skip "tables by the Python package: $(tail -n 1 errors)"
 fi
-if is_tables_by_r; then
+if is_tables_by_r && is_split_here 'tables by the package for R'; then
     hold_tables 'the package for R' Rscript "$suite/run_r.R" "$work/tables"
 fi

@@ -245,3 +245,15 @@ test_that("fixes that were changed are refused", {
   expect_identical(moved$shift, c(1e6, 0))
   expect_identical(homerange_corners(moved)[["hare/1"]], cbind(easting = -437990, northing = 5134001))
 })
+
+test_that("a file may be of a reference system that is named", {
+  skip_without_split()
+  skip_if_not_installed("sf")
+  file <- tempfile(fileext = ".csv")
+  on.exit(unlink(file))
+  writeLines(c("animal,second,easting,northing", "a,0,4321000,3210000", "a,60,4321100,3210000"), file)
+  fixes <- quietly(read_fixes(file, crs = 3035))
+  expect_identical(sf::st_crs(sf::st_as_sf(fixes))$epsg, 3035L)
+  expect_match(facts_of(fixes)$record, "^option,crs,EPSG:3035 ", all = FALSE)
+  expect_error(read_fixes(file, crs = 4326), "no plane coordinates", class = "homerange_crs_error")
+})

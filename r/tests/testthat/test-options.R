@@ -95,7 +95,8 @@ test_that("what no option can say is refused", {
   refused("until: one time is wanted", until = as.Date(NA))
   refused("lon: its text cannot be told to the program", lon = "a\xe4")
   refused("lon: its text cannot be told to the program", lon = strrep("a", 70000))
-  refused("crs: of files it is not known", crs = 32633)
+  refused("there is no option use: choose the rows of the table before", use = "ok")
+  refused("there is no option months: choose among the fixes", months = 5)
   expect_error(read_fixes("export.csv", quiet = 1), "quiet: TRUE or FALSE is wanted", class = "homerange_option_error")
 })
 
