@@ -86,12 +86,17 @@ def counts_within(tracks: Mapping[str, pandas.DataFrame], polygons: Mapping[str,
 def covered(east: NDArray[numpy.int64], north: NDArray[numpy.int64], polygon: Corners) -> NDArray[numpy.intp]:
     """The places of the points that a polygon covers, of points in the order of eastings."""
     eastings, northings = zip(*polygon)
-    first, end = numpy.searchsorted(east, min(eastings)), numpy.searchsorted(east, max(eastings), "right")
+    first, end = between(east, min(eastings), max(eastings))
     east, north = east[first:end], north[first:end]
     is_in = (min(northings) <= north) & (north <= max(northings))
     for (e, n), (next_e, next_n) in zip(polygon, [*polygon[1:], polygon[0]]):
         # Those south of an edge of the southern chain, which goes east, or north of one of the northern are not covered.
-        begin, stop = numpy.searchsorted(east, min(e, next_e)), numpy.searchsorted(east, max(e, next_e), "right")
+        begin, stop = between(east, min(e, next_e), max(e, next_e))
         own_e, own_n = east[begin:stop], north[begin:stop]
         is_in[begin:stop] &= (next_e - e) * (own_n - n) >= (next_n - n) * (own_e - e)
-    return first + numpy.flatnonzero(is_in)
+    return numpy.asarray(first + numpy.flatnonzero(is_in), dtype="intp")
+
+
+def between(numbers: NDArray[numpy.int64], least: int, most: int) -> tuple[int, int]:
+    """Where those from the least to the most begin and end, of numbers in their order."""
+    return int(numpy.searchsorted(numbers, least)), int(numpy.searchsorted(numbers, most, "right"))

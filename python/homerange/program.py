@@ -14,11 +14,8 @@ from concurrent.futures import ThreadPoolExecutor
 from pathlib import Path
 from typing import Any, Callable, Mapping, NamedTuple, Sequence, Tuple
 
-import numpy
-from numpy.typing import NDArray
-
 from .errors import FAULTS, UNPRINTABLE, ProgramError, ReportError, one_line, path_of
-from .report import Report, lines_of, overlaps_of, parse
+from .report import Corners, Report, lines_of, overlaps_of, parse
 
 MOST_ANIMALS = 64  # of one run
 GROUP = 32  # animals of a group, where there are more
@@ -26,6 +23,7 @@ PIECE = 2 ** 20  # bytes of a file that are read together
 ROWS = 1_000  # of a track that are written together
 PACKAGE = Path(__file__).resolve().parent
 Progress = Callable[[int, int], object]  # is called with how many of how many runs are done
+Box = Tuple[int, int, int, int]
 Step = Tuple[Sequence[str], ...]  # a run: the animals of a group, or of a pair of groups
 OWN = PACKAGE / "release" / "homerange"  # what a wheel has
 SPLIT = "homerange-split"  # what lies beside the program
@@ -193,16 +191,24 @@ class Runs:
             _write_tracks(folder, self.tracks)
             try:
                 self.run(report, [step for step in self.steps if len(step) == 1], folder, pool, progress)
-                pairs = [step for step in self.steps if len(step) == 2]
-                report.overlaps.update((pair, 0) for step in pairs for pair in itertools.product(*step))
-                report.overlaps.update((pair, 0) for step in pairs for pair in itertools.product(*reversed(step)))
-                self.run(report, [*filter(None, (meeting(report, *step) for step in pairs))], folder, pool, progress)
+                self.run(report, self.pairs(report), folder, pool, progress)
             except BaseException:
                 pool.shutdown(cancel_futures=True)
                 raise
         if progress is not None:
             progress(len(self.steps), len(self.steps))
         return report
+
+    def pairs(self, report: Report) -> list[Step]:
+        """The runs of pairs of groups. Of all others the report gets that they have no fix in each other's polygons."""
+        boxes, found = {name: box_of(table.corners) for name, table in report.tables.items()}, list[Step]()
+        for one, other in (step for step in self.steps if len(step) == 2):
+            report.overlaps.update(dict.fromkeys(((a, b) for a in one for b in other), 0))
+            report.overlaps.update(dict.fromkeys(((b, a) for a in one for b in other), 0))
+            met = [(a, b) for a in one for b in other if meets(boxes[a], boxes[b])]
+            if met:
+                found.append(tuple([*dict.fromkeys(side)] for side in zip(*met)))
+        return found
 
     def run(self, report: Report, steps: Sequence[Step], folder: str, pool: ThreadPoolExecutor, progress: Progress | None) -> None:
         """Makes runs, and takes into the report what they gave."""
@@ -214,16 +220,12 @@ class Runs:
                 progress(done, len(self.steps))
 
 
-def boxes_of(report: Report, names: Sequence[str]) -> NDArray[numpy.int64]:
-    """The boxes of animals: the least and the greatest easting, then those of northings."""
-    corners = (numpy.array(report.tables[name].corners, dtype="int64") for name in names)
-    return numpy.array([[*one.min(axis=0), *one.max(axis=0)] for one in corners])[:, [0, 2, 1, 3]]
+def box_of(corners: Corners) -> Box:
+    """The least and the greatest easting, and those of northings."""
+    eastings, northings = zip(*corners)
+    return min(eastings), max(eastings), min(northings), max(northings)
 
 
-def meeting(report: Report, one: Sequence[str], other: Sequence[str]) -> Step | None:
-    """The animals of two groups whose boxes meet that of one in the other group; None where there are none."""
-    a, b = boxes_of(report, one)[:, None], boxes_of(report, other)
-    meets = (a[..., 0] <= b[:, 1]) & (b[:, 0] <= a[..., 1]) & (a[..., 2] <= b[:, 3]) & (b[:, 2] <= a[..., 3])
-    if not meets.any():
-        return None
-    return [*itertools.compress(one, meets.any(axis=1))], [*itertools.compress(other, meets.any(axis=0))]
+def meets(one: Box, other: Box) -> bool:
+    """Whether two boxes have a place in common."""
+    return one[0] <= other[1] and other[0] <= one[1] and one[2] <= other[3] and other[2] <= one[3]
