@@ -12,7 +12,7 @@ import pandas
 from .errors import UNPRINTABLE, refuse
 from .read.cells import cells_of
 from .read.fixes import Fixes
-from .read.reading import ReadTable, row_named
+from .read.reading import ODD, ReadTable, row_named
 from .tracks import Tracks
 
 # Seasons are named by their months, since those of north and south have other names.
@@ -98,13 +98,25 @@ def aligned(series: pandas.Series, frame: pandas.DataFrame) -> pandas.Series:
 def given(values: pandas.Series, labels: pandas.Index) -> list[str]:
     """The groups that values say, each of which has to be there."""
     cells = cells_of(values)
+    refuse_classes(values, cells, labels)
     has_parts = pandas.api.types.is_float_dtype(values.dtype)
     odd = next((at for at, cell in enumerate(cells)
                 if not cell or UNPRINTABLE.search(cell) or has_parts and not cell.lstrip("-").isdecimal()), None)
     if odd is not None:
-        what = f"a group that is {cells[odd]!r}, {'a number that is not whole' if has_parts else 'with a control character'}"
-        refuse(f"{row_named(labels, odd)}: by has {what if cells[odd] else 'no group'}; {REMEDY}", "option", odd + 1)
+        what = "a number that is not whole" if has_parts else "with a control character"
+        text = f"a group that is {cells[odd]!r}, {what}: make it text" if cells[odd] else f"no group; {REMEDY}"
+        refuse(f"{row_named(labels, odd)}: by has {text}", "option", odd + 1)
     return cells
+
+
+def refuse_classes(values: pandas.Series, cells: Sequence[str], labels: pandas.Index) -> None:
+    """Refuses groups of a class that has no text, such as intervals, all of which would be one."""
+    odd = {cell for cell in {*cells} if ODD.fullmatch(cell)}
+    at = next((at for at, cell in enumerate(cells) if cell in odd and not isinstance(values.iloc[at], str)), None) if odd else None
+    if at is not None:
+        kind = type(values.iloc[at]).__name__
+        refuse(f"{row_named(labels, at)}: by has a group of the class {kind}, which is no text: make it one, as by .astype(str)",
+               "option", at + 1)
 
 
 def periods(fixes: Fixes, by: str) -> list[str]:

@@ -29,6 +29,7 @@ from .results import BOUNDARY, words_beside, write_results
 from .tracks import Tracks, track_text
 from .units import UNITS, zone_of_time
 
+CHOSEN = "the fixes are not as they were read: what was left out before is neither in the folder nor on its page"
 FORMULAS = tuple("=+-@\t\r'")  # how texts begin that a spreadsheet may compute, or of which it hides the first sign
 PLACES = dict.fromkeys(("days", "median_hours", "longest_hours", "last_tenth", "last_quarter"), 4)
 
@@ -172,6 +173,8 @@ def write_folder(ranges: HomeRanges, into: str | os.PathLike[str], page: Mapping
 
     def fill(folder: Path) -> None:
         names = put_tracks(ranges, tracks, folder)
+        if not ranges.files and (folder / TRACKS / "split.txt").read_bytes() != tracks.record:
+            said.append(CHOSEN)
         if rings is not None:
             write_rings(rings, folder / BOUNDARY)
         report = make_report(folder, wish, words_beside(record_in(folder / TRACKS), ranges, words), keeps_rows=True)

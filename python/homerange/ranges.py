@@ -323,7 +323,7 @@ def whole_number(value: Any) -> int | None:
 
 def whole_numbers(values: Any, least: int, most: int, what: str) -> list[int]:
     """One whole number, or several, within bounds; all else is refused."""
-    several = isinstance(values, Iterable) and not isinstance(values, str)
+    several = isinstance(values, Iterable) and not isinstance(values, str) and getattr(values, "ndim", 1) > 0
     given = list(values) if several else [values]
     found = [number for number in map(whole_number, given) if number is not None and least <= number <= most]
     if not given or len(found) < len(given):

@@ -16,8 +16,9 @@ import numpy
 import pandas
 from numpy.typing import NDArray
 
-from .errors import FrameError, ReportError, refuse
+from .errors import FrameError, ReportError, one_line, refuse
 from .outer import outer_fixes
+from .read.cells import cells_of
 from .read.fixes import PLACES, Fixes, reading_of
 from .report import Report, polygon_of
 from .units import UNITS, Unit
@@ -27,6 +28,8 @@ ROWS = 1_000  # of a file that are read or written together
 SLACK = 1e-6  # of a unit by which a coordinate may miss a whole one
 STEP = 1_000_000  # metres by which a local grid is shifted
 HEAD = b"animal,second,easting,northing\n"
+MARKS = ("use", "visible")  # beside the first the second is not looked at
+FALSE = {"false", "False", "FALSE", "0"}
 
 
 @dataclass
@@ -51,6 +54,7 @@ def tracks_of_fixes(fixes: Fixes) -> Tracks:
     codes, names = pandas.factorize(fixes["animal"])
     if (codes < 0).any() or not all(isinstance(name, str) for name in names):
         refuse_changed("animal")
+    refuse_marks(fixes)
     second = seconds_of(fixes)
     east, north, shift = whole_units(fixes, UNITS[reading.unit], reading.shift)
     order = numpy.lexsort((second, codes))
@@ -64,8 +68,26 @@ def tracks_of_fixes(fixes: Fixes) -> Tracks:
     left_out = Counter[str]()
     for (name, _), count in reasons.items():
         left_out[name] += count
-    return Tracks(by_name, {name: left_out[name] for name in by_name}, shift, [*reading.notes], reasons, places,
+    notes = [*reading.notes, *(repeats(name, track) for name, track in by_name.items() if len(track) > reading.counts.get(name, 0))]
+    return Tracks(by_name, {name: left_out[name] for name in by_name}, shift, [*filter(None, notes)], reasons, places,
                   dict(reading.names), reading.record)
+
+
+def refuse_marks(fixes: Fixes) -> None:
+    """Refuses fixes with a mark that was set since they were read, by which some are not to be used."""
+    title = next((title for title in MARKS if [*fixes.columns].count(title) == 1), None)
+    gone = 0 if title is None else sum(cell in FALSE for cell in cells_of(fixes[title]))
+    if gone:
+        refuse(f"the column {title} is false for {gone} of the fixes, which were read without them: choose fixes by it, as by "
+               f"fixes[fixes[{title!r}] == True], or drop it", "mark")
+
+
+def repeats(name: str, track: pandas.DataFrame) -> str | None:
+    """What is said of an animal that has more fixes than were read of it, such as those that were bound to themselves."""
+    same = (track["second"].diff() == 0).to_numpy()
+    places = int((same & (track["easting"].diff() == 0).to_numpy() & (track["northing"].diff() == 0).to_numpy()).sum())
+    kept = f", and {places} its place: kept" if places else ": kept"
+    return f"{int(same.sum())} records of {one_line(name)} have the second of the one before{kept}" if same.any() else None
 
 
 def refuse_changed(what: str) -> NoReturn:
@@ -75,8 +97,10 @@ def refuse_changed(what: str) -> NoReturn:
 def seconds_of(fixes: Fixes) -> NDArray[numpy.int64]:
     """The whole seconds of fixes."""
     if "time" not in fixes:
-        values = fixes["second"].to_numpy()
-        return numpy.asarray(values, dtype="int64") if values.dtype.kind == "i" else refuse_changed("second")
+        values = numbers_of(fixes["second"])
+        if not (values == numpy.floor(values)).all():
+            refuse_changed("second")
+        return numpy.asarray(values, dtype="int64")
     if not isinstance(fixes["time"].dtype, pandas.DatetimeTZDtype):
         refuse_changed("time")
     times = fixes["time"].dt.tz_convert("UTC").dt.tz_localize(None).to_numpy()
@@ -86,13 +110,17 @@ def seconds_of(fixes: Fixes) -> NDArray[numpy.int64]:
     return numpy.asarray(whole.astype("int64"))
 
 
+def numbers_of(column: pandas.Series) -> NDArray[numpy.float64]:
+    """The numbers of a column, of whatever class; NaN where there is none."""
+    own = column.to_numpy(dtype=object) if isinstance(column.dtype, pandas.CategoricalDtype) else column
+    return numpy.asarray(pandas.to_numeric(pandas.Series(own), errors="coerce").to_numpy(dtype="float64", na_value=numpy.nan))
+
+
 def whole_units(fixes: Fixes, unit: Unit, shift: tuple[int, int]) -> tuple[Whole, Whole, tuple[int, int]]:
     """The eastings and northings of fixes in whole units, as they were read, with a shift by which they are on the grid."""
-    sides = [fixes[title].to_numpy() for title in PLACES]
+    sides = [numbers_of(fixes[title]) for title in PLACES]
     for title, side in zip(PLACES, sides):
-        if side.dtype.kind not in "fi":
-            refuse_changed(title)
-        units = unit.per_metre * side.astype("float64")
+        units = unit.per_metre * side
         if not (numpy.abs(units - numpy.rint(units)) < SLACK).all():
             refuse_changed(title)
     own = [side_shift(title, side, unit, added) for title, side, added in zip(PLACES, sides, shift)]

@@ -30,13 +30,13 @@ LJUBLJANA = ZoneInfo("Europe/Ljubljana")
     ("object", [Decimal("NaN"), Decimal("sNaN"), Decimal("-Infinity"), Decimal("1E+20")], ["", "", "-inf", "100000000000000000000"]),
     ("object", [10 ** 30, 10 ** 5000, pandas.NA, pandas.NaT], ["1" + "0" * 30, "<int>", "", ""]),
     ("object", [[1], {}, b"a", 2j, Fraction(1, 2), clock.timedelta(1)], ["<list>", "<dict>", "<bytes>", "<complex>", "<Fraction>", "<timedelta>"]),
-    ("complex128", [2j], ["<complex128>"]), ("timedelta64[ns]", [10, None], ["<timedelta64>", ""]),
+    ("complex128", [2j], ["<complex128>"]), ("timedelta64[ns]", [37_800_500_000_000, 86_400_000_000_000, None], ["10:30:00.500000", "<timedelta64>", ""]),
     ("object", [clock.date(2024, 5, 1), clock.time(10, 30), clock.datetime(2024, 5, 1, 10)], ["2024-05-01", "10:30:00", "2024-05-01 10:00:00"]),
     ("object", [clock.datetime(2024, 5, 1, 10, tzinfo=LJUBLJANA), clock.datetime(1, 1, 1, tzinfo=clock.timezone(clock.timedelta(hours=2)))],
      ["2024-05-01T08:00:00Z", "0001-01-01T00:00:00+02:00"]),
     ("object", [pandas.Timestamp("2024-05-01 10:00:00.000000001", tz="Asia/Tokyo"), numpy.datetime64("2567-05-01T10")],
      ["2024-05-01T01:00:00.000000001Z", "2567-05-01 10:00:00"]),
-    ("object", [pandas.Period("2024-05"), pandas.Timedelta("1h"), numpy.timedelta64("NaT")], ["2024-05-01 00:00:00", "<Timedelta>", ""]),
+    ("object", [pandas.Period("2024-05"), pandas.Timedelta("25h"), numpy.timedelta64("NaT")], ["2024-05-01 00:00:00", "<Timedelta>", ""]),
 ])
 def test_cells(kind, values, wanted):
     series = pandas.Series(values, dtype=kind)

@@ -222,3 +222,15 @@ def test_short_work_has_none(monkeypatch):
     assert stream.getvalue() == ""
     with pytest.warns(HomeRangeNote):
         home_range(frame_of(a=cloud(1, 20)).iloc[::-1])
+
+
+@pytest.mark.parametrize("values, kind", [
+    (lambda frame: pandas.cut(frame["timestamp"].dt.month, [0, 6, 12]), "Interval"), (lambda frame: [("a", 1)] * len(frame), "tuple"),
+    (lambda frame: [b"a"] * len(frame), "bytes"), (lambda frame: [frozenset("a")] * len(frame), "frozenset")])
+def test_groups_without_a_text_are_refused(frame, values, kind):
+    with pytest.raises(FrameError, match=f"row .*: by has a group of the class {kind}_?, which is no text: make it one, as by .astype"):
+        home_range(frame, by=values(frame))
+
+
+def test_a_group_that_looks_like_a_class_is_a_text(frame):
+    assert home_range(frame, 100, by=["<tuple>"] * len(frame)).summary()["group"].tolist() == ["<tuple>"] * 2

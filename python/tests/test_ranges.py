@@ -1,6 +1,8 @@
 """The numbers of home_range, compared with hulls, percent rules and overlaps that are computed here or by shapely."""
 import sys
 
+import numpy
+import pandas
 import pytest
 from exact import area2, cloud, covers, hull, nearest
 from frames import frame_of
@@ -201,3 +203,37 @@ def test_one_level_may_be_given_alone():
     found = home_range(frame_of(a=SQUARE), 50)
     assert found.levels == [50]
     assert found.corners(100) == {"a": SQUARE}
+
+
+def repeated(fixes):
+    """The fixes once more, each beside itself."""
+    return fixes.merge(pandas.DataFrame({"animal": ["a", "a", "b"], "collar": [1, 2, 3]}), on="animal")
+
+
+def test_fixes_that_became_more_are_said():
+    fixes = read_fixes(frame_of(a=SQUARE, b=SQUARE))
+    with pytest.warns(HomeRangeNote, match="^4 records of a have the second of the one before, and 4 its place: kept$") as said:
+        home_range(repeated(fixes))
+    assert len(said) == 1
+    with pytest.warns(HomeRangeNote, match="^4 records of b have the second of the one before, and 4 its place: kept$"):
+        home_range(pandas.concat([fixes, fixes]))
+
+
+@pytest.mark.parametrize("title, marks", [("use", [1, 1, 0, 1]), ("visible", [True, True, True, False]), ("use", ["true", "false"] * 2)])
+def test_marks_that_were_set_on_fixes_are_refused(title, marks):
+    fixes = read_fixes(frame_of(a=SQUARE))
+    fixes[title] = marks
+    with pytest.raises(FrameError, match=f"the column {title} is false for [12] of the fixes, which were read without them: choose"):
+        home_range(fixes)
+    assert home_range(fixes.assign(**{title: True}), 100).hectares("a") == 4
+    assert home_range(fixes.assign(use=1, visible=False), 100).hectares("a") == 4  # beside use it is not looked at
+
+
+def test_classes_of_fixes_may_change():
+    fixes = read_fixes(frame_of(a=SQUARE))
+    for other in (fixes.convert_dtypes(), fixes.astype({"easting": object}), fixes.astype({"northing": "Int64"})):
+        assert home_range(other, 100).hectares("a") == 4
+
+
+def test_a_level_of_numpy_is_a_number():
+    assert home_range(frame_of(a=SQUARE), numpy.array(50)).levels == [50]

@@ -20,6 +20,7 @@ MOST_BITS = 13_000  # of a whole number, which Python writes with up to 4,300 di
 PARTS = {"s": 1, "ms": 10 ** 3, "us": 10 ** 6, "ns": 10 ** 9}  # of a second
 IANA = re.compile("[A-Za-z]+(/[A-Za-z0-9_+-]+)*")  # how a time zone is named
 TRUTHS = {True: "true", False: "false"}
+DAY = 86_400 * 10 ** 9  # nanoseconds
 
 
 def cells_of(series: pandas.Series) -> Cells:
@@ -191,6 +192,17 @@ def decimal_cell(value: Decimal) -> str:
     return text.rstrip("0").removesuffix(".") if "." in text else text
 
 
+def length_cell(value: Any) -> str:
+    """A length of time below a day as a clock, as databases give clocks; a longer one is none."""
+    try:
+        own = pandas.Timedelta(value)
+    except (OverflowError, ValueError):
+        return odd_cell(value)
+    if not 0 <= own.value < DAY:
+        return odd_cell(value)
+    return str((pandas.Timestamp(0) + own).time().isoformat())
+
+
 def moment_cell(value: clock.datetime) -> str:
     """A date-time: in UTC where it has a zone."""
     if value.utcoffset() is None:
@@ -203,7 +215,7 @@ def moment_cell(value: clock.datetime) -> str:
 
 # How values of some classes are written; a class that is a kind of another stands before it.
 CLASSES: tuple[tuple[Any, Callable[[Any], str]], ...] = (
-    (str, str), (numpy.timedelta64, odd_cell), ((bool, numpy.bool_), lambda value: TRUTHS[bool(value)]),
+    (str, str), ((numpy.timedelta64, clock.timedelta), length_cell), ((bool, numpy.bool_), lambda value: TRUTHS[bool(value)]),
     ((int, numpy.integer), whole_cell), ((float, numpy.floating), float_cell), (Decimal, decimal_cell), (clock.datetime, moment_cell),
     (clock.date, lambda value: str(value.isoformat())), (clock.time, lambda value: str(value.isoformat())),
     (pandas.Period, lambda value: moment_cell(value.to_timestamp())))

@@ -206,6 +206,8 @@ def write_text(text: Text, path: Path) -> None:
 def encoded(columns: Sequence[Cells], text: Text, first: int | None) -> bytes:
     """Lines of cells, of the rows from a first one on, or of the titles."""
     lines = "\n".join(map(",".join, zip(*columns)))
+    if "\0" in lines:
+        refuse_text(columns, text, first)
     try:
         return f"{lines}\n".encode()
     except UnicodeEncodeError:
@@ -216,7 +218,7 @@ def refuse_text(columns: Sequence[Cells], text: Text, first: int | None) -> NoRe
     """Refuses the first cell that is no text."""
     for row, cells in enumerate(zip(*columns)):
         for column, cell in zip(text.columns, cells):
-            if any("\ud800" <= sign <= "\udfff" for sign in cell):
+            if any("\ud800" <= sign <= "\udfff" or sign == "\0" for sign in cell):
                 place = f"the title {cell!r}" if first is None else f"{column.title} is {cell!r}, which"
                 refuse(f"{place} is no text in UTF-8: mend it", "text", None if first is None else first + row + 1)
     raise AssertionError("all cells are text")
