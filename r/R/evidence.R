@@ -116,6 +116,7 @@ put_frame <- function(x, folder) {
     if (is_of_record(tracks)) return(names)
   }
   unlink(tracks, recursive = TRUE)
+  tell_note("the fixes are not as they were read: what was left out before is neither in the folder nor on its page", "left_out")
   split_again(x, tracks)
 }
 

@@ -10,6 +10,8 @@ home_range <- function(x, levels = c(50, 95, 100), by = NULL, ..., progress = in
   program <- homerange_program()  # refuses now, and not after all has been read, where there is none
   read <- fixes_to_take(x, list(...), quiet, has_rows = !is.null(by))
   whole <- whole_fixes(read$fixes)
+  repeated <- repeats_of(read$fixes, whole$fixes)
+  if (!quiet) for (line in repeated) tell_note(line, "same")
   if (!is.null(by)) {
     whole <- grouped_fixes(whole, labels_of(read$fixes, by, read$frame))
     note <- paste0("ranges are by group: ", nrow(whole$groups), " of ", count_of(length(unique(whole$groups$of)), "animal"))
@@ -20,7 +22,7 @@ home_range <- function(x, levels = c(50, 95, 100), by = NULL, ..., progress = in
     run_all(program, write_tracks(whole$fixes, folder), unique(whole$fixes$animal), words, isTRUE(progress))
   })
   if (!identical(report$rows$second, whole$fixes$moment)) refuse("check", "the report has not the times of the fixes")
-  ranges <- ranges_of_fixes(report, whole, read$fixes, if (!is.null(by)) note)
+  ranges <- ranges_of_fixes(report, whole, read$fixes, c(repeated, if (!is.null(by)) note))
   ranges$program <- identity_of(program)
   ranges$call <- own_call(match.call())
   ranges

@@ -33,6 +33,33 @@ check_fixes_read <- function(fixes) {
   if (is.null(facts_of(fixes))) refuse("option", read_anew)
   animal <- as.character(fixes$animal)
   if (anyNA(animal) || any(animal == "")) refuse("animal", "there is a fix without an animal: ", read_anew)
+  check_marks(fixes)
+}
+
+# Refuses fixes with a mark that was set since they were read, by which some are not to be used. Beside use visible is not looked
+# at.
+check_marks <- function(fixes) {
+  title <- intersect(c("use", "visible"), names(fixes))
+  if (!length(title)) return(invisible())
+  gone <- sum(cells_of_column(fixes[[title[1]]], title[1]) %in% c("false", "False", "FALSE", "0"))
+  if (gone) {
+    refuse("mark", "the column ", title[1], " is false for ", gone, " of the fixes, which were read without them: choose fixes by it, ",
+           "as by fixes[fixes$", title[1], " == TRUE, ], or drop it")
+  }
+}
+
+# What is said of animals that have more fixes than were read of them, such as those that were bound to themselves.
+repeats_of <- function(fixes, whole) {
+  read <- facts_of(fixes)$fixes
+  rows <- split(seq_along(whole$animal), factor(whole$animal, unique(whole$animal)))
+  rows <- rows[lengths(rows) > ifelse(names(rows) %in% names(read), read[names(rows)], 0)]
+  lines <- vapply(names(rows), function(name) {
+    own <- lapply(whole[c("moment", "easting", "northing")], function(column) diff(column[rows[[name]]]) == 0)
+    places <- sum(own$moment & own$easting & own$northing)
+    kept <- if (places) paste0(", and ", places, " its place: kept") else ": kept"
+    if (any(own$moment)) paste0(sum(own$moment), " records of ", name, " have the second of the one before", kept) else ""
+  }, "")
+  unname(lines[lines != ""])
 }
 
 read_anew <- "fixes were changed: read them anew by read_fixes"

@@ -257,3 +257,29 @@ test_that("a file may be of a reference system that is named", {
   expect_match(facts_of(fixes)$record, "^option,crs,EPSG:3035 ", all = FALSE)
   expect_error(read_fixes(file, crs = 4326), "no plane coordinates", class = "homerange_crs_error")
 })
+
+square <- function(animal) data.frame(animal = animal, second = 60 * 0:3, easting = c(0, 200, 200, 0), northing = c(0, 0, 200, 200))
+
+test_that("fixes that became more are said", {
+  skip_without_program()
+  skip_without_split()
+  fixes <- quietly(read_fixes(rbind(square("a"), square("b"))))
+  twice <- fixes[c(1:4, 1:4, 5:8), ]
+  expect_message(home_range(twice, 100), "^homerange: 4 records of a have the second of the one before, and 4 its place: kept",
+                 class = "homerange_same_note")
+  expect_silent(home_range(fixes, 100))
+})
+
+test_that("marks that were set on fixes are refused", {
+  skip_without_program()
+  skip_without_split()
+  fixes <- quietly(read_fixes(square("a")))
+  for (mark in list(list(use = c(1, 1, 0, 1)), list(visible = c(TRUE, TRUE, TRUE, FALSE)), list(use = rep(c("true", "false"), 2)))) {
+    marked <- fixes
+    marked[[names(mark)]] <- mark[[1]]
+    expect_error(home_range(marked), "is false for [12] of the fixes, which were read without them", class = "homerange_mark_error")
+  }
+  fixes$use <- 1
+  fixes$visible <- FALSE  # which is not looked at beside use
+  expect_identical(summary(home_range(fixes, 100))$hectares, 4)
+})
