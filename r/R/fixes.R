@@ -108,6 +108,10 @@ column_of_time <- function(fixes) if ("time" %in% names(fixes)) "time" else "sec
 
 # What was taken, and then the first rows.
 print.homerange_fixes <- function(x, ...) {
+  if (!has_columns(x)) {
+    print(as.data.frame.homerange_fixes(x), ...)
+    return(invisible(x))
+  }
   writeLines(format(x))
   print(utils::head(as.data.frame.homerange_fixes(x), rows_printed), ...)
   more <- nrow(x) - rows_printed

@@ -65,7 +65,14 @@ text_of_groups <- function(by) {
     number <- cells_of_numbers(by[odd])
     refuse("option", "row ", odd, ": by has a group that is ", number, ", a number that is not whole", record = odd)
   }
-  if (is.character(by) || is.factor(by)) in_utf8(as.character(by)) else cells_of_column(by, "by")
+  if (is.character(by) || is.factor(by)) return(in_utf8(as.character(by)))
+  cells <- cells_of_column(by, "by")
+  odd <- which(grepl("^<[^<>]+>$", cells))[1]
+  if (!is.na(odd)) {
+    refuse("option", "row ", odd, ": by has a group of the class ", class(by)[1], ", which is no text: make it one, as by as.character",
+           record = odd)
+  }
+  cells
 }
 
 # Refuses a fix of no group, by its row.

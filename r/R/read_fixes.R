@@ -130,7 +130,7 @@ check_names <- function(x, animals) {
   odd <- grep("^<.*>$", unique(animals), value = TRUE)[1]
   if (is.na(odd)) return(invisible())
   same <- Filter(function(column) odd %in% cells_of_column(column, "x"), columns_of(x))
-  is_text <- vapply(same, function(column) is.character(column) || is.factor(column), NA)
+  is_text <- vapply(same, function(column) (is.character(column) || is.factor(column)) && is.null(dim(column)), NA)
   if (!length(same) || any(is_text)) return(invisible())
   row <- match(odd, cells_of_column(same[[1]], "x"))
   refuse_row(x, "name", row, paste0(readable(names(same))[1], " is ", odd, ", which is no name"))
@@ -158,7 +158,10 @@ clock_of_frame <- function(x, given) {
   if (!is.null(given$tz)) return(NULL)
   is_time <- vapply(as.list(x), inherits, NA, "POSIXt")
   zones <- vapply(as.list(x)[is_time], zone_of_times, "")
-  if (length(unique(zones)) != 1 || zones[[1]] == "UTC") return(NULL)
+  if (length(unique(zones)) > 1) {
+    return(list(line = paste0("days and hours are those of UTC, since times are of ", paste(sort(unique(zones)), collapse = ", "))))
+  }
+  if (!length(zones) || zones[[1]] == "UTC") return(NULL)
   column <- readable(names(x)[is_time][1])
   if (!zones[[1]] %in% OlsonNames()) {
     return(list(line = paste0("days and hours are those of UTC, since the zone ", zones[[1]], " of ", column, " has no name")))

@@ -14,9 +14,9 @@ nearly_whole <- 1e-6
 whole_fixes <- function(fixes) {
   check_fixes_read(fixes)
   unit <- units_known[[facts_of(fixes)$unit]]
-  second <- whole_numbers(as.numeric(fixes[[column_of_time(fixes)]]), "time")
-  easting <- whole_numbers(unit$scale * fixes$easting, "easting")
-  northing <- whole_numbers(unit$scale * fixes$northing, "northing")
+  second <- whole_numbers(seconds_of_fixes(fixes), "time")
+  easting <- whole_numbers(unit$scale * plain_numbers(fixes, "easting"), "easting")
+  northing <- whole_numbers(unit$scale * plain_numbers(fixes, "northing"), "northing")
   shift <- c(shift_of(easting, unit), shift_of(northing, unit))
   animal <- as.character(fixes$animal)
   rows <- order(match(animal, unique(animal)), second, method = "radix")
@@ -33,6 +33,11 @@ check_fixes_read <- function(fixes) {
   if (is.null(facts_of(fixes))) refuse("option", read_anew)
   animal <- as.character(fixes$animal)
   if (anyNA(animal) || any(animal == "")) refuse("animal", "there is a fix without an animal: ", read_anew)
+  read <- facts_of(fixes)$fixes
+  others <- setdiff(animal, names(read))
+  if (length(others) && nrow(fixes) > sum(read)) {
+    refuse("option", "'", others[1], "' is none of the animals that were read, and there are more fixes than were read: bind fixes by rbind")
+  }
   check_marks(fixes)
 }
 
@@ -60,6 +65,22 @@ repeats_of <- function(fixes, whole) {
     if (any(own$moment)) paste0(sum(own$moment), " records of ", name, " have the second of the one before", kept) else ""
   }, "")
   unname(lines[lines != ""])
+}
+
+# The seconds of fixes: of times since 1970, of a column second its numbers.
+seconds_of_fixes <- function(fixes) {
+  if (column_of_time(fixes) == "second") return(plain_numbers(fixes, "second"))
+  if (!inherits(fixes$time, "POSIXct")) refuse("time", "time is ", what_it_is(fixes$time), " and no POSIXct: ", read_anew)
+  as.numeric(fixes$time)
+}
+
+# A column of numbers without a class of their own.
+plain_numbers <- function(fixes, title) {
+  column <- fixes[[title]]
+  if (!is.numeric(column) || is.object(column) || !is.null(dim(column))) {
+    refuse("number", title, " is ", what_it_is(column), " and no column of numbers: ", read_anew)
+  }
+  column
 }
 
 read_anew <- "fixes were changed: read them anew by read_fixes"

@@ -183,7 +183,8 @@ def zone_of_times(columns: Sequence[Column], options: Mapping[str, Any]) -> tupl
     others = [column.title for column in columns if column.title not in times and not is_number(column.values)
               and (column.title in named or not named and plain(column.title) in TIMES)]
     if len(zones) > 1 or None in found or others or options.get("from_") is not None:
-        return None, [f"days and hours are those of UTC, since times are of {', '.join(zones)} and of other clocks"]
+        more = " and of other clocks" if None in found or others else ""
+        return None, [f"days and hours are those of UTC, since times are of {', '.join(zones)}{more}"]
     if not IANA.fullmatch(zones[0]):
         return None, [f"days and hours are those of UTC, since the zone {zones[0]} of {[*times][0]} has no name"]
     return zones[0], [f"days and hours are those of {zones[0]}, the zone of {[*times][0]}"]

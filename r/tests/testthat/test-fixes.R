@@ -283,3 +283,53 @@ test_that("marks that were set on fixes are refused", {
   fixes$visible <- FALSE  # which is not looked at beside use
   expect_identical(summary(home_range(fixes, 100))$hectares, 4)
 })
+
+test_that("fixes whose columns have other classes are refused", {
+  skip_without_program()
+  skip_without_split()
+  start <- as.POSIXct("2024-03-30 20:00", tz = "UTC")
+  table <- data.frame(animal = "a", time = start + 3600 * 0:3, easting = c(0, 200, 200, 0), northing = c(0, 0, 200, 200))
+  fixes <- quietly(read_fixes(table))
+  changed <- function(title, column) {
+    fixes[[title]] <- column
+    home_range(fixes)
+  }
+  for (column in list(as.Date(table$time), factor(format(table$time)), format(table$time), table$time - start)) {
+    expect_error(changed("time", column), "time is .* and no POSIXct: fixes were changed", class = "homerange_time_error")
+  }
+  for (column in list(as.character(table$easting), factor(table$easting), as.list(table$easting), as.Date(table$easting, start))) {
+    expect_error(changed("easting", column), "easting is .* and no column of numbers", class = "homerange_number_error")
+  }
+  expect_output(print(fixes["animal"]), "animal")
+})
+
+test_that("animals that were not read are bound by rbind alone", {
+  skip_without_program()
+  skip_without_split()
+  fixes <- quietly(read_fixes(square("a")))
+  more <- structure(rbind(as.data.frame(fixes), square("b")[c("animal", "second", "easting", "northing")]), class = class(fixes),
+                    homerange = facts_of(fixes))
+  expect_error(home_range(more), "'b' is none of the animals that were read", class = "homerange_option_error")
+  renamed <- fixes
+  renamed$animal <- "c"
+  expect_identical(names(home_range(renamed, 100)), "c")
+})
+
+test_that("a matrix is no name of an animal, and no group", {
+  skip_without_program()
+  skip_without_split()
+  table <- rbind(square("a"), square("b"))
+  table$animal <- cbind(table$animal, "gps")
+  expect_error(quietly(read_fixes(table)), "animal is <matrix>, which is no name", class = "homerange_name_error")
+  fixes <- quietly(read_fixes(square("a")))
+  for (by in list(as.difftime(1:4, units = "days"), complex(4), as.raw(1:4))) {
+    expect_error(home_range(fixes, by = by), "by has a group of the class .*, which is no text", class = "homerange_option_error")
+  }
+})
+
+test_that("several zones of times are said", {
+  skip_without_split()
+  start <- as.POSIXct("2024-03-30 20:00", tz = "Europe/Paris")
+  table <- data.frame(animal = "a", time = start + 3600 * 0:3, easting = 1:4, northing = 1:4, created = as.POSIXct("2024-05-01", tz = "UTC"))
+  expect_message(read_fixes(table), "days and hours are those of UTC, since times are of Europe/Paris, UTC")
+})
