@@ -111,9 +111,12 @@ def seconds_of(fixes: Fixes) -> NDArray[numpy.int64]:
 
 
 def numbers_of(column: pandas.Series) -> NDArray[numpy.float64]:
-    """The numbers of a column, of whatever class; NaN where there is none."""
-    own = column.to_numpy(dtype=object) if isinstance(column.dtype, pandas.CategoricalDtype) else column
-    return numpy.asarray(pandas.to_numeric(pandas.Series(own), errors="coerce").to_numpy(dtype="float64", na_value=numpy.nan))
+    """The numbers of a column of numbers, of whatever class; NaN where there is none, and of another column."""
+    kinds = pandas.api.types
+    is_number = kinds.is_numeric_dtype(column.dtype) and not kinds.is_bool_dtype(column.dtype)
+    if not is_number and kinds.infer_dtype(column) not in ("integer", "floating", "mixed-integer-float", "decimal"):
+        return numpy.full(len(column), numpy.nan)
+    return numpy.asarray(pandas.to_numeric(column, errors="coerce").to_numpy(dtype="float64", na_value=numpy.nan))
 
 
 def whole_units(fixes: Fixes, unit: Unit, shift: tuple[int, int]) -> tuple[Whole, Whole, tuple[int, int]]:
