@@ -11,6 +11,15 @@ skip_without_split <- function() {
   skip_if(inherits(try(split_program(), silent = TRUE), "try-error"), "the program homerange-split")
 }
 
+# As it is loaded lubridate asks for the zone of times, and where none is set the system may not know one.
+skip_without_lubridate <- function() {
+  if (Sys.getenv("TZ") == "") {
+    Sys.setenv(TZ = "UTC")
+    on.exit(Sys.unsetenv("TZ"))
+  }
+  skip_if_not_installed("lubridate")
+}
+
 # A random walk on whole metres.
 walk <- function(animal, number, seed, stride = 40, at = c(562000, 5134000)) {
   set.seed(seed)

@@ -95,7 +95,7 @@ test_that("a class of which nothing is known is written by its name", {
   expect_identical(cells(structure(c(1, 2), class = "chron")), rep("<chron>", 2))
   expect_identical(cells(matrix(1:4, 2)), rep("<matrix>", 2))
   expect_identical(cells(data.frame(a = 1:2)), rep("<data.frame>", 2))
-  skip_if_not_installed("lubridate")
+  skip_without_lubridate()
   expect_identical(cells(lubridate::dhours(1:2)), rep("<Duration>", 2))
   expect_identical(cells(lubridate::hours(1:2)), rep("<Period>", 2))
 })

@@ -48,11 +48,7 @@ test_that("arguments become options", {
 })
 
 test_that("lengths of time and speeds are taken by their class", {
-  if (Sys.getenv("TZ") == "") {
-    Sys.setenv(TZ = "UTC")  # which lubridate asks for as it is loaded
-    on.exit(Sys.unsetenv("TZ"))
-  }
-  skip_if_not_installed("lubridate")
+  skip_without_lubridate()
   expect_identical(text_of_length(lubridate::dhours(6)), "21600s")
   expect_identical(text_of_length(lubridate::hours(6)), "21600s")
   expect_identical(text_of_length(lubridate::days(1) + lubridate::minutes(1)), "86460s")
