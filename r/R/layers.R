@@ -2,6 +2,8 @@
 # its dates are those of a run that is not known.
 
 no_date <- "1970-01-01T00:00:00.000Z"
+# Where no reference system is known: sf would write that the unit is not known either.
+plane_in_metres <- "LOCAL_CS[\"Undefined Cartesian SRS\",UNIT[\"metre\",1]]"
 
 # Writes the layer of polygons that have an area, and that of fixes; says which polygons have none.
 write_layers <- function(ranges, path) {
@@ -22,9 +24,10 @@ write_layers <- function(ranges, path) {
                layer_options = "FID=id")
 }
 
-# Of shapes without a reference system sf says that they have none: they get an undefined one of metres.
+# Adds a layer of shapes.
 write_layer <- function(layer, path, name) {
-  suppressMessages(sf::st_write(layer, path, name, quiet = TRUE, append = TRUE))
+  if (is.na(sf::st_crs(layer))) layer <- sf::st_set_crs(layer, plane_in_metres)
+  sf::st_write(layer, path, name, quiet = TRUE, append = TRUE)
 }
 
 # The polygons of all levels, those of an animal together, with its times and the unit.
@@ -47,7 +50,7 @@ layer_of_polygons <- function(ranges) {
 # Adds the layer of fixes, numbered by the order of time. GDAL makes it of a text: by sf a point takes ten times as long.
 write_fixes <- function(ranges, path) {
   crs <- crs_or_none(ranges)
-  system <- if (is.na(crs)) "LOCAL_CS[\"Undefined Cartesian SRS\"]" else crs$wkt
+  system <- if (is.na(crs)) plane_in_metres else crs$wkt
   in_folder(function(folder) {
     text <- file.path(folder, "fixes.csv")
     write_frame(columns_of_layer(ranges), NULL, text)
