@@ -102,6 +102,8 @@ def write_fixes(fixes: pandas.DataFrame, crs: object, path: Path) -> None:
     columns = ", ".join(f'"{title}"' for title in titles)
     with closing(sqlite3.connect(path)) as base:
         system, = base.execute("SELECT srs_id FROM gpkg_geometry_columns WHERE table_name = 'fixes'").fetchone()
+        # The one row of GDAL's has no thousandths of a second where GDAL is young.
+        base.execute("UPDATE fixes SET time = ?", times_text(first["time"]))
         cells = [times_text(rest[title]) if title == "time" else rest[title].tolist() for title in titles]
         rows, places = zip(shapes_of(rest, system), *cells), f"(?{', ?' * len(titles)})"
         while some := list(islice(rows, ROWS)):

@@ -86,8 +86,8 @@ def test_times_are_those_of_utc(tmp_path):
     frame["timestamp"] = ["2024-05-01 00:00:02", "2024-05-01 01:00", "2024-05-01 02:00", "2024-05-01 03:00"]
     ranges = home_range(frame, 100, tz="Europe/Ljubljana")
     put_layers(ranges, tmp_path / "ranges.gpkg")
-    assert query(tmp_path / "ranges.gpkg", "SELECT first, last FROM ranges") == [
-        ("2024-04-30T22:00:02.000Z", "2024-05-01T01:00:00.000Z")]
+    assert query(tmp_path / "ranges.gpkg", "SELECT datetime(first), datetime(last) FROM ranges") == [
+        ("2024-04-30 22:00:02", "2024-05-01 01:00:00")]
     assert query(tmp_path / "ranges.gpkg", "SELECT time FROM fixes WHERE n < 3") == [
         ("2024-04-30T22:00:02.000Z",), ("2024-04-30T23:00:00.000Z",)]
 
@@ -95,7 +95,7 @@ def test_times_are_those_of_utc(tmp_path):
 def test_times_after_2262_are_missing(tmp_path):
     frame = frame_of(a=SQUARE).drop(columns="timestamp").assign(second=[0, 1, 2, 2 ** 40])
     put_layers(home_range(frame, 100), tmp_path / "ranges.gpkg")
-    assert query(tmp_path / "ranges.gpkg", "SELECT first, last FROM ranges") == [("1970-01-01T00:00:00.000Z", None)]
+    assert query(tmp_path / "ranges.gpkg", "SELECT datetime(first), last FROM ranges") == [("1970-01-01 00:00:00", None)]
     assert query(tmp_path / "ranges.gpkg", "SELECT time FROM fixes WHERE n = 4") == [(None,)]
 
 
