@@ -462,8 +462,10 @@ def boundary_of(ranges: HomeRanges, reserve: Any) -> Any:
             who, how = ("ranges have", "home_range(.., crs=..)") if own is not None else (
                 "reserve has", "reserve.set_crs(..)")
             refuse(f"the {who} no CRS, and the other has: name it, as by {how}", "crs")
+        from shapely.ops import unary_union
+
         shapes = reserve if own is None else reserve.to_crs(ranges.crs)
-        reserve = shapes.geometry.unary_union
+        reserve = unary_union([shape for shape in shapes.geometry if shape is not None])
     if not hasattr(reserve, "intersection") or not hasattr(reserve, "is_valid"):
         refuse("reserve is neither a GeoDataFrame, a GeoSeries nor a shape of shapely")
     if not reserve.is_valid:

@@ -68,7 +68,7 @@ def test_arguments_of_answers(ranges, name):
 
 def test_levels_of_answers(ranges):
     is_taken_or_refused(lambda value: ranges.hectares("a", value))
-    boundary = ranges.polygons().geometry.unary_union
+    boundary = ranges.polygons().geometry.iloc[0]
     is_taken_or_refused(lambda value: share_inside(ranges, boundary, value))
     is_taken_or_refused(lambda value: share_inside(ranges, value))
 
