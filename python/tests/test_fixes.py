@@ -225,7 +225,7 @@ def test_printing_says_what_was_taken(splitter):
 def test_fixes_are_points(splitter):
     geopandas = pytest.importorskip("geopandas")
     place = [(500_000 + east, 5_000_000 + north) for east, north in SQUARE]
-    points = geopandas.GeoDataFrame({"animal": "a", "t": pandas.date_range("2024-05-01", periods=4, freq="H", tz="UTC")},
+    points = geopandas.GeoDataFrame({"animal": "a", "t": pandas.date_range("2024-05-01", periods=4, freq="h", tz="UTC")},
                                     geometry=geopandas.points_from_xy(*zip(*place)), crs="EPSG:32633").set_index("t")
     fixes = read_fixes(points)
     assert [*fixes.columns] == ["animal", "time", "easting", "northing"]

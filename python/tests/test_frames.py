@@ -158,7 +158,7 @@ def test_an_animal_without_a_fix_is_said():
 @pytest.fixture
 def year():
     """A fix every six hours of the year 2024, which is 1464."""
-    times = pandas.date_range("2024-01-01", "2024-12-31 18:00", freq="6H", tz="UTC")
+    times = pandas.date_range("2024-01-01", "2024-12-31 18:00", freq="6h", tz="UTC")
     return pandas.DataFrame({"id": "a", "date": times, "x": 1, "y": range(len(times))})
 
 
@@ -181,7 +181,7 @@ def test_subsets_are_counted(year, words, kept, said):
 
 
 def test_months_and_hours_are_chosen_of_fixes(year):
-    times = pandas.date_range("2024-01-01", "2024-12-31 18:00", freq="6H", tz="UTC").tz_convert("Europe/Ljubljana")
+    times = pandas.date_range("2024-01-01", "2024-12-31 18:00", freq="6h", tz="UTC").tz_convert("Europe/Ljubljana")
     fixes = read_fixes(year.assign(date=times))
     own = fixes["time"].dt
     for chosen, count in ((own.month == 2, 29 * 4), (own.month.isin([5, 6]), 61 * 4), (own.hour == 1, 91 + 65)):  # winter time alone

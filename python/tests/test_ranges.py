@@ -62,12 +62,12 @@ def test_polygons_are_the_convex_hulls_of_shapely(herd, level):
 
 
 def test_polygons_are_the_convex_hulls_of_geopandas(herd):
-    geopandas = pytest.importorskip("geopandas")
+    geopandas, ops = pytest.importorskip("geopandas"), pytest.importorskip("shapely.ops")
     frame = frame_of(**HERD)
     points = geopandas.GeoSeries(geopandas.points_from_xy(frame["easting"], frame["northing"]))
     found = herd.polygons(100).set_index("animal")["geometry"]
     for name, own in points.groupby(frame["animal"]):
-        assert area2(whole(found[name])) == area2(whole(own.unary_union.convex_hull))
+        assert area2(whole(found[name])) == area2(whole(ops.unary_union([*own]).convex_hull))
 
 
 def test_overlaps_are_those_of_shapely(herd):
@@ -215,8 +215,10 @@ def test_fixes_that_became_more_are_said():
     with pytest.warns(HomeRangeNote, match="^4 records of a have the second of the one before, and 4 its place: kept$") as said:
         home_range(repeated(fixes))
     assert len(said) == 1
-    with pytest.warns(HomeRangeNote, match="^4 records of b have the second of the one before, and 4 its place: kept$"):
+    with pytest.warns(HomeRangeNote) as said:
         home_range(pandas.concat([fixes, fixes]))
+    assert [str(one.message) for one in said] == [
+        f"4 records of {name} have the second of the one before, and 4 its place: kept" for name in "ab"]
 
 
 @pytest.mark.parametrize("title, marks", [("use", [1, 1, 0, 1]), ("visible", [True, True, True, False]), ("use", ["true", "false"] * 2)])

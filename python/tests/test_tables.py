@@ -47,7 +47,7 @@ def test_animal_and_time_in_the_index():
 def test_an_index_beside_columns_is_one_column_more():
     frame = frame_of(a=SQUARE, b=SQUARE)
     assert home_range(frame.set_index(["animal", "timestamp"], drop=False)).animals == ["a", "b"]
-    other = frame.set_axis(pandas.date_range("2024-05-01", periods=8, freq="H"))
+    other = frame.set_axis(pandas.date_range("2024-05-01", periods=8, freq="h"))
     with pytest.raises(FrameError, match="'timestamp' and .* 'datetime' both fit") as fault:
         home_range(other)
     assert fault.value.kind == "ambiguous"
@@ -120,7 +120,7 @@ def test_failed_fixes_are_left_out_and_counted():
 
 
 def test_times_without_a_zone_are_of_the_one_that_is_named():
-    times = pandas.date_range("2024-05-01", periods=4, freq="H")
+    times = pandas.date_range("2024-05-01", periods=4, freq="h")
     frame = frame_of(a=SQUARE).assign(timestamp=times)
     assert home_range(frame).summary()["first"][0] == times[0].tz_localize("UTC")
     assert home_range(frame, tz="Europe/Berlin").summary()["first"][0] == times[0].tz_localize("Europe/Berlin")
@@ -129,14 +129,14 @@ def test_times_without_a_zone_are_of_the_one_that_is_named():
 
 
 def test_a_zone_without_a_name_is_said():
-    times = pandas.date_range("2024-05-01", periods=4, freq="H", tz=timezone(timedelta(hours=5, minutes=30)))
+    times = pandas.date_range("2024-05-01", periods=4, freq="h", tz=timezone(timedelta(hours=5, minutes=30)))
     with pytest.warns(UserWarning, match="^days and hours are those of UTC, since the zone UTC[+]05:30 of timestamp has no name"):
         found = home_range(frame_of(a=SQUARE).assign(timestamp=times))
     assert found.summary()["first"][0] == times[0] and found.tz == "UTC"
 
 
 def test_a_category_of_times_has_its_zone():
-    times = pandas.Series(pandas.date_range("2024-05-01", periods=4, freq="H", tz="Europe/Berlin")).astype("category")
+    times = pandas.Series(pandas.date_range("2024-05-01", periods=4, freq="h", tz="Europe/Berlin")).astype("category")
     assert home_range(frame_of(a=SQUARE).assign(timestamp=times)).tz == "Europe/Berlin"
 
 
@@ -152,7 +152,7 @@ def test_levels_may_be_numbers_of_numpy():
     ({"every": "12h"}, 2), ({"every": 0.5}, 24), ({"every": "90min"}, 16),
 ])
 def test_bounds(words, kept):
-    times = pandas.date_range("2018-11-04", periods=24, freq="H", tz="UTC")  # midnight is 03:00 UTC, and is passed over
+    times = pandas.date_range("2018-11-04", periods=24, freq="h", tz="UTC")  # midnight is 03:00 UTC, and is passed over
     frame = pandas.DataFrame({"animal": "a", "timestamp": times, "easting": range(1000, 1024), "northing": 1000})
     if kept == 24:
         assert len(home_range(frame, **words).curve()) == 24
