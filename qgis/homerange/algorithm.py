@@ -1,6 +1,6 @@
 """The algorithm `homerange:ranges`: from a layer of fixes to minimum convex polygon ranges."""
 
-import warnings
+from contextlib import contextmanager
 from pathlib import Path
 
 from qgis.core import (
@@ -12,30 +12,37 @@ from qgis.core import (
 )
 from qgis.PyQt.QtGui import QIcon
 
-from .layers import PLACES, LayerFault, boundary_of, check_crs, chosen, crs_of, frame_of
+from .asked import Asked, check_options
+from .layers import LayerFault, boundary_of, check_boundary, check_fields, check_layer, frame_of, groups_of
+from .package import HomeRangeError
+from .parameters import (
+    BOUNDARY, BOUNDS, FIELDS, FURTHER, HOURS, INPUT, LABELS, LEVELS, MONTHS, OUTPUTS, PAGE, PERIOD, PERIODS, TITLE, UNIT, UNNAMED,
+    WORDS,
+)
 from .program import ProgramFault, load, program
 from .sinks import (
-    BOUNDED, CORNERS, CURVE, OVERLAPS, RANGES, SHAPES, corner_features, curve_features, fields_of, overlap_features,
-    range_features,
+    CORNERS, CURVE, OVERLAPS, RANGES, SHAPES, SHARES, corner_features, curve_features, fields_of, overlap_features, range_features,
+    rows_of,
 )
+from .words import WordFault, hours_of, in_dialog, levels_of, months_of, said_of
 
 HERE = Path(__file__).parent
 UNITS = ("m", "dm")
-FIELDS = (("ANIMAL", "Field of the animal"), ("TIME", "Field of the time"), ("USE", "Field of which fixes are used"))
-# Filters of fixes that were read, as text.
-CALENDAR = {"months": "Months, such as 5,6,7", "hours": "Two hours of the day, such as 18,6 for the night"}
-# Filters as text, by the argument of read_fixes: what they are called.
-FILTERS = {
-    "since": "First moment or day, such as 2024-05-01", "until": "Last moment or day", **CALENDAR,
-    "every": "One fix in each piece of time, such as 2h", "sensor": "Types of sensors, such as gps",
-    "argos_class": "Argos classes, such as 3,2,1", "fix_type": "Types of fixes, such as 3D",
-    "tz": "Time zone of days, hours and texts of times, such as Europe/Ljubljana"}
-BOUNDS = {"max_dop": "Greatest dilution of precision", "max_speed": "Greatest speed from the last kept fix, in metres a second"}
-OUTPUTS = {"RANGES": "Ranges", "CORNERS": "Corners", "CURVE": "Area curve", "OVERLAPS": "Overlaps"}
-COLUMNS = {"CORNERS": CORNERS, "CURVE": CURVE, "OVERLAPS": OVERLAPS}
+COLUMNS = {"RANGES": RANGES, "CORNERS": CORNERS, "CURVE": CURVE, "OVERLAPS": OVERLAPS}
 FEATURES = {"CORNERS": corner_features, "CURVE": curve_features, "OVERLAPS": overlap_features}
 # How much of the whole is read when reading ends, and made when the program ends.
 READ, MADE = 60, 80
+
+
+@contextmanager
+def refusals():
+    """Makes of what is refused the line that QGIS shows."""
+    try:
+        yield
+    except HomeRangeError as fault:
+        raise QgsProcessingException(in_dialog(str(fault))) from fault
+    except (LayerFault, ProgramFault, WordFault) as fault:
+        raise QgsProcessingException(str(fault)) from fault
 
 
 class Cancelled(Exception):
@@ -54,13 +61,13 @@ class Watch:
             raise Cancelled
         self.feedback.setProgress(begin + (end - begin) * share)
 
-    def say(self, ranges):
-        """Says what was taken and what was left out, and which ranges have no polygon."""
+    def say(self, ranges, features):
+        """Says what was taken and what was left out of features, and which ranges have no polygon."""
         for line in ranges.notes:
-            self.feedback.pushInfo(line)
-        for row in ranges.summary().itertuples():
+            self.feedback.pushInfo(said_of(line, features))
+        for name, row in rows_of(ranges):
             if row.corners < 3:
-                self.feedback.pushInfo(f"{row.animal} has no area at {row.level} %, and so no polygon")
+                self.feedback.pushInfo(f"{name} has no area at {row.level} %, and so no polygon")
 
 
 class Styler(QgsProcessingLayerPostProcessorInterface):
@@ -98,88 +105,116 @@ class RangesAlgorithm(QgsProcessingAlgorithm):
 
     def initAlgorithm(self, config=None):
         points, areas = [QgsProcessing.TypeVectorPoint], [QgsProcessing.TypeVectorPolygon]
-        self.addParameter(QgsProcessingParameterFeatureSource("INPUT", "Fixes", points))
-        for name, text in FIELDS:
-            self.addParameter(QgsProcessingParameterField(name, text, parentLayerParameterName="INPUT", optional=True))
-        self.addParameter(QgsProcessingParameterString("LEVELS", "Levels in per cent", "50,95,100"))
-        self.addParameter(QgsProcessingParameterEnum("UNIT", "Unit", ["metres", "decimetres"], defaultValue=0))
-        self.addParameter(QgsProcessingParameterFeatureSource("BOUNDARY", "Boundary, as of a reserve", areas, optional=True))
+        self.add(QgsProcessingParameterFeatureSource("INPUT", INPUT.label, points), INPUT)
+        self.add_fields(FIELDS)
+        self.add(QgsProcessingParameterEnum("PERIOD", PERIOD.label, PERIODS, defaultValue=0), PERIOD)
+        self.add(QgsProcessingParameterString("LEVELS", LEVELS.label, "50,95,100"), LEVELS)
+        self.add(QgsProcessingParameterEnum("UNIT", UNIT.label, ["metres", "decimetres"], defaultValue=0), UNIT)
+        self.add(QgsProcessingParameterFeatureSource("BOUNDARY", BOUNDARY.label, areas, optional=True), BOUNDARY)
         self.add_filters()
         for name, text in OUTPUTS.items():
             kind = QgsProcessing.TypeVectorPoint if name == "CORNERS" else QgsProcessing.TypeVector
             kind = QgsProcessing.TypeVectorPolygon if name == "RANGES" else kind
-            self.addParameter(QgsProcessingParameterFeatureSink(
-                name, text, kind, optional=name != "RANGES", createByDefault=name == "RANGES"))
-        self.addParameter(QgsProcessingParameterFileDestination(
-            "PAGE", "Page", "HTML files (*.html)", optional=True, createByDefault=False))
+            self.add(QgsProcessingParameterFeatureSink(
+                name, text.label, kind, optional=name != "RANGES", createByDefault=name == "RANGES"), text)
+        self.add(QgsProcessingParameterFileDestination(
+            "PAGE", PAGE.label, "HTML files (*.html)", optional=True, createByDefault=False), PAGE)
+
+    def add(self, parameter, text, is_advanced=False):
+        """Adds a parameter with its help, behind 'Advanced parameters' where few need it."""
+        parameter.setHelp(text.help)
+        if is_advanced:
+            parameter.setFlags(parameter.flags() | QgsProcessingParameterDefinition.FlagAdvanced)
+        self.addParameter(parameter)
+
+    def add_fields(self, fields, is_advanced=False):
+        """Adds fields of the layer."""
+        for name, text in fields.items():
+            self.add(QgsProcessingParameterField(name.upper(), text.label, parentLayerParameterName="INPUT", optional=True), text,
+                     is_advanced)
 
     def add_filters(self):
-        """Adds what few need, behind 'Advanced parameters'."""
-        real = QgsProcessingParameterNumber.Double
-        found = [QgsProcessingParameterString(name.upper(), text, optional=True) for name, text in FILTERS.items()]
-        found += [QgsProcessingParameterNumber(name.upper(), text, real, optional=True, minValue=0)
-                  for name, text in BOUNDS.items()]
-        found.append(QgsProcessingParameterString("TITLE", "Title of the page", optional=True))
-        found.append(QgsProcessingParameterBoolean("SKIP_UNNAMED", "Leave fixes of no animal out", False))
-        for parameter in found:
-            parameter.setFlags(parameter.flags() | QgsProcessingParameterDefinition.FlagAdvanced)
-            self.addParameter(parameter)
+        """Adds what few need."""
+        self.add_fields(FURTHER, is_advanced=True)
+        for name, text in {**WORDS, "months": MONTHS, "hours": HOURS, "title": TITLE}.items():
+            self.add(QgsProcessingParameterString(name.upper(), text.label, optional=True), text, is_advanced=True)
+        for name, text in BOUNDS.items():
+            self.add(QgsProcessingParameterNumber(
+                name.upper(), text.label, QgsProcessingParameterNumber.Double, optional=True, minValue=0), text, is_advanced=True)
+        self.add(QgsProcessingParameterBoolean("SKIP_UNNAMED", UNNAMED.label, False), UNNAMED, is_advanced=True)
+
+    def checkParameterValues(self, parameters, context):
+        """What can be known before the run: whether it can be right."""
+        is_right, text = super().checkParameterValues(parameters, context)
+        if not is_right:
+            return is_right, text
+        try:
+            with refusals():
+                self.asked(parameters, context)
+        except QgsProcessingException as fault:
+            return False, str(fault)
+        return True, ""
+
+    def asked(self, parameters, context):
+        """What is asked for, as far as it can be right before a feature is read."""
+        packages = load()
+        source, bounds = (self.parameterAsSource(parameters, name, context) for name in ("INPUT", "BOUNDARY"))
+        if source is None:
+            raise LayerFault(self.invalidSourceError(parameters, "INPUT"))
+        check_layer(source, context.project())
+        if bounds is not None:
+            check_boundary(bounds)
+        text = {name: self.parameterAsString(parameters, name.upper(), context) for name in ("levels", "months", "hours")}
+        asked = Asked(*packages, source, bounds, self.wishes(parameters, context), levels_of(text["levels"]),
+                      months_of(text["months"]), hours_of(text["hours"]), self.period(parameters, context))
+        check_fields(source, {LABELS[name]: asked.wishes[name] for name in (*FIELDS, *FURTHER) if name in asked.wishes})
+        if asked.has_groups and self.parameterAsFileOutput(parameters, "PAGE", context):
+            raise WordFault(f"'{PAGE.label}': the page is of whole ranges: leave it out beside '{LABELS['by']}' and '{PERIOD.label}'")
+        check_options(asked)
+        return asked
+
+    def period(self, parameters, context):
+        """The period of the calendar that ranges are of; None where they are of none."""
+        chosen_one = self.parameterAsEnum(parameters, "PERIOD", context)
+        return PERIODS[chosen_one] if chosen_one else None
 
     def wishes(self, parameters, context):
         """What is wished of fixes, by the names of arguments."""
-        wished = {name.lower(): self.parameterAsString(parameters, name, context) for name, _ in FIELDS}
-        wished.update((name, self.parameterAsString(parameters, name.upper(), context)) for name in FILTERS)
+        wished = {name: self.parameterAsString(parameters, name.upper(), context) for name in (*FIELDS, *FURTHER, *WORDS)}
         found = {name: text for name, text in wished.items() if text}
         for name in BOUNDS:
             if parameters.get(name.upper()) is not None:
                 found[name] = self.parameterAsDouble(parameters, name.upper(), context)
-        for name in ("months", "hours"):
-            if name in found:
-                found[name] = numbers_of(found[name], name)
         found["skip_unnamed"] = self.parameterAsBoolean(parameters, "SKIP_UNNAMED", context)
-        found["levels"] = numbers_of(self.parameterAsString(parameters, "LEVELS", context), "levels")
         found["unit"] = UNITS[self.parameterAsEnum(parameters, "UNIT", context)]
         return found
 
     def processAlgorithm(self, parameters, context, feedback):
-        watch = Watch(feedback)
         try:
-            package, pandas, geopandas = load()
-        except ProgramFault as fault:
-            raise QgsProcessingException(str(fault)) from fault
-        try:
-            return self.make(parameters, context, watch, (package, pandas, geopandas))
+            with refusals():
+                return self.make(parameters, context, Watch(feedback))
         except Cancelled:
             return {}
-        except (LayerFault, ProgramFault, package.HomeRangeError) as fault:
-            raise QgsProcessingException(str(fault)) from fault
 
-    def make(self, parameters, context, watch, packages):
+    def make(self, parameters, context, watch):
         """Makes all outputs that are wanted."""
-        package, pandas, geopandas = packages
-        source = self.parameterAsSource(parameters, "INPUT", context)
-        if source is None:
-            raise QgsProcessingException(self.invalidSourceError(parameters, "INPUT"))
-        check_crs(source, context.project())
-        wishes = self.wishes(parameters, context)
-        levels, calendar = wishes.pop("levels"), {name: wishes.pop(name, None) for name in CALENDAR}
-        frame = frame_of(source, watch, pandas, wishes.pop("use", None))
-        # They go to the log.
-        warnings.filterwarnings("ignore", category=package.HomeRangeNote)
-        warnings.filterwarnings("ignore", category=package.HomeRangeInfo)
-        easting, northing = PLACES
-        fixes = package.read_fixes(frame, easting=easting, northing=northing, crs=crs_of(source), program=program(), **wishes)
-        ranges = package.home_range(
-            chosen(fixes, **calendar), levels, program=program(), progress=lambda done, of: watch.at(done / of, READ, MADE))
-        watch.say(ranges)
-        bounds = self.parameterAsSource(parameters, "BOUNDARY", context)
-        boundary = None if bounds is None else boundary_of(bounds, geopandas)
-        made = self.write_layers(parameters, context, ranges, source.sourceCrs(), shares_of(package, ranges, boundary))
+        asked = self.asked(parameters, context)
+        boundary = None if asked.bounds is None else boundary_of(asked.bounds, asked.geopandas)
+        frame = frame_of(asked.source, watch, asked.pandas)
+        fixes = asked.fixes_of(frame, watch)
+        labels = frame[asked.wishes["by"]] if "by" in asked.wishes else None
+        ranges = asked.package.home_range(
+            fixes, asked.levels, by=groups_of(fixes, labels, asked.period), program=program(),
+            progress=lambda done, of: watch.at(done / of, READ, MADE))
+        watch.say(ranges, [*frame.index])
+        shares = shares_of(asked.package, ranges, boundary)
+        made = self.write_layers(parameters, context, ranges, asked.source.sourceCrs(), shares)
         watch.at(1, MADE, 100)
         page = self.parameterAsFileOutput(parameters, "PAGE", context)
         if page:
             title = self.parameterAsString(parameters, "TITLE", context) or None
-            package.write_page(ranges, page, title=title, reserve=boundary, reserve_name=bounds and bounds.sourceName())
+            asked.package.write_page(
+                ranges, page, title=title, reserve=boundary, reserve_name=asked.bounds and asked.bounds.sourceName())
             made["PAGE"] = page
         return made
 
@@ -187,7 +222,8 @@ class RangesAlgorithm(QgsProcessingAlgorithm):
         """Writes the layers and tables that are wanted."""
         made = {}
         for name in OUTPUTS:
-            fields = fields_of(COLUMNS.get(name, BOUNDED if shares else RANGES))
+            columns = (*RANGES, *SHARES) if name == "RANGES" and shares else COLUMNS[name]
+            fields = fields_of(columns, bool(ranges.groups))
             sink, place = self.parameterAsSink(parameters, name, context, fields, SHAPES[name], crs)
             if sink is None:
                 continue
@@ -200,17 +236,9 @@ class RangesAlgorithm(QgsProcessingAlgorithm):
         return made
 
 
-def numbers_of(text, what):
-    """Whole numbers between commas."""
-    try:
-        return [int(word) for word in text.split(",")]
-    except ValueError as fault:
-        raise LayerFault(f"{what}: whole numbers between commas are wanted, and not '{text}'") from fault
-
-
 def shares_of(package, ranges, boundary):
-    """The hectares of each range inside of the boundary, and the share, by animal and level."""
+    """The hectares of each range inside of the boundary, and the share, by the name of the range and the level."""
     if boundary is None:
         return {}
-    rows = [row for level in ranges.levels for row in package.share_inside(ranges, boundary, level).itertuples()]
-    return {(row.animal, row.level): (row.inside, row.share) for row in rows}
+    return {(name, level): (row.inside, row.share) for level in ranges.levels
+            for name, row in zip(ranges.animals, package.share_inside(ranges, boundary, level).itertuples())}

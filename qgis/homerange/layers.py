@@ -5,11 +5,15 @@ import datetime
 from qgis.core import NULL, QgsCoordinateReferenceSystem, QgsCoordinateTransform, QgsUnitTypes, QgsWkbTypes
 from qgis.PyQt.QtCore import QDate, QDateTime, Qt, QVariant
 
+from .parameters import BOUNDARY, FIELDS, HOURS, MONTHS, PERIOD
+
 WHOLE = (QVariant.Int, QVariant.UInt, QVariant.LongLong, QVariant.ULongLong)
 # The types of fields that a column may have. A list, a map or bytes are no cell of a table of fixes.
 TAKEN = (*WHOLE, QVariant.Double, QVariant.Bool, QVariant.String, QVariant.Date, QVariant.DateTime)
 
 PLACES = ("easting of the point", "northing of the point")
+# What OGR has of GPX: the number of the track, and that of the point in its part.
+TRACK, TRACK_POINT = "track_fid", "track_seg_point_id"
 
 
 class LayerFault(Exception):
@@ -24,8 +28,10 @@ def utm_of(source, project):
     return f"EPSG:{(32600 if middle.y() >= 0 else 32700) + zone}"
 
 
-def check_crs(source, project):
-    """Refuses a layer whose reference system is not a plane in metres."""
+def check_layer(source, project):
+    """Refuses a layer that is not of points in a plane in metres."""
+    if QgsWkbTypes.geometryType(source.wkbType()) != QgsWkbTypes.PointGeometry:
+        raise LayerFault("The layer has no points: of GPX take the layer track_points, and of lines run Extract vertices first")
     crs = source.sourceCrs()
     if not crs.isValid():
         raise LayerFault("The layer has no reference system: name it by Layer > Layer CRS > Set Layer CRS")
@@ -34,6 +40,22 @@ def check_crs(source, project):
         raise LayerFault(
             f"The layer is in {units} ({crs.authid() or 'a reference system of its own'}) and not in metres: run Reproject "
             f"layer first, to the UTM zone of the fixes ({utm_of(source, project)}) or another plane in metres")
+
+
+def check_boundary(source):
+    """Refuses a boundary that cannot be turned to the reference system of the fixes."""
+    if not source.sourceCrs().isValid():
+        raise LayerFault(f"'{BOUNDARY.label}': the layer has no reference system: name it by Layer > Layer CRS > Set Layer CRS")
+
+
+def check_fields(source, fields):
+    """Refuses fields, by the labels of their parameters, that are not there, or of a type that no column has."""
+    for label, name in fields.items():
+        at = source.fields().lookupField(name)
+        if at < 0:
+            raise LayerFault(f"'{label}': the layer has no field '{name}'")
+        if source.fields().at(at).type() not in TAKEN:
+            raise LayerFault(f"'{label}': the field {name} is neither a truth, a number, a time nor a text")
 
 
 def is_missing(value):
@@ -71,12 +93,12 @@ def column_of(values, kind, pandas):
     return pandas.Series(values, dtype="object" if kind in (QVariant.String, QVariant.Bool, QVariant.Date) else None)
 
 
-def frame_of(source, watch, pandas, use):
-    """The features of a layer as a frame, with those of its fields that a table of fixes may have, and behind them two
-    columns of the places of its points. A field that says which fixes are used is the column use."""
+def frame_of(source, watch, pandas):
+    """The features of a layer as a frame, by their ids, with those of its fields that a table of fixes may have, and behind them
+    two columns of the places of its points."""
     fields = [field for field in source.fields() if field.type() in TAKEN]
     places = [source.fields().lookupField(field.name()) for field in fields]
-    cells, east, north = [[] for _ in fields], [], []
+    cells, east, north, ids = [[] for _ in fields], [], [], []
     count = max(source.featureCount(), 1)
     if any(field.type() == QVariant.DateTime for field in fields):
         watch.feedback.pushInfo("date-times are taken as the layer's table shows them, as UTC")
@@ -87,37 +109,66 @@ def frame_of(source, watch, pandas, use):
         for column, place in zip(cells, places):
             column.append(value_of(own[place]))
         easting, northing = place_of(feature.geometry())
+        ids.append(feature.id())
         east.append(easting)
         north.append(northing)
     if not east:
         raise LayerFault("The layer has no features")
-    names = [field.name() for field in fields]
-    if use is not None and use not in names:
-        raise LayerFault(f"The field {use} says of no fix whether it is used: its type is neither a truth, a number nor a text")
-    # Where another field is named, one that is called use says nothing.
-    columns = {"use" if name == use else name: column_of(own, field.type(), pandas)
-               for name, field, own in zip(names, fields, cells) if use in (None, name) or name != "use"}
+    columns = {field.name(): column_of(own, field.type(), pandas) for field, own in zip(fields, cells)}
     for title, own in zip(PLACES, (east, north)):
         columns[title] = pandas.Series(own, dtype="float64")
-    return pandas.DataFrame(columns)
+    frame = pandas.DataFrame(columns)
+    frame.index = ids
+    return frame
+
+
+def marked(frame, use):
+    """A frame whose column use says which fixes are used, where a field is named for that; else as it is."""
+    if use is None:
+        return frame
+    # One that is called use then says nothing.
+    return frame.drop(columns="use" if "use" in frame and use != "use" else []).rename(columns={use: "use"})
+
+
+def has_tracks(frame):
+    """Whether it is of the points of several tracks of GPX."""
+    return TRACK in frame and TRACK_POINT in frame and frame[TRACK].nunique() > 1
 
 
 def chosen(fixes, months, hours):
     """The fixes of some months, and of the hours from a first one to a second, which is not among them."""
-    wished = [name for name, wish in (("months", months), ("hours", hours)) if wish is not None]
-    if wished and "time" not in fixes:
-        raise LayerFault(f"{wished[0]}: the fixes have no calendar")
+    for wish, text in ((months, MONTHS), (hours, HOURS)):
+        if wish is not None:
+            check_calendar(fixes, text)
     if months is not None:
-        if not all(1 <= month <= 12 for month in months):
-            raise LayerFault(f"months: {months} are not months from 1 to 12")
         fixes = fixes[fixes["time"].dt.month.isin(months)]
     return fixes if hours is None else fixes[at_hours(fixes["time"].dt.hour, hours)]
 
 
+def check_calendar(fixes, parameter):
+    """Refuses fixes without a calendar, where a parameter goes by it."""
+    if "time" not in fixes:
+        raise LayerFault(f"'{parameter.label}': the fixes have no calendar, but seconds alone or no time: name the "
+                         f"'{FIELDS['time'].label}'")
+
+
+def groups_of(fixes, labels, period):
+    """The group of each fix: what a column says of its feature, or a period of the calendar; None where neither is wished."""
+    if period is not None:
+        check_calendar(fixes, PERIOD)
+        return period
+    if labels is None:
+        return None
+    own = labels.reindex(fixes.index)
+    missing = own.index[(own.isna() | (own == "")).to_numpy(dtype=bool)]
+    if len(missing):
+        raise LayerFault(f"feature {missing[0]} ($id): '{FIELDS['by'].label}' is empty, and of {len(missing)} features in all: run "
+                         "Extract by expression first, or fill it")
+    return own
+
+
 def at_hours(own, hours):
     """Which hours are from a first one to a second, over midnight where that is less."""
-    if len(hours) != 2 or hours[0] == hours[1] or not all(0 <= hour <= 24 for hour in hours):
-        raise LayerFault(f"hours: {hours} are not two different hours from 0 to 24, such as 18,6")
     first, last = hours
     return (own >= first) & (own < last) if first < last else (own >= first) | (own < last)
 
@@ -130,7 +181,11 @@ def crs_of(source):
 
 def boundary_of(source, geopandas):
     """The shapes of a layer, as of a reserve."""
-    shapes = [bytes(feature.geometry().asWkb()) for feature in source.getFeatures() if not feature.geometry().isNull()]
+    features = [feature for feature in source.getFeatures() if not feature.geometry().isNull()]
+    odd = next((feature.id() for feature in features if not feature.geometry().isGeosValid()), None)
+    if odd is not None:
+        raise LayerFault(f"'{BOUNDARY.label}': feature {odd} ($id) crosses itself: run Fix geometries first")
+    shapes = [bytes(feature.geometry().asWkb()) for feature in features if feature.geometry().area() > 0]
     if not shapes:
-        raise LayerFault("The boundary has no features")
+        raise LayerFault(f"'{BOUNDARY.label}': no feature has an area")
     return geopandas.GeoSeries.from_wkb(shapes, crs=crs_of(source))

@@ -1,6 +1,7 @@
 """The package for Python and the programs, as they lie in the plugin."""
 
 import os
+import warnings
 
 
 class ProgramFault(Exception):
@@ -19,6 +20,9 @@ def load():
         ) from fault
     from . import package
 
+    # Fixes say it themselves, for the log.
+    for said in (package.HomeRangeNote, package.HomeRangeInfo):
+        warnings.filterwarnings("ignore", category=said)
     return package, pandas, geopandas
 
 

@@ -3,7 +3,9 @@ a screen: what it takes, what it refuses and with which words, and that it ends 
 test, and says in the last how many there were. What is wanted is worked out by hand."""
 
 import sys
+import tempfile
 import traceback
+from pathlib import Path
 
 sys.path[:0] = ["/usr/share/qgis/python", "/usr/share/qgis/python/plugins", sys.argv[1]]
 
@@ -18,6 +20,7 @@ from shapely.geometry import box
 
 app = QgsApplication([], False)
 app.initQgis()
+import processing
 from processing.core.Processing import Processing
 
 Processing.initialize()
@@ -27,6 +30,9 @@ plugin = classFactory(None)
 plugin.initProcessing()
 # A square of 100 m and a fix within it; 1 ha.
 SQUARE = [(500000, 5000000), (500100, 5000000), (500100, 5000100), (500000, 5000100), (500040, 5000050)]
+
+
+SQUARE_TEXT = "POINT(500100 5000000)"  # its lower right corner
 
 
 class Feedback(QgsProcessingFeedback):
@@ -64,20 +70,32 @@ def square(*values):
     return [(f"POINT({east} {north})", *values) for east, north in SQUARE]
 
 
+def algorithm():
+    return QgsApplication.processingRegistry().algorithmById("homerange:ranges").create()
+
+
+def context_of():
+    context = QgsProcessingContext()
+    context.setProject(QgsProject.instance())
+    return context
+
+
+def tables(layer, feedback=None, **parameters):
+    """The rows of each output, an output by its name."""
+    context = context_of()
+    made = algorithm().run({"INPUT": layer, "RANGES": "memory:", **parameters}, context, feedback or Feedback(), {}, False)[0]
+    return {name: rows_of(context.takeResultLayer(place)) for name, place in made.items()}
+
+
+def rows_of(layer):
+    names = [field.name() for field in layer.fields()]
+    return [dict(zip(names, feature.attributes()), shape=QgsGeometry(feature.geometry())) for feature in layer.getFeatures()]
+
+
 def run(layer, feedback=None, **parameters):
     """The rows of the ranges by animal and level, and what was said."""
     feedback = feedback or Feedback()
-    algorithm = QgsApplication.processingRegistry().algorithmById("homerange:ranges")
-    context = QgsProcessingContext()
-    context.setProject(QgsProject.instance())
-    wished = {"INPUT": layer, "RANGES": "memory:", **parameters}
-    found = algorithm.create().run(wished, context, feedback, {}, False)
-    made = found[0]
-    if not made.get("RANGES"):
-        return {}, feedback.said
-    ranges = context.takeResultLayer(made["RANGES"])
-    names = [field.name() for field in ranges.fields()]
-    rows = [dict(zip(names, feature.attributes()), shape=QgsGeometry(feature.geometry())) for feature in ranges.getFeatures()]
+    rows = tables(layer, feedback, **parameters).get("RANGES", [])
     return {(row["animal"], row["level"]): row for row in rows}, feedback.said
 
 
@@ -199,11 +217,9 @@ def test_two_fixes_have_no_polygon_and_it_is_said():
 
 
 def test_ranges_that_are_shown_are_drawn_as_those_of_the_package():
-    algorithm = QgsApplication.processingRegistry().algorithmById("homerange:ranges").create()
-    context, project = QgsProcessingContext(), QgsProject.instance()
-    context.setProject(project)
-    wished = {"INPUT": layer_of(square("fox")), "RANGES": QgsProcessingOutputLayerDefinition("memory:", project)}
-    made = algorithm.run(wished, context, Feedback(), {}, False)[0]
+    context = context_of()
+    wished = {"INPUT": layer_of(square("fox")), "RANGES": QgsProcessingOutputLayerDefinition("memory:", context.project())}
+    made = algorithm().run(wished, context, Feedback(), {}, False)[0]
     layer = context.getMapLayer(made["RANGES"])
     context.layerToLoadOnCompletionDetails(made["RANGES"]).postProcessor().postProcessLayer(layer, context, Feedback())
     symbol = layer.renderer().symbol().symbolLayer(0)
@@ -220,15 +236,140 @@ def test_a_boundary_gives_shares():
         assert abs(row["inside"] - 0.5) < off and abs(row["share"] - 0.5) < off, row
 
 
-def test_words_that_cannot_be_right_are_refused():
+# What cannot be right, by the name of its parameter, and what its label is.
+WRONG = (
+    ("LEVELS", "50,abc", "Levels in per cent"), ("LEVELS", "0", "Levels in per cent"), ("LEVELS", "95,95", "Levels in per cent"),
+    ("LEVELS", "50,", "Levels in per cent"), ("HOURS", "18", "Hours of the day"), ("MONTHS", "13", "Months"),
+    ("EVERY", "soon", "One fix in each piece of time"), ("SINCE", "May", "First moment or day"), ("TZ", "Ljubljana", "Time zone"),
+    ("MAX_SPEED", 1e9, "Greatest speed in metres a second"), ("ANIMAL", "nobody", "Field of the animal"))
+
+
+def test_words_that_cannot_be_right_are_refused_by_the_label_of_their_parameter():
     layer = layer_of(square("fox"))
-    for parameters, words in (
-            ({"LEVELS": "50,abc"}, "whole numbers between commas"), ({"LEVELS": "0"}, "from 1 to 100"),
-            ({"LEVELS": "95,95"}, "twice"), ({"LEVELS": ""}, "whole numbers"), ({"HOURS": "18"}, "hours"),
-            ({"MONTHS": "13"}, "months"), ({"EVERY": "soon"}, "every"), ({"SINCE": "May"}, "'May' is no time"),
-            ({"ANIMAL": "nobody"}, "nobody")):
-        line = refusal(layer, **parameters)
-        assert words in line and "\n" not in line, (parameters, line)
+    for name, value, label in WRONG:
+        line = refusal(layer, **{name: value})
+        assert f"'{label}'" in line and "\n" not in line, (name, line)
+
+
+def checked(layer, **parameters):
+    """What the dialog says before it runs: whether it may, and why not."""
+    return algorithm().checkParameterValues({"INPUT": layer, "RANGES": "memory:", **parameters}, context_of())
+
+
+def test_the_dialog_says_before_the_run_what_cannot_be_right():
+    layer = layer_of(square("fox"))
+    assert checked(layer, SINCE="2024-05-01", MONTHS="5,6", HOURS="18,6", MAX_SPEED=2) == (True, "")
+    for name, value, label in WRONG:
+        is_right, line = checked(layer, **{name: value})
+        assert not is_right and label in line, (name, line)
+    for layer, words in ((layer_of(square("fox"), crs="EPSG:2263"), "feet"), (layer_of(square("fox"), crs=""), "no reference system"),
+                         (layer_of([], kind="LineString"), "no points")):
+        is_right, line = checked(layer)
+        assert not is_right and words in line, line
+
+
+def test_each_parameter_has_a_help():
+    own = algorithm()
+    found = own.parameterDefinitions()
+    assert len(found) > 25 and [one.name() for one in found if len(one.help()) < 20] == []
+
+
+def test_a_refusal_names_the_feature():
+    """The third feature that was added has the id 3 in a layer of memory."""
+    rows = square("fox", "true", "2024-05-01 12:00:00")
+    fields = "animal:string,visible:string,timestamp:string"
+    for at, cell, words in (
+            (2, "maybe", "feature 3 ($id): visible is 'maybe'"),
+            (1, None, "and 'Leave fixes of no animal out' leaves such records out"),
+            (3, "01.05.2024 12:00", "as by 'Form of the time' = '%d.%m.%Y %H:%M'")):
+        own = [[*row] for row in rows]
+        own[2][at] = cell
+        line = refusal(layer_of(own, fields=fields))
+        assert line.startswith("feature 3 ($id): ") and words in line, line
+
+
+def test_what_is_said_names_features_and_parameters():
+    """At half past two the clocks of Ljubljana went back to two."""
+    rows = square("fox", "2024-10-27 02:30:00")
+    rows[0] = (rows[0][0], "fox", "2024-10-27 12:00:00")
+    said = run(layer_of(rows, fields="animal:string,timestamp:string"), TZ="Europe/Ljubljana")[1]
+    assert any(line.endswith("comes twice in Europe/Ljubljana: features 2, 3, 4, 5") for line in said), said
+    line = refusal(layer_of(square("fox", "3"), fields="animal:string,lc:string"))
+    assert line == "field 'lc' may have Argos classes: name it, as by 'Field of Argos classes' = 'lc', or rename or remove it", line
+
+
+def test_groups_have_ranges_of_their_own():
+    """The square's first three corners are half of it, 0.5 ha; the others with one of these 0.25 ha: a triangle of 100 by 50 m."""
+    groups = ("wet", "wet", "wet", "dry", "dry")
+    rows = [(*row, "fox", group) for row, group in zip(square(), groups)] + [(SQUARE_TEXT, "hare", "dry")]
+    found = tables(layer_of([*rows, ("POINT(500100 5000100)", "fox", "dry")], fields="animal:string,season:string"), LEVELS="100",
+                   BY="season", CORNERS="memory:", CURVE="memory:", OVERLAPS="memory:")
+    assert {(row["animal"], row["group"]): (row["fixes"], row["hectares"]) for row in found["RANGES"]} == {
+        ("fox", "wet"): (3, 0.5), ("fox", "dry"): (3, 0.25), ("hare", "dry"): (1, 0.0)}
+    assert [*found["RANGES"][0]][:3] == ["animal", "group", "level"]
+    corners = {(row["easting"], row["northing"]) for row in found["CORNERS"] if (row["animal"], row["group"]) == ("fox", "wet")}
+    assert corners == {*SQUARE[:3]}, corners
+    assert [(row["animal"], row["group"], row["n"]) for row in found["CURVE"]][:3] == [("fox", "wet", 1), ("fox", "wet", 2), (
+        "fox", "wet", 3)]
+    overlaps = {(row["animal"], row["group"], row["other"], row["other_group"]): row["count"] for row in found["OVERLAPS"]}
+    # The upper right corner is of both triangles; the other two fixes of each lie outside of the other's. The hare is at a corner.
+    assert overlaps["fox", "dry", "fox", "wet"] == 1 and overlaps["fox", "wet", "fox", "dry"] == 1, overlaps
+    assert overlaps["hare", "dry", "fox", "wet"] == 1 and len(overlaps) == 6, overlaps
+
+
+def test_ranges_of_a_period_go_by_the_clock_of_the_zone():
+    moments = [QDateTime(2024, month, day, 23, 0, 0, 0, Qt.UTC) for month, day in ((5, 30), (5, 31), (6, 1), (6, 2), (7, 1))]
+    layer = layer_of([(row[0], "fox", moment, 7) for row, moment in zip(square(), moments)],
+                     fields="animal:string,timestamp:datetime,month:integer")
+    for zone, counts in (("", {"2024-05": 2, "2024-06": 2, "2024-07": 1}),
+                         ("Europe/Ljubljana", {"2024-05": 1, "2024-06": 3, "2024-07": 1})):
+        rows = tables(layer, PERIOD=3, LEVELS="100", TZ=zone)["RANGES"]
+        assert {row["group"]: row["fixes"] for row in rows} == counts, (zone, rows)
+    line = refusal(layer_of(square("fox")), PERIOD=1)
+    assert line.startswith("'Period of the calendar': the fixes have no calendar") and "'Field of the time'" in line, line
+
+
+def test_groups_that_cannot_be_right_are_refused():
+    rows = [(*row, "fox", group) for row, group in zip(square(), ("wet", None, "wet", "", "wet"))]
+    layer = layer_of(rows, fields="animal:string,season:string")
+    assert refusal(layer, BY="season").startswith("feature 2 ($id): 'Field of the group' is empty, and of 2 features in all"), layer
+    assert "'Field of the group'" in refusal(layer_of(square("fox", 1.5), fields="animal:string,season:double"), BY="season")
+    with tempfile.TemporaryDirectory() as folder:
+        page = Path(folder) / "page.html"
+        assert "the page is of whole ranges" in refusal(layer, BY="animal", PAGE=str(page)) and not page.exists()
+
+
+def gpx_of(folder, tracks):
+    """A GPX of some tracks, each with its points in degrees."""
+    points = "".join(
+        "<trk><trkseg>" + "".join(f'<trkpt lat="{lat}" lon="{lon}"><time>2024-05-01T0{at}:00:00Z</time></trkpt>'
+                                  for at, (lon, lat) in enumerate(track)) + "</trkseg></trk>" for track in tracks)
+    path = Path(folder) / "three.gpx"
+    path.write_text(f'<gpx version="1.1" creator="test" xmlns="http://www.topografix.com/GPX/1/1">{points}</gpx>')
+    return path
+
+
+def test_the_tracks_of_gpx_are_as_many_animals():
+    tracks = [[(15 + step / 1000, 46 + at / 100) for step in range(count)] for at, count in enumerate((3, 4, 5))]
+    with tempfile.TemporaryDirectory() as folder:
+        path = gpx_of(folder, tracks)
+        points = QgsVectorLayer(f"{path}|layername=track_points", "points", "ogr")
+        assert "Reproject layer" in refusal(points)
+        assert "track_points" in refusal(QgsVectorLayer(f"{path}|layername=tracks", "tracks", "ogr"))
+        layer = processing.run("native:reprojectlayer", {"INPUT": points, "TARGET_CRS": "EPSG:32633", "OUTPUT": "memory:"})["OUTPUT"]
+        QgsProject.instance().addMapLayer(layer)
+        rows, said = run(layer, LEVELS="100")
+        assert {animal: row["fixes"] for (animal, _), row in rows.items()} == {"0": 3, "1": 4, "2": 5}, rows
+        assert any("each track of GPX is an animal" in line and "'Field of the animal'" in line for line in said), said
+        assert len(run(layer, LEVELS="100", ANIMAL="track_seg_id")[0]) == 1
+
+
+def test_a_boundary_that_cannot_be_right_is_refused():
+    for text, crs, words in (("POLYGON((0 0, 9 9, 9 0, 0 9, 0 0))", "EPSG:32633", "feature 1 ($id) crosses itself: run Fix geometries"),
+                             (None, "EPSG:32633", "no feature has an area"),
+                             ("POLYGON((0 0, 9 9, 9 0, 0 0))", "", "no reference system")):
+        line = refusal(layer_of(square("fox")), BOUNDARY=layer_of([(text,)], fields="", crs=crs, kind="Polygon"))
+        assert line.startswith("'Boundary': ") and words in line, line
 
 
 def test_a_missing_package_is_named():
