@@ -1,7 +1,8 @@
 #!/bin/sh
 # setup.sh [--qgis | --missing]: installs, as root, what ./test uses of Debian's packages, beside the toolchain. With --qgis
 # it installs QGIS too, which is a gigabyte, and without which the tests of its plugin are skipped. With --missing it
-# installs nothing, and prints in one line those that are not installed, QGIS left out.
+# installs nothing, and prints in one line those that are not installed, QGIS left out. A package that this release of Debian
+# has not is left out, and said so.
 #
 # Packages of Python are for Debian's own, /usr/bin/python3.
 set -eu
@@ -29,5 +30,11 @@ esac
 export DEBIAN_FRONTEND=noninteractive
 # Before this no package is found.
 apt-get -q update
+known=''
+for package in $packages; do
+    if apt-cache -q show "$package" >/dev/null 2>&1; then known="$known $package"; else
+        echo "setup.sh: this release of Debian has no $package" >&2
+    fi
+done
 # shellcheck disable=SC2086
-apt-get -q -y --no-install-recommends install $packages
+apt-get -q -y --no-install-recommends install $known
