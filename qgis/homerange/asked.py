@@ -32,16 +32,29 @@ class Asked(NamedTuple):
 
     def fixes_of(self, frame, watch):
         """The fixes of a frame of features that are wanted. The points of several tracks of GPX are those of as many animals."""
+        own = marked(frame, self.wishes.get("use"))
         reading = {name: wish for name, wish in self.wishes.items() if name not in ("use", "by")}
-        if "animal" not in reading and has_tracks(frame):
-            watch.feedback.pushInfo(f"each track of GPX is an animal, named by its number in {TRACK}: join names to it, and name "
-                                    f"their field as '{LABELS['animal']}', where that is not so")
+        if "animal" not in reading and has_tracks(own) and not self.has_animals(own):
+            watch.feedback.pushInfo(f"each track of GPX is an animal, named by its number in {TRACK}: name another field as "
+                                    f"'{LABELS['animal']}' where that is not so")
             reading["animal"] = TRACK
-        easting, northing = PLACES
-        fixes = self.package.read_fixes(marked(frame, self.wishes.get("use")), easting=easting, northing=northing,
-                                        crs=crs_of(self.source), program=program(), **reading)
-        wanted = chosen(fixes, self.months, self.hours)
+        wanted = chosen(self.read(own, reading), self.months, self.hours)
         return wanted[[title for title in FIXES if title in wanted]]
+
+    def read(self, frame, reading):
+        """The fixes that the package reads of a frame of features."""
+        easting, northing = PLACES
+        return self.package.read_fixes(
+            frame, easting=easting, northing=northing, crs=crs_of(self.source), program=program(), **reading)
+
+    def has_animals(self, frame):
+        """Whether a column is that of the animal by its title. Its first fix is asked, since filters may refuse all of one animal."""
+        reading = {name: self.wishes[name] for name in ("time", "time_format", "tz") if name in self.wishes}
+        try:
+            notes = self.read(frame.iloc[:1], reading).reading.notes
+        except FrameError:
+            return False
+        return not any(note.startswith("no column has a usual title for the animal") for note in notes)
 
 
 def check_options(asked):

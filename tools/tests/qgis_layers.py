@@ -361,7 +361,11 @@ def test_the_tracks_of_gpx_are_as_many_animals():
         rows, said = run(layer, LEVELS="100")
         assert {animal: row["fixes"] for (animal, _), row in rows.items()} == {"0": 3, "1": 4, "2": 5}, rows
         assert any("each track of GPX is an animal" in line and "'Field of the animal'" in line for line in said), said
-        assert len(run(layer, LEVELS="100", ANIMAL="track_seg_id")[0]) == 1
+        named = processing.run("native:fieldcalculator", {
+            "INPUT": layer, "FIELD_NAME": "animal", "FIELD_TYPE": 2, "FORMULA": "if(track_fid < 2, 'fox', 'owl')",
+            "OUTPUT": "memory:"})["OUTPUT"]
+        QgsProject.instance().addMapLayer(named)
+        assert {animal: row["fixes"] for (animal, _), row in run(named, LEVELS="100")[0].items()} == {"fox": 7, "owl": 5}
 
 
 def test_a_boundary_that_cannot_be_right_is_refused():
