@@ -42,6 +42,8 @@ if [ ! -e "$root/etc/debian_version" ]; then
     # Packages of services are not to start them.
     printf '#!/bin/sh\nexit 101\n' >"$root/usr/sbin/policy-rc.d"
     chmod +x "$root/usr/sbin/policy-rc.d"
+    # A mirror may be of an earlier day.
+    echo 'Acquire::Check-Valid-Until "false";' >"$root/etc/apt/apt.conf.d/80mirror"
 fi
 rm -rf "$root/homerange"
 mkdir "$root/homerange"

@@ -83,7 +83,9 @@ def values_for(values: Any, frame: pandas.DataFrame) -> pandas.Series:
     count = len(values) if pandas.api.types.is_list_like(values) and hasattr(values, "__len__") else None
     if count != len(frame) or getattr(values, "ndim", 1) != 1:
         refuse(f"by is {repr(values) if count is None else f'{count} values'} for {len(frame)} rows")
-    return pandas.Series(pandas.array(values) if isinstance(values, (list, tuple)) else values)
+    if not isinstance(values, (list, tuple)):
+        return pandas.Series(values)
+    return pandas.Series(pandas.array(pandas.Series(values, dtype=object).to_numpy()))  # tuples in it are values too
 
 
 def aligned(series: pandas.Series, frame: pandas.DataFrame) -> pandas.Series:

@@ -219,7 +219,7 @@ def fault_of(base: Connection, wanted: Connection, name: str, names: Sequence[st
     tables, indices = tables_in(wanted)
     said = base.execute("PRAGMA integrity_check(1)").fetchone()[0]
     if said != "ok":
-        return f"{name} is not whole: {said}"
+        return f"{name} is not whole: {' '.join(said.split())}"
     faults = (fault for table in tables for fault in (
         table in indices and index_fault(base, table) or None, table_fault(base, wanted, table, names)) if fault)
     found = next(faults, None)

@@ -78,8 +78,8 @@ def test_the_zone_of_times_is_told(tmp_path):
     ({"cell": "fox\ud800"}, "text", "animal is 'fox.*', which is no text in UTF-8"),
 ])
 def test_what_is_no_text_is_refused(tmp_path, change, kind, said):
-    frame = frame_of(a=SQUARE)
-    frame.columns = change.get("columns", frame.columns)
+    frame = frame_of(a=SQUARE).astype({"animal": object})
+    frame.columns = pandas.Index(change.get("columns", frame.columns), dtype=object)
     frame.loc[2, frame.columns[0]] = change.get("cell", "a")
     with pytest.raises(FrameError, match=said) as fault:
         written(frame, tmp_path)
