@@ -168,10 +168,16 @@ class RangesAlgorithm(QgsProcessingAlgorithm):
         asked = Asked(*packages, source, bounds, self.wishes(parameters, context), levels_of(text["levels"]),
                       months_of(text["months"]), hours_of(text["hours"]), self.period(parameters, context))
         check_fields(source, {LABELS[name]: asked.wishes[name] for name in (*FIELDS, *FURTHER) if name in asked.wishes})
-        if asked.has_groups and self.parameterAsFileOutput(parameters, "PAGE", context):
-            raise WordFault(f"'{PAGE.label}': the page is of whole ranges: leave it out beside '{LABELS['by']}' and '{PERIOD.label}'")
+        self.check_groups(asked, parameters, context)
         check_options(asked)
         return asked
+
+    def check_groups(self, asked, parameters, context):
+        """Refuses groups of two kinds, and a page of groups."""
+        if asked.period is not None and "by" in asked.wishes:
+            raise WordFault(f"'{PERIOD.label}' and '{LABELS['by']}' are two kinds of groups: leave one out")
+        if asked.has_groups and self.parameterAsFileOutput(parameters, "PAGE", context):
+            raise WordFault(f"'{PAGE.label}': the page is of whole ranges: leave it out beside '{LABELS['by']}' and '{PERIOD.label}'")
 
     def period(self, parameters, context):
         """The period of the calendar that ranges are of; None where they are of none."""

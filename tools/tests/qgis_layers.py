@@ -334,6 +334,7 @@ def test_groups_that_cannot_be_right_are_refused():
     layer = layer_of(rows, fields="animal:string,season:string")
     assert refusal(layer, BY="season").startswith("feature 2 ($id): 'Field of the group' is empty, and of 2 features in all"), layer
     assert "'Field of the group'" in refusal(layer_of(square("fox", 1.5), fields="animal:string,season:double"), BY="season")
+    assert "are two kinds of groups: leave one out" in refusal(layer, BY="season", PERIOD=2)
     with tempfile.TemporaryDirectory() as folder:
         page = Path(folder) / "page.html"
         assert "the page is of whole ranges" in refusal(layer, BY="animal", PAGE=str(page)) and not page.exists()
