@@ -35,11 +35,12 @@ def check_layer(source, project):
     crs = source.sourceCrs()
     if not crs.isValid():
         raise LayerFault("The layer has no reference system: name it by Layer > Layer CRS > Set Layer CRS")
-    if crs.mapUnits() != QgsUnitTypes.DistanceMeters:
-        units = QgsUnitTypes.toString(crs.mapUnits())
-        raise LayerFault(
-            f"The layer is in {units} ({crs.authid() or 'a reference system of its own'}) and not in metres: run Reproject "
-            f"layer first, to the UTM zone of the fixes ({utm_of(source, project)}) or another plane in metres")
+    name, units = crs.authid() or "a reference system of its own", crs.mapUnits()
+    odd = None if units == QgsUnitTypes.DistanceMeters else f"The layer is in {QgsUnitTypes.toString(units)} ({name}) and not in metres"
+    odd = f"Areas in Web Mercator ({name}) grow away from the equator" if name == "EPSG:3857" else odd
+    if odd is not None:
+        raise LayerFault(f"{odd}: run Reproject layer first, to the UTM zone of the fixes ({utm_of(source, project)}) or another plane "
+                         "in metres")
 
 
 def check_boundary(source):

@@ -26,6 +26,8 @@ def in_dialog(text):
         name = found[1] or found[3] or found[4] or found[5]
         if name is None:
             return found[0]
+        if name == "time" and "," in (found[2] or ""):
+            return "Field calculator"  # a parameter has one field alone
         return f"'{LABELS[name]}'" if found[2] in (None, "True") else f"'{LABELS[name]}' = {found[2]}"
 
     row = ROW.match(text)

@@ -133,7 +133,8 @@ def test_no_reference_system_is_refused():
 
 
 def test_web_mercator_is_refused():
-    assert "equator" in refusal(layer_of(square("fox"), crs="EPSG:3857"))
+    line = refusal(layer_of(square("fox"), crs="EPSG:3857"))
+    assert "equator" in line and "Reproject layer" in line and "EPSG:32631" in line, line
 
 
 def test_several_points_are_refused_and_one_is_taken():
@@ -296,6 +297,8 @@ def test_what_is_said_names_features_and_parameters():
     assert any(line.endswith("comes twice in Europe/Ljubljana: features 2, 3, 4, 5") for line in said), said
     line = refusal(layer_of(square("fox", "3"), fields="animal:string,lc:string"))
     assert line == "field 'lc' may have Argos classes: name it, as by 'Field of Argos classes' = 'lc', or rename or remove it", line
+    line = refusal(layer_of(square("fox", "2024-10-27", "am"), fields="animal:string,timestamp:string,half:string"))
+    assert "join it to the time, as by Field calculator with %p in 'Form of the time', or remove it" in line, line
 
 
 def test_groups_have_ranges_of_their_own():
