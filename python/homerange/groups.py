@@ -133,9 +133,10 @@ def group_tracks(tracks: Tracks, labels: Sequence[str]) -> tuple[Tracks, dict[st
     """The tracks of each group, in the order of animals and of times, by names that say both; and what these names mean."""
     parts: dict[str, pandas.DataFrame] = {}
     known: dict[str, Group] = {}
-    own = numpy.array(labels, dtype=object)
+    own, end = numpy.array(labels, dtype=object), 0
     for animal, track in tracks.by_name.items():
-        for group, part in track.groupby(own[tracks.places[animal]], sort=False):
+        first, end = end, end + len(track)
+        for group, part in track.groupby(own[first:end], sort=False):
             name = f"{animal} {group}"
             if name in known:
                 refuse(f"by: {animal!r} and {known[name].animal!r} both have a range named {name!r}: rename one", "name")

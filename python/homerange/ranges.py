@@ -21,7 +21,7 @@ from .outer import counts_within, outer_kept
 from .overview import Facts, Row, facts_of, reasons_of, rows_of
 from .program import MOST_ANIMALS, Program, Runs, checksum_of, find_program, program_of
 from .read.fixes import Fixes, clock_of, is_of_fixes, reading_of
-from .read.reading import ReadTable, read_table, tell, times_of
+from .read.reading import ReadTable, read_again, read_table, tell, times_of
 from .read.systems import crs_named
 from .record import Record, read_record
 from .report import Corners, Percent, Report, Table, read as read_lines
@@ -384,7 +384,7 @@ def home_range(
     if by is not None:
         tracks, groups = group_tracks(tracks, labels_of(table, by))
     own = reading_of(table.fixes)
-    tell(tracks.notes[len(own.notes) if table.fixes is x else 0:])  # what was said when they were read is not said again
+    tell([*table.said, *tracks.notes[len(own.notes):]])
     report = Runs(found.path, tracks.by_name, ",".join(map(str, wanted)), own.unit).report(shown, jobs)
     ranges = HomeRanges(report, tracks, crs=own.system, tz=clock_of(table.fixes), program=found)
     ranges.jobs, ranges.groups = jobs, groups
@@ -393,12 +393,13 @@ def home_range(
 
 def table_of(x: Any, reading: dict[str, Any], program: str | os.PathLike[str] | None, by: Any) -> ReadTable:
     """The fixes as they were given, or as they are read; without a frame's own columns where nobody asks for them."""
+    has_columns = by is not None and not is_period(by)
     if not isinstance(x, Fixes) or not is_of_fixes(x):
-        return read_table(x, reading, program, has_columns=by is not None and not is_period(by))
+        return read_table(x, reading, program, has_columns)
     named = next((name for name, value in reading.items() if value is not None), None)
     if named is not None:
         refuse(f"{named} says how a table is read, and these fixes were read already: give it to read_fixes")
-    return ReadTable(x)
+    return read_again(x, program, has_columns)
 
 
 def read_report(

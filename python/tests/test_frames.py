@@ -1,4 +1,5 @@
 """How home_range reads data frames: columns, forms of times and marks, subsets, and what it refuses."""
+import warnings
 from datetime import date, datetime, timedelta, timezone
 
 import pandas
@@ -273,27 +274,47 @@ def test_what_is_no_frame_of_fixes_is_refused():
         home_range(read_fixes(frame_of(a=SQUARE)).head(0))
 
 
-@pytest.mark.parametrize("change, what", [
-    (lambda fixes: fixes.assign(easting=fixes["easting"] + 0.25), "easting"), (lambda fixes: fixes.assign(northing=None), "northing"),
-    (lambda fixes: fixes.assign(easting=fixes["easting"].astype(str)), "easting"), (lambda fixes: fixes.assign(animal=7), "animal"),
-    (lambda fixes: fixes.assign(animal=[None, *"bbb"]), "animal"),
-    (lambda fixes: fixes.assign(time=fixes["time"] + pandas.Timedelta("1ms")), "time"), (lambda fixes: fixes.assign(time="2024"), "time"),
-    (lambda fixes: fixes.assign(time=fixes["time"].where(fixes["easting"] > 0)), "time"),
-    (lambda fixes: fixes.assign(time=fixes["time"].dt.tz_localize(None)), "time"),
-])
-def test_fixes_that_were_changed_are_refused(change, what):
-    with pytest.raises(FrameError, match=f"the fixes were changed: {what} is not as it was read, so read them anew by read_fixes"):
-        home_range(change(read_fixes(frame_of(a=SQUARE))))
+PART = dict(animal="a", second=[0, 60, 120, 180], easting=[0, 200, 200, 0], northing=[0, 0, 200, 200])
 
 
-def test_fixes_in_another_order_give_the_same_ranges():
-    fixes = read_fixes(frame_of(a=SQUARE, b=[(5, 5), (90, 7), (30, 80)]), unit="dm")
-    found, again = home_range(fixes), home_range(fixes.sample(frac=1, random_state=4).sort_values("animal", kind="stable"))
+@pytest.mark.parametrize("change, said", [
+    ({"easting": [0.25, 200.25, 200.25, 0.25]}, "^coordinates are rounded to whole metres, which moves a fix by at most 0.25 m$"),
+    ({"easting": [-3_000_000, 0, 0, 0]}, "^coordinates are shifted by 3000000 m east and 0 m north$"),
+    ({"second": [0, 120, 60, 180]}, "^1 records of a come before an earlier one: sorted by time$"),
+    ({"northing": [None, 0, 200, 200]}, "^1 records have no coordinates: left out$"),
+    ({"easting": [15.5, 15.6, 15.7, 15.8], "northing": [45.5, 45.6, 45.7, 45.8]}, "are they longitude and latitude[?]$")])
+def test_fixes_that_were_changed_are_read_again_as_a_frame(change, said):
+    fixes = read_fixes(pandas.DataFrame(PART))
+    with told(said):
+        found = home_range(fixes.assign(**change))
+    with told(said):
+        frame = home_range(pandas.DataFrame({**PART, **change}))
+    assert found.summary().equals(frame.summary()) and found.corners() == frame.corners()
+    with warnings.catch_warnings():
+        warnings.simplefilter("error")
+        assert home_range(fixes.assign(note=1).reset_index(drop=True)).hectares("a") == 4  # as they were read: nothing is said
+
+
+@pytest.mark.parametrize("change, said", [
+    ({"animal": [None, *"bbb"]}, "^row 0: there is no animal"), ({"second": [0, 60, -1, 180]}, "^row 2: second is '-1'"),
+    ({"easting": ["0", "x", "0", "0"]}, "^row 1: easting is 'x' and not a number"), ({"northing": None}, "no fix is left"),
+    ({"easting": [0, 0, 0, 1e8]}, "wider than")])
+def test_changed_fixes_that_cannot_be_right_are_refused(change, said):
+    with pytest.raises(FrameError, match=said):
+        home_range(read_fixes(pandas.DataFrame(PART)).assign(**change))
+
+
+def test_fixes_keep_their_unit_zone_and_clock_when_they_are_read_again():
+    frame = frame_of(a=SQUARE, b=[(5, 5), (90, 7), (30, 80)])
+    fixes = read_fixes(frame.assign(easting=frame["easting"] + 500_000.3, northing=frame["northing"] + 5_000_000), unit="dm", zone="33N",
+                       tz="Asia/Tokyo")
+    found, again = home_range(fixes), home_range(fixes.sort_values("time"))
     assert found.summary().equals(again.summary()) and found.curve().equals(again.curve())
-    moved = home_range(fixes.assign(easting=fixes["easting"] - 3_000_000.5))
-    assert moved.hectares("a") == found.hectares("a") and moved.corners()["a"][0] == (-3_000_000.5, 0)
-    with pytest.raises(FrameError, match="eastings go from .* wider than a grid"):
-        home_range(fixes.assign(easting=[0, 0, 0, 0, 0, 0, 1e8]))
+    assert (again.unit, again.crs, again.tz) == ("dm", "EPSG:32633", "Asia/Tokyo") and again.corners()["a"][0] == (500_000.3, 5_000_000)
+    other = home_range(fixes.iloc[1:].assign(time=fixes["time"].iloc[1:].dt.tz_convert("Europe/Ljubljana")), by=list("bbcdde"))
+    assert other.tz == "Europe/Ljubljana" and other.animals == ["a b", "a c", "b d", "b e"]
+    naive = home_range(fixes.assign(time=fixes["time"].dt.tz_localize(None)))
+    assert naive.summary().equals(found.summary())  # the clock of Tokyo is that of tz
 
 
 def test_longitude_and_latitude_are_projected_or_refused_with_what_helps():

@@ -219,14 +219,16 @@ def test_fixes_that_became_more_are_said():
         home_range(pandas.concat([fixes, fixes]))
 
 
-@pytest.mark.parametrize("title, marks", [("use", [1, 1, 0, 1]), ("visible", [True, True, True, False]), ("use", ["true", "false"] * 2)])
-def test_marks_that_were_set_on_fixes_are_refused(title, marks):
+@pytest.mark.parametrize("title, marks", [("use", [1, 1, 0, 1]), ("Visible", [True, True, True, False]), ("manually.marked_outlier", ["", "", "true", ""])])
+def test_marks_that_were_set_on_fixes_are_read(title, marks):
     fixes = read_fixes(frame_of(a=SQUARE))
     fixes[title] = marks
-    with pytest.raises(FrameError, match=f"the column {title} is false for [12] of the fixes, which were read without them: choose"):
-        home_range(fixes)
-    assert home_range(fixes.assign(**{title: True}), 100).hectares("a") == 4
-    assert home_range(fixes.assign(use=1, visible=False), 100).hectares("a") == 4  # beside use it is not looked at
+    with pytest.warns(HomeRangeNote, match="^1 outliers: left out$"):
+        found = home_range(fixes)
+    assert found.left_out().values.tolist() == [["a", "outlier", 1]] and found.hectares("a") == 2
+    assert home_range(fixes.assign(use=1), 100).hectares("a") == 4  # beside use no other mark is read
+    with pytest.raises(FrameError, match=f"^row 2: {title} is 'perhaps' and"):
+        home_range(fixes.assign(**{title: [1, 1, "perhaps", 1]}))
 
 
 def test_classes_of_fixes_may_change():

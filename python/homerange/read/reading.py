@@ -6,8 +6,10 @@ import os
 import re
 import tempfile
 import warnings
+from collections import Counter
+from dataclasses import replace
 from pathlib import Path
-from typing import Any, Iterable, Mapping, NamedTuple
+from typing import Any, Iterable, Mapping, NamedTuple, Sequence
 
 import numpy
 import pandas
@@ -19,7 +21,7 @@ from ..record import Record, read_record
 from ..units import UNITS
 from .call import as_arguments, split_table
 from .cells import cell_of
-from .fixes import PLACES, Fixes, Reading
+from .fixes import PLACES, Fixes, Reading, checksum_of_rows, clock_of, reading_of, rows_of_fixes
 from .systems import crs_named, options_of, refuse_zone, scale_said
 from .text import NAME, Column, Text, frame_given, text_of_frame, titles_named, write_text
 from .tracks import NAMED, Whole, left_out, own_names, read_tracks, rows_of
@@ -33,9 +35,11 @@ TAKEN = ("columns: ", "UTM coordinates are", "coordinates are those", "longitude
 
 
 class ReadTable(NamedTuple):
-    """A table that was read: its fixes; the frame, None where it was a file; and of each fix its row there, where that was asked."""
+    """A table that was read: its fixes; what there is to say; the frame, None where it was a file; and of each fix its row there,
+    where that was asked."""
 
     fixes: Fixes
+    said: Sequence[str] = ()
     frame: pandas.DataFrame | None = None
     rows: NDArray[numpy.int64] | None = None
 
@@ -64,7 +68,8 @@ def read_fixes(x: Any, *, program: str | os.PathLike[str] | None = None, **optio
     there.
     """
     table = read_table(x, options, program)
-    tell(table.fixes.reading.notes if table.fixes.reading else ())
+    tell(table.said)
+    table.fixes.reading = replace(reading_of(table.fixes), rows=checksum_of_rows(table.fixes))
     return table.fixes
 
 
@@ -83,6 +88,37 @@ def read_table(
         return read_frame(own, options, Path(folder), find_split_program(program), has_columns)
 
 
+def read_again(fixes: Fixes, program: str | os.PathLike[str] | None = None, has_columns: bool = True) -> ReadTable:
+    """Fixes as they were read, if their rows are still the same; else the program reads their rows as a frame. Only what was not
+    said before is said, and not what was taken."""
+    before = reading_of(fixes)
+    if not len(fixes):
+        refuse("no fix is left", "empty")
+    if before.rows == checksum_of_rows(fixes):
+        return ReadTable(fixes)
+    rows = rows_of_fixes(fixes)
+    known = {"zone": before.zone} if before.crs is None else {"crs": before.crs}
+    text = text_of_frame(rows.reset_index(drop=True), {"unit": before.unit, **known, "tz": clock_of(fixes)})
+    with tempfile.TemporaryDirectory(prefix="homerange-") as folder:
+        found = read_text(text._replace(labels=fixes.index), Path(folder), find_split_program(program), has_columns)
+    own = reading_of(found.fixes)
+    new = [note for note in own.notes if note not in before.notes and not note.startswith(TAKEN)]
+    own = replace(own, notes=(*before.notes, *new), left=left_of_both(before, own, fixes), is_again=True)
+    table = found.fixes if found.rows is None else with_columns(found.fixes, fixes, found.rows)
+    table.reading = own
+    return ReadTable(table, new, fixes, found.rows)
+
+
+def left_of_both(before: Reading, again: Reading, fixes: Fixes) -> dict[tuple[str, str], int]:
+    """How many fixes were left out when they were read, were taken away since, and were left out when they were read again."""
+    there = fixes["animal"].value_counts()
+    gone = {(name, "use"): max(count - int(there.get(name, 0)), 0) for name, count in before.counts.items()}
+    found = Counter(before.left)
+    for left in (gone, again.left):
+        found.update(left)
+    return {key: count for key, count in found.items() if count}
+
+
 def read_file(path: Path, options: Mapping[str, Any], folder: Path, program: str) -> ReadTable:
     """The fixes of a file."""
     crs = None if options.get("crs") is None else crs_named(options["crs"])
@@ -95,28 +131,33 @@ def read_file(path: Path, options: Mapping[str, Any], folder: Path, program: str
         raise FrameError(text if text.startswith(shown) else f"{shown}: {text}", fault.kind, fault.record) from None
     record = read_record(folder / "tracks" / "split.txt")
     whole = read_tracks(folder / "tracks", record)
-    return ReadTable(fixes_of(whole, record, folder, options.get("tz"), crs, []))
+    fixes = fixes_of(whole, record, folder, options.get("tz"), crs, [])
+    return ReadTable(fixes, reading_of(fixes).notes)
 
 
 def read_frame(frame: pandas.DataFrame, options: Mapping[str, Any], folder: Path, program: str, has_columns: bool) -> ReadTable:
     """The fixes of a data frame, with its own columns if they are wanted."""
     if not len(frame) or not len(frame.columns):
         refuse("the data frame has no row of a fix", "empty")
-    text = text_of_frame(frame, options)
-    words = [*(["--records"] if has_columns else []), *words_of_options(text.options)]
+    found = read_text(text_of_frame(frame, options), folder, program, has_columns)
+    if found.rows is None:
+        return found._replace(frame=frame)
+    return found._replace(fixes=with_columns(found.fixes, frame, found.rows), frame=frame)
+
+
+def read_text(text: Text, folder: Path, program: str, has_rows: bool) -> ReadTable:
+    """The fixes of the text of a frame, with the row of each if these are wanted."""
+    words = [*(["--records"] if has_rows else []), *words_of_options(text.options)]
     try:
         write_text(text, folder / NAME)
         split_table(NAME, "tracks", words, program, str(folder))
     except FrameError as fault:
-        raise of_row(fault, frame.index) from None
+        raise of_row(fault, text.labels) from None
     record = read_record(folder / "tracks" / "split.txt")
     whole = read_tracks(folder / "tracks", record)
     refuse_odd(record, text)
     fixes = fixes_of(whole, record, folder, text.options.get("tz"), text.crs, text.notes)
-    if not has_columns:
-        return ReadTable(fixes, frame)
-    rows = rows_of(folder / "tracks", whole)
-    return ReadTable(with_columns(fixes, frame, rows), frame, rows)
+    return ReadTable(fixes, reading_of(fixes).notes, None, rows_of(folder / "tracks", whole) if has_rows else None)
 
 
 def of_row(fault: FrameError, labels: pandas.Index) -> FrameError:
