@@ -10,9 +10,10 @@ import numpy
 import pandas
 
 from .errors import UNPRINTABLE, refuse
-from .read.cells import cells_of
+from .read.cells import cells_of, odd_row
 from .read.fixes import Fixes
-from .read.reading import ODD, ReadTable, row_named
+from .read.reading import ReadTable
+from .read.refusals import row_named
 from .tracks import Tracks
 
 # Seasons are named by their months, since those of north and south have other names.
@@ -98,7 +99,7 @@ def aligned(series: pandas.Series, frame: pandas.DataFrame) -> pandas.Series:
 def given(values: pandas.Series, labels: pandas.Index) -> list[str]:
     """The groups that values say, each of which has to be there."""
     cells = cells_of(values)
-    refuse_classes(values, cells, labels)
+    refuse_classes(values, labels)
     has_parts = pandas.api.types.is_float_dtype(values.dtype)
     odd = next((at for at, cell in enumerate(cells)
                 if not cell or UNPRINTABLE.search(cell) or has_parts and not cell.lstrip("-").isdecimal()), None)
@@ -109,12 +110,11 @@ def given(values: pandas.Series, labels: pandas.Index) -> list[str]:
     return cells
 
 
-def refuse_classes(values: pandas.Series, cells: Sequence[str], labels: pandas.Index) -> None:
+def refuse_classes(values: pandas.Series, labels: pandas.Index) -> None:
     """Refuses groups of a class that has no text, such as intervals, all of which would be one."""
-    odd = {cell for cell in {*cells} if ODD.fullmatch(cell)}
-    at = next((at for at, cell in enumerate(cells) if cell in odd and not isinstance(values.iloc[at], str)), None) if odd else None
-    if at is not None:
-        kind = type(values.iloc[at]).__name__
+    odd = odd_row(values)
+    if odd is not None:
+        at, kind = odd
         refuse(f"{row_named(labels, at)}: by has a group of the class {kind}, which is no text: make it one, as by .astype(str)",
                "option", at + 1)
 

@@ -3,7 +3,7 @@ import pandas
 import pytest
 from frames import frame_of
 
-from homerange import FrameError
+from homerange import FrameError, HomeRangeNote, read_fixes
 from homerange.read.text import text_of_frame, write_text
 
 SQUARE = [(0, 0), (200, 0), (200, 200), (0, 200)]
@@ -24,6 +24,24 @@ def test_all_columns_are_written(tmp_path):
     assert text == ('animal,timestamp,easting,northing,note,"a, b","c\r"\n'
                     f'a,{TIMES[0]},0,0,x,"say ""so""",\na,{TIMES[1]},200,0,,"two\nlines", \n')
     assert options == {}
+
+
+@pytest.mark.parametrize("values, wanted", [
+    ([123.456, 1, None, -0.125], ["123.4560", "1", "", "-0.1250"]), (["123.456"], ["123.456"]), ([123.456, 0.5], ["123.456", "0.5"]),
+    ([123.456, 1000], ["123.456", "1000"]), ([999.999], ["999.9990"]), ([1, 2], ["1", "2"]), ([1.0, 2.0], ["1", "2"]), ([0.0625], ["0.0625"]),
+    (pandas.array([123.456], dtype="float32"), ["123.4560"]), (pandas.array([123.456, None], dtype="Float64"), ["123.4560", ""])])
+def test_decimals_are_not_groups_of_thousands(tmp_path, monkeypatch, values, wanted):
+    monkeypatch.setattr("homerange.read.text.CELLS", 2)  # a row at a time: the whole column counts
+    text, _, _ = written(pandas.DataFrame({"x": values, "y": "a"}), tmp_path)
+    assert text.split("\n")[1:-1] == [f"{cell},a" for cell in wanted]
+
+
+def test_numbers_with_three_decimals_are_coordinates(splitter):
+    frame = frame_of(a=[(562.125, 134.252), (571.236, 134.917), (561.125, 188.111)])
+    with pytest.warns(HomeRangeNote, match="rounded to whole decimetres"):
+        assert read_fixes(frame, unit="dm")["easting"].tolist() == [562.1, 571.2, 561.1]
+    with pytest.raises(FrameError, match="thousands"):
+        read_fixes(frame.astype({"easting": str, "northing": str}), unit="dm")
 
 
 def test_many_rows_are_written_piece_by_piece(tmp_path, monkeypatch):

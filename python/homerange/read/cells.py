@@ -1,5 +1,5 @@
 """The cells of a column of a data frame as text, by the class of the column, or of each cell where it has none. What is missing
-is nothing, and what no table of fixes has is named by its class, as <complex>, which the program refuses where it is read."""
+is nothing, and what no table of fixes has is named by its class, as <complex>, which is refused where it is read."""
 
 from __future__ import annotations
 
@@ -21,6 +21,7 @@ PARTS = {"s": 1, "ms": 10 ** 3, "us": 10 ** 6, "ns": 10 ** 9}  # of a second
 IANA = re.compile("[A-Za-z]+(/[A-Za-z0-9_+-]+)*")  # how a time zone is named
 TRUTHS = {True: "true", False: "false"}
 DAY = 86_400 * 10 ** 9  # nanoseconds
+THOUSAND = 1000
 
 
 def cells_of(series: pandas.Series) -> Cells:
@@ -174,9 +175,36 @@ def cell_of(value: Any) -> str:
     return odd_cell(value) if found is None else found(value)
 
 
+class OddCell(str):
+    """A cell of a value of which no text is known, by its class."""
+
+
 def odd_cell(value: Any) -> str:
     """What a table of fixes cannot have, by its class."""
-    return f"<{type(value).__name__}>"
+    return OddCell(f"<{type(value).__name__}>")
+
+
+def odd_row(series: pandas.Series) -> tuple[int, str] | None:
+    """The first row of a column whose value has no text, and its class; None where there is none."""
+    kind = series.dtype
+    is_plain = isinstance(kind, numpy.dtype) and kind.kind in "biufM" or pandas.api.types.infer_dtype(series, skipna=True) == "string"
+    cells = [] if is_plain else cells_of(series)
+    return next(((at, cell[1:-1]) for at, cell in enumerate(cells) if isinstance(cell, OddCell)), None)
+
+
+def are_like_thousands(series: pandas.Series) -> bool:
+    """Whether the point of all numbers of floating point of a column could be one before thousands, as in 123.456."""
+    if not pandas.api.types.is_float_dtype(series.dtype):
+        return False
+    kind = getattr(series.dtype, "numpy_dtype", series.dtype)
+    numbers = series.to_numpy(dtype=kind if isinstance(kind, numpy.dtype) else "float64", na_value=numpy.nan)
+    numbers = numbers[~numpy.isnan(numbers)]
+    has_part = numbers[numbers != numpy.floor(numbers)]
+    if not len(has_part) or not (numpy.abs(numbers) < THOUSAND).all():
+        return False
+    wide = has_part.astype("float64")
+    thousandths, hundredths = ((numpy.rint(wide * parts) / parts).astype(numbers.dtype) for parts in (1000, 100))
+    return bool((thousandths == has_part).all() and (hundredths != has_part).all())
 
 
 def whole_cell(value: Any) -> str:

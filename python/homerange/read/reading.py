@@ -3,13 +3,12 @@
 from __future__ import annotations
 
 import os
-import re
 import tempfile
 import warnings
 from collections import Counter
 from dataclasses import replace
 from pathlib import Path
-from typing import Any, Iterable, Mapping, NamedTuple, Sequence
+from typing import Any, Callable, Iterable, Mapping, NamedTuple, Sequence
 
 import numpy
 import pandas
@@ -20,15 +19,14 @@ from ..program import find_split_program
 from ..record import Record, read_record
 from ..units import UNITS
 from .call import as_arguments, split_table
-from .cells import cell_of
 from .fixes import PLACES, Fixes, Reading, checksum_of_rows, clock_of, reading_of, rows_of_fixes
+from .refusals import COLUMNS, check_cells, refuse_text
 from .systems import crs_named, options_of, refuse_zone, scale_said
-from .text import NAME, Column, Text, frame_given, text_of_frame, titles_named, write_text
+from .text import NAME, Text, frame_given, in_own_words, text_of_frame, with_time_named, write_text
 from .tracks import NAMED, Whole, left_out, own_names, read_tracks, rows_of
 from .words import words_of_options
 
 SINCE_1970 = (10 ** 8, 9_223_372_036)  # seconds that have a calendar: from 1973 to where pandas' times end
-ODD = re.compile("<[A-Za-z_0-9]+>")  # how a cell is written that no table can have
 # How lines begin that say what was taken, and nothing that was left out or changed.
 TAKEN = ("columns: ", "UTM coordinates are", "coordinates are those", "longitude and latitude are", "days and hours are",
          "ranges are by group", "not read: ", "times are read as ", "points of ")
@@ -147,56 +145,32 @@ def read_frame(frame: pandas.DataFrame, options: Mapping[str, Any], folder: Path
 
 def read_text(text: Text, folder: Path, program: str, has_rows: bool) -> ReadTable:
     """The fixes of the text of a frame, with the row of each if these are wanted."""
-    words = [*(["--records"] if has_rows else []), *words_of_options(text.options)]
-    try:
-        write_text(text, folder / NAME)
-        split_table(NAME, "tracks", words, program, str(folder))
-    except FrameError as fault:
-        raise of_row(fault, text.labels) from None
+    text = split_text(text, folder, program, ["--records"] if has_rows else [])
     record = read_record(folder / "tracks" / "split.txt")
     whole = read_tracks(folder / "tracks", record)
-    refuse_odd(record, text)
-    fixes = fixes_of(whole, record, folder, text.options.get("tz"), text.crs, text.notes)
+    check_cells(text, record)
+    fixes = fixes_of(whole, record, folder, text.options.get("tz"), text.crs, text.notes, lambda line: said_of(line, text))
     return ReadTable(fixes, reading_of(fixes).notes, None, rows_of(folder / "tracks", whole) if has_rows else None)
 
 
-def of_row(fault: FrameError, labels: pandas.Index) -> FrameError:
-    """A refusal with the row by its label, and with options as arguments. That of the program may name the text, which nobody
-    knows."""
-    text = as_arguments(str(fault).removeprefix(f"{NAME}: "), fault.kind)
-    if fault.record is None:
-        return FrameError(text, fault.kind)
-    return FrameError(f"{row_named(labels, fault.record - 1)}: {text}", fault.kind, fault.record)
+def split_text(text: Text, folder: Path, program: str, words: Sequence[str]) -> Text:
+    """Has the program make tracks of a text; answers the text that it took at last."""
+    while True:
+        try:
+            write_text(text, folder / NAME)
+            split_table(NAME, "tracks", [*words, *words_of_options(text.options)], program, str(folder))
+            return text
+        except FrameError as fault:
+            text = with_time_named(text, str(fault)) or refuse_text(text, fault)
 
 
-def row_named(labels: pandas.Index, at: int) -> str:
-    """A row by its label, and where that is not its place by that too."""
-    label = labels[at]
-    is_place = isinstance(label, (int, numpy.integer)) and label == at
-    return f"row {at}" if is_place else f"row {one_line(str(label))} (frame.iloc[{at}])"
+def said_of(line: str, text: Text) -> str:
+    """A line that the program says of a text."""
+    return in_own_words(line, text) if line.startswith(COLUMNS) else line
 
 
-def refuse_odd(record: Record, text: Text) -> None:
-    """Refuses animals that are named by what has no text, such as lists."""
-    own = own_names(record)
-    odd = {name for name in map(lambda name: own.get(name, name), record.tracks) if ODD.fullmatch(name)}
-    named = titles_named(text.options.get("animal"))
-    taken = next((line for line in record.said if line.startswith("columns: ")), "")
-    for column in text.columns if odd else ():
-        is_animal = column.title in named or taken.startswith(f"columns: {column.title},")
-        at = odd_row(column, odd) if is_animal else None
-        if at is not None:
-            what = f"{column.title} is of the class {type(column.values.iloc[at]).__name__}"
-            refuse(f"{row_named(text.labels, at)}: {what}, which is no name: make it text", "name", at + 1)
-
-
-def odd_row(column: Column, odd: set[str]) -> int | None:
-    """The first row whose cell is one of these words, and no text; None where there is none."""
-    cells = enumerate(column.values.tolist())
-    return next((at for at, value in cells if not isinstance(value, str) and cell_of(value) in odd), None)
-
-
-def fixes_of(whole: Whole, record: Record, folder: Path, tz: str | None, crs: Any, notes: Iterable[str]) -> Fixes:
+def fixes_of(whole: Whole, record: Record, folder: Path, tz: str | None, crs: Any, notes: Iterable[str],
+             in_words: Callable[[str], str] = str) -> Fixes:
     """The fixes of tracks with their record, in metres and by the clock of tz."""
     if crs is not None and record.zone is not None and options_of(crs, None).get("zone") != record.zone:
         refuse_zone(record.zone, crs)
@@ -207,7 +181,7 @@ def fixes_of(whole: Whole, record: Record, folder: Path, tz: str | None, crs: An
     when = {"time": times_of(pandas.Series(whole.second), clock)} if is_calendar else {"second": whole.second}
     fixes = Fixes({"animal": whole.per_fix(names), **when, "easting": east, "northing": north})
     middles = {name: (float(east[part].mean()), float(north[part].mean())) for name, part in zip(names, parts_of(whole.counts))}
-    said = [as_arguments(line) for line in record.said]
+    said = [as_arguments(in_words(line)) for line in record.said]
     shown = [*notes, *said, *scale_said(crs, record.zone, middles)]
     fixes.reading = Reading(
         record.unit, record.zone, crs, clock, record.shift, tuple(shown), left_out(record, own), dict(zip(names, whole.counts)),

@@ -13,8 +13,8 @@ from typing import TYPE_CHECKING, Any, Mapping, NamedTuple, NoReturn, Sequence
 import numpy
 import pandas
 
-from ..errors import refuse
-from .cells import IANA, Cells, cells_of, is_time, zone_name
+from ..errors import one_line, refuse
+from .cells import IANA, Cells, are_like_thousands, cells_of, is_time, zone_name
 from .systems import TITLES, TITLES_OF_DEGREES, columns_of_points, crs_named, is_local, options_of
 
 if TYPE_CHECKING:
@@ -36,13 +36,14 @@ class Column(NamedTuple):
 
 class Text(NamedTuple):
     """A frame as it is written: its columns, the options by which the program reads it, the reference system of its coordinates
-    as far as it is known, and what is to be said."""
+    as far as it is known, what is to be said, and the title that a column got, with its own."""
 
     columns: list[Column]
     labels: pandas.Index
     options: dict[str, Any]
     crs: Any
     notes: list[str]
+    renamed: tuple[str, str] | None = None
 
 
 def frame_given(frame: Any) -> Any:
@@ -141,8 +142,12 @@ def points_of(frame: pandas.DataFrame) -> geopandas.GeoSeries | None:
 
 def title_of_place(option: str, columns: Sequence[Column]) -> str:
     """The title of a column of points, which the frame has not."""
-    title, titles = {**TITLES, **TITLES_OF_DEGREES}[option], {column.title for column in columns}
-    several = (f"{title} {number}" for number in count(2))
+    return free_title({**TITLES, **TITLES_OF_DEGREES}[option], columns)
+
+
+def free_title(title: str, columns: Sequence[Column]) -> str:
+    """A title that no column has: this one, or with a number behind it."""
+    titles, several = {column.title for column in columns}, (f"{title} {number}" for number in count(2))
     return next(found for found in chain([title], several) if found not in titles)
 
 
@@ -190,6 +195,29 @@ def zone_of_times(columns: Sequence[Column], options: Mapping[str, Any]) -> tupl
     return zones[0], [f"days and hours are those of {zones[0]}, the zone of {[*times][0]}"]
 
 
+def with_time_named(text: Text, refusal: str) -> Text | None:
+    """The text with a column of moments named as the time, where no title is a usual one and that is the only one, or under
+    another title, where its own says a clock: the program cannot know that these are moments. None where it refused something
+    else."""
+    moments = [column for column in text.columns if has_times(column.values) and None not in zones_in(column.values)]
+    own = re.sub("^column [0-9]+ ", "", refusal)
+    odd = next((column for column in moments if own.startswith(f"'{one_line(column.title)}' says ")), None)
+    if odd is None or text.renamed is not None:
+        is_only = "no column has a usual title for the time" in refusal and text.options.get("time") is None and len(moments) == 1
+        return text._replace(options={**text.options, "time": moments[0].title}) if is_only else None
+    title = free_title("datetime", text.columns)
+    columns = [column._replace(title=title) if column is odd else column for column in text.columns]
+    return text._replace(columns=columns, options={**text.options, "time": title}, renamed=(title, odd.title))
+
+
+def in_own_words(said: str, text: Text) -> str:
+    """What is said of a text with the title that a column has itself, where it got another."""
+    if text.renamed is None:
+        return said
+    title, own = text.renamed
+    return re.sub(rf"(?<![\w-]){re.escape(title)}(?![\w-])", one_line(own).replace("\\", r"\\"), said)
+
+
 def is_number(values: pandas.Series) -> bool:
     return bool(pandas.api.types.is_numeric_dtype(values.dtype))
 
@@ -197,10 +225,11 @@ def is_number(values: pandas.Series) -> bool:
 def write_text(text: Text, path: Path) -> None:
     """Writes the text of a frame."""
     rows = max(CELLS // len(text.columns), 1)
+    longer = [are_like_thousands(column.values) for column in text.columns]
     with open(path, "wb") as file:
         file.write(encoded([[title] for title in quoted([column.title for column in text.columns])], text, None))
         for first in range(0, len(text.labels), rows):
-            cells = [quoted_of(column.values.iloc[first:first + rows]) for column in text.columns]
+            cells = [quoted_of(column.values.iloc[first:first + rows], own) for column, own in zip(text.columns, longer)]
             file.write(encoded(cells, text, first))
 
 
@@ -225,9 +254,11 @@ def refuse_text(columns: Sequence[Cells], text: Text, first: int | None) -> NoRe
     raise AssertionError("all cells are text")
 
 
-def quoted_of(values: pandas.Series) -> Cells:
-    """The cells of a column, in quotes where they need some."""
+def quoted_of(values: pandas.Series, is_longer: bool) -> Cells:
+    """The cells of a column, in quotes where they need some, or with a further 0 behind decimals."""
     cells = cells_of(values)
+    if is_longer:
+        return [f"{cell}0" if "." in cell else cell for cell in cells]
     return cells if isinstance(values.dtype, numpy.dtype) and values.dtype.kind in "biufM" else quoted(cells)
 
 
