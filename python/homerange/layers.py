@@ -15,7 +15,7 @@ import pandas
 
 from .errors import path_of
 from .ranges import HomeRanges
-from .read.reading import tell, times_of
+from .read.reading import dates_of, tell, times_of
 from .units import UNITS
 from .zones import code_of_crs
 
@@ -72,7 +72,7 @@ def polygons_of(ranges: HomeRanges) -> geopandas.GeoDataFrame:
     """The polygons of all levels, those of an animal together, with its times and the unit."""
     polygons, summary = ranges.polygons(ranges.levels), ranges.summary()
     levels, animals = len(ranges.levels), len(ranges.animals)
-    ends = {title: summary[title].dt.tz_convert("UTC").iloc[::levels].tolist() * levels for title in ("first", "last")}
+    ends = {title: dates_of(summary[title]).iloc[::levels].tolist() * levels for title in ("first", "last")}
     order = numpy.arange(levels * animals).reshape(levels, animals).T.ravel()
     shapes = polygons.pop("geometry")
     return polygons.assign(**ends, unit=ranges.unit).set_geometry(shapes).iloc[order]

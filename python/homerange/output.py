@@ -16,6 +16,7 @@ from .evidence import ABOUT, REPORT, TRACKS, Wish, copy_tracks, make_report, new
 from .page import rings_given, words_typed, write_rings
 from .program import Program, checksum_of, find_program, program_of
 from .ranges import HomeRanges, check_whole, ranges_of
+from .read.reading import dates_of
 from .read.tracks import path_of_track
 from .record import read_record, record_in
 from .report import Report
@@ -39,9 +40,8 @@ def cell_text(cell: str) -> str:
 
 
 def with_times(table: pandas.DataFrame, *titles: str) -> pandas.DataFrame:
-    """The table with its times as text in UTC."""
-    times = {title: table[title].dt.tz_convert("UTC").dt.strftime("%Y-%m-%dT%H:%M:%SZ") for title in titles}
-    return table.assign(**times)
+    """The table with its times as text in UTC; of seconds with those since 1970."""
+    return table.assign(**{title: dates_of(table[title]).dt.strftime("%Y-%m-%dT%H:%M:%SZ") for title in titles})
 
 
 def write_tables(ranges: HomeRanges, folder: Path) -> None:

@@ -21,7 +21,7 @@ from .outer import counts_within, outer_kept
 from .overview import Facts, Row, facts_of, reasons_of, rows_of
 from .program import MOST_ANIMALS, Program, Runs, checksum_of, find_program, program_of
 from .read.fixes import Fixes, clock_of, is_of_fixes, reading_of
-from .read.reading import ReadTable, read_again, read_table, tell, times_of
+from .read.reading import ReadTable, has_calendar, read_again, read_table, tell, times_of
 from .read.systems import crs_named
 from .record import Record, read_record
 from .report import Corners, Percent, Report, Table, read as read_lines
@@ -75,8 +75,18 @@ class HomeRanges:
     def _hectares(self, area2: int) -> float:
         return area2 / UNITS[self.unit].hectare
 
-    def _times(self, seconds: Sequence[int] | pandas.Series) -> pandas.Series:
-        return times_of(pandas.Series(seconds, dtype="int64"), self.tz)
+    @cached_property
+    def _has_calendar(self) -> bool:
+        """Whether all seconds have a date, as those of the fixes have that the program read."""
+        rows = (table.rows for table in self._report.tables.values())
+        return all(has_calendar(own[0][0], own[-1][0]) for own in rows)
+
+    def _times(self, seconds: Sequence[int | None] | pandas.Series) -> pandas.Series:
+        """Seconds by the clock of the ranges, or as they are where they have no date."""
+        whole = pandas.Series(seconds, dtype="Int64")
+        if self._has_calendar:
+            return times_of(whole.fillna(0).astype("int64"), self.tz).where(whole.notna())
+        return whole if whole.hasnans else whole.astype("int64")
 
     def _in_metres(self, points: Iterable[tuple[int, int]]) -> list[tuple[float, float]]:
         scale, (east, north) = UNITS[self.unit].per_metre, self.shift
@@ -86,7 +96,7 @@ class HomeRanges:
         """A row for each animal and level: ``animal``; ``first`` and ``last``, the times of its first and last fix;
         ``fixes``, how many there are, and ``left_out``, how many rows of the frame are not among them (missing where it
         is not known); ``level`` in per cent; ``kept``, how many fixes the level keeps; and ``corners`` and ``hectares``
-        of their polygon. A time after the year 2262 is NaT."""
+        of their polygon. Times are whole seconds where they have no date, as those since a start of their own."""
         left_out = self._tracks.left_out if self._tracks else {}
         rows = []
         for name, table in self._report.tables.items():
@@ -163,12 +173,11 @@ class HomeRanges:
 
     def _growth(self, rows: Sequence[Row]) -> pandas.DataFrame:
         found = [row.growth for row in rows]
-        seconds = pandas.Series([row.within_second for row in rows], dtype="Int64")
         return pandas.DataFrame({
             "animal": self.animals, "fixes": [row.used for row in rows],
             "hectares": [self._hectares(own.area2) for own in found],
             "within_95_fix": pandas.array([own.within for own in found], dtype="Int64"),
-            "within_95_time": self._times(seconds.fillna(0)).where(seconds.notna()),
+            "within_95_time": self._times([row.within_second for row in rows]),
             "last_tenth": [share(own.tenth, own.area2) for own in found],
             "last_quarter": [share(own.quarter, own.area2) for own in found]})
 

@@ -95,9 +95,14 @@ def test_a_day_is_its_midnight():
         assert home_range(times_of(time)).curve()["time"].tolist() == [pandas.Timestamp("2024-05-01", tz="UTC")]
 
 
-def test_times_after_2262_have_no_date():
-    frame = times_of(1_099_511_627_776).rename(columns={"timestamp": "second"})
-    assert home_range(frame).summary()["first"].isna().all()
+@pytest.mark.parametrize("start", [0, 1_099_511_000_000])  # of a start of its own, and after the year 2262
+def test_seconds_without_a_date_are_answered_as_they_are(start):
+    found = home_range(pandas.DataFrame({**PART, "second": [start + second for second in PART["second"]]}), 100)
+    assert found.summary()[["first", "last"]].values.tolist() == [[start, start + 180]]
+    assert found.overview()[["first", "last", "within_95_time"]].values.tolist() == [[start, start + 180, start + 180]]
+    assert found.curve()["time"].tolist() == [start, start + 60, start + 120, start + 180]
+    assert found.growth()["within_95_time"].tolist() == [start + 180]
+    assert home_range(pandas.DataFrame({**PART, "easting": 0}), 100).growth()["within_95_time"].isna().tolist() == [True]
 
 
 def test_fixes_are_sorted_by_time_and_equal_times_keep_their_order():

@@ -177,8 +177,8 @@ def fixes_of(whole: Whole, record: Record, folder: Path, tz: str | None, crs: An
     own, scale, clock = own_names(record), UNITS[record.unit].per_metre, tz or "UTC"
     names = [own.get(name, name) for name in whole.names]
     east, north = (numbers / scale - added for numbers, added in zip((whole.easting, whole.northing), record.shift))
-    is_calendar = len(whole.second) and SINCE_1970[0] <= whole.second.min() and whole.second.max() < SINCE_1970[1]
-    when = {"time": times_of(pandas.Series(whole.second), clock)} if is_calendar else {"second": whole.second}
+    is_dated = len(whole.second) and has_calendar(whole.second.min(), whole.second.max())
+    when = {"time": times_of(pandas.Series(whole.second), clock)} if is_dated else {"second": whole.second}
     fixes = Fixes({"animal": whole.per_fix(names), **when, "easting": east, "northing": north})
     middles = {name: (float(east[part].mean()), float(north[part].mean())) for name, part in zip(names, parts_of(whole.counts))}
     said = [as_arguments(in_words(line)) for line in record.said]
@@ -197,12 +197,24 @@ def parts_of(counts: Iterable[int]) -> Iterable[slice]:
         first += count
 
 
+def has_calendar(first: int, last: int) -> bool:
+    """Whether seconds from the first to the last are dates."""
+    return bool(SINCE_1970[0] <= first and last < SINCE_1970[1])
+
+
 def times_of(seconds: pandas.Series, tz: str) -> pandas.Series:
     """Seconds since 1970 by the clock of tz; NaT after the year 2262, where pandas' times end."""
     whole = seconds.to_numpy("int64")
     nanoseconds = numpy.where(whole < SINCE_1970[1], 10 ** 9 * whole, numpy.iinfo("int64").min)
     times = pandas.Series(nanoseconds.view("datetime64[ns]"), seconds.index, name=seconds.name)
     return times.dt.tz_localize("UTC").dt.tz_convert(tz)
+
+
+def dates_of(times: pandas.Series) -> pandas.Series:
+    """Times in UTC, also those that are seconds, as of 1970."""
+    if pandas.api.types.is_integer_dtype(times.dtype):
+        return times_of(times.fillna(0).astype("int64"), "UTC").where(times.notna())
+    return times.dt.tz_convert("UTC")
 
 
 def with_columns(fixes: Fixes, frame: pandas.DataFrame, rows: NDArray[numpy.int64]) -> Fixes:
