@@ -10,10 +10,9 @@ import numpy
 import pandas
 
 from .errors import UNPRINTABLE, refuse
-from .read.cells import cells_of, odd_row
+from .read.cells import cells_of, odd_row, row_named
 from .read.fixes import Fixes
 from .read.reading import ReadTable
-from .read.refusals import row_named
 from .tracks import Tracks
 
 # Seasons are named by their months, since those of north and south have other names.

@@ -13,8 +13,8 @@ from typing import TYPE_CHECKING, Iterator
 import numpy
 import pandas
 
-from .errors import path_of
-from .ranges import HomeRanges
+from .errors import check_place, files_as_said, path_of, refuse
+from .ranges import HomeRanges, check_ranges
 from .read.reading import dates_of, tell, times_of
 from .units import UNITS
 from .zones import code_of_crs
@@ -162,4 +162,10 @@ def write_layers(ranges: HomeRanges, path: str | os.PathLike[str]) -> None:
     ``unit``); the layer ``fixes`` (``animal``, ``n``, ``time``), where they are known; and how QGIS draws both. Ranges by
     groups have a column ``group`` in both. Without a reference system it is an undefined one of metres. Two runs write the
     same bytes. Which polygons have no area is said in warnings. Wants geopandas."""
-    tell(put_layers(ranges, path_of(path, "path")))
+    check_ranges(ranges)
+    file = check_place(path_of(path, "path"))
+    if file.suffix != ".gpkg":
+        refuse(f"path={str(path)!r}: a name that ends in .gpkg is wanted")
+    with files_as_said():
+        said = put_layers(ranges, file)
+    tell(said)

@@ -11,7 +11,7 @@ from typing import Any, Mapping
 import pandas
 
 from .about import Words, read_about
-from .errors import ReportError, path_of, refuse
+from .errors import ReportError, check_place, files_as_said, path_of, refuse
 from .evidence import ABOUT, REPORT, TRACKS, Wish, copy_tracks, make_report, new_folder, used_tracks
 from .page import rings_given, words_typed, write_rings
 from .program import Program, checksum_of, find_program, program_of
@@ -22,10 +22,11 @@ from .record import read_record, record_in
 from .report import Report
 from .results import BOUNDARY, words_beside, write_results
 from .tracks import Tracks, track_text
-from .units import zone_of_time
+from .units import zone_of_time, zone_text
 
 CHOSEN = "the fixes are not as they were read: what was left out before is neither in the folder nor on its page"
 FORMULAS = tuple("=+-@\t\r'")  # how texts begin that a spreadsheet may compute, or of which it hides the first sign
+ARGUMENTS = ("title", "study", "species", "by", "reserve", "reserve_name", "tz", "made")  # of the page
 PLACES = dict.fromkeys(("days", "median_hours", "longest_hours", "last_tenth", "last_quarter"), 4)
 
 
@@ -117,6 +118,9 @@ def write_folder(ranges: HomeRanges, into: str | os.PathLike[str], page: Mapping
     """Makes the folder of evidence of some ranges, whose page is written with these arguments; answers what there is to
     say of it."""
     path, tracks = path_of(into, "folder"), tracks_of(ranges)
+    odd = next((name for name in page if name not in ARGUMENTS), None)
+    if odd is not None:
+        refuse(f"there is no argument {odd}")
     check_whole(ranges, "evidence")
     said: list[str] = []
     wish = Wish(",".join(map(str, ranges.levels)), ranges.unit, program_of(find_program(ranges.named)))
@@ -133,7 +137,10 @@ def write_folder(ranges: HomeRanges, into: str | os.PathLike[str], page: Mapping
         found = ranges_in(folder, report, ranges, tracks, names, wish.program)
         said.extend([*renames(names), *write_results(folder, found, read_about(folder / ABOUT))])
 
-    new_folder(path, fill)
+    if not os.path.lexists(path):
+        check_place(path)
+    with files_as_said():
+        new_folder(path, fill)
     return said
 
 
@@ -141,6 +148,6 @@ def words_of_page(ranges: HomeRanges, *, reserve: Any = None, reserve_name: str 
                   **typed: Any) -> tuple[Words, Any]:
     """What the arguments of a page come to, and its boundary."""
     words = words_typed(reserve_name=reserve_name, **typed)
-    zone = ranges.tz if tz is None else tz
+    zone = ranges.tz if tz is None else zone_text(tz)
     zone_of_time(zone)
     return words._replace(clock=zone, boundary=None if reserve is None else words.boundary or "boundary"), reserve

@@ -7,7 +7,7 @@ from typing import TYPE_CHECKING, Any, Iterable, Literal, Sequence, overload
 import pandas
 
 from .units import UNITS
-from .errors import refuse
+from .errors import refuse, truth_of
 from .formats import Clock
 from .page_curves import layout
 from .page_text import system_of
@@ -154,8 +154,9 @@ def plot_curve(
     Answers with the axes, or with facets a list of them. Numbers at the ends of curves are those of the key, which has
     all animals; where ends lie close together some have no room.
     """
-    if by not in ("fix", "date"):
+    if not isinstance(by, str) or by not in ("fix", "date"):
         refuse(f"by={by!r} is neither 'fix' nor 'date'")
+    share, facets = truth_of(share, "share"), truth_of(facets, "facets")
     check_axes(ax, facets)
     drawn = drawn_animals(ranges, animals, colours)
     lines = [Line(ranges, animal, by, share) for animal in drawn]
@@ -262,6 +263,7 @@ def plot_ranges(
 
     Answers as plot_curve does. The numbers at polygons are those of the key, which has the area of the highest level.
     """
+    fixes, facets = truth_of(fixes, "fixes"), truth_of(facets, "facets")
     check_axes(ax, facets)
     levels, drawn = levels_of_map(level), drawn_animals(ranges, animals, colours)
     shapes, rings = shapes_of(ranges, drawn, levels, fixes), rings_over(ranges, over)

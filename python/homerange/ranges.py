@@ -8,13 +8,13 @@ import os
 from collections import Counter
 from functools import cached_property
 from pathlib import Path
-from typing import TYPE_CHECKING, Any, Callable, Iterable, Sequence
+from typing import TYPE_CHECKING, Any, Callable, Iterable, Sequence, Tuple
 
 import numpy
 import pandas
 
 from .bar import progress_of
-from .errors import ReportError, path_of, refuse
+from .errors import ReportError, check_file, path_of, refuse, truth_of
 from .groups import Group, check_by, group_tracks, is_period, labels_of
 from .growth import share
 from .outer import counts_within, outer_kept
@@ -26,11 +26,13 @@ from .read.systems import crs_named
 from .record import Record, read_record
 from .report import Corners, Percent, Report, Table, read as read_lines
 from .tracks import Tracks, tracks_of_files, tracks_of_fixes
-from .units import UNITS, zone_of_time
+from .units import UNITS, zone_of_time, zone_text
 
 if TYPE_CHECKING:
     import geopandas
     from numpy.typing import NDArray
+
+Bounds = Tuple[float, float, float, float]  # the least easting and northing, and the greatest
 
 
 class HomeRanges:
@@ -202,8 +204,7 @@ class HomeRanges:
         ``share`` which share of its fixes, 0 to 1. At 100 per cent these are the program's counts, and all fixes of an
         animal lie in its own polygon. For a lower level the package counts all fixes of the row's animal in the polygon of
         that level of the column's, by whole numbers; that needs the fixes."""
-        if not isinstance(share, bool):
-            refuse(f"share={share!r} is neither True nor False")
+        is_share = truth_of(share, "share")
         fixes = {name: len(table.rows) for name, table in self._report.tables.items()}
         if self._level(level) == 100:
             counts = {**self._report.overlaps, **{(name, name): count for name, count in fixes.items()}}
@@ -212,7 +213,7 @@ class HomeRanges:
         matrix = pandas.DataFrame(
             [[counts[name, other] for other in fixes] for name in fixes],
             index=pandas.Index(fixes, name="fixes_of"), columns=pandas.Index(fixes, name="in_range_of"))
-        return matrix.div(pandas.Series(fixes), axis="index") if share else matrix
+        return matrix.div(pandas.Series(fixes), axis="index") if is_share else matrix
 
     def corners(self, level: int = 100) -> dict[str, list[tuple[float, float]]]:
         """The corners of each animal's polygon at a level, easting and northing in metres, counterclockwise from the
@@ -430,10 +431,11 @@ def read_report(
     """
     if isinstance(files, (str, os.PathLike)) or not isinstance(files, Iterable):
         refuse(f"files={files!r} are not several paths, such as [{files!r}]")
-    check_grid(crs, tz, shift)
-    report, paths = read_lines(path_of(path, "path")), [path_of(file, "files") for file in files]
-    split = None if record is None else path_of(record, "record")
-    return ranges_of(report, Path(path), paths, crs, tz, shift, split, program)
+    zone = zone_text(tz)
+    check_grid(crs, zone, shift)
+    report, paths = read_lines(check_file(path_of(path, "path"))), [check_file(path_of(file, "files")) for file in files]
+    split = None if record is None else check_file(path_of(record, "record"))
+    return ranges_of(report, Path(path), paths, crs, zone, shift, split, program)
 
 
 def check_grid(crs: Any, tz: str, shift: Any) -> None:
@@ -455,6 +457,12 @@ def ranges_of(report: Report, path: Path, files: Sequence[Path], crs: Any, tz: s
     ranges.shift, ranges.record, ranges.checksum = shift, record, checksum_of(path)
     ranges.files, ranges.split = [*files], split
     return ranges
+
+
+def check_ranges(ranges: Any) -> None:
+    """Refuses what has no ranges."""
+    if not isinstance(ranges, HomeRanges):
+        refuse(f"a {type(ranges).__name__} has no ranges: home_range makes them")
 
 
 def check_whole(ranges: HomeRanges, what: str) -> None:
@@ -480,7 +488,26 @@ def boundary_of(ranges: HomeRanges, reserve: Any) -> Any:
         refuse("the boundary of the reserve crosses itself: mend it, as by reserve.buffer(0)")
     if reserve.area == 0:
         refuse("the reserve has no area")
+    if own is None and is_in_degrees(reserve.bounds) and not meets(reserve.bounds, box_of_ranges(ranges)):
+        refuse("the reserve has no CRS, and lies as longitude and latitude do: make a GeoSeries of it with its CRS, which is taken to "
+               "that of the ranges", "degrees")
     return reserve
+
+
+def is_in_degrees(box: Bounds) -> bool:
+    """Whether a box may be one of longitude and latitude."""
+    return -180 <= box[0] and -90 <= box[1] and box[2] <= 180 and box[3] <= 90
+
+
+def meets(one: Bounds, other: Bounds) -> bool:
+    """Whether two boxes have a place in common."""
+    return one[0] <= other[2] and other[0] <= one[2] and one[1] <= other[3] and other[1] <= one[3]
+
+
+def box_of_ranges(ranges: HomeRanges) -> Bounds:
+    """The box of all ranges, in metres."""
+    eastings, northings = zip(*(corner for corners in ranges.corners().values() for corner in corners))
+    return min(eastings), min(northings), max(eastings), max(northings)
 
 
 def share_inside(ranges: HomeRanges, reserve: Any, level: int = 100) -> pandas.DataFrame:

@@ -8,7 +8,7 @@ import pytest
 from exact import area2, cloud, hull, nearest
 
 import homerange
-from homerange import FrameError, ReportError, read_report
+from homerange import FileError, FrameError, ReportError, read_report
 from homerange.program import find_program
 from homerange.outer import kept_of, outer_fixes, outer_kept
 from homerange.report import kept_places
@@ -231,9 +231,11 @@ def test_what_is_no_text_is_no_report(tmp_path):
         read_report(path)
 
 
-def test_a_file_that_is_not_there_is_a_fault_of_the_system(tmp_path):
-    with pytest.raises(FileNotFoundError):
-        read_report(tmp_path / "none.txt")
+def test_a_file_that_is_not_there_is_refused(files, tmp_path):
+    report, none = report_of(files), tmp_path / "none"
+    for call in (lambda: read_report(none), lambda: read_report(tmp_path), lambda: read_report(report, files=[none]), lambda: read_report(report, record=none)):
+        with pytest.raises(FileError, match="^.*: there is no such file$"):
+            call()
 
 
 def test_the_examples_in_the_repository():

@@ -66,7 +66,10 @@ def test_times_of_the_index_have_a_usual_title(tmp_path):
     for name in (None, "t", "when"):
         assert written(frame.rename_axis(name), tmp_path)[0].split("\n")[0] == "animal,easting,northing,datetime"
     assert written(frame.rename_axis("when"), tmp_path, time="when")[0].split("\n")[0] == "animal,easting,northing,when"
+    assert written(frame.rename_axis(None), tmp_path, time="index")[0].split("\n")[0] == "animal,easting,northing,index"
     labels = frame.reset_index(drop=True).set_index(pandas.Index([5, 7]))
+    for index, title in ((pandas.RangeIndex(2, name="second"), ",second"), (pandas.Index([5, 7], name="id"), ""), (pandas.Index([5, 5], name="id"), ",id")):
+        assert written(labels.set_index(index), tmp_path)[0].split("\n")[0] == f"animal,easting,northing{title}"
     assert written(labels, tmp_path)[0].split("\n")[0] == "animal,easting,northing"
     several = pandas.concat({"fox": labels.drop(columns="animal")})
     assert written(several, tmp_path)[0].split("\n")[:2] == ["easting,northing,level_0,level_1", "0,0,fox,5"]
@@ -122,7 +125,8 @@ def test_points_are_columns(tmp_path):
         written(degrees, tmp_path)
     assert fault.value.kind == "degrees"
     mixed = metres.assign(geometry=[metres.geometry[0], metres.geometry[0].buffer(1)])
-    assert written(mixed, tmp_path)[0].split("\n")[2].endswith(",<polygon>,<polygon>")
+    with pytest.raises(FrameError, match="^row 1: the geometry is a polygon, and points are wanted$"):
+        written(mixed, tmp_path)
 
 
 def test_points_in_degrees_are_of_wgs_84(tmp_path):

@@ -12,6 +12,8 @@ import numpy
 import pandas
 from numpy.typing import NDArray
 
+from ..errors import one_line
+
 Cells = List[str]
 EXACT = 2 ** 53  # from here on numbers of floating point are not all whole numbers
 WIDTHS = {"float16": 2 ** 11, "float32": 2 ** 24}  # the same of narrower ones
@@ -173,6 +175,13 @@ def cell_of(value: Any) -> str:
         return moments(numpy.array([value]), False)[0]
     found = next((write for kinds, write in CLASSES if isinstance(value, kinds)), None)
     return odd_cell(value) if found is None else found(value)
+
+
+def row_named(labels: pandas.Index, at: int) -> str:
+    """A row by its label, and where that is not its place by that too."""
+    label = labels[at]
+    is_place = isinstance(label, (int, numpy.integer)) and label == at
+    return f"row {at}" if is_place else f"row {one_line(str(label))} (frame.iloc[{at}])"
 
 
 class OddCell(str):

@@ -17,7 +17,7 @@ from numpy.typing import NDArray
 from ..errors import FrameError, HomeRangeInfo, HomeRangeNote, one_line, path_of, refuse
 from ..program import find_split_program
 from ..record import Record, read_record
-from ..units import UNITS
+from ..units import UNITS, zone_text
 from .call import as_arguments, split_table
 from .fixes import PLACES, Fixes, Reading, checksum_of_rows, clock_of, reading_of, rows_of_fixes
 from .refusals import COLUMNS, check_cells, refuse_text
@@ -57,7 +57,8 @@ def read_fixes(x: Any, *, program: str | os.PathLike[str] | None = None, **optio
     options: those of homerange-split, with _ for hyphens (``from_`` for from): unit, zone, crs, animal, name, time, time_format,
         tz, easting, northing, lon, lat, argos, dop, fix, skip_unnamed, sensor, argos_class, max_dop, fix_type, since, until,
         max_speed, every, na and from_; and of files encoding, skip_lines and header. docs/TABLES.md says what each does, and how
-        a table is read. crs is the reference system of coordinates in metres, such as 'EPSG:3035'.
+        a table is read. crs is the reference system of coordinates in metres, such as 'EPSG:3035'. every is a text such as '2h'
+        or '30min', a timedelta, or a number of hours (so 7200 are 300 days).
     program: as in home_range.
 
     The program homerange-split, which lies beside homerange, reads the table: a data frame is written as a text for it. Fixes are
@@ -75,7 +76,7 @@ def read_table(
     x: Any, options: Mapping[str, Any], program: str | os.PathLike[str] | None = None, has_columns: bool = True,
 ) -> ReadTable:
     """The fixes of a file or a frame, of a frame with its own columns if they are wanted."""
-    own = frame_given(x)
+    own, options = frame_given(x), {**options, "tz": zone_text(options.get("tz"))}
     words_of_options({**options, "crs": None})  # what cannot be right is refused before anything is looked for
     with tempfile.TemporaryDirectory(prefix="homerange-") as folder:
         if isinstance(own, (str, os.PathLike)):

@@ -3,6 +3,7 @@ class that has no text, in columns that the program read."""
 
 from __future__ import annotations
 
+import re
 from typing import Iterable, Iterator, NamedTuple, NoReturn, Sequence
 
 import numpy
@@ -11,17 +12,13 @@ import pandas
 from ..errors import FrameError, one_line, refuse
 from ..record import Record
 from .call import as_arguments
-from .cells import cell_of, odd_row
+from .cells import cell_of, odd_row, row_named
 from .text import NAME, Column, Text, in_own_words, titles_named
 
+# What the program says of files, and what is said of frames in its place.
+OF_FILES = {re.compile("(?<=a number that has lost digits): .*"): ": read its column as text, as by dtype=str",
+            re.compile(f"^{NAME} has (.*): is its separator another[?]$"): r"the data frame has \1"}
 COLUMNS, UNREAD, NO_ANIMAL = "columns: ", "not read: ", "no column has a usual title for the animal"  # how lines begin
-
-
-def row_named(labels: pandas.Index, at: int) -> str:
-    """A row by its label, and where that is not its place by that too."""
-    label = labels[at]
-    is_place = isinstance(label, (int, numpy.integer)) and label == at
-    return f"row {at}" if is_place else f"row {one_line(str(label))} (frame.iloc[{at}])"
 
 
 def refuse_text(text: Text, fault: FrameError) -> NoReturn:
@@ -31,9 +28,16 @@ def refuse_text(text: Text, fault: FrameError) -> NoReturn:
     odd = [own for own in odd_cells(text.columns if "<" in said else ()) if f"<{own.kind}>" in said]
     if odd:
         refuse_class(text, [own for own in odd if own.title in said] or odd, fault.kind)
-    line = in_own_words(as_arguments(said, fault.kind), text)
+    line = in_own_words(as_arguments(of_frame(said), fault.kind), text)
     where = "" if fault.record is None else f"{row_named(text.labels, fault.record - 1)}: "
     raise FrameError(f"{where}{line}", fault.kind, fault.record)
+
+
+def of_frame(said: str) -> str:
+    """What the program says of a file, as it is said of a frame."""
+    for form, own in OF_FILES.items():
+        said = form.sub(own, said)
+    return said
 
 
 class Odd(NamedTuple):

@@ -22,6 +22,7 @@ if TYPE_CHECKING:
 
 CELLS = 2 ** 18  # that are written together
 NAME = "fixes.csv"
+INDEX = "index"  # what pandas calls the one level of an index that has no name
 COORDINATES = ("easting", "northing", "lon", "lat")
 OF_FILES = ("encoding", "skip_lines", "header")  # options
 TIMES = {"second", "timestamp", "t-", "date", "time", "datetime", "date-time", "acquisition-time", "tracked-at"}  # usual titles
@@ -61,7 +62,7 @@ def text_of_frame(frame: pandas.DataFrame, options: Mapping[str, Any]) -> Text:
     if points is not None:
         if crs is not None:
             refuse("crs: points bring their own CRS; frame.set_crs names it, and frame.to_crs projects them into another")
-        places, notes = columns_of_points(points)
+        places, notes = columns_of_points(points, frame.index)
         for option, values in places.items():
             found[option] = title_of_place(option, columns)
             columns.append(Column(found[option], values))
@@ -98,18 +99,24 @@ def columns_of(frame: pandas.DataFrame, options: Mapping[str, Any]) -> list[Colu
 
 def levels_of(frame: pandas.DataFrame, options: Mapping[str, Any]) -> list[Column]:
     """The levels of an index that have a name, or are times, or are among others, as columns."""
-    if isinstance(frame.index, pandas.RangeIndex):
+    named, found = [title for name in ("animal", "time") for title in titles_named(options.get(name))], []
+    if is_of_rows(frame.index) and frame.index.name not in named:
         return []
-    named, found = titles_named(options.get("time")), []
     for at, name in enumerate(frame.index.names):
         values = frame.index.get_level_values(at).to_series(index=pandas.RangeIndex(len(frame)))
-        title = f"level_{at}" if name is None else str(name)
+        title = str(name) if name is not None else f"level_{at}" if frame.index.nlevels > 1 else INDEX
         if has_times(values) and (name is None or plain(title) not in TIMES) and title not in named:
             title = "datetime"
-        elif name is None and frame.index.nlevels == 1:
+        elif title == INDEX and title not in named:
             continue
         found.append(Column(title, values))
     return found
+
+
+def is_of_rows(index: pandas.Index) -> bool:
+    """Whether an index numbers rows, as pandas does without a name, and trackintel as id."""
+    name = index.name
+    return name is None and isinstance(index, pandas.RangeIndex) or name == "id" and is_number(index) and index.is_unique
 
 
 def is_there(level: Column, columns: Sequence[Column]) -> bool:
@@ -218,7 +225,7 @@ def in_own_words(said: str, text: Text) -> str:
     return re.sub(rf"(?<![\w-]){re.escape(title)}(?![\w-])", one_line(own).replace("\\", r"\\"), said)
 
 
-def is_number(values: pandas.Series) -> bool:
+def is_number(values: pandas.Series | pandas.Index) -> bool:
     return bool(pandas.api.types.is_numeric_dtype(values.dtype))
 
 
