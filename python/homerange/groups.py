@@ -13,6 +13,7 @@ from .errors import UNPRINTABLE, refuse
 from .read.cells import cells_of, odd_row, row_named
 from .read.fixes import Fixes
 from .read.reading import ReadTable
+from .outer import Track
 from .tracks import Tracks
 
 # Seasons are named by their months, since those of north and south have other names.
@@ -130,15 +131,16 @@ def periods(fixes: Fixes, by: str) -> list[str]:
 
 def group_tracks(tracks: Tracks, labels: Sequence[str]) -> tuple[Tracks, dict[str, Group]]:
     """The tracks of each group, in the order of animals and of times, by names that say both; and what these names mean."""
-    parts: dict[str, pandas.DataFrame] = {}
+    parts: dict[str, Track] = {}
     known: dict[str, Group] = {}
     own, end = numpy.array(labels, dtype=object), 0
     for animal, track in tracks.by_name.items():
         first, end = end, end + len(track)
-        for group, part in track.groupby(own[first:end], sort=False):
+        codes, groups = pandas.factorize(own[first:end])
+        for code, group in enumerate(groups):
             name = f"{animal} {group}"
             if name in known:
                 refuse(f"by: {animal!r} and {known[name].animal!r} both have a range named {name!r}: rename one", "name")
-            parts[name], known[name] = part.reset_index(drop=True), Group(animal, group)
+            parts[name], known[name] = track[codes == code], Group(animal, group)
     said = f"ranges are by group: {len(parts)} of {len(tracks.by_name)} animals"
     return replace(tracks, by_name=parts, left_out={}, notes=[*tracks.notes, said], record=None), known

@@ -22,6 +22,8 @@ from .zones import code_of_crs
 if TYPE_CHECKING:
     import geopandas
 
+    from .tracks import Tracks
+
 ROWS = 100  # that are written together
 NO_DATE = "1970-01-01T00:00:00.000Z"
 # Where no reference system is known: GDAL would take coordinates without one for degrees.
@@ -78,15 +80,14 @@ def polygons_of(ranges: HomeRanges) -> geopandas.GeoDataFrame:
     return polygons.assign(**ends, unit=ranges.unit).set_geometry(shapes).iloc[order]
 
 
-def fixes_of(ranges: HomeRanges, tracks: dict[str, pandas.DataFrame]) -> pandas.DataFrame:
+def fixes_of(ranges: HomeRanges, tracks: Tracks) -> pandas.DataFrame:
     """The fixes, numbered by the order of time, with their places in metres."""
-    own = pandas.concat(tracks.values(), keys=tracks.keys(), names=["animal", None]).reset_index("animal")
-    scale, (east, north) = UNITS[ranges.unit].per_metre, ranges.shift
-    found = own.reset_index(drop=True).assign(
-        n=numpy.concatenate([numpy.arange(1, len(track) + 1) for track in tracks.values()]),
-        time=lambda table: times_of(table["second"], "UTC"),
-        easting=own["easting"].to_numpy() / scale - east, northing=own["northing"].to_numpy() / scale - north)
-    return ranges.by_group(found.drop(columns="second"))
+    counts = [*map(len, tracks.by_name.values())]
+    second, *sides = numpy.concatenate([*tracks.by_name.values()]).T
+    east, north = (side / UNITS[ranges.unit].per_metre - added for side, added in zip(sides, ranges.shift))
+    return ranges.by_group(pandas.DataFrame({
+        "animal": numpy.repeat(numpy.array([*tracks.by_name], dtype=object), counts), "easting": east, "northing": north,
+        "n": numpy.concatenate([numpy.arange(1, count + 1) for count in counts]), "time": times_of(pandas.Series(second), "UTC")}))
 
 
 def write_fixes(fixes: pandas.DataFrame, crs: object, path: Path) -> None:
@@ -149,7 +150,7 @@ def put_layers(ranges: HomeRanges, path: Path) -> list[str]:
         if "ranges" in written:
             placed(polygons[has_area]).to_file(path, driver="GPKG", layer="ranges")
         if ranges.tracks is not None:
-            write_fixes(fixes_of(ranges, ranges.tracks.by_name), ranges.crs, path)
+            write_fixes(fixes_of(ranges, ranges.tracks), ranges.crs, path)
     if written:
         write_styles(path, written)
     return [f"not in {path.name}, since they have no area at {level} %: {', '.join(dict.fromkeys(names))}"

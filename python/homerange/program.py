@@ -131,7 +131,7 @@ def _write_tracks(folder: str, tracks: Mapping[str, Any]) -> None:
     for number, track in enumerate(tracks.values()):
         with open(Path(folder, f"{number}.csv"), "w", encoding="utf-8", newline="\n") as file:
             file.write("animal,second,easting,northing\n")
-            numbers = track[["second", "easting", "northing"]].to_numpy().ravel().tolist()
+            numbers = track.ravel().tolist()
             for first in range(0, len(numbers), 3 * ROWS):
                 cells = tuple(numbers[first:first + 3 * ROWS])
                 file.write(f"{number},%d,%d,%d\n" * (len(cells) // 3) % cells)
@@ -155,10 +155,10 @@ def workers(jobs: int | None) -> ThreadPoolExecutor:
 
 
 class Runs:
-    """The runs of tracks. Where only polygons are wanted, the last row stands for each."""
+    """The runs of tracks."""
 
-    def __init__(self, program: str, tracks: dict[str, Any], levels: str, unit: str, skips_rows: bool = False) -> None:
-        self.program, self.tracks, self.levels, self.unit, self.skips_rows = program, tracks, levels, unit, skips_rows
+    def __init__(self, program: str, tracks: dict[str, Any], levels: str, unit: str) -> None:
+        self.program, self.tracks, self.levels, self.unit = program, tracks, levels, unit
         self.numbers = {name: number for number, name in enumerate(tracks)}
         self.steps = steps_of(list(tracks))
 
@@ -175,7 +175,7 @@ class Runs:
         if len(step) == 2:
             overlaps = overlaps_of(lines_of(text, self.program), fixes)
         else:
-            found = parse(lines_of(text, self.program), self.skips_rows)
+            found = parse(lines_of(text, self.program))
             overlaps = found.overlaps
             reported = {number: len(table.rows) for number, table in found.tables.items()}
             if found.unit != self.unit or [*reported.items()] != [*fixes.items()]:

@@ -2,7 +2,6 @@
 
 from __future__ import annotations
 
-import itertools
 import math
 import os
 from collections import Counter
@@ -17,14 +16,14 @@ from .bar import progress_of
 from .errors import ReportError, check_file, path_of, refuse, truth_of
 from .groups import Group, check_by, group_tracks, is_period, labels_of
 from .growth import share
-from .outer import counts_within, outer_kept
+from .outer import counts_within, polygon_kept
 from .overview import Facts, Row, facts_of, reasons_of, rows_of
-from .program import MOST_ANIMALS, Program, Runs, checksum_of, find_program, program_of
+from .program import Program, Runs, checksum_of, find_program, program_of
 from .read.fixes import Fixes, clock_of, is_of_fixes, reading_of
 from .read.reading import ReadTable, has_calendar, read_again, read_table, tell, times_of
 from .read.systems import crs_named
 from .record import Record, read_record
-from .report import Corners, Percent, Report, Table, read as read_lines
+from .report import Corners, Percent, Report, Table, doubled_area, read as read_lines
 from .tracks import Tracks, tracks_of_files, tracks_of_fixes
 from .units import UNITS, zone_of_time, zone_text
 
@@ -52,7 +51,6 @@ class HomeRanges:
         self._report, self._tracks, self.program = report, tracks, program
         # The program of later runs; None finds one.
         self.named = program and program.path if named is None else path_of(named, "program")
-        self.jobs: int | None = None  # of later runs
         self.groups: dict[str, Group] = {}  # what ranges are of, where they are of groups
         self._corners: dict[int, dict[str, Corners]] = {}
         self.record: Record | None = None  # of how the files were made, where they were read with one
@@ -217,12 +215,12 @@ class HomeRanges:
 
     def corners(self, level: int = 100) -> dict[str, list[tuple[float, float]]]:
         """The corners of each animal's polygon at a level, easting and northing in metres, counterclockwise from the
-        westernmost, the first not repeated. For a level below 100 the program is run again, on the fixes that the level
-        keeps, and what it finds is compared with the report (``ReportError`` where it is not the same)."""
+        westernmost, the first not repeated. For a level below 100 the package finds them, by whole numbers, among the fixes
+        that the level keeps; their number and their area have to be those of the report (``ReportError``)."""
         level = self._level(level)
         if level not in self._corners:
-            tables = self._report.tables if level == 100 else self._kept_tables(level)
-            self._corners[level] = {name: table.corners for name, table in tables.items()}
+            whole = {name: table.corners for name, table in self._report.tables.items()}
+            self._corners[level] = whole if level == 100 else self._kept_corners(level)
         return {name: self._in_metres(points) for name, points in self._corners[level].items()}
 
     def _overlaps_at(self, level: int) -> dict[tuple[str, str], int]:
@@ -239,20 +237,15 @@ class HomeRanges:
             refuse(f"level {level!r} is none of these ranges ({', '.join(map(str, self.levels))})")
         return int(found)
 
-    def _kept_tables(self, level: int) -> dict[str, Table]:
-        """The tables of the fixes that a level keeps."""
+    def _kept_corners(self, level: int) -> dict[str, Corners]:
+        """The polygons of the fixes that a level keeps."""
         if self._tracks is None:
             refuse("polygons below 100 per cent need the fixes: read_report(path, files=..)")
-        kept = {name: outer_kept(track, level) for name, track in self._tracks.by_name.items()}
-        tables: dict[str, Table] = {}
-        for first in range(0, len(kept), MOST_ANIMALS):
-            part = dict(itertools.islice(kept.items(), first, first + MOST_ANIMALS))
-            runs = Runs(find_program(self.named), part, "100", self.unit, skips_rows=True)
-            tables.update(runs.report(progress_of(None), self.jobs).tables)
-        for name, table in tables.items():
-            if table.rows[-1][1:] != self._percent(name, level)[2:]:
+        found = {name: polygon_kept(track, level) for name, track in self._tracks.by_name.items()}
+        for name, corners in found.items():
+            if (len(corners), doubled_area(corners)) != self._percent(name, level)[2:]:
                 raise ReportError(f"the {level} per cent polygon of {name} is not that of the report")
-        return tables
+        return found
 
     def _percent(self, animal: str, level: int) -> Percent:
         """What the report says of an animal's polygon at a level."""
@@ -286,7 +279,7 @@ class HomeRanges:
         self._table(animal)
         if self._tracks is None:
             return None
-        places = self._tracks.by_name[animal][["easting", "northing"]].to_numpy(dtype="float64")
+        places = self._tracks.by_name[animal][:, 1:]
         return numpy.asarray(places / UNITS[self.unit].per_metre - self.shift, dtype="float64")
 
     def polygons(self, levels: int | Iterable[int] = 100) -> geopandas.GeoDataFrame:
@@ -397,7 +390,7 @@ def home_range(
     tell([*table.said, *tracks.notes[len(own.notes):]])
     report = Runs(found.path, tracks.by_name, ",".join(map(str, wanted)), own.unit).report(shown, jobs)
     ranges = HomeRanges(report, tracks, crs=own.system, tz=clock_of(table.fixes), program=found)
-    ranges.jobs, ranges.groups = jobs, groups
+    ranges.groups = groups
     return ranges
 
 

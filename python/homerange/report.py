@@ -118,12 +118,6 @@ class Lines:
             self.rest = chain(lines[1:], self.rest)
         return rows
 
-    def skip(self, count: int) -> None:
-        """Goes on behind so many lines, or at the end."""
-        if count:
-            self.number += count
-            self.line = next(islice(self.rest, count - 1, None), "")
-
     def unit(self) -> str:
         """The unit, which has a line where it is decimetres."""
         if self.line != "unit,dm\n":
@@ -155,10 +149,10 @@ class Lines:
 
 class Animal:
     """The lines of one animal, the next of a report. Each is handed on as it was read; rows are kept where that is
-    wanted, else the last alone. Where only polygons are wanted rows are not read, and the last stands for each."""
+    wanted, else the last alone."""
 
     def __init__(self, lines: Lines, levels: Sequence[int] | None, write: Callable[[str], object] = str,
-                 keeps_rows: bool = False, skips_rows: bool = False) -> None:
+                 keeps_rows: bool = False) -> None:
         self.lines, self.write = lines, write
         self.name = (lines.line.rstrip("\n").split(",") + [""])[1]
         (self.fixes,) = self.take(f"animal,{self.name},fixes,", 1)
@@ -166,10 +160,7 @@ class Animal:
         self.need(bool(is_name), "no name of an animal")
         self.box = self.take(f"box,{self.name},", 4)
         self.rows: Rows = []
-        if skips_rows:
-            self.skip_rows()
-        else:
-            self.take_rows(keeps_rows)
+        self.take_rows(keeps_rows)
         self.need(self.last[0] > 0, "no corners")
         self.corners = self.polygon()
         self.percents = [self.percent(level) for level in levels or self.levels_ahead()]
@@ -199,12 +190,6 @@ class Animal:
             if keeps_rows:
                 self.rows += rows
         self.last = [*last[1:]]
-
-    def skip_rows(self) -> None:
-        """The last row, in place of all."""
-        self.lines.skip(self.fixes - 1)
-        self.rows = [self.row(self.fixes, (0, 0, 0))] * self.fixes
-        self.last = [*self.rows[0][1:]]
 
     def row(self, n: int, before: Row) -> Row:
         """The row of the first n fixes, behind another."""
@@ -257,12 +242,12 @@ def overlaps_of(lines: Lines, fixes: Mapping[str, int]) -> dict[tuple[str, str],
             for other, count in zip((other for other in fixes if other != name), own)}
 
 
-def parse(lines: Lines, skips_rows: bool = False) -> Report:
+def parse(lines: Lines) -> Report:
     """What a report says."""
     unit, tables = lines.unit(), dict[str, Table]()
     levels: list[int] | None = None
     while lines.line.startswith("animal,") or not tables:
-        animal = Animal(lines, levels, keeps_rows=True, skips_rows=skips_rows)
+        animal = Animal(lines, levels, keeps_rows=True)
         animal.need(animal.name not in tables, "it is there twice")
         tables[animal.name], levels = Table(animal.rows, animal.corners, animal.percents), animal.levels
     return Report(unit, tables, overlaps_of(lines, {name: len(table.rows) for name, table in tables.items()}))

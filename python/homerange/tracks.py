@@ -16,7 +16,7 @@ import pandas
 from numpy.typing import NDArray
 
 from .errors import FrameError, ReportError
-from .outer import outer_fixes
+from .outer import Track, outer_fixes
 from .read.fixes import PLACES, Fixes, reading_of
 from .report import Report, polygon_of
 from .units import UNITS, Unit
@@ -28,9 +28,9 @@ HEAD = b"animal,second,easting,northing\n"
 
 @dataclass
 class Tracks:
-    """The fixes of each animal, of second, easting and northing, and what became of the others."""
+    """The fixes of each animal, and what became of the others."""
 
-    by_name: dict[str, pandas.DataFrame]
+    by_name: dict[str, Track]
     left_out: dict[str, int]  # how many fixes of each animal are not there
     shift: tuple[int, int] = (0, 0)  # metres that were added to coordinates
     notes: list[str] = field(default_factory=list)
@@ -43,10 +43,9 @@ class Tracks:
 def tracks_of_fixes(fixes: Fixes) -> Tracks:
     """The tracks of fixes that are as the program wrote them."""
     reading = reading_of(fixes)
-    table = pandas.DataFrame({"second": seconds_of(fixes), **{title: whole_units(fixes[title], UNITS[reading.unit], added)
-                                                              for title, added in zip(PLACES, reading.shift)}})
-    ends = numpy.cumsum([*reading.counts.values()])
-    parts = (table.iloc[end - count:end].reset_index(drop=True) for end, count in zip(ends, reading.counts.values()))
+    sides = [whole_units(fixes[title], UNITS[reading.unit], added) for title, added in zip(PLACES, reading.shift)]
+    whole = numpy.column_stack([seconds_of(fixes), *sides])
+    parts = numpy.split(whole, numpy.cumsum([*reading.counts.values()])[:-1])
     left_out = Counter[str]()
     for (name, _), count in reading.left.items():
         left_out[name] += count
@@ -67,9 +66,9 @@ def whole_units(metres: pandas.Series, unit: Unit, added: int) -> Whole:
     return numpy.asarray(numpy.rint(unit.per_metre * (metres.to_numpy(dtype="float64") + added)), dtype="int64")
 
 
-def track_text(name: str, track: pandas.DataFrame) -> bytes:
+def track_text(name: str, track: Track) -> bytes:
     """The file of an animal of this name, byte by byte as the program writes it."""
-    numbers = track[["second", "easting", "northing"]].to_numpy().ravel().tolist()
+    numbers = track.ravel().tolist()
     row = f"{name.replace('%', '%%')},%d,%d,%d\n".encode()
     return HEAD + b"".join(pieces(row, numbers))
 
@@ -81,7 +80,7 @@ def pieces(row: bytes, numbers: list[int]) -> Iterator[bytes]:
         yield row * (len(cells) // 3) % cells
 
 
-def read_track(path: str | os.PathLike[str]) -> tuple[str, pandas.DataFrame, int]:
+def read_track(path: str | os.PathLike[str]) -> tuple[str, Track, int]:
     """The animal of a file, its used fixes, of which there may be none, and how many are not used."""
     numbers: dict[str, list[int]] = {title: [] for title in ("second", "easting", "northing")}
     animals, count = list[str](), 0
@@ -99,7 +98,7 @@ def read_track(path: str | os.PathLike[str]) -> tuple[str, pandas.DataFrame, int
             animals, count = animals or some[0][at["animal"]:], count + len(some)
     if not count:
         raise FrameError(f"{path} has no fix with animal, second, easting and northing")
-    track = pandas.DataFrame({title: numpy.array(column) for title, column in numbers.items()})
+    track = numpy.array([*numbers.values()], dtype="int64").T
     return "".join(animals[:1]), track, count - len(track)
 
 
@@ -111,9 +110,9 @@ def tracks_of_files(report: Report, files: Iterable[str | os.PathLike[str]]) -> 
     for name, table in report.tables.items():
         if name not in read:
             raise ReportError(f"no file has the animal {name} of the report")
-        if read[name][0]["second"].tolist() != [second for second, _, _ in table.rows]:
+        if read[name][0][:, 0].tolist() != [second for second, _, _ in table.rows]:
             raise ReportError(f"the file of {name} has other fixes than the report")
-        if polygon_of(outer_fixes(read[name][0][["easting", "northing"]], table.corners)) != table.corners:
+        if polygon_of(outer_fixes(read[name][0][:, 1:], table.corners)) != table.corners:
             raise ReportError(f"the polygon of the file of {name} is not that of the report")
     unused = {name: read[name][1] for name in report.tables}
     reasons = Counter({(name, "use"): count for name, count in unused.items()})

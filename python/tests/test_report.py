@@ -3,6 +3,7 @@ import re
 import subprocess
 from pathlib import Path
 
+import numpy
 import pandas
 import pytest
 from exact import area2, cloud, hull, nearest
@@ -10,7 +11,7 @@ from exact import area2, cloud, hull, nearest
 import homerange
 from homerange import FileError, FrameError, ReportError, read_report
 from homerange.program import find_program
-from homerange.outer import kept_of, outer_fixes, outer_kept
+from homerange.outer import kept_of, outer_fixes, polygon_kept
 from homerange.report import kept_places
 
 TRACKS = {"vixen": cloud(7, 40), "old boar": cloud(8, 11)}
@@ -102,7 +103,7 @@ def test_fixes_in_other_places_are_refused(files):
     cloud(1, 400), cloud(2, 400, spread=9), [(7, 5)], [(7, 5), (9, 5)], [(at, 3 * at) for at in range(50)],
     [(5, at) for at in range(50)], [(at, at * at) for at in range(99)], [(4 ** 20 * at, 9 ** 20 - at * at) for at in range(99)]])
 def test_few_fixes_have_the_polygon_of_all(points):
-    track, corners = pandas.DataFrame(points, columns=["easting", "northing"]), hull(points)
+    track, corners = numpy.array(points, dtype=object if max(map(max, points)) > 2 ** 62 else "int64"), hull(points)
     assert hull(outer_fixes(track, corners)) == corners
     for place in range(len(corners)):
         east, north = corners[place]
@@ -116,11 +117,11 @@ def test_few_fixes_have_the_polygon_of_all(points):
     cloud(3, 500), cloud(4, 500, spread=4), [(0, 0), (2, 0), (0, 2), (2, 2)] * 9, [(7, 5)],
     [(2 ** 27 - at % 2, 2 ** 27 * (at % 3 // 2)) for at in range(99)]])
 def test_fixes_that_a_level_keeps(points, level):
-    track = pandas.DataFrame(points, columns=["easting", "northing"])
+    track = numpy.array([(at, *point) for at, point in enumerate(points)])
     places = kept_places(*zip(*points), level)
-    assert kept_of(track, level).index.tolist() == places
+    assert kept_of(track, level)[:, 0].tolist() == places
     assert sorted(points[at] for at in places) == sorted(nearest(points, level))
-    assert hull([*map(tuple, outer_kept(track, level)[["easting", "northing"]].to_numpy().tolist())]) == hull(nearest(points, level))
+    assert polygon_kept(track, level) == hull(nearest(points, level))
 
 
 def changed(text, kind, change):
