@@ -20,6 +20,7 @@ from .read.reading import dates_of
 from .read.tracks import path_of_track
 from .record import read_record, record_in
 from .report import Report
+from .report_rows import rows_in
 from .results import BOUNDARY, words_beside, write_results
 from .tracks import Tracks, track_text
 from .units import zone_of_time, zone_text
@@ -133,7 +134,7 @@ def write_folder(ranges: HomeRanges, into: str | os.PathLike[str], page: Mapping
             said.append(CHOSEN)
         if rings is not None:
             write_rings(rings, folder / BOUNDARY)
-        report = make_report(folder, wish, words_beside(record_in(folder / TRACKS), ranges, words), keeps_rows=True)
+        report = make_report(folder, wish, words_beside(record_in(folder / TRACKS), ranges, words), rows_in)
         found = ranges_in(folder, report, ranges, tracks, names, wish.program)
         said.extend([*renames(names), *write_results(folder, found, read_about(folder / ABOUT))])
 

@@ -184,7 +184,7 @@ def left_of(ranges: HomeRanges) -> str:
 def numbers(ranges: HomeRanges, rows: Sequence[Row], clock: Clock) -> dict[str, str]:
     """The places with tables, sentences and curves."""
     overlaps = Overlaps(rows, ranges.report.overlaps)
-    areas = [[area2 for _, _, area2 in table.rows] for table in ranges.report.tables.values()]
+    areas = [table.rows.areas for table in ranges.report.tables.values()]
     found = [Curve(n, own, row.growth.within) for n, (own, row) in enumerate(zip(areas, rows), 1)]
     return {
         "period": period(rows, clock), "sentences": sentences(rows, clock, ranges.unit),

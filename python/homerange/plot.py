@@ -71,13 +71,13 @@ class Line:
 
     def __init__(self, ranges: HomeRanges, animal: Drawn, by: str, share: bool) -> None:
         rows = ranges.report.tables[animal.name].rows
-        last, areas = rows[-1][2], [area2 for _, _, area2 in rows]
+        areas = rows.areas
         changes = [at for at, (former, area2) in enumerate(zip(areas, areas[1:-1]), 1) if area2 != former]
-        kept = [*dict.fromkeys((0, *changes, len(rows) - 1))]
-        whole = last / 100 if share else float(UNITS[ranges.unit].hectare)
+        kept = [*dict.fromkeys((0, *changes, len(areas) - 1))]
+        whole = areas[-1] / 100 if share else float(UNITS[ranges.unit].hectare)
         self.fixes = [at + 1 for at in kept]
-        self.seconds = [rows[at][0] for at in kept]
-        self.areas = [rows[at][2] / whole if whole else 0.0 for at in kept]
+        self.seconds = [rows.seconds[at] for at in kept]
+        self.areas = [areas[at] / whole if whole else 0.0 for at in kept]
         self.animal, self.by = animal, by
 
     def across(self, ranges: HomeRanges, clock: Clock) -> list[Any]:

@@ -18,12 +18,14 @@ from .groups import Group, check_by, group_tracks, is_period, labels_of
 from .growth import share
 from .outer import counts_within, polygon_kept
 from .overview import Facts, Row, facts_of, reasons_of, rows_of
-from .program import Program, Runs, checksum_of, find_program, program_of
+from .program import Program, checksum_of, find_program, program_of
 from .read.fixes import Fixes, clock_of, is_of_fixes, reading_of
 from .read.reading import ReadTable, has_calendar, read_again, read_table, tell, times_of
 from .read.systems import crs_named
 from .record import Record, read_record
 from .report import Corners, Percent, Report, Table, doubled_area, read as read_lines
+from .report_rows import rows_in
+from .runs import Runs
 from .tracks import Tracks, tracks_of_files, tracks_of_fixes
 from .units import UNITS, zone_of_time, zone_text
 
@@ -64,7 +66,7 @@ class HomeRanges:
         self.levels = [percent.level for percent in report.tables[self.animals[0]].percents]
 
     def __repr__(self) -> str:
-        fixes = sum(len(table.rows) for table in self._report.tables.values())
+        fixes = sum(table.fixes for table in self._report.tables.values())
         return f"<HomeRanges of {len(self.animals)} animals, {fixes} fixes; levels {', '.join(map(str, self.levels))}>"
 
     @property
@@ -78,8 +80,8 @@ class HomeRanges:
     @cached_property
     def _has_calendar(self) -> bool:
         """Whether all seconds have a date, as those of the fixes have that the program read."""
-        rows = (table.rows for table in self._report.tables.values())
-        return all(has_calendar(own[0][0], own[-1][0]) for own in rows)
+        seconds = (table.rows.seconds for table in self._report.tables.values())
+        return all(has_calendar(own[0], own[-1]) for own in seconds)
 
     def _times(self, seconds: Sequence[int | None] | pandas.Series) -> pandas.Series:
         """Seconds by the clock of the ranges, or as they are where they have no date."""
@@ -102,7 +104,7 @@ class HomeRanges:
         for name, table in self._report.tables.items():
             for level, kept, corners, area2 in table.percents:
                 rows.append((
-                    name, table.rows[0][0], table.rows[-1][0], len(table.rows), left_out.get(name), level, kept,
+                    name, table.rows.seconds[0], table.rows.seconds[-1], table.fixes, left_out.get(name), level, kept,
                     corners, self._hectares(area2)))
         titles = ["animal", "first", "last", "fixes", "left_out", "level", "kept", "corners", "hectares"]
         summary = pandas.DataFrame(rows, columns=titles)
@@ -123,7 +125,7 @@ class HomeRanges:
             return self.record.of_source()
         if self._tracks is None or self.groups:
             return Counter()
-        found = Counter({name: len(table.rows) for name, table in self._report.tables.items()})
+        found = Counter({name: table.fixes for name, table in self._report.tables.items()})
         for (name, _), count in self._tracks.reasons.items():
             found[name] += count
         return found
@@ -191,11 +193,12 @@ class HomeRanges:
         """The table of incremental area analysis (Harris et al. 1990), a row for each fix: ``animal``; ``n``, the
         number of the fix; its ``time``; and ``corners`` and ``hectares`` of the polygon of the first n fixes."""
         tables = self._report.tables
-        rows = [(name, n, *row) for name, table in tables.items() for n, row in enumerate(table.rows, 1)]
-        curve = pandas.DataFrame(rows, columns=["animal", "n", "time", "corners", "area2"])
-        curve["time"] = self._times(curve["time"])
-        curve["hectares"] = curve.pop("area2") / UNITS[self.unit].hectare
-        return self.by_group(curve)
+        counts = [table.fixes for table in tables.values()]
+        seconds, corners, areas = (numpy.concatenate(own) for own in zip(*(table.rows for table in tables.values())))
+        return self.by_group(pandas.DataFrame({
+            "animal": numpy.repeat(numpy.array([*tables], dtype=object), counts),
+            "n": numpy.concatenate([numpy.arange(1, count + 1) for count in counts]), "time": self._times(seconds),
+            "corners": corners, "hectares": areas / UNITS[self.unit].hectare}))
 
     def overlap(self, share: bool = False, level: int = 100) -> pandas.DataFrame:
         """How many of the fixes of the row's animal lie in the polygon of the column's, its edges included; with
@@ -203,7 +206,7 @@ class HomeRanges:
         animal lie in its own polygon. For a lower level the package counts all fixes of the row's animal in the polygon of
         that level of the column's, by whole numbers; that needs the fixes."""
         is_share = truth_of(share, "share")
-        fixes = {name: len(table.rows) for name, table in self._report.tables.items()}
+        fixes = {name: table.fixes for name, table in self._report.tables.items()}
         if self._level(level) == 100:
             counts = {**self._report.overlaps, **{(name, name): count for name, count in fixes.items()}}
         else:
@@ -250,7 +253,7 @@ class HomeRanges:
     def _percent(self, animal: str, level: int) -> Percent:
         """What the report says of an animal's polygon at a level."""
         table = self._table(animal)
-        whole = Percent(100, len(table.rows), *table.rows[-1][1:])
+        whole = Percent(100, table.fixes, *table.last)
         return {100: whole, **{percent.level: percent for percent in table.percents}}[level]
 
     def _table(self, animal: str) -> Table:
@@ -297,7 +300,7 @@ class HomeRanges:
         for level, (name, points) in ((level, own) for level in wanted for own in self.corners(level).items()):
             _, kept, count, area2 = self._percent(name, level)
             shape = shapes.get(len(points), geometry.Polygon)(points)
-            rows.append((name, level, len(self._report.tables[name].rows), kept, count, self._hectares(area2), shape))
+            rows.append((name, level, self._report.tables[name].fixes, kept, count, self._hectares(area2), shape))
         titles = ["animal", "level", "fixes", "kept", "corners", "hectares", "geometry"]
         table = self.by_group(pandas.DataFrame(rows, columns=titles))
         return geopandas.GeoDataFrame(table, geometry="geometry", crs=self.crs)
@@ -426,7 +429,7 @@ def read_report(
         refuse(f"files={files!r} are not several paths, such as [{files!r}]")
     zone = zone_text(tz)
     check_grid(crs, zone, shift)
-    report, paths = read_lines(check_file(path_of(path, "path"))), [check_file(path_of(file, "files")) for file in files]
+    report, paths = read_lines(check_file(path_of(path, "path")), rows_in), [check_file(path_of(file, "files")) for file in files]
     split = None if record is None else check_file(path_of(record, "record"))
     return ranges_of(report, Path(path), paths, crs, zone, shift, split, program)
 

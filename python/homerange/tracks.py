@@ -110,7 +110,7 @@ def tracks_of_files(report: Report, files: Iterable[str | os.PathLike[str]]) -> 
     for name, table in report.tables.items():
         if name not in read:
             raise ReportError(f"no file has the animal {name} of the report")
-        if read[name][0][:, 0].tolist() != [second for second, _, _ in table.rows]:
+        if read[name][0][:, 0].tolist() != table.rows.seconds.tolist():
             raise ReportError(f"the file of {name} has other fixes than the report")
         if polygon_of(outer_fixes(read[name][0][:, 1:], table.corners)) != table.corners:
             raise ReportError(f"the polygon of the file of {name} is not that of the report")

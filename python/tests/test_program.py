@@ -12,7 +12,7 @@ from frames import frame_of, with_splitter
 
 import homerange
 from homerange import home_range
-from homerange import program as runs
+from homerange import runs
 from homerange.program import find_program, find_split_program
 
 POINTS = cloud(6, 20)

@@ -12,7 +12,8 @@ import homerange
 from homerange import FileError, FrameError, ReportError, read_report
 from homerange.program import find_program
 from homerange.outer import kept_of, outer_fixes, polygon_kept
-from homerange.report import kept_places
+from homerange.report import kept_places, read
+from homerange.report_rows import rows_in
 
 TRACKS = {"vixen": cloud(7, 40), "old boar": cloud(8, 11)}
 
@@ -165,20 +166,27 @@ def test_a_report_that_is_not_whole_is_refused(files, kind, change, said):
 
 @pytest.fixture(scope="module")
 def long_report(tmp_path_factory):
-    """The lines of a report of more rows than are read together, with a walk that comes back."""
+    """The lines of a report of many rows, with a walk that comes back."""
     path, points = tmp_path_factory.mktemp("long") / "walk.csv", cloud(9, 2600, spread=40)
     lines = [f"walk,{60 * at},{east},{north}" for at, (east, north) in enumerate(points)]
     path.write_text("\n".join(["animal,second,easting,northing", *lines, ""]))
     return path, points, report_of([path]).read_text().splitlines(keepends=True)
 
 
+@pytest.fixture(autouse=True)
+def rows_in_pieces(monkeypatch):
+    monkeypatch.setattr("homerange.report.PIECE", 1000)
+
+
 def test_many_rows_are_read(long_report):
     path, points, lines = long_report
+    assert read(path.with_name("report.txt")) == read(path.with_name("report.txt"), rows_in)
     found = read_report(path.with_name("report.txt"), files=[path])
-    assert [row[0] for row in found.report.tables["walk"].rows] == [60 * at for at in range(2600)]
+    rows = found.report.tables["walk"].rows
+    assert rows.seconds.tolist() == [60 * at for at in range(2600)]
     for count in (1, 999, 1000, 1001, 2000, 2600):
         corners = hull(points[:count])
-        assert found.report.tables["walk"].rows[count - 1][1:] == (len(corners), area2(corners))
+        assert (rows.corners[count - 1], rows.areas[count - 1]) == (len(corners), area2(corners))
     # Points of a small grid, many of which lie as far from the mean.
     assert {level: found.corners(level)["walk"] for level in found.levels} == {
         level: hull(nearest(points, level)) for level in found.levels}
@@ -199,11 +207,12 @@ def test_a_fault_among_many_rows_is_found(long_report, n, change, said):
     changed.write_text("".join(
         re.sub("^row,walk,([0-9]+),([0-9]+),([0-9]+),([0-9]+)", change, line) if at == n + 1 else line
         for at, line in enumerate(lines)))
-    with pytest.raises(ReportError) as fault:
-        read_report(changed)
     at = n + 2 + (said is None and change != "")
-    assert f": line {at}: " in str(fault.value)
-    assert said is None or said.format(n=n) in str(fault.value)
+    for reader in (None, rows_in):
+        with pytest.raises(ReportError) as fault:
+            read(changed, reader)
+        assert f": line {at}: " in str(fault.value)
+        assert said is None or said.format(n=n) in str(fault.value)
 
 
 @pytest.mark.parametrize("n, field", [(3, 3), (1000, 3), (1001, 3), (1000, 5), (1001, 5), (2600, 5)])
@@ -213,8 +222,9 @@ def test_what_falls_among_many_rows_is_found(long_report, n, field):
     own[field] = str(int(before[field]) - 1)
     changed = path.with_name("changed.txt")
     changed.write_text("".join([*lines[:n + 1], ",".join(own) + "\n", *lines[n + 2:]]))
-    with pytest.raises(ReportError, match=f": line {n + 2}: walk: seconds or areas fall"):
-        read_report(changed)
+    for reader in (None, rows_in):
+        with pytest.raises(ReportError, match=f": line {n + 2}: walk: seconds or areas fall"):
+            read(changed, reader)
 
 
 @pytest.mark.parametrize("text", ["", "\n", "end,0\n", "unit,dm\nend,0\n"])

@@ -6,6 +6,7 @@ from __future__ import annotations
 import datetime as clock
 import re
 from decimal import Decimal
+from functools import lru_cache
 from typing import Any, Callable, List
 
 import numpy
@@ -22,7 +23,8 @@ MOST_BITS = 13_000  # of a whole number, which Python writes with up to 4,300 di
 PARTS = {"s": 1, "ms": 10 ** 3, "us": 10 ** 6, "ns": 10 ** 9}  # of a second
 IANA = re.compile("[A-Za-z]+(/[A-Za-z0-9_+-]+)*")  # how a time zone is named
 TRUTHS = {True: "true", False: "false"}
-DAY = 86_400 * 10 ** 9  # nanoseconds
+SECONDS = 86_400  # of a day
+DAY = SECONDS * 10 ** 9  # nanoseconds
 THOUSAND = 1000
 
 
@@ -75,10 +77,30 @@ def moments(times: NDArray[Any], has_zone: bool) -> Cells:
         times, unit = times.astype("datetime64[s]"), "s"
     rest = numpy.where(numpy.isnat(times), 0, times.astype("int64"))
     needed = next(name for name, parts in PARTS.items() if not (rest % max(PARTS[unit] // parts, 1)).any())
+    if needed == "s":
+        return whole_moments(times.astype("datetime64[s]"), "T" if has_zone else " ", "Z" if has_zone else "")
     text = "\n".join(numpy.datetime_as_string(times.astype(f"datetime64[{needed}]")).tolist()).replace("NaT", "")
     if not has_zone:
         return text.replace("T", " ").split("\n")
     return [f"{time}Z" if time else "" for time in text.split("\n")]
+
+
+def whole_moments(times: NDArray[Any], between: str, behind: str) -> Cells:
+    """The cells of whole seconds: days and clocks occur often, and are written once each."""
+    is_missing = numpy.isnat(times)
+    day, clock = numpy.divmod(numpy.where(is_missing, 0, times.astype("int64")), SECONDS)
+    at, days = pandas.factorize(day)
+    dates = texts([f"{date}{between}" for date in numpy.datetime_as_string(days.astype("datetime64[D]")).tolist()])
+    found = dates[at] + clocks(behind)[clock]
+    found[is_missing] = ""
+    return list(found.tolist())
+
+
+@lru_cache(maxsize=None)
+def clocks(behind: str) -> NDArray[Any]:
+    """All seconds of a day as texts, with what stands behind them."""
+    whole = numpy.datetime_as_string(numpy.arange(SECONDS).astype("datetime64[s]")).tolist()
+    return texts([f"{text[11:]}{behind}" for text in whole])
 
 
 def texts(several: Cells) -> NDArray[Any]:
