@@ -217,8 +217,9 @@ def odd_cell(value: Any) -> str:
 
 def odd_row(series: pandas.Series) -> tuple[int, str] | None:
     """The first row of a column whose value has no text, and its class; None where there is none."""
-    kind = series.dtype
-    is_plain = isinstance(kind, numpy.dtype) and kind.kind in "biufM" or pandas.api.types.infer_dtype(series, skipna=True) == "string"
+    kind, types = series.dtype, pandas.api.types
+    is_number = types.is_numeric_dtype(kind) and not types.is_complex_dtype(kind)
+    is_plain = is_number or is_time(kind) or types.infer_dtype(series, skipna=True) == "string"
     cells = [] if is_plain else cells_of(series)
     return next(((at, cell[1:-1]) for at, cell in enumerate(cells) if isinstance(cell, OddCell)), None)
 
