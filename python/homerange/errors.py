@@ -4,8 +4,9 @@ from __future__ import annotations
 
 import os
 import re
+from contextlib import contextmanager
 from pathlib import Path
-from typing import NoReturn
+from typing import Iterator, NoReturn
 
 LONGEST = 500  # signs of what is said of an argument
 UNPRINTABLE = re.compile("[\x00-\x1f\x7f-\x9f\u2028\u2029]")
@@ -43,7 +44,7 @@ class ProgramError(HomeRangeError):
 
 
 class FileError(HomeRangeError):
-    """The program could not read a file, or found what cannot be right in it."""
+    """A file cannot be read or written, or the program found in it what cannot be right."""
 
     status = 1
 
@@ -90,6 +91,38 @@ def refuse(text: str, kind: str = "option", record: int | None = None) -> NoRetu
     middle is left out."""
     line = one_line(text)
     raise FrameError(line if len(line) <= LONGEST else f"{line[:LONGEST // 2]} .. {line[-LONGEST // 2:]}", kind, record)
+
+
+def truth_of(value: object, what: str) -> bool:
+    """A flag, of Python or of numpy."""
+    if not isinstance(value, bool) and type(value).__name__ not in ("bool_", "bool"):
+        refuse(f"{what}={value!r} is neither True nor False")
+    return bool(value)
+
+
+def check_file(path: Path) -> Path:
+    """A file that is there; what is none is refused."""
+    if not os.path.isfile(path):
+        raise FileError(one_line(f"{path}: there is no such file"))
+    return path
+
+
+def check_place(path: Path) -> Path:
+    """A path at which a file or a folder may be written; what is none is refused."""
+    if os.path.isdir(path):
+        raise FileError(one_line(f"{path} is a folder"))
+    if not os.path.isdir(path.parent):
+        raise FileError(one_line(f"{path}: there is no such folder"))
+    return path
+
+
+@contextmanager
+def files_as_said() -> Iterator[None]:
+    """What the system says of a file is said by an error of this package."""
+    try:
+        yield
+    except OSError as fault:
+        raise FileError(one_line(f"{fault.filename}: {fault.strerror}")) from fault
 
 
 def path_of(value: object, what: str) -> Path:

@@ -16,7 +16,7 @@ from .about import BESIDE, NO_COMMIT, About, Words, export_of, now, write_about
 from .errors import FAULTS, UNPRINTABLE, ProgramError, ReportError, one_line, refuse
 from .program import CLONE, MOST_ANIMALS, Program, checksum_of, steps_of, workers
 from .record import Record, difference_from_record, record_in
-from .report import TEXT, Animal, Lines, Report, Table, check_end, overlaps_of
+from .report import TEXT, Animal, Lines, Reader, Report, Table, check_end, overlaps_of
 
 SOURCES = ["crates.txt", "HANDLES", *(f":(glob)crates/*/{part}/**" for part in ("src", "specs", "proofs")), "python/homerange",
            "python/homerange_verifier", "r/R", "release", "tools"]
@@ -76,8 +76,8 @@ def unit_of(wish: Wish, record: Record | None) -> str:
     return unit
 
 
-def check_report(path: Path, unit: str, levels: str, animals: dict[str, int], keeps_rows: bool) -> Report:
-    """The report in a file, whose rows are kept where that is wanted. One that is not whole, or of another unit, other levels,
+def check_report(path: Path, unit: str, levels: str, animals: dict[str, int], reader: Reader | None) -> Report:
+    """The report in a file, whose rows are kept where they have a reader. One that is not whole, or of another unit, other levels,
     animals or numbers of fixes is refused."""
     fixes: dict[str, int] = {}
     report, wanted = Report(unit, {}, {}), list(map(int, levels.split(",")))
@@ -86,7 +86,7 @@ def check_report(path: Path, unit: str, levels: str, animals: dict[str, int], ke
         if lines.unit() != unit:
             raise ReportError(f"{path.name} is of another unit than {unit}")
         while lines.line.startswith("animal,") or not fixes:
-            animal = Animal(lines, None, keeps_rows=keeps_rows)
+            animal = Animal(lines, None, keeps_rows=reader is not None, reader=reader)
             if animal.levels != wanted:
                 raise ReportError(f"{path.name} has other levels than {levels} for {one_line(animal.name)}")
             fixes[animal.name] = animal.fixes
@@ -165,9 +165,9 @@ def used_tracks(folder: Path) -> dict[str, tuple[str, int]]:
     return found
 
 
-def make_report(folder: Path, wish: Wish, words: Words = Words(), keeps_rows: bool = False) -> Report:
+def make_report(folder: Path, wish: Wish, words: Words = Words(), reader: Reader | None = None) -> Report:
     """Has the program report of the tracks in a folder, and writes the record of the run. Answers the report, with its rows
-    where these are wanted."""
+    where these have a reader."""
     record = record_in(folder / TRACKS)
     if record:
         check_record(folder / TRACKS, record)
@@ -181,15 +181,15 @@ def make_report(folder: Path, wish: Wish, words: Words = Words(), keeps_rows: bo
     for name, checksum in before.items():
         if checksum_of(folder / name) != checksum:
             refuse(f"{name} changed while it was read", "text")
-    return finish(folder, wish, unit, tracks, record, words, keeps_rows)
+    return finish(folder, wish, unit, tracks, record, words, reader)
 
 
 def finish(folder: Path, wish: Wish, unit: str, tracks: dict[str, tuple[str, int]], record: Record | None, words: Words = Words(),
-           keeps_rows: bool = False) -> Report:
+           reader: Reader | None = None) -> Report:
     """Looks whether a report is that of the tracks, and writes the record of the run. Answers the report, with its rows where
-    these are wanted."""
+    these have a reader."""
     program = wish.program
-    report = check_report(folder / REPORT, unit, wish.levels, dict(tracks.values()), keeps_rows)
+    report = check_report(folder / REPORT, unit, wish.levels, dict(tracks.values()), reader)
     fault = record and difference_from_record(record, dict(tracks.values()))
     if fault:
         raise ReportError(fault)

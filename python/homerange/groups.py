@@ -10,9 +10,10 @@ import numpy
 import pandas
 
 from .errors import UNPRINTABLE, refuse
-from .read.cells import cells_of
+from .read.cells import cells_of, odd_row, row_named
 from .read.fixes import Fixes
-from .read.reading import ODD, ReadTable, row_named
+from .read.reading import ReadTable
+from .outer import Track
 from .tracks import Tracks
 
 # Seasons are named by their months, since those of north and south have other names.
@@ -100,7 +101,7 @@ def aligned(series: pandas.Series, frame: pandas.DataFrame) -> pandas.Series:
 def given(values: pandas.Series, labels: pandas.Index) -> list[str]:
     """The groups that values say, each of which has to be there."""
     cells = cells_of(values)
-    refuse_classes(values, cells, labels)
+    refuse_classes(values, labels)
     has_parts = pandas.api.types.is_float_dtype(values.dtype)
     odd = next((at for at, cell in enumerate(cells)
                 if not cell or UNPRINTABLE.search(cell) or has_parts and not cell.lstrip("-").isdecimal()), None)
@@ -111,12 +112,11 @@ def given(values: pandas.Series, labels: pandas.Index) -> list[str]:
     return cells
 
 
-def refuse_classes(values: pandas.Series, cells: Sequence[str], labels: pandas.Index) -> None:
+def refuse_classes(values: pandas.Series, labels: pandas.Index) -> None:
     """Refuses groups of a class that has no text, such as intervals, all of which would be one."""
-    odd = {cell for cell in {*cells} if ODD.fullmatch(cell)}
-    at = next((at for at, cell in enumerate(cells) if cell in odd and not isinstance(values.iloc[at], str)), None) if odd else None
-    if at is not None:
-        kind = type(values.iloc[at]).__name__
+    odd = odd_row(values)
+    if odd is not None:
+        at, kind = odd
         refuse(f"{row_named(labels, at)}: by has a group of the class {kind}, which is no text: make it one, as by .astype(str)",
                "option", at + 1)
 
@@ -133,14 +133,16 @@ def periods(fixes: Fixes, by: str) -> list[str]:
 
 def group_tracks(tracks: Tracks, labels: Sequence[str]) -> tuple[Tracks, dict[str, Group]]:
     """The tracks of each group, in the order of animals and of times, by names that say both; and what these names mean."""
-    parts: dict[str, pandas.DataFrame] = {}
+    parts: dict[str, Track] = {}
     known: dict[str, Group] = {}
-    own = numpy.array(labels, dtype=object)
+    own, end = numpy.array(labels, dtype=object), 0
     for animal, track in tracks.by_name.items():
-        for group, part in track.groupby(own[tracks.places[animal]], sort=False):
+        first, end = end, end + len(track)
+        codes, groups = pandas.factorize(own[first:end])
+        for code, group in enumerate(groups):
             name = f"{animal} {group}"
             if name in known:
                 refuse(f"by: {animal!r} and {known[name].animal!r} both have a range named {name!r}: rename one", "name")
-            parts[name], known[name] = part.reset_index(drop=True), Group(animal, group)
+            parts[name], known[name] = track[codes == code], Group(animal, group)
     said = f"ranges are by group: {len(parts)} of {len(tracks.by_name)} animals"
     return replace(tracks, by_name=parts, left_out={}, notes=[*tracks.notes, said], record=None), known

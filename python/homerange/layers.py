@@ -13,14 +13,16 @@ from typing import TYPE_CHECKING, Iterator
 import numpy
 import pandas
 
-from .errors import path_of
-from .ranges import HomeRanges
-from .read.reading import tell, times_of
+from .errors import check_place, files_as_said, path_of, refuse
+from .ranges import HomeRanges, check_ranges
+from .read.reading import dates_of, tell, times_of
 from .units import UNITS
 from .zones import code_of_crs
 
 if TYPE_CHECKING:
     import geopandas
+
+    from .tracks import Tracks
 
 ROWS = 100  # that are written together
 NO_DATE = "1970-01-01T00:00:00.000Z"
@@ -72,21 +74,20 @@ def polygons_of(ranges: HomeRanges) -> geopandas.GeoDataFrame:
     """The polygons of all levels, those of an animal together, with its times and the unit."""
     polygons, summary = ranges.polygons(ranges.levels), ranges.summary()
     levels, animals = len(ranges.levels), len(ranges.animals)
-    ends = {title: summary[title].dt.tz_convert("UTC").iloc[::levels].tolist() * levels for title in ("first", "last")}
+    ends = {title: dates_of(summary[title]).iloc[::levels].tolist() * levels for title in ("first", "last")}
     order = numpy.arange(levels * animals).reshape(levels, animals).T.ravel()
     shapes = polygons.pop("geometry")
     return polygons.assign(**ends, unit=ranges.unit).set_geometry(shapes).iloc[order]
 
 
-def fixes_of(ranges: HomeRanges, tracks: dict[str, pandas.DataFrame]) -> pandas.DataFrame:
+def fixes_of(ranges: HomeRanges, tracks: Tracks) -> pandas.DataFrame:
     """The fixes, numbered by the order of time, with their places in metres."""
-    own = pandas.concat(tracks.values(), keys=tracks.keys(), names=["animal", None]).reset_index("animal")
-    scale, (east, north) = UNITS[ranges.unit].per_metre, ranges.shift
-    found = own.reset_index(drop=True).assign(
-        n=numpy.concatenate([numpy.arange(1, len(track) + 1) for track in tracks.values()]),
-        time=lambda table: times_of(table["second"], "UTC"),
-        easting=own["easting"].to_numpy() / scale - east, northing=own["northing"].to_numpy() / scale - north)
-    return ranges.by_group(found.drop(columns="second"))
+    counts = [*map(len, tracks.by_name.values())]
+    second, *sides = numpy.concatenate([*tracks.by_name.values()]).T
+    east, north = (side / UNITS[ranges.unit].per_metre - added for side, added in zip(sides, ranges.shift))
+    return ranges.by_group(pandas.DataFrame({
+        "animal": numpy.repeat(numpy.array([*tracks.by_name], dtype=object), counts), "easting": east, "northing": north,
+        "n": numpy.concatenate([numpy.arange(1, count + 1) for count in counts]), "time": times_of(pandas.Series(second), "UTC")}))
 
 
 def write_fixes(fixes: pandas.DataFrame, crs: object, path: Path) -> None:
@@ -151,7 +152,7 @@ def put_layers(ranges: HomeRanges, path: Path) -> list[str]:
         if "ranges" in written:
             placed(polygons[has_area]).to_file(path, driver="GPKG", layer="ranges")
         if ranges.tracks is not None:
-            write_fixes(fixes_of(ranges, ranges.tracks.by_name), ranges.crs, path)
+            write_fixes(fixes_of(ranges, ranges.tracks), ranges.crs, path)
     if written:
         write_styles(path, written)
     return [f"not in {path.name}, since they have no area at {level} %: {', '.join(dict.fromkeys(names))}"
@@ -164,4 +165,10 @@ def write_layers(ranges: HomeRanges, path: str | os.PathLike[str]) -> None:
     ``unit``); the layer ``fixes`` (``animal``, ``n``, ``time``), where they are known; and how QGIS draws both. Ranges by
     groups have a column ``group`` in both. Without a reference system it is an undefined one of metres. Two runs write the
     same bytes. Which polygons have no area is said in warnings. Wants geopandas."""
-    tell(put_layers(ranges, path_of(path, "path")))
+    check_ranges(ranges)
+    file = check_place(path_of(path, "path"))
+    if file.suffix != ".gpkg":
+        refuse(f"path={str(path)!r}: a name that ends in .gpkg is wanted")
+    with files_as_said():
+        said = put_layers(ranges, file)
+    tell(said)

@@ -7,40 +7,42 @@ import math
 from typing import Any, Mapping
 
 import numpy
-import pandas
 from numpy.typing import NDArray
 
-from .report import Corners, kept_count, nearest
+from .report import Corners, kept_count, nearest, polygon_of
+
+Track = NDArray[numpy.int64]  # a row for each fix: its second, easting and northing
+Places = NDArray[numpy.int64]  # eastings and northings
 
 EXACT = 2 ** 30  # products of two differences of smaller numbers have 64 bits
 SOME = 16  # of the corners of a polygon, at most
 SLACK = 1e-12  # by how much of itself and of 1 the square of a rounded distance is not known, with a wide margin
 
 
-def outer_kept(track: pandas.DataFrame, level: int) -> pandas.DataFrame:
-    """Of the fixes of a track that a level keeps some whose polygon is that of all of them."""
-    kept = kept_of(track, level)[["easting", "northing"]]
-    return pandas.DataFrame(outer_fixes(kept, far_ends(kept)), columns=["easting", "northing"]).assign(second=0)
+def polygon_kept(track: Track, level: int) -> Corners:
+    """The polygon of the fixes of a track that a level keeps."""
+    kept = kept_of(track, level)[:, 1:]
+    return polygon_of(outer_fixes(kept, far_ends(kept)))
 
 
-def far_ends(track: pandas.DataFrame) -> Corners:
-    """The fixes of a track that lie farthest in some directions, counterclockwise."""
-    east, north = track["easting"].to_numpy(), track["northing"].to_numpy()
-    angles = [2 * math.pi * at / SOME for at in range(SOME)]
-    places = dict.fromkeys(int((east * math.cos(angle) + north * math.sin(angle)).argmax()) for angle in angles)
-    return [(int(east[at]), int(north[at])) for at in places]
+def far_ends(places: Places) -> Corners:
+    """Of some places those that lie farthest in some directions, counterclockwise."""
+    angles = 2 * math.pi / SOME * numpy.arange(SOME)
+    far = (places @ numpy.array([numpy.cos(angles), numpy.sin(angles)])).argmax(axis=0)
+    return [(east, north) for east, north in places[[*dict.fromkeys(far.tolist())]].tolist()]
 
 
-def kept_of(track: pandas.DataFrame, level: int) -> pandas.DataFrame:
+def kept_of(track: Track, level: int) -> Track:
     """The fixes of a track that a level keeps."""
-    count, east, north = kept_count(len(track), level), track["easting"], track["northing"]
-    far = from_mean(east.to_numpy()) ** 2 + from_mean(north.to_numpy()) ** 2
+    count, (east, north) = kept_count(len(track), level), track[:, 1:].T
+    far = from_mean(east) ** 2 + from_mean(north) ** 2
     edge = numpy.partition(far, count - 1)[count - 1]
     is_near, is_far = far < edge - SLACK * (edge + 1), far > edge + SLACK * (edge + 1)
     # Where rounded distances do not tell it, whole numbers do.
     unsure = numpy.flatnonzero(~is_near & ~is_far).tolist()
-    is_near[nearest(east.tolist(), north.tolist(), unsure, count - int(is_near.sum()))] = True
-    return track[is_near]
+    some = count - int(is_near.sum())
+    is_near[unsure if len(unsure) == some else nearest(east.tolist(), north.tolist(), unsure, some)] = True
+    return numpy.asarray(track[is_near])
 
 
 def from_mean(numbers: NDArray[numpy.int64]) -> NDArray[numpy.float64]:
@@ -49,12 +51,12 @@ def from_mean(numbers: NDArray[numpy.int64]) -> NDArray[numpy.float64]:
     return numpy.asarray(numbers - whole - rest / len(numbers), dtype="float64")
 
 
-def outer_fixes(track: pandas.DataFrame, corners: Corners) -> list[tuple[int, int]]:
-    """The fixes of a track without those within a polygon of some of these corners; of fixes with one easting the southernmost
-    and the northernmost. If the corners are those of all fixes, they are those of these."""
-    is_small = -EXACT < track.min().min() and track.max().max() < EXACT
-    east, north = (track[title].to_numpy("int64" if is_small else object) for title in ("easting", "northing"))
-    some, is_within = corners[::-(-len(corners) // SOME)], numpy.full(len(track), True)
+def outer_fixes(places: Places, corners: Corners) -> list[tuple[int, int]]:
+    """Some places without those within a polygon of some of these corners; of places with one easting the southernmost and the
+    northernmost. If the corners are those of all places, they are those of these."""
+    is_small = -EXACT < places.min() and places.max() < EXACT
+    east, north = places.T if is_small else places.T.astype(object)
+    some, is_within = corners[::-(-len(corners) // SOME)], numpy.full(len(places), True)
     for (e, n), (next_e, next_n) in zip(some, [*some[1:], some[0]]):
         is_within &= (next_e - e) * (north - n) > (next_n - n) * (east - e)
     return ends_of(east[~is_within], north[~is_within])
@@ -69,13 +71,12 @@ def ends_of(east: NDArray[Any], north: NDArray[Any]) -> list[tuple[int, int]]:
     return [pair for end in ends for pair in zip(east[first].tolist(), end.tolist())]
 
 
-def counts_within(tracks: Mapping[str, pandas.DataFrame], polygons: Mapping[str, Corners]) -> dict[tuple[str, str], int]:
+def counts_within(tracks: Mapping[str, Track], polygons: Mapping[str, Corners]) -> dict[tuple[str, str], int]:
     """How many fixes of each track each polygon covers, its edges included. Coordinates are below 2 ** 28, so that all products
     are whole numbers of 64 bits."""
     names = [*tracks]
     owner = numpy.repeat(numpy.arange(len(names)), [len(track) for track in tracks.values()])
-    sides = (numpy.concatenate([track[title].to_numpy("int64") for track in tracks.values()]) for title in ("easting", "northing"))
-    east, north = sides
+    east, north = numpy.concatenate([track[:, 1:] for track in tracks.values()]).T
     order = east.argsort(kind="stable")
     east, north, owner = east[order], north[order], owner[order]
     counts = {other: numpy.bincount(owner[covered(east, north, polygon)], minlength=len(names)).tolist()

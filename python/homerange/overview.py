@@ -48,9 +48,9 @@ def twice_median(numbers: Sequence[int]) -> int:
 
 def facts_of(table: Table) -> Facts:
     """The facts of an animal of a report."""
-    seconds = [second for second, _, _ in table.rows]
+    seconds = table.rows.seconds.tolist()
     intervals = [later - former for former, later in zip(seconds, seconds[1:])]
-    growth = growth_of([area2 for _, _, area2 in table.rows])
+    growth = growth_of(table.rows.areas)
     return Facts(
         len(seconds), seconds[0], seconds[-1], twice_median(intervals) if intervals else None, max(intervals, default=None),
         {percent.level: percent for percent in table.percents}, growth, seconds[growth.within - 1] if growth.within else None)

@@ -10,9 +10,9 @@ from pathlib import Path
 from typing import Any, Mapping, NamedTuple, Sequence
 
 from .about import Words
-from .units import zone_of_time
+from .units import zone_of_time, zone_text
 from .drawing import colour
-from .errors import ProgramError, path_of, refuse
+from .errors import ProgramError, check_place, files_as_said, path_of, refuse
 from .formats import Clock, day_text, escaped, listed, named
 from .overview import Row
 from .page_curves import Curve, curves
@@ -20,7 +20,7 @@ from .page_map import STYLES, Maps, Point, Shape, maps
 from .page_tables import Overlaps, animals_table, without_range
 from .page_text import System, checksums, left_out, method, options_of, said, sentences, system_of, verify
 from .program import find_program, program_of
-from .ranges import HomeRanges, boundary_of, check_whole
+from .ranges import HomeRanges, boundary_of, check_ranges, check_whole
 
 TEMPLATE = Path(__file__).with_name("page.html")
 PLACE = re.compile(r"\{\{([a-z]+)\}\}")
@@ -184,7 +184,7 @@ def left_of(ranges: HomeRanges) -> str:
 def numbers(ranges: HomeRanges, rows: Sequence[Row], clock: Clock) -> dict[str, str]:
     """The places with tables, sentences and curves."""
     overlaps = Overlaps(rows, ranges.report.overlaps)
-    areas = [[area2 for _, _, area2 in table.rows] for table in ranges.report.tables.values()]
+    areas = [table.rows.areas for table in ranges.report.tables.values()]
     found = [Curve(n, own, row.growth.within) for n, (own, row) in enumerate(zip(areas, rows), 1)]
     return {
         "period": period(rows, clock), "sentences": sentences(rows, clock, ranges.unit),
@@ -255,8 +255,10 @@ def write_page(
     tz: the time zone of dates; if left out, that of the ranges.
     made: the day of making; if left out, today.
     """
+    check_ranges(ranges)
     check_whole(ranges, "a page")
     words = words_typed(title, study, species, by, reserve_name, made)
-    file, zone = path_of(path, "path"), ranges.tz if tz is None else tz
+    file, zone = check_place(path_of(path, "path")), ranges.tz if tz is None else zone_text(tz)
     head = Head(words, rings_given(ranges, reserve), zone, made or datetime.now(zone_of_time(zone)).date(), *identity(ranges))
-    file.write_bytes(page_of(ranges, head).encode("utf-8", errors="replace"))
+    with files_as_said():
+        file.write_bytes(page_of(ranges, head).encode("utf-8", errors="replace"))

@@ -7,7 +7,7 @@ from typing import TYPE_CHECKING, Any, Iterable, Literal, Sequence, overload
 import pandas
 
 from .units import UNITS
-from .errors import refuse
+from .errors import refuse, truth_of
 from .formats import Clock
 from .page_curves import layout
 from .page_text import system_of
@@ -71,13 +71,13 @@ class Line:
 
     def __init__(self, ranges: HomeRanges, animal: Drawn, by: str, share: bool) -> None:
         rows = ranges.report.tables[animal.name].rows
-        last, areas = rows[-1][2], [area2 for _, _, area2 in rows]
+        areas = rows.areas
         changes = [at for at, (former, area2) in enumerate(zip(areas, areas[1:-1]), 1) if area2 != former]
-        kept = [*dict.fromkeys((0, *changes, len(rows) - 1))]
-        whole = last / 100 if share else float(UNITS[ranges.unit].hectare)
+        kept = [*dict.fromkeys((0, *changes, len(areas) - 1))]
+        whole = areas[-1] / 100 if share else float(UNITS[ranges.unit].hectare)
         self.fixes = [at + 1 for at in kept]
-        self.seconds = [rows[at][0] for at in kept]
-        self.areas = [rows[at][2] / whole if whole else 0.0 for at in kept]
+        self.seconds = [rows.seconds[at] for at in kept]
+        self.areas = [areas[at] / whole if whole else 0.0 for at in kept]
         self.animal, self.by = animal, by
 
     def across(self, ranges: HomeRanges, clock: Clock) -> list[Any]:
@@ -154,8 +154,9 @@ def plot_curve(
     Answers with the axes, or with facets a list of them. Numbers at the ends of curves are those of the key, which has
     all animals; where ends lie close together some have no room.
     """
-    if by not in ("fix", "date"):
+    if not isinstance(by, str) or by not in ("fix", "date"):
         refuse(f"by={by!r} is neither 'fix' nor 'date'")
+    share, facets = truth_of(share, "share"), truth_of(facets, "facets")
     check_axes(ax, facets)
     drawn = drawn_animals(ranges, animals, colours)
     lines = [Line(ranges, animal, by, share) for animal in drawn]
@@ -262,6 +263,7 @@ def plot_ranges(
 
     Answers as plot_curve does. The numbers at polygons are those of the key, which has the area of the highest level.
     """
+    fixes, facets = truth_of(fixes, "fixes"), truth_of(facets, "facets")
     check_axes(ax, facets)
     levels, drawn = levels_of_map(level), drawn_animals(ranges, animals, colours)
     shapes, rings = shapes_of(ranges, drawn, levels, fixes), rings_over(ranges, over)

@@ -9,7 +9,7 @@ from typing import Any, Iterable, Mapping, NamedTuple, Sequence
 from .units import UNITS
 from .errors import one_line, refuse
 from .formats import with_sign
-from .ranges import HomeRanges
+from .ranges import HomeRanges, check_ranges
 
 COLOURS = ("#0072b2", "#c44e00", "#00805e", "#a8437a", "#7a6200", "#4b3fa0", "#4d4d4d")
 # The lines of levels, from the highest on: width, dashes and how dark the polygon is filled.
@@ -34,10 +34,13 @@ class Drawn(NamedTuple):
 
 def drawn_animals(ranges: HomeRanges, animals: Iterable[str] | str | None, colours: Any) -> list[Drawn]:
     """The animals that are wanted, in the order of the ranges, with the colours of the user or their own."""
+    check_ranges(ranges)
+    if animals is not None and not isinstance(animals, Iterable):
+        refuse(f"animals={animals!r} are no names")
     wanted = ranges.animals if animals is None else [animals] if isinstance(animals, str) else list(animals)
-    missing = next((name for name in wanted if name not in ranges.animals), None)
-    if missing is not None or not wanted:
-        refuse(f"there is no animal {missing!r}" if wanted else "animals: there is none")
+    missing = [name for name in wanted if not isinstance(name, str) or name not in ranges.animals]
+    if missing or not wanted:
+        refuse(f"there is no animal {missing[0]!r}" if wanted else "animals: there is none")
     chosen = [Drawn(number, name, COLOURS[(number - 1) % len(COLOURS)])
               for number, name in enumerate(ranges.animals, 1) if name in wanted]
     return [own._replace(colour=colour_of(own, place, colours)) for place, own in enumerate(chosen)]
@@ -47,9 +50,13 @@ def colour_of(animal: Drawn, place: int, colours: Any) -> str:
     """The colour of an animal: of colours by name its own, of several in turn the next, else the one for all."""
     if colours is None:
         return animal.colour
-    if isinstance(colours, Mapping):
-        return str(colours.get(animal.name, animal.colour))
-    return str(colours if isinstance(colours, str) else list(colours)[place % len(list(colours))])
+    from matplotlib.colors import is_color_like
+
+    several = colours if isinstance(colours, (Mapping, list, tuple)) else [colours]
+    if not isinstance(several, Mapping):
+        several = {animal.name: several[place % len(several)]} if several else {}
+    own = several.get(animal.name, animal.colour)
+    return str(own) if isinstance(own, str) and is_color_like(own) else refuse(f"colours: {own!r} is no colour")
 
 
 def label(name: str) -> str:

@@ -1,29 +1,23 @@
-"""Finds the programs, and has homerange make the report of tracks, in as many runs as their number takes."""
+"""Finds the programs, and says how many runs the report of many animals takes."""
 
 from __future__ import annotations
 
 import hashlib
 import itertools
 import os
-import re
 import shutil
 import subprocess
 import sys
-import tempfile
 from concurrent.futures import ThreadPoolExecutor
 from pathlib import Path
-from typing import Any, Callable, Mapping, NamedTuple, Sequence, Tuple
+from typing import NamedTuple, Sequence, Tuple
 
-from .errors import FAULTS, UNPRINTABLE, ProgramError, ReportError, one_line, path_of
-from .report import Corners, Report, lines_of, overlaps_of, parse
+from .errors import UNPRINTABLE, ProgramError, one_line, path_of
 
 MOST_ANIMALS = 64  # of one run
 GROUP = 32  # animals of a group, where there are more
 PIECE = 2 ** 20  # bytes of a file that are read together
-ROWS = 1_000  # of a track that are written together
 PACKAGE = Path(__file__).resolve().parent
-Progress = Callable[[int, int], object]  # is called with how many of how many runs are done
-Box = Tuple[int, int, int, int]
 Step = Tuple[Sequence[str], ...]  # a run: the animals of a group, or of a pair of groups
 OWN = PACKAGE / "release" / "homerange"  # what a wheel has
 SPLIT = "homerange-split"  # what lies beside the program
@@ -112,31 +106,6 @@ def program_of(path: str) -> Program:
     return Program(path, version, checksum_of(path))
 
 
-def _call(program: str, levels: str, unit: str, folder: str, numbers: Sequence[int], names: Sequence[str]) -> str:
-    """The report of a run of the files with these numbers in the folder. Faults name the animal and not its file."""
-    command = [program, "--percent", levels, "--unit", unit, *(f"{number}.csv" for number in numbers)]
-    try:
-        run = subprocess.run(command, cwd=folder, stdin=subprocess.DEVNULL, capture_output=True)
-    except OSError as fault:
-        raise ProgramError(f"{program} does not run: {fault.strerror}") from fault
-    if run.returncode == 0:
-        return run.stdout.decode("utf-8", errors="replace")
-    said = run.stderr.decode("utf-8", errors="replace").strip() or f"{program} ended with status {run.returncode}"
-    line = re.sub(r"\b([0-9]+)\.csv\b", lambda found: names[int(found[1])], said.splitlines()[-1])
-    raise FAULTS.get(run.returncode, ProgramError)(one_line(line))
-
-
-def _write_tracks(folder: str, tracks: Mapping[str, Any]) -> None:
-    """Writes the tracks into the folder, into files that have their numbers as names, as the animals in them have."""
-    for number, track in enumerate(tracks.values()):
-        with open(Path(folder, f"{number}.csv"), "w", encoding="utf-8", newline="\n") as file:
-            file.write("animal,second,easting,northing\n")
-            numbers = track[["second", "easting", "northing"]].to_numpy().ravel().tolist()
-            for first in range(0, len(numbers), 3 * ROWS):
-                cells = tuple(numbers[first:first + 3 * ROWS])
-                file.write(f"{number},%d,%d,%d\n" * (len(cells) // 3) % cells)
-
-
 def steps_of(names: Sequence[str]) -> list[Step]:
     """The runs of animals: one of all. More than 64 are put in groups of 32, of which each has a run for its tables, and
     each pair of groups one for its overlaps."""
@@ -152,80 +121,3 @@ def workers(jobs: int | None) -> ThreadPoolExecutor:
     if jobs is None:
         return ThreadPoolExecutor(len(own))
     return ThreadPoolExecutor(jobs, initializer=os.sched_setaffinity, initargs=(0, own[:jobs]))
-
-
-class Runs:
-    """The runs of tracks. Where only polygons are wanted, the last row stands for each."""
-
-    def __init__(self, program: str, tracks: dict[str, Any], levels: str, unit: str, skips_rows: bool = False) -> None:
-        self.program, self.tracks, self.levels, self.unit, self.skips_rows = program, tracks, levels, unit, skips_rows
-        self.numbers = {name: number for number, name in enumerate(tracks)}
-        self.steps = steps_of(list(tracks))
-
-    def text(self, folder: str, step: Step) -> str:
-        """The report of a step, of a pair of groups the overlaps alone."""
-        numbers = [self.numbers[name] for group in step for name in group]
-        text = _call(self.program, self.levels, self.unit, folder, numbers, list(self.tracks))
-        return text if len(step) == 1 else text[text.find("\noverlap,") + 1:]
-
-    def add(self, report: Report, step: Step, text: str) -> None:
-        """Takes into the report what a step gave."""
-        names = {str(self.numbers[name]): name for group in step for name in group}
-        fixes = {number: len(self.tracks[name]) for number, name in names.items()}
-        if len(step) == 2:
-            overlaps = overlaps_of(lines_of(text, self.program), fixes)
-        else:
-            found = parse(lines_of(text, self.program), self.skips_rows)
-            overlaps = found.overlaps
-            reported = {number: len(table.rows) for number, table in found.tables.items()}
-            if found.unit != self.unit or [*reported.items()] != [*fixes.items()]:
-                raise ReportError(f"{self.program} reports another unit, other animals or fixes than those it was given")
-            report.tables.update({names[number]: table for number, table in found.tables.items()})
-        report.overlaps.update({(names[one], names[other]): count for (one, other), count in overlaps.items()})
-
-    def report(self, progress: Progress | None = None, jobs: int | None = None) -> Report:
-        """The report of all tracks, by so many processors. Of animals in two groups those are run whose boxes meet; no polygon
-        covers a fix outside its box."""
-        report = Report(self.unit, {}, {})
-        with tempfile.TemporaryDirectory(prefix="homerange-") as folder, workers(jobs) as pool:
-            _write_tracks(folder, self.tracks)
-            try:
-                self.run(report, [step for step in self.steps if len(step) == 1], folder, pool, progress)
-                self.run(report, self.pairs(report), folder, pool, progress)
-            except BaseException:
-                pool.shutdown(cancel_futures=True)
-                raise
-        if progress is not None:
-            progress(len(self.steps), len(self.steps))
-        return report
-
-    def pairs(self, report: Report) -> list[Step]:
-        """The runs of pairs of groups. Of all others the report gets that they have no fix in each other's polygons."""
-        boxes, found = {name: box_of(table.corners) for name, table in report.tables.items()}, list[Step]()
-        for one, other in (step for step in self.steps if len(step) == 2):
-            report.overlaps.update(dict.fromkeys(((a, b) for a in one for b in other), 0))
-            report.overlaps.update(dict.fromkeys(((b, a) for a in one for b in other), 0))
-            met = [(a, b) for a in one for b in other if meets(boxes[a], boxes[b])]
-            if met:
-                found.append(tuple([*dict.fromkeys(side)] for side in zip(*met)))
-        return found
-
-    def run(self, report: Report, steps: Sequence[Step], folder: str, pool: ThreadPoolExecutor, progress: Progress | None) -> None:
-        """Makes runs, and takes into the report what they gave."""
-        before = len(self.steps) - len(steps) if steps and len(steps[0]) == 2 else 0
-        texts = pool.map(lambda step: self.text(folder, step), steps)
-        for done, (step, text) in enumerate(zip(steps, texts), before + 1):
-            self.add(report, step, text)
-            if progress is not None and done < len(self.steps):
-                progress(done, len(self.steps))
-
-
-def box_of(corners: Corners) -> Box:
-    """The least and the greatest easting, and those of northings."""
-    eastings, northings = zip(*corners)
-    return min(eastings), max(eastings), min(northings), max(northings)
-
-
-def meets(one: Box, other: Box) -> bool:
-    """Whether two boxes have a place in common."""
-    return one[0] <= other[1] and other[0] <= one[1] and one[2] <= other[3] and other[2] <= one[3]

@@ -2,35 +2,38 @@
 
 from __future__ import annotations
 
-import itertools
 import math
 import os
 from collections import Counter
 from functools import cached_property
 from pathlib import Path
-from typing import TYPE_CHECKING, Any, Callable, Iterable, Sequence
+from typing import TYPE_CHECKING, Any, Callable, Iterable, Sequence, Tuple
 
 import numpy
 import pandas
 
 from .bar import progress_of
-from .errors import ReportError, path_of, refuse
+from .errors import ReportError, check_file, path_of, refuse, truth_of
 from .groups import Group, check_by, group_tracks, is_period, labels_of
 from .growth import share
-from .outer import counts_within, outer_kept
+from .outer import counts_within, polygon_kept
 from .overview import Facts, Row, facts_of, reasons_of, rows_of
-from .program import MOST_ANIMALS, Program, Runs, checksum_of, find_program, program_of
+from .program import Program, checksum_of, find_program, program_of
 from .read.fixes import Fixes, clock_of, is_of_fixes, reading_of
-from .read.reading import ReadTable, read_table, tell, times_of
+from .read.reading import ReadTable, has_calendar, read_again, read_table, tell, times_of
 from .read.systems import crs_named
 from .record import Record, read_record
-from .report import Corners, Percent, Report, Table, read as read_lines
+from .report import Corners, Percent, Report, Table, doubled_area, read as read_lines
+from .report_rows import rows_in
+from .runs import Runs
 from .tracks import Tracks, tracks_of_files, tracks_of_fixes
-from .units import UNITS, zone_of_time
+from .units import UNITS, zone_of_time, zone_text
 
 if TYPE_CHECKING:
     import geopandas
     from numpy.typing import NDArray
+
+Bounds = Tuple[float, float, float, float]  # the least easting and northing, and the greatest
 
 
 class HomeRanges:
@@ -50,7 +53,6 @@ class HomeRanges:
         self._report, self._tracks, self.program = report, tracks, program
         # The program of later runs; None finds one.
         self.named = program and program.path if named is None else path_of(named, "program")
-        self.jobs: int | None = None  # of later runs
         self.groups: dict[str, Group] = {}  # what ranges are of, where they are of groups
         self._corners: dict[int, dict[str, Corners]] = {}
         self.record: Record | None = None  # of how the files were made, where they were read with one
@@ -64,7 +66,7 @@ class HomeRanges:
         self.levels = [percent.level for percent in report.tables[self.animals[0]].percents]
 
     def __repr__(self) -> str:
-        fixes = sum(len(table.rows) for table in self._report.tables.values())
+        fixes = sum(table.fixes for table in self._report.tables.values())
         return f"<HomeRanges of {len(self.animals)} animals, {fixes} fixes; levels {', '.join(map(str, self.levels))}>"
 
     @property
@@ -75,8 +77,18 @@ class HomeRanges:
     def _hectares(self, area2: int) -> float:
         return area2 / UNITS[self.unit].hectare
 
-    def _times(self, seconds: Sequence[int] | pandas.Series) -> pandas.Series:
-        return times_of(pandas.Series(seconds, dtype="int64"), self.tz)
+    @cached_property
+    def _has_calendar(self) -> bool:
+        """Whether all seconds have a date, as those of the fixes have that the program read."""
+        seconds = (table.rows.seconds for table in self._report.tables.values())
+        return all(has_calendar(own[0], own[-1]) for own in seconds)
+
+    def _times(self, seconds: Sequence[int | None] | pandas.Series) -> pandas.Series:
+        """Seconds by the clock of the ranges, or as they are where they have no date."""
+        whole = pandas.Series(seconds, dtype="Int64")
+        if self._has_calendar:
+            return times_of(whole.fillna(0).astype("int64"), self.tz).where(whole.notna())
+        return whole if whole.hasnans else whole.astype("int64")
 
     def _in_metres(self, points: Iterable[tuple[int, int]]) -> list[tuple[float, float]]:
         scale, (east, north) = UNITS[self.unit].per_metre, self.shift
@@ -86,13 +98,13 @@ class HomeRanges:
         """A row for each animal and level: ``animal``; ``first`` and ``last``, the times of its first and last fix;
         ``fixes``, how many there are, and ``left_out``, how many rows of the frame are not among them (missing where it
         is not known); ``level`` in per cent; ``kept``, how many fixes the level keeps; and ``corners`` and ``hectares``
-        of their polygon. A time after the year 2262 is NaT."""
+        of their polygon. Times are whole seconds where they have no date, as those since a start of their own."""
         left_out = self._tracks.left_out if self._tracks else {}
         rows = []
         for name, table in self._report.tables.items():
             for level, kept, corners, area2 in table.percents:
                 rows.append((
-                    name, table.rows[0][0], table.rows[-1][0], len(table.rows), left_out.get(name), level, kept,
+                    name, table.rows.seconds[0], table.rows.seconds[-1], table.fixes, left_out.get(name), level, kept,
                     corners, self._hectares(area2)))
         titles = ["animal", "first", "last", "fixes", "left_out", "level", "kept", "corners", "hectares"]
         summary = pandas.DataFrame(rows, columns=titles)
@@ -113,7 +125,7 @@ class HomeRanges:
             return self.record.of_source()
         if self._tracks is None or self.groups:
             return Counter()
-        found = Counter({name: len(table.rows) for name, table in self._report.tables.items()})
+        found = Counter({name: table.fixes for name, table in self._report.tables.items()})
         for (name, _), count in self._tracks.reasons.items():
             found[name] += count
         return found
@@ -163,12 +175,11 @@ class HomeRanges:
 
     def _growth(self, rows: Sequence[Row]) -> pandas.DataFrame:
         found = [row.growth for row in rows]
-        seconds = pandas.Series([row.within_second for row in rows], dtype="Int64")
         return pandas.DataFrame({
             "animal": self.animals, "fixes": [row.used for row in rows],
             "hectares": [self._hectares(own.area2) for own in found],
             "within_95_fix": pandas.array([own.within for own in found], dtype="Int64"),
-            "within_95_time": self._times(seconds.fillna(0)).where(seconds.notna()),
+            "within_95_time": self._times([row.within_second for row in rows]),
             "last_tenth": [share(own.tenth, own.area2) for own in found],
             "last_quarter": [share(own.quarter, own.area2) for own in found]})
 
@@ -182,20 +193,20 @@ class HomeRanges:
         """The table of incremental area analysis (Harris et al. 1990), a row for each fix: ``animal``; ``n``, the
         number of the fix; its ``time``; and ``corners`` and ``hectares`` of the polygon of the first n fixes."""
         tables = self._report.tables
-        rows = [(name, n, *row) for name, table in tables.items() for n, row in enumerate(table.rows, 1)]
-        curve = pandas.DataFrame(rows, columns=["animal", "n", "time", "corners", "area2"])
-        curve["time"] = self._times(curve["time"])
-        curve["hectares"] = curve.pop("area2") / UNITS[self.unit].hectare
-        return self.by_group(curve)
+        counts = [table.fixes for table in tables.values()]
+        seconds, corners, areas = (numpy.concatenate(own) for own in zip(*(table.rows for table in tables.values())))
+        return self.by_group(pandas.DataFrame({
+            "animal": numpy.repeat(numpy.array([*tables], dtype=object), counts),
+            "n": numpy.concatenate([numpy.arange(1, count + 1) for count in counts]), "time": self._times(seconds),
+            "corners": corners, "hectares": areas / UNITS[self.unit].hectare}))
 
     def overlap(self, share: bool = False, level: int = 100) -> pandas.DataFrame:
         """How many of the fixes of the row's animal lie in the polygon of the column's, its edges included; with
         ``share`` which share of its fixes, 0 to 1. At 100 per cent these are the program's counts, and all fixes of an
         animal lie in its own polygon. For a lower level the package counts all fixes of the row's animal in the polygon of
         that level of the column's, by whole numbers; that needs the fixes."""
-        if not isinstance(share, bool):
-            refuse(f"share={share!r} is neither True nor False")
-        fixes = {name: len(table.rows) for name, table in self._report.tables.items()}
+        is_share = truth_of(share, "share")
+        fixes = {name: table.fixes for name, table in self._report.tables.items()}
         if self._level(level) == 100:
             counts = {**self._report.overlaps, **{(name, name): count for name, count in fixes.items()}}
         else:
@@ -203,16 +214,16 @@ class HomeRanges:
         matrix = pandas.DataFrame(
             [[counts[name, other] for other in fixes] for name in fixes],
             index=pandas.Index(fixes, name="fixes_of"), columns=pandas.Index(fixes, name="in_range_of"))
-        return matrix.div(pandas.Series(fixes), axis="index") if share else matrix
+        return matrix.div(pandas.Series(fixes), axis="index") if is_share else matrix
 
     def corners(self, level: int = 100) -> dict[str, list[tuple[float, float]]]:
         """The corners of each animal's polygon at a level, easting and northing in metres, counterclockwise from the
-        westernmost, the first not repeated. For a level below 100 the program is run again, on the fixes that the level
-        keeps, and what it finds is compared with the report (``ReportError`` where it is not the same)."""
+        westernmost, the first not repeated. For a level below 100 the package finds them, by whole numbers, among the fixes
+        that the level keeps; their number and their area have to be those of the report (``ReportError``)."""
         level = self._level(level)
         if level not in self._corners:
-            tables = self._report.tables if level == 100 else self._kept_tables(level)
-            self._corners[level] = {name: table.corners for name, table in tables.items()}
+            whole = {name: table.corners for name, table in self._report.tables.items()}
+            self._corners[level] = whole if level == 100 else self._kept_corners(level)
         return {name: self._in_metres(points) for name, points in self._corners[level].items()}
 
     def _overlaps_at(self, level: int) -> dict[tuple[str, str], int]:
@@ -229,25 +240,20 @@ class HomeRanges:
             refuse(f"level {level!r} is none of these ranges ({', '.join(map(str, self.levels))})")
         return int(found)
 
-    def _kept_tables(self, level: int) -> dict[str, Table]:
-        """The tables of the fixes that a level keeps."""
+    def _kept_corners(self, level: int) -> dict[str, Corners]:
+        """The polygons of the fixes that a level keeps."""
         if self._tracks is None:
             refuse("polygons below 100 per cent need the fixes: read_report(path, files=..)")
-        kept = {name: outer_kept(track, level) for name, track in self._tracks.by_name.items()}
-        tables: dict[str, Table] = {}
-        for first in range(0, len(kept), MOST_ANIMALS):
-            part = dict(itertools.islice(kept.items(), first, first + MOST_ANIMALS))
-            runs = Runs(find_program(self.named), part, "100", self.unit, skips_rows=True)
-            tables.update(runs.report(progress_of(None), self.jobs).tables)
-        for name, table in tables.items():
-            if table.rows[-1][1:] != self._percent(name, level)[2:]:
+        found = {name: polygon_kept(track, level) for name, track in self._tracks.by_name.items()}
+        for name, corners in found.items():
+            if (len(corners), doubled_area(corners)) != self._percent(name, level)[2:]:
                 raise ReportError(f"the {level} per cent polygon of {name} is not that of the report")
-        return tables
+        return found
 
     def _percent(self, animal: str, level: int) -> Percent:
         """What the report says of an animal's polygon at a level."""
         table = self._table(animal)
-        whole = Percent(100, len(table.rows), *table.rows[-1][1:])
+        whole = Percent(100, table.fixes, *table.last)
         return {100: whole, **{percent.level: percent for percent in table.percents}}[level]
 
     def _table(self, animal: str) -> Table:
@@ -276,7 +282,7 @@ class HomeRanges:
         self._table(animal)
         if self._tracks is None:
             return None
-        places = self._tracks.by_name[animal][["easting", "northing"]].to_numpy(dtype="float64")
+        places = self._tracks.by_name[animal][:, 1:]
         return numpy.asarray(places / UNITS[self.unit].per_metre - self.shift, dtype="float64")
 
     def polygons(self, levels: int | Iterable[int] = 100) -> geopandas.GeoDataFrame:
@@ -294,7 +300,7 @@ class HomeRanges:
         for level, (name, points) in ((level, own) for level in wanted for own in self.corners(level).items()):
             _, kept, count, area2 = self._percent(name, level)
             shape = shapes.get(len(points), geometry.Polygon)(points)
-            rows.append((name, level, len(self._report.tables[name].rows), kept, count, self._hectares(area2), shape))
+            rows.append((name, level, self._report.tables[name].fixes, kept, count, self._hectares(area2), shape))
         titles = ["animal", "level", "fixes", "kept", "corners", "hectares", "geometry"]
         table = self.by_group(pandas.DataFrame(rows, columns=titles))
         return geopandas.GeoDataFrame(table, geometry="geometry", crs=self.crs)
@@ -384,21 +390,22 @@ def home_range(
     if by is not None:
         tracks, groups = group_tracks(tracks, labels_of(table, by))
     own = reading_of(table.fixes)
-    tell(tracks.notes[len(own.notes) if table.fixes is x else 0:])  # what was said when they were read is not said again
+    tell([*table.said, *tracks.notes[len(own.notes):]])
     report = Runs(found.path, tracks.by_name, ",".join(map(str, wanted)), own.unit).report(shown, jobs)
     ranges = HomeRanges(report, tracks, crs=own.system, tz=clock_of(table.fixes), program=found)
-    ranges.jobs, ranges.groups = jobs, groups
+    ranges.groups = groups
     return ranges
 
 
 def table_of(x: Any, reading: dict[str, Any], program: str | os.PathLike[str] | None, by: Any) -> ReadTable:
     """The fixes as they were given, or as they are read; without a frame's own columns where nobody asks for them."""
+    has_columns = by is not None and not is_period(by)
     if not isinstance(x, Fixes) or not is_of_fixes(x):
-        return read_table(x, reading, program, has_columns=by is not None and not is_period(by))
+        return read_table(x, reading, program, has_columns)
     named = next((name for name, value in reading.items() if value is not None), None)
     if named is not None:
         refuse(f"{named} says how a table is read, and these fixes were read already: give it to read_fixes")
-    return ReadTable(x)
+    return read_again(x, program, has_columns)
 
 
 def read_report(
@@ -420,10 +427,11 @@ def read_report(
     """
     if isinstance(files, (str, os.PathLike)) or not isinstance(files, Iterable):
         refuse(f"files={files!r} are not several paths, such as [{files!r}]")
-    check_grid(crs, tz, shift)
-    report, paths = read_lines(path_of(path, "path")), [path_of(file, "files") for file in files]
-    split = None if record is None else path_of(record, "record")
-    return ranges_of(report, Path(path), paths, crs, tz, shift, split, program)
+    zone = zone_text(tz)
+    check_grid(crs, zone, shift)
+    report, paths = read_lines(check_file(path_of(path, "path")), rows_in), [check_file(path_of(file, "files")) for file in files]
+    split = None if record is None else check_file(path_of(record, "record"))
+    return ranges_of(report, Path(path), paths, crs, zone, shift, split, program)
 
 
 def check_grid(crs: Any, tz: str, shift: Any) -> None:
@@ -445,6 +453,12 @@ def ranges_of(report: Report, path: Path, files: Sequence[Path], crs: Any, tz: s
     ranges.shift, ranges.record, ranges.checksum = shift, record, checksum_of(path)
     ranges.files, ranges.split = [*files], split
     return ranges
+
+
+def check_ranges(ranges: Any) -> None:
+    """Refuses what has no ranges."""
+    if not isinstance(ranges, HomeRanges):
+        refuse(f"a {type(ranges).__name__} has no ranges: home_range makes them")
 
 
 def check_whole(ranges: HomeRanges, what: str) -> None:
@@ -472,7 +486,26 @@ def boundary_of(ranges: HomeRanges, reserve: Any) -> Any:
         refuse("the boundary of the reserve crosses itself: mend it, as by reserve.buffer(0)")
     if reserve.area == 0:
         refuse("the reserve has no area")
+    if own is None and is_in_degrees(reserve.bounds) and not meets(reserve.bounds, box_of_ranges(ranges)):
+        refuse("the reserve has no CRS, and lies as longitude and latitude do: make a GeoSeries of it with its CRS, which is taken to "
+               "that of the ranges", "degrees")
     return reserve
+
+
+def is_in_degrees(box: Bounds) -> bool:
+    """Whether a box may be one of longitude and latitude."""
+    return -180 <= box[0] and -90 <= box[1] and box[2] <= 180 and box[3] <= 90
+
+
+def meets(one: Bounds, other: Bounds) -> bool:
+    """Whether two boxes have a place in common."""
+    return one[0] <= other[2] and other[0] <= one[2] and one[1] <= other[3] and other[1] <= one[3]
+
+
+def box_of_ranges(ranges: HomeRanges) -> Bounds:
+    """The box of all ranges, in metres."""
+    eastings, northings = zip(*(corner for corners in ranges.corners().values() for corner in corners))
+    return min(eastings), min(northings), max(eastings), max(northings)
 
 
 def share_inside(ranges: HomeRanges, reserve: Any, level: int = 100) -> pandas.DataFrame:

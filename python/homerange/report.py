@@ -12,18 +12,17 @@ import re
 from array import array
 from functools import partial
 from itertools import chain, islice
-from typing import Any, Callable, Iterable, Iterator, Mapping, NamedTuple, NoReturn, Sequence, TextIO
+from typing import Any, Callable, Iterable, Iterator, Mapping, NamedTuple, NoReturn, Optional, Sequence, TextIO
 
 from .errors import ReportError, one_line
 
 Corners = list[tuple[int, int]]
-Row = tuple[int, int, int]  # second, corners and area after a fix
-Rows = list[Row]
 
 TEXT: dict[str, Any] = {"encoding": "utf-8", "errors": "surrogateescape", "newline": "\n"}
 NUMBER = "(?:0|[1-9][0-9]{0,16})"  # digits alone, at most those of the greatest area, and no zero before others
 NUMBERS = [re.compile(",".join([f"({NUMBER})"] * count) + "\n") for count in range(5)]  # so many at the end of a line
-PIECE = 1_000  # rows that are read together
+ROWS = re.compile(f"(?:{NUMBER},{NUMBER},{NUMBER},{NUMBER}\n)*")
+PIECE = 4_096  # rows that are read together
 NAME = re.compile('[^\x00-\x1f\x7f,"]{1,32}')
 END = re.compile("end,[0-9]+\\n")
 LEVEL = re.compile("percent,([^,]*),([1-9][0-9]{0,2}),.*\n")
@@ -38,12 +37,32 @@ class Percent(NamedTuple):
     area2: int
 
 
+class Rows(NamedTuple):
+    """Of each fix its second, and the corners and the area of the polygon of it and those before."""
+
+    seconds: array[int]
+    corners: array[int]
+    areas: array[int]
+
+
+Reader = Callable[[str, str, range], Optional[Rows]]  # reads the rows of a text, as rows_in
+
+
 class Table(NamedTuple):
     """What a report says of one animal. Areas are doubled, in squares of the unit."""
 
     rows: Rows
     corners: Corners
     percents: list[Percent]
+
+    @property
+    def fixes(self) -> int:
+        return len(self.rows.seconds)
+
+    @property
+    def last(self) -> tuple[int, int]:
+        """The corners and the area of the polygon of all fixes."""
+        return self.rows.corners[-1], self.rows.areas[-1]
 
 
 class Report(NamedTuple):
@@ -107,22 +126,16 @@ class Lines:
         self.line = next(self.rest, "")
         return list(map(int, numbers.groups()))
 
-    def take_many(self, count: int, read: Callable[[str], Rows]) -> Rows:
+    def take_many(self, count: int, read: Callable[[str], Rows | None]) -> Rows | None:
         """What is read of the next lines, so many, together; where that is nothing, none of them is taken."""
         lines = [self.line, *islice(self.rest, count - 1)]
         rows = read("".join(lines))
-        if rows:
+        if rows is not None:
             self.number += count
             self.line = next(self.rest, "")
         else:
             self.rest = chain(lines[1:], self.rest)
         return rows
-
-    def skip(self, count: int) -> None:
-        """Goes on behind so many lines, or at the end."""
-        if count:
-            self.number += count
-            self.line = next(islice(self.rest, count - 1, None), "")
 
     def unit(self) -> str:
         """The unit, which has a line where it is decimetres."""
@@ -153,23 +166,42 @@ class Lines:
         }
 
 
+def no_rows() -> Rows:
+    return Rows(array("q"), array("q"), array("q"))
+
+
+def without_head(text: str, head: str, count: int) -> str | None:
+    """Lines, so many, without a head that each of them has; None where one has it not."""
+    rest = text[len(head):].replace(f"\n{head}", "\n")
+    return rest if text.startswith(head) and len(text) - len(rest) == count * len(head) else None
+
+
+def rows_in(text: str, head: str, numbers: range) -> Rows | None:
+    """The rows with these numbers, if a text is they, and neither seconds nor areas fall."""
+    rest = without_head(text, head, len(numbers))
+    if rest is None or not ROWS.fullmatch(rest):
+        return None
+    fields = [*map(int, rest.replace("\n", ",")[:-1].split(","))]
+    seconds, corners, areas = fields[1::4], fields[2::4], fields[3::4]
+    if seconds != sorted(seconds) or areas != sorted(areas) or fields[::4] != [*numbers]:
+        return None
+    return Rows(array("q", seconds), array("q", corners), array("q", areas))
+
+
 class Animal:
     """The lines of one animal, the next of a report. Each is handed on as it was read; rows are kept where that is
-    wanted, else the last alone. Where only polygons are wanted rows are not read, and the last stands for each."""
+    wanted, else the last alone."""
 
     def __init__(self, lines: Lines, levels: Sequence[int] | None, write: Callable[[str], object] = str,
-                 keeps_rows: bool = False, skips_rows: bool = False) -> None:
-        self.lines, self.write = lines, write
+                 keeps_rows: bool = False, reader: Reader | None = None) -> None:
+        self.lines, self.write, self.reader = lines, write, reader or rows_in
         self.name = (lines.line.rstrip("\n").split(",") + [""])[1]
         (self.fixes,) = self.take(f"animal,{self.name},fixes,", 1)
         is_name = NAME.fullmatch(self.name) and len(self.name.encode(**{"errors": TEXT["errors"]})) <= 32
         self.need(bool(is_name), "no name of an animal")
         self.box = self.take(f"box,{self.name},", 4)
-        self.rows: Rows = []
-        if skips_rows:
-            self.skip_rows()
-        else:
-            self.take_rows(keeps_rows)
+        self.rows = no_rows()
+        self.take_rows(keeps_rows)
         self.need(self.last[0] > 0, "no corners")
         self.corners = self.polygon()
         self.percents = [self.percent(level) for level in levels or self.levels_ahead()]
@@ -188,41 +220,33 @@ class Animal:
 
     def take_rows(self, keeps_rows: bool) -> None:
         """The rows of the first 1, 2, .. fixes. The last is that of all."""
-        form = re.compile(f"(?:row,{re.escape(self.name)},{NUMBER},{NUMBER},{NUMBER},{NUMBER}\n)*")
         last = (0, 0, 0)
         for first in range(1, self.fixes + 1, PIECE):
             numbers = range(first, min(first + PIECE, self.fixes + 1))
-            rows = self.lines.take_many(len(numbers), partial(self.rows_in, form, numbers, last))
-            for n in numbers[len(rows):]:
-                rows.append(self.row(n, rows[-1] if rows else last))
-            last = rows[-1]
-            if keeps_rows:
-                self.rows += rows
+            rows = self.lines.take_many(len(numbers), partial(self.rows_of, numbers, last)) or self.rows_by_line(numbers, last)
+            last = rows.seconds[-1], rows.corners[-1], rows.areas[-1]
+            for column, new in zip(self.rows, rows if keeps_rows else ()):
+                column.extend(new)
         self.last = [*last[1:]]
 
-    def skip_rows(self) -> None:
-        """The last row, in place of all."""
-        self.lines.skip(self.fixes - 1)
-        self.rows = [self.row(self.fixes, (0, 0, 0))] * self.fixes
-        self.last = [*self.rows[0][1:]]
-
-    def row(self, n: int, before: Row) -> Row:
-        """The row of the first n fixes, behind another."""
-        second, corners, area = self.take(f"row,{self.name},{n},", 3)
-        self.need(second >= before[0] and area >= before[2], "seconds or areas fall")
-        return second, corners, area
-
-    def rows_in(self, form: re.Pattern[str], numbers: range, before: Row, text: str) -> Rows:
-        """The rows of so many fixes, if a text is they; none where it has to be looked at line by line."""
-        if not form.fullmatch(text):
-            return []
-        fields = [*map(int, text.replace(f"row,{self.name},", "").replace("\n", ",")[:-1].split(","))]
-        seconds, corners, areas = fields[1::4], fields[2::4], fields[3::4]
-        rises = [before[0], *seconds] == sorted([before[0], *seconds]) and [before[2], *areas] == sorted([before[2], *areas])
-        if not rises or fields[::4] != [*numbers]:
-            return []
+    def rows_of(self, numbers: range, before: tuple[int, int, int], text: str) -> Rows | None:
+        """The rows of so many fixes, behind another, if a text is they; None where it has to be looked at line by line."""
+        rows = self.reader(text, f"row,{self.name},", numbers)
+        if rows is None or rows.seconds[0] < before[0] or rows.areas[0] < before[2]:
+            return None
         self.write(text)
-        return list(zip(seconds, corners, areas))
+        return rows
+
+    def rows_by_line(self, numbers: range, before: tuple[int, int, int]) -> Rows:
+        """The rows of so many fixes, behind another, line by line."""
+        rows, last = no_rows(), before
+        for n in numbers:
+            second, corners, area = self.take(f"row,{self.name},{n},", 3)
+            self.need(second >= last[0] and area >= last[2], "seconds or areas fall")
+            last = second, corners, area
+            for column, value in zip(rows, last):
+                column.append(value)
+        return rows
 
     def polygon(self) -> Corners:
         """The corners of the polygon of all fixes, which has the box and the area of all."""
@@ -257,15 +281,15 @@ def overlaps_of(lines: Lines, fixes: Mapping[str, int]) -> dict[tuple[str, str],
             for other, count in zip((other for other in fixes if other != name), own)}
 
 
-def parse(lines: Lines, skips_rows: bool = False) -> Report:
+def parse(lines: Lines, reader: Reader | None = None) -> Report:
     """What a report says."""
     unit, tables = lines.unit(), dict[str, Table]()
     levels: list[int] | None = None
     while lines.line.startswith("animal,") or not tables:
-        animal = Animal(lines, levels, keeps_rows=True, skips_rows=skips_rows)
+        animal = Animal(lines, levels, keeps_rows=True, reader=reader)
         animal.need(animal.name not in tables, "it is there twice")
         tables[animal.name], levels = Table(animal.rows, animal.corners, animal.percents), animal.levels
-    return Report(unit, tables, overlaps_of(lines, {name: len(table.rows) for name, table in tables.items()}))
+    return Report(unit, tables, overlaps_of(lines, {name: table.fixes for name, table in tables.items()}))
 
 
 def check_end(text: str, where: str) -> None:
@@ -280,13 +304,13 @@ def lines_of(text: str, where: str) -> Lines:
     return Lines(io.StringIO(text, newline="\n"), where)
 
 
-def read(path: str | os.PathLike[str]) -> Report:
+def read(path: str | os.PathLike[str], reader: Reader | None = None) -> Report:
     """The report in a file."""
     with open(path, "rb") as end:
         end.seek(max(os.path.getsize(path) - 30, 0))
         check_end(end.read().decode("latin-1"), str(path))
     with open(path, **TEXT) as file:
-        return parse(Lines(file, str(path)))
+        return parse(Lines(file, str(path)), reader)
 
 
 def kept_count(fixes: int, level: int) -> int:

@@ -3,7 +3,8 @@
 from __future__ import annotations
 
 import zoneinfo
-from typing import NamedTuple
+from datetime import timezone
+from typing import Any, NamedTuple
 
 from .errors import refuse
 
@@ -18,6 +19,12 @@ class Unit(NamedTuple):
 
 
 UNITS = {"m": Unit(1, 16_777_216, "metres", 20_000), "dm": Unit(10, 134_217_728, "decimetres", 2_000_000)}
+
+
+def zone_text(zone: Any) -> Any:
+    """A time zone of Python by its name; all else as it is."""
+    name = getattr(zone, "key", None) or getattr(zone, "zone", None)
+    return "UTC" if zone is timezone.utc else name if isinstance(name, str) else zone
 
 
 def zone_of_time(name: object) -> zoneinfo.ZoneInfo:

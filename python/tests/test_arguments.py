@@ -9,8 +9,8 @@ import pytest
 from exact import cloud
 from frames import frame_of
 
-from homerange import HomeRangeError, HomeRangeNote, home_range, plot_curve, plot_ranges, read_fixes, read_report, share_inside
-from homerange import write_page
+from homerange import FileError, HomeRangeError, HomeRangeNote, home_range, plot_curve, plot_ranges, read_fixes, read_report
+from homerange import share_inside, write_layers, write_page
 
 EXAMPLES = pathlib.Path(__file__).parents[2] / "examples"
 FRAME = frame_of(a=cloud(1, 12), b=cloud(2, 12))
@@ -48,8 +48,6 @@ def is_taken_or_refused(call):
             call(value)
         except (HomeRangeError, HomeRangeNote) as fault:
             assert "\n" not in str(fault) and len(str(fault)) < 6000, value
-        except OSError:
-            assert isinstance(value, (str, list, dict, pandas.Series, pandas.DataFrame)), value
 
 
 @pytest.mark.parametrize("name", OF_RANGES)
@@ -77,8 +75,14 @@ def test_levels_of_answers(ranges):
 def test_arguments_of_pictures(ranges):
     pyplot = pytest.importorskip("matplotlib.pyplot")
     is_taken_or_refused(lambda value: plot_ranges(ranges, level=value))
-    is_taken_or_refused(lambda value: plot_curve(ranges, ax=value))
-    pyplot.close("all")
+    for name in ("ax", "animals", "by", "share", "facets", "colours"):
+        is_taken_or_refused(lambda value: plot_curve(ranges, **{name: value}))
+        pyplot.close("all")
+    for name in ("ax", "animals", "fixes", "over", "over_name", "facets", "colours"):
+        is_taken_or_refused(lambda value: plot_ranges(ranges, **{name: value}))
+        pyplot.close("all")
+    for call in (plot_curve, plot_ranges, lambda value: share_inside(value, ranges), lambda value: write_page(value, "page.html")):
+        is_taken_or_refused(call)
 
 
 @pytest.mark.parametrize("name", OF_TABLES)
@@ -101,8 +105,20 @@ def test_arguments_of_write_page(ranges, tmp_path, name):
     is_taken_or_refused(lambda value: write_page(ranges, tmp_path / "page.html", **{name: value}))
 
 
+@pytest.mark.parametrize("name", ["title", "tz", "made", "nonsense"])
+def test_arguments_of_evidence(ranges, tmp_path, name):
+    (tmp_path / "made").mkdir()
+    is_taken_or_refused(lambda value: ranges.evidence(tmp_path / "made", **{name: value}))
+    with pytest.raises(HomeRangeError, match="there is no such folder"):
+        ranges.evidence(tmp_path / "none" / "made")
+
+
 def test_paths(splitter, ranges, tmp_path, monkeypatch):
     monkeypatch.chdir(tmp_path)
+    for path, said in ((tmp_path / "none" / "a", "there is no such folder"), (tmp_path, "is a folder")):
+        for write in (write_page, write_layers):
+            with pytest.raises(FileError, match=said):
+                write(ranges, path)
     is_taken_or_refused(read_fixes)
     is_taken_or_refused(home_range)
     is_taken_or_refused(read_report)

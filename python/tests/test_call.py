@@ -42,7 +42,7 @@ def stub(tmp_path, monkeypatch):
     ({"skip_unnamed": "yes"}, "skip_unnamed='yes' is neither True nor False"),
     ({"animal": ["a,b", "c"]}, "animal: 'a,b' has a comma, which stands between words"), ({"animal": {"a"}}, "no name of a column"),
     ({"sensor": ["gps", "a,b"]}, "sensor: 'a,b' has a comma"), ({"sensor": []}, "sensor: there is no word"),
-    ({"sensor": 5}, "sensor=int is no name"), ({"argos_class": [None]}, "argos_class: None is no word"),
+    ({"sensor": True}, "sensor: True is no word"), ({"na": float("nan")}, "na: nan is no word"), ({"argos_class": [None]}, "argos_class: None is no word"),
     ({"max_dop": -1}, "max_dop is -1 and not a number from 0"), ({"max_speed": "fast"}, "max_speed is 'fast' and not a number"),
     ({"max_dop": float("nan")}, "max_dop is nan and"), ({"max_dop": True}, "max_dop is True and"),
     ({"every": "often"}, "every='often' is not a second or more"), ({"every": 0.0001}, "every=0.0001 is not a second or more"),

@@ -108,7 +108,7 @@ def test_evidence_of_fixes_that_were_chosen_and_bound(tmp_path, splitter):
         other = read_fixes(frame_of(urchin=[(-1_500_000 + east, north) for east, north in cloud(4, 20)]))
     fixes = read_fixes(frame)
     chosen = fixes[fixes["easting"] > 562_000]
-    for number, own in enumerate((chosen, pandas.concat([chosen, other]), chosen.sort_values("time", ascending=False))):
+    for number, own in enumerate((chosen, pandas.concat([chosen, other]), chosen.sort_values("time"))):
         folder = tmp_path / f"hand-in{number}"
         found = home_range(own, [50, 100])
         with pytest.warns(HomeRangeNote, match=CHOSEN):
@@ -126,7 +126,8 @@ def test_evidence_of_fixes_that_were_chosen_and_bound(tmp_path, splitter):
     assert "option,crs,EPSG:3035 (ETRS89-extended / LAEA Europe)" in lines_of(tmp_path / "laea")[0]
     assert verify(tmp_path / "laea")[0] == 3
     # Moved as a whole fixes are shifted otherwise, and have the areas that they had.
-    moved = home_range(chosen.assign(easting=chosen["easting"] - 7_000_000))
+    with pytest.warns(HomeRangeNote, match="^coordinates are shifted by 7000000 m east and 0 m north$"):
+        moved = home_range(chosen.assign(easting=chosen["easting"] - 7_000_000))
     with pytest.warns(HomeRangeNote, match=CHOSEN):
         moved.evidence(tmp_path / "moved")
     assert "shift,7000000,0" in lines_of(tmp_path / "moved")[0]

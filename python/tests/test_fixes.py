@@ -149,12 +149,48 @@ def test_what_is_no_table_is_refused(table, said):
     assert fault.value.kind == "empty"
 
 
-def test_what_has_no_text_is_no_name(splitter):
-    frame = frame_of(a=SQUARE).astype({"animal": object})
-    frame["animal"] = [["a"], ["a"], "b", "b"]
-    with pytest.raises(FrameError, match=r"^row 0: animal is of the class list, which is no name: make it text") as fault:
-        quietly(read_fixes, frame)
-    assert (fault.value.kind, fault.value.record) == ("name", 1)
+@pytest.mark.parametrize("title, options, kind", [
+    ("animal", {}, "unread"), ("sensor-type", {}, "sensor"), ("sensor-type", {"sensor": "b"}, "unread"),
+    ("kind", {"fix": "kind", "fix_type": ["<list>", "b"]}, "unread"), ("visible", {}, "mark"), ("dop", {"max_dop": 5}, "number"),
+    ("timestamp", {}, "time"), ("northing", {}, "number")])
+def test_what_has_no_text_is_refused_where_it_is_read(splitter, title, options, kind):
+    frame = frame_of(a=SQUARE * 2)
+    cells = frame[title].tolist() if title in frame else [1 if title in ("visible", "dop") else "b"] * 8
+    frame[title] = [cells[0], ["a"], *cells[2:]]
+    said = f"^row 1: {title} is of the class list, of which no cell is known: make text, numbers or times of it$"
+    with pytest.raises(FrameError, match=said) as fault:
+        quietly(read_fixes, frame, **options)
+    assert (fault.value.kind, fault.value.record) == (kind, 2)
+
+
+@pytest.mark.parametrize("names", [pandas.Series([1, 1.5, 2, 2]), pandas.Series([1, 1.5, 1, None], dtype="Float64"), pandas.Series([1, 1.5, "b", "b"])])
+def test_numbers_that_are_not_whole_are_no_names(splitter, names):
+    with pytest.raises(FrameError, match="^row 1: animal is 1.5, a number that is not whole: make it text$") as fault:
+        quietly(read_fixes, frame_of(a=SQUARE).assign(animal=names), skip_unnamed=True)
+    assert (fault.value.kind, fault.value.record) == ("name", 2)
+    assert quietly(read_fixes, frame_of(a=SQUARE).assign(animal=[*"aabb"], note=names))["animal"].nunique() == 2
+
+
+@pytest.mark.parametrize("title", ["timestamp_utc", "time_local", "UTC_datetime", "local time"])
+@pytest.mark.parametrize("tz", [None, "Asia/Tokyo"])
+def test_moments_are_the_time_whatever_their_title_says(splitter, title, tz):
+    frame = frame_of(a=SQUARE).rename(columns={"timestamp": title}).assign(note="x")
+    for options in ({}, {"time": title}):
+        with told(f"^columns: animal, {title}, easting, northing; 1 animals"):
+            fixes = read_fixes(frame, tz=tz, **options)
+        assert fixes["time"].tolist() == frame[title].tolist() and str(fixes["time"].dt.tz) == (tz or "UTC")
+        assert fixes[title].tolist() == frame[title].tolist() and "datetime" not in fixes
+    with pytest.raises(FrameError, match=f"^row 3: there is no {title}$"):
+        read_fixes(frame.assign(**{title: frame[title].where(frame.index < 3)}), tz=tz, time=title)
+    naive = frame.assign(**{title: frame[title].dt.tz_localize(None)})
+    with pytest.raises(FrameError, match="no column has a usual title for the time"):
+        read_fixes(naive, tz=tz)
+    with pytest.raises(FrameError, match="no column has a usual title for the time, and"):
+        read_fixes(frame.assign(released=frame[title]), tz=tz)
+
+
+def test_what_has_no_text_is_no_word_where_it_is_not_read(splitter):
+    frame = frame_of(a=SQUARE)
     fixes = read_fixes(frame.assign(animal="<list>", note=[[1], [2], [3], [4]]))
     assert fixes["animal"].tolist() == ["<list>"] * 4 and fixes["note"].tolist() == [[1], [2], [3], [4]]
 

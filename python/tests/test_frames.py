@@ -1,4 +1,5 @@
 """How home_range reads data frames: columns, forms of times and marks, subsets, and what it refuses."""
+import warnings
 from datetime import date, datetime, timedelta, timezone
 
 import pandas
@@ -94,9 +95,14 @@ def test_a_day_is_its_midnight():
         assert home_range(times_of(time)).curve()["time"].tolist() == [pandas.Timestamp("2024-05-01", tz="UTC")]
 
 
-def test_times_after_2262_have_no_date():
-    frame = times_of(1_099_511_627_776).rename(columns={"timestamp": "second"})
-    assert home_range(frame).summary()["first"].isna().all()
+@pytest.mark.parametrize("start", [0, 1_099_511_000_000])  # of a start of its own, and after the year 2262
+def test_seconds_without_a_date_are_answered_as_they_are(start):
+    found = home_range(pandas.DataFrame({**PART, "second": [start + second for second in PART["second"]]}), 100)
+    assert found.summary()[["first", "last"]].values.tolist() == [[start, start + 180]]
+    assert found.overview()[["first", "last", "within_95_time"]].values.tolist() == [[start, start + 180, start + 180]]
+    assert found.curve()["time"].tolist() == [start, start + 60, start + 120, start + 180]
+    assert found.growth()["within_95_time"].tolist() == [start + 180]
+    assert home_range(pandas.DataFrame({**PART, "easting": 0}), 100).growth()["within_95_time"].isna().tolist() == [True]
 
 
 def test_fixes_are_sorted_by_time_and_equal_times_keep_their_order():
@@ -206,7 +212,7 @@ def test_pieces_are_each_animals_own():
     ({"northing": float("inf")}, "^row 2: northing is 'inf' and not a number"),
     ({"easting": "5,1"}, "^row 2: easting is '5,1' and not a number"),
     ({"easting": True}, "^row 2: easting is 'true' and not a number"),
-    ({"easting": 5 + 0j}, "^row 2: easting is '<complex>' and not a number"),
+    ({"easting": 5 + 0j}, "^row 2: easting is of the class complex, of which no cell is known: make text, numbers or times of it$"),
     ({"easting": START}, "^row 2: easting is .* and not a number"),
     ({"timestamp": None}, "^row 2: there is no time"),
     ({"timestamp": "01.05.2024 00:30"}, "^row 2: timestamp is '01.05.2024 00:30' and not a time such as 2024-05-01 00:30:04"),
@@ -252,7 +258,8 @@ def test_a_row_that_cannot_be_right_is_refused(change, said):
     ({"levels": 0}, "levels=0 are not levels"),
     ({"max_dop": "good"}, "max_dop is 'good' and not a number"),
     ({"zone": "33U"}, "33U is no zone as 33N: U is a band, and the zone is 33N"),
-    ({"crs": "EPSG:4326"}, "the CRS WGS 84 is not a plane one"),
+    ({"crs": "EPSG:4326"}, "the CRS WGS 84 has longitude and latitude, .*: name their columns by lon and lat, without crs"),
+    ({"crs": "+proj=tmerc +R=1737400 +units=m"}, "the CRS unknown is of another body than the Earth"),
     ({"crs": "nowhere"}, "crs='nowhere' names no reference system"),
     ({"since": "May"}, "'May' is no time in UTC, such as '2024-05-01'"),
     ({"until": "2024-02-30"}, "'2024-02-30' is no time in UTC"),
@@ -273,27 +280,47 @@ def test_what_is_no_frame_of_fixes_is_refused():
         home_range(read_fixes(frame_of(a=SQUARE)).head(0))
 
 
-@pytest.mark.parametrize("change, what", [
-    (lambda fixes: fixes.assign(easting=fixes["easting"] + 0.25), "easting"), (lambda fixes: fixes.assign(northing=None), "northing"),
-    (lambda fixes: fixes.assign(easting=fixes["easting"].astype(str)), "easting"), (lambda fixes: fixes.assign(animal=7), "animal"),
-    (lambda fixes: fixes.assign(animal=[None, *"bbb"]), "animal"),
-    (lambda fixes: fixes.assign(time=fixes["time"] + pandas.Timedelta("1ms")), "time"), (lambda fixes: fixes.assign(time="2024"), "time"),
-    (lambda fixes: fixes.assign(time=fixes["time"].where(fixes["easting"] > 0)), "time"),
-    (lambda fixes: fixes.assign(time=fixes["time"].dt.tz_localize(None)), "time"),
-])
-def test_fixes_that_were_changed_are_refused(change, what):
-    with pytest.raises(FrameError, match=f"the fixes were changed: {what} is not as it was read, so read them anew by read_fixes"):
-        home_range(change(read_fixes(frame_of(a=SQUARE))))
+PART = dict(animal="a", second=[0, 60, 120, 180], easting=[0, 200, 200, 0], northing=[0, 0, 200, 200])
 
 
-def test_fixes_in_another_order_give_the_same_ranges():
-    fixes = read_fixes(frame_of(a=SQUARE, b=[(5, 5), (90, 7), (30, 80)]), unit="dm")
-    found, again = home_range(fixes), home_range(fixes.sample(frac=1, random_state=4).sort_values("animal", kind="stable"))
+@pytest.mark.parametrize("change, said", [
+    ({"easting": [0.25, 200.25, 200.25, 0.25]}, "^coordinates are rounded to whole metres, which moves a fix by at most 0.25 m$"),
+    ({"easting": [-3_000_000, 0, 0, 0]}, "^coordinates are shifted by 3000000 m east and 0 m north$"),
+    ({"second": [0, 120, 60, 180]}, "^1 records of a come before an earlier one: sorted by time$"),
+    ({"northing": [None, 0, 200, 200]}, "^1 records have no coordinates: left out$"),
+    ({"easting": [15.5, 15.6, 15.7, 15.8], "northing": [45.5, 45.6, 45.7, 45.8]}, "are they longitude and latitude[?]$")])
+def test_fixes_that_were_changed_are_read_again_as_a_frame(change, said):
+    fixes = read_fixes(pandas.DataFrame(PART))
+    with told(said):
+        found = home_range(fixes.assign(**change))
+    with told(said):
+        frame = home_range(pandas.DataFrame({**PART, **change}))
+    assert found.summary().equals(frame.summary()) and found.corners() == frame.corners()
+    with warnings.catch_warnings():
+        warnings.simplefilter("error")
+        assert home_range(fixes.assign(note=1).reset_index(drop=True)).hectares("a") == 4  # as they were read: nothing is said
+
+
+@pytest.mark.parametrize("change, said", [
+    ({"animal": [None, *"bbb"]}, "^row 0: there is no animal"), ({"second": [0, 60, -1, 180]}, "^row 2: second is '-1'"),
+    ({"easting": ["0", "x", "0", "0"]}, "^row 1: easting is 'x' and not a number"), ({"northing": None}, "no fix is left"),
+    ({"easting": [0, 0, 0, 1e8]}, "wider than")])
+def test_changed_fixes_that_cannot_be_right_are_refused(change, said):
+    with pytest.raises(FrameError, match=said):
+        home_range(read_fixes(pandas.DataFrame(PART)).assign(**change))
+
+
+def test_fixes_keep_their_unit_zone_and_clock_when_they_are_read_again():
+    frame = frame_of(a=SQUARE, b=[(5, 5), (90, 7), (30, 80)])
+    fixes = read_fixes(frame.assign(easting=frame["easting"] + 500_000.3, northing=frame["northing"] + 5_000_000), unit="dm", zone="33N",
+                       tz="Asia/Tokyo")
+    found, again = home_range(fixes), home_range(fixes.sort_values("time"))
     assert found.summary().equals(again.summary()) and found.curve().equals(again.curve())
-    moved = home_range(fixes.assign(easting=fixes["easting"] - 3_000_000.5))
-    assert moved.hectares("a") == found.hectares("a") and moved.corners()["a"][0] == (-3_000_000.5, 0)
-    with pytest.raises(FrameError, match="eastings go from .* wider than a grid"):
-        home_range(fixes.assign(easting=[0, 0, 0, 0, 0, 0, 1e8]))
+    assert (again.unit, again.crs, again.tz) == ("dm", "EPSG:32633", "Asia/Tokyo") and again.corners()["a"][0] == (500_000.3, 5_000_000)
+    other = home_range(fixes.iloc[1:].assign(time=fixes["time"].iloc[1:].dt.tz_convert("Europe/Ljubljana")), by=list("bbcdde"))
+    assert other.tz == "Europe/Ljubljana" and other.animals == ["a b", "a c", "b d", "b e"]
+    naive = home_range(fixes.assign(time=fixes["time"].dt.tz_localize(None)))
+    assert naive.summary().equals(found.summary())  # the clock of Tokyo is that of tz
 
 
 def test_longitude_and_latitude_are_projected_or_refused_with_what_helps():

@@ -76,7 +76,7 @@ def test_another_shape_than_a_point_is_refused():
     from shapely.geometry import LineString
 
     frame = without_first(LineString([(0, 0), (1, 1)]))
-    with pytest.raises(FrameError, match="^row 0: point easting is '<linestring>' and not a number") as fault:
+    with pytest.raises(FrameError, match="^row 0: the geometry is a linestring, and points are wanted$") as fault:
         home_range(frame)
     assert (fault.value.kind, fault.value.record) == ("number", 1)
     assert home_range(frame.iloc[1:]).summary()["fixes"].tolist() == [29] * 3

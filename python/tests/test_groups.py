@@ -186,9 +186,8 @@ def program_that_logs(tmp_path):
 def test_so_many_processors_are_taken(tmp_path, jobs):
     if len(os.sched_getaffinity(0)) < 2:
         pytest.skip("this machine has one processor")
-    ranges = home_range(frame_of(a=cloud(1, 20)), jobs=jobs, program=program_that_logs(tmp_path))
-    ranges.corners(50)
-    assert (tmp_path / "processors").read_text() == f"{jobs}\n{jobs}\n"
+    home_range(frame_of(a=cloud(1, 20)), jobs=jobs, program=program_that_logs(tmp_path))
+    assert (tmp_path / "processors").read_text() == f"{jobs}\n"
     assert len(os.sched_getaffinity(0)) >= 2
 
 

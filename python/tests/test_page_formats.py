@@ -1,5 +1,6 @@
 """How the page writes numbers, at the edges of each rule: by hand, and by decimals of Python's library."""
 import random
+from array import array
 
 import pytest
 from pages import area, length, share
@@ -8,7 +9,7 @@ from homerange.formats import Clock, fixed, hectares, interval, listed, share_of
 from homerange.overview import Row, facts_of
 from homerange.page_tables import without_range
 from homerange.page_text import difference, said, system_of
-from homerange.report import Table
+from homerange.report import Rows, Table
 
 
 @pytest.mark.parametrize("part, whole, places, text", [
@@ -88,7 +89,7 @@ def test_what_was_said_is_quoted_without_lines_on_one_animal_and_files():
 
 
 def test_animals_without_a_range_are_named():
-    rows = [Row("a", None, {}, *facts_of(Table([(0, 1, 0)], [(1, 1)], [])))]
+    rows = [Row("a", None, {}, *facts_of(Table(Rows(array("q", [0]), array("q", [1]), array("q", [0])), [(1, 1)], [])))]
     assert without_range(rows, {"a": 5, "": 3}, "data") == ""
     assert without_range(rows, {"a": 5, "b": 1}, "data").endswith(" (fixes of the data): <bdi>b</bdi> (1).")
     assert without_range(rows, {f"{n:02}": 1 for n in range(25)}, "export").endswith("<bdi>19</bdi> (1), and 5 more.")

@@ -12,7 +12,7 @@ from frames import frame_of, with_splitter
 
 import homerange
 from homerange import home_range
-from homerange import program as runs
+from homerange import program as finder, runs
 from homerange.program import find_program, find_split_program
 
 POINTS = cloud(6, 20)
@@ -103,7 +103,7 @@ def test_where_the_program_is_looked_for(tmp_path, monkeypatch, stand_in):
     monkeypatch.delenv("HOMERANGE")
     if os.access(CLONE / "release" / "homerange", os.X_OK):
         assert find_program(None) == str(CLONE / "release" / "homerange")
-    monkeypatch.setattr(runs, "CLONE", None)
+    monkeypatch.setattr(finder, "CLONE", None)
     monkeypatch.setenv("PATH", str(tmp_path), prepend=os.pathsep)
     assert calls()
 
@@ -115,7 +115,7 @@ def test_folders_of_data_are_not_looked_into(tmp_path, monkeypatch, stand_in):
     (tmp_path / "release" / "SOURCES").write_text("sources 0\nlogic 0\n")
     (tmp_path / "data").mkdir()
     monkeypatch.delenv("HOMERANGE", raising=False)
-    monkeypatch.setattr(runs, "CLONE", None)
+    monkeypatch.setattr(finder, "CLONE", None)
     monkeypatch.setenv("PATH", str(tmp_path / "none"))
     for folder in (tmp_path, tmp_path / "data"):
         monkeypatch.chdir(folder)
@@ -124,11 +124,11 @@ def test_folders_of_data_are_not_looked_into(tmp_path, monkeypatch, stand_in):
 
 
 def test_a_clone_is_known_by_its_own_files(tmp_path):
-    assert runs.clone_of(CLONE / "python" / "homerange") == CLONE
+    assert finder.clone_of(CLONE / "python" / "homerange") == CLONE
     (tmp_path / "python" / "homerange").mkdir(parents=True)
     (tmp_path / "release").mkdir()
-    assert runs.clone_of(tmp_path / "python" / "homerange") is None
-    assert runs.clone_of(Path("/homerange")) is None
+    assert finder.clone_of(tmp_path / "python" / "homerange") is None
+    assert finder.clone_of(Path("/homerange")) is None
 
 
 @pytest.fixture
@@ -141,7 +141,7 @@ def wheel(tmp_path, monkeypatch):
     said = subprocess.run(["sha256sum", "release/homerange", "release/homerange-split"], cwd=tmp_path, capture_output=True)
     (folder / "SHA256SUMS").write_bytes(said.stdout)
     monkeypatch.delenv("HOMERANGE", raising=False)
-    monkeypatch.setattr(runs, "OWN", folder / "homerange")
+    monkeypatch.setattr(finder, "OWN", folder / "homerange")
     yield folder
 
 
@@ -168,8 +168,8 @@ def test_a_wheel_that_lost_a_file_is_refused(wheel):
 
 def test_the_second_program_lies_beside_the_first(tmp_path, monkeypatch):
     monkeypatch.delenv("HOMERANGE", raising=False)
-    monkeypatch.setattr(runs, "OWN", tmp_path / "none")
-    monkeypatch.setattr(runs, "CLONE", None)
+    monkeypatch.setattr(finder, "OWN", tmp_path / "none")
+    monkeypatch.setattr(finder, "CLONE", None)
     real, linked = runnable(tmp_path / "real" / "homerange"), tmp_path / "linked" / "homerange"
     linked.parent.mkdir()
     linked.symlink_to(real)

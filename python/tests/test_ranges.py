@@ -7,7 +7,7 @@ import pytest
 from exact import area2, cloud, covers, hull, nearest
 from frames import frame_of
 
-from homerange import FrameError, HomeRangeNote, home_range, program, read_fixes
+from homerange import FrameError, HomeRangeNote, home_range, read_fixes, runs
 
 HERD = {
     "vixen": cloud(1, 120), "old boar": cloud(2, 75, 300, 562500), "Jäger": cloud(3, 9, 5), "NA": cloud(4, 41, 2000)}
@@ -164,14 +164,14 @@ def test_a_herd_is_made_of_groups(count, runs):
             assert overlap.loc[name, other] == sum(covers(polygons[other], point) for point in points)
 
 
-@pytest.mark.parametrize("apart, runs, touched", [(101, 3, 0), (100, 5, 2), (99, 5, 2)])
-def test_groups_whose_boxes_do_not_meet_have_no_run(apart, runs, touched, monkeypatch):
+@pytest.mark.parametrize("apart, count, touched", [(101, 3, 0), (100, 5, 2), (99, 5, 2)])
+def test_groups_whose_boxes_do_not_meet_have_no_run(apart, count, touched, monkeypatch):
     squares = {f"deer {number}": [(east, 0), (east + 100, 0), (east + 100, 100), (east, 100)]
                for number, east in ((number, apart * number) for number in range(70))}
-    calls, call = [], program._call
-    monkeypatch.setattr(program, "_call", lambda *words: calls.append(words) or call(*words))
+    calls, call = [], runs._call
+    monkeypatch.setattr(runs, "_call", lambda *words: calls.append(words) or call(*words))
     overlap = home_range(frame_of(**squares), 100).overlap()
-    assert len(calls) == runs
+    assert len(calls) == count
     for one, name in enumerate(squares):
         row = [4 if one == other else touched * (abs(one - other) == 1) for other in range(70)]
         assert overlap.loc[name].tolist() == row
@@ -221,14 +221,16 @@ def test_fixes_that_became_more_are_said():
         f"4 records of {name} have the second of the one before, and 4 its place: kept" for name in "ab"]
 
 
-@pytest.mark.parametrize("title, marks", [("use", [1, 1, 0, 1]), ("visible", [True, True, True, False]), ("use", ["true", "false"] * 2)])
-def test_marks_that_were_set_on_fixes_are_refused(title, marks):
+@pytest.mark.parametrize("title, marks", [("use", [1, 1, 0, 1]), ("Visible", [True, True, True, False]), ("manually.marked_outlier", ["", "", "true", ""])])
+def test_marks_that_were_set_on_fixes_are_read(title, marks):
     fixes = read_fixes(frame_of(a=SQUARE))
     fixes[title] = marks
-    with pytest.raises(FrameError, match=f"the column {title} is false for [12] of the fixes, which were read without them: choose"):
-        home_range(fixes)
-    assert home_range(fixes.assign(**{title: True}), 100).hectares("a") == 4
-    assert home_range(fixes.assign(use=1, visible=False), 100).hectares("a") == 4  # beside use it is not looked at
+    with pytest.warns(HomeRangeNote, match="^1 outliers: left out$"):
+        found = home_range(fixes)
+    assert found.left_out().values.tolist() == [["a", "outlier", 1]] and found.hectares("a") == 2
+    assert home_range(fixes.assign(use=1), 100).hectares("a") == 4  # beside use no other mark is read
+    with pytest.raises(FrameError, match=f"^row 2: {title} is 'perhaps' and"):
+        home_range(fixes.assign(**{title: [1, 1, "perhaps", 1]}))
 
 
 def test_classes_of_fixes_may_change():

@@ -3,15 +3,17 @@ import re
 import subprocess
 from pathlib import Path
 
+import numpy
 import pandas
 import pytest
 from exact import area2, cloud, hull, nearest
 
 import homerange
-from homerange import FrameError, ReportError, read_report
+from homerange import FileError, FrameError, ReportError, read_report
 from homerange.program import find_program
-from homerange.outer import kept_of, outer_fixes, outer_kept
-from homerange.report import kept_places
+from homerange.outer import kept_of, outer_fixes, polygon_kept
+from homerange.report import kept_places, read
+from homerange.report_rows import rows_in
 
 TRACKS = {"vixen": cloud(7, 40), "old boar": cloud(8, 11)}
 
@@ -40,7 +42,7 @@ def test_a_report_is_read(files):
     assert found.corners() == {name: hull(points) for name, points in TRACKS.items()}
     assert found.summary()["left_out"].isna().all()
     assert found.fixes("vixen") is None
-    assert str(found.summary()["first"][0]) == "1970-01-01 00:00:00+00:00"
+    assert found.summary()["first"][0] == 0
 
 
 def test_a_report_with_its_files(files):
@@ -102,7 +104,7 @@ def test_fixes_in_other_places_are_refused(files):
     cloud(1, 400), cloud(2, 400, spread=9), [(7, 5)], [(7, 5), (9, 5)], [(at, 3 * at) for at in range(50)],
     [(5, at) for at in range(50)], [(at, at * at) for at in range(99)], [(4 ** 20 * at, 9 ** 20 - at * at) for at in range(99)]])
 def test_few_fixes_have_the_polygon_of_all(points):
-    track, corners = pandas.DataFrame(points, columns=["easting", "northing"]), hull(points)
+    track, corners = numpy.array(points, dtype=object if max(map(max, points)) > 2 ** 62 else "int64"), hull(points)
     assert hull(outer_fixes(track, corners)) == corners
     for place in range(len(corners)):
         east, north = corners[place]
@@ -116,11 +118,11 @@ def test_few_fixes_have_the_polygon_of_all(points):
     cloud(3, 500), cloud(4, 500, spread=4), [(0, 0), (2, 0), (0, 2), (2, 2)] * 9, [(7, 5)],
     [(2 ** 27 - at % 2, 2 ** 27 * (at % 3 // 2)) for at in range(99)]])
 def test_fixes_that_a_level_keeps(points, level):
-    track = pandas.DataFrame(points, columns=["easting", "northing"])
+    track = numpy.array([(at, *point) for at, point in enumerate(points)])
     places = kept_places(*zip(*points), level)
-    assert kept_of(track, level).index.tolist() == places
+    assert kept_of(track, level)[:, 0].tolist() == places
     assert sorted(points[at] for at in places) == sorted(nearest(points, level))
-    assert hull([*map(tuple, outer_kept(track, level)[["easting", "northing"]].to_numpy().tolist())]) == hull(nearest(points, level))
+    assert polygon_kept(track, level) == hull(nearest(points, level))
 
 
 def changed(text, kind, change):
@@ -164,20 +166,27 @@ def test_a_report_that_is_not_whole_is_refused(files, kind, change, said):
 
 @pytest.fixture(scope="module")
 def long_report(tmp_path_factory):
-    """The lines of a report of more rows than are read together, with a walk that comes back."""
+    """The lines of a report of many rows, with a walk that comes back."""
     path, points = tmp_path_factory.mktemp("long") / "walk.csv", cloud(9, 2600, spread=40)
     lines = [f"walk,{60 * at},{east},{north}" for at, (east, north) in enumerate(points)]
     path.write_text("\n".join(["animal,second,easting,northing", *lines, ""]))
     return path, points, report_of([path]).read_text().splitlines(keepends=True)
 
 
+@pytest.fixture(autouse=True)
+def rows_in_pieces(monkeypatch):
+    monkeypatch.setattr("homerange.report.PIECE", 1000)
+
+
 def test_many_rows_are_read(long_report):
     path, points, lines = long_report
+    assert read(path.with_name("report.txt")) == read(path.with_name("report.txt"), rows_in)
     found = read_report(path.with_name("report.txt"), files=[path])
-    assert [row[0] for row in found.report.tables["walk"].rows] == [60 * at for at in range(2600)]
+    rows = found.report.tables["walk"].rows
+    assert rows.seconds.tolist() == [60 * at for at in range(2600)]
     for count in (1, 999, 1000, 1001, 2000, 2600):
         corners = hull(points[:count])
-        assert found.report.tables["walk"].rows[count - 1][1:] == (len(corners), area2(corners))
+        assert (rows.corners[count - 1], rows.areas[count - 1]) == (len(corners), area2(corners))
     # Points of a small grid, many of which lie as far from the mean.
     assert {level: found.corners(level)["walk"] for level in found.levels} == {
         level: hull(nearest(points, level)) for level in found.levels}
@@ -198,11 +207,12 @@ def test_a_fault_among_many_rows_is_found(long_report, n, change, said):
     changed.write_text("".join(
         re.sub("^row,walk,([0-9]+),([0-9]+),([0-9]+),([0-9]+)", change, line) if at == n + 1 else line
         for at, line in enumerate(lines)))
-    with pytest.raises(ReportError) as fault:
-        read_report(changed)
     at = n + 2 + (said is None and change != "")
-    assert f": line {at}: " in str(fault.value)
-    assert said is None or said.format(n=n) in str(fault.value)
+    for reader in (None, rows_in):
+        with pytest.raises(ReportError) as fault:
+            read(changed, reader)
+        assert f": line {at}: " in str(fault.value)
+        assert said is None or said.format(n=n) in str(fault.value)
 
 
 @pytest.mark.parametrize("n, field", [(3, 3), (1000, 3), (1001, 3), (1000, 5), (1001, 5), (2600, 5)])
@@ -212,8 +222,9 @@ def test_what_falls_among_many_rows_is_found(long_report, n, field):
     own[field] = str(int(before[field]) - 1)
     changed = path.with_name("changed.txt")
     changed.write_text("".join([*lines[:n + 1], ",".join(own) + "\n", *lines[n + 2:]]))
-    with pytest.raises(ReportError, match=f": line {n + 2}: walk: seconds or areas fall"):
-        read_report(changed)
+    for reader in (None, rows_in):
+        with pytest.raises(ReportError, match=f": line {n + 2}: walk: seconds or areas fall"):
+            read(changed, reader)
 
 
 @pytest.mark.parametrize("text", ["", "\n", "end,0\n", "unit,dm\nend,0\n"])
@@ -231,9 +242,11 @@ def test_what_is_no_text_is_no_report(tmp_path):
         read_report(path)
 
 
-def test_a_file_that_is_not_there_is_a_fault_of_the_system(tmp_path):
-    with pytest.raises(FileNotFoundError):
-        read_report(tmp_path / "none.txt")
+def test_a_file_that_is_not_there_is_refused(files, tmp_path):
+    report, none = report_of(files), tmp_path / "none"
+    for call in (lambda: read_report(none), lambda: read_report(tmp_path), lambda: read_report(report, files=[none]), lambda: read_report(report, record=none)):
+        with pytest.raises(FileError, match="^.*: there is no such file$"):
+            call()
 
 
 def test_the_examples_in_the_repository():

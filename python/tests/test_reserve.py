@@ -56,3 +56,11 @@ def test_a_level_below_100():
 def test_what_is_no_reserve_is_refused(crs, reserve, said):
     with pytest.raises(FrameError, match=said):
         share_inside(ranges(crs), reserve)
+
+
+def test_a_reserve_in_degrees_without_a_system_is_refused():
+    with pytest.raises(FrameError, match="^the reserve has no CRS, and lies as longitude and latitude do: make a GeoSeries of it") as fault:
+        share_inside(ranges(), box(15.7, 46.3, 15.9, 46.4))
+    assert fault.value.kind == "degrees"
+    small = home_range(frame_of(a=square(100, 50)))  # on a grid of its own, within which a reserve may be as small
+    assert share_inside(small, box(100, 50, 150, 70))["share"].tolist() == [50 * 20 / 200 ** 2]

@@ -3,7 +3,7 @@ import pandas
 import pytest
 from frames import frame_of
 
-from homerange import FrameError
+from homerange import FrameError, HomeRangeNote, read_fixes
 from homerange.read.text import text_of_frame, write_text
 
 SQUARE = [(0, 0), (200, 0), (200, 200), (0, 200)]
@@ -24,6 +24,24 @@ def test_all_columns_are_written(tmp_path):
     assert text == ('animal,timestamp,easting,northing,note,"a, b","c\r"\n'
                     f'a,{TIMES[0]},0,0,x,"say ""so""",\na,{TIMES[1]},200,0,,"two\nlines", \n')
     assert options == {}
+
+
+@pytest.mark.parametrize("values, wanted", [
+    ([123.456, 1, None, -0.125], ["123.4560", "1", "", "-0.1250"]), (["123.456"], ["123.456"]), ([123.456, 0.5], ["123.456", "0.5"]),
+    ([123.456, 1000], ["123.456", "1000"]), ([999.999], ["999.9990"]), ([1, 2], ["1", "2"]), ([1.0, 2.0], ["1", "2"]), ([0.0625], ["0.0625"]),
+    (pandas.array([123.456], dtype="float32"), ["123.4560"]), (pandas.array([123.456, None], dtype="Float64"), ["123.4560", ""])])
+def test_decimals_are_not_groups_of_thousands(tmp_path, monkeypatch, values, wanted):
+    monkeypatch.setattr("homerange.read.text.CELLS", 2)  # a row at a time: the whole column counts
+    text, _, _ = written(pandas.DataFrame({"x": values, "y": "a"}), tmp_path)
+    assert text.split("\n")[1:-1] == [f"{cell},a" for cell in wanted]
+
+
+def test_numbers_with_three_decimals_are_coordinates(splitter):
+    frame = frame_of(a=[(562.125, 134.252), (571.236, 134.917), (561.125, 188.111)])
+    with pytest.warns(HomeRangeNote, match="rounded to whole decimetres"):
+        assert read_fixes(frame, unit="dm")["easting"].tolist() == [562.1, 571.2, 561.1]
+    with pytest.raises(FrameError, match="thousands"):
+        read_fixes(frame.astype({"easting": str, "northing": str}), unit="dm")
 
 
 def test_many_rows_are_written_piece_by_piece(tmp_path, monkeypatch):
@@ -48,7 +66,10 @@ def test_times_of_the_index_have_a_usual_title(tmp_path):
     for name in (None, "t", "when"):
         assert written(frame.rename_axis(name), tmp_path)[0].split("\n")[0] == "animal,easting,northing,datetime"
     assert written(frame.rename_axis("when"), tmp_path, time="when")[0].split("\n")[0] == "animal,easting,northing,when"
+    assert written(frame.rename_axis(None), tmp_path, time="index")[0].split("\n")[0] == "animal,easting,northing,index"
     labels = frame.reset_index(drop=True).set_index(pandas.Index([5, 7]))
+    for index, title in ((pandas.RangeIndex(2, name="second"), ",second"), (pandas.Index([5, 7], name="id"), ""), (pandas.Index([5, 5], name="id"), ",id")):
+        assert written(labels.set_index(index), tmp_path)[0].split("\n")[0] == f"animal,easting,northing{title}"
     assert written(labels, tmp_path)[0].split("\n")[0] == "animal,easting,northing"
     several = pandas.concat({"fox": labels.drop(columns="animal")})
     assert written(several, tmp_path)[0].split("\n")[:2] == ["easting,northing,level_0,level_1", "0,0,fox,5"]
@@ -104,7 +125,8 @@ def test_points_are_columns(tmp_path):
         written(degrees, tmp_path)
     assert fault.value.kind == "degrees"
     mixed = metres.assign(geometry=[metres.geometry[0], metres.geometry[0].buffer(1)])
-    assert written(mixed, tmp_path)[0].split("\n")[2].endswith(",<polygon>,<polygon>")
+    with pytest.raises(FrameError, match="^row 1: the geometry is a polygon, and points are wanted$"):
+        written(mixed, tmp_path)
 
 
 def test_points_in_degrees_are_of_wgs_84(tmp_path):

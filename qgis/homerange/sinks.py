@@ -38,10 +38,8 @@ def feature_of(fields, values, geometry=None):
 
 
 def time_of(moment):
-    """A time of pandas as one of QGIS, in UTC; missing where it is past what pandas has."""
-    if moment != moment:
-        return None
-    return QDateTime.fromSecsSinceEpoch(int(moment.timestamp()), Qt.UTC)
+    """A time of pandas, or seconds, as a time of QGIS, in UTC."""
+    return QDateTime.fromSecsSinceEpoch(int(moment.timestamp() if hasattr(moment, "timestamp") else moment), Qt.UTC)
 
 
 def polygon_of(corners):

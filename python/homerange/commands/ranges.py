@@ -106,7 +106,9 @@ def fill(folder: Path, options: argparse.Namespace, log: Log, program: str, spli
         log.say(line, by="split")
     log.at("running the program")
     words = words_of(options, options.clock or options.tz or "UTC")
-    report = make_report(Path(), Wish(options.percent, None, program_of(program)), words, keeps_rows=True)
+    from ..report_rows import rows_in
+
+    report = make_report(Path(), Wish(options.percent, None, program_of(program)), words, rows_in)
     write_all(Path(), options.over, read_about(Path(ABOUT)), log, program, report)
 
 

@@ -1,16 +1,19 @@
 """The cells of a column of a data frame as text, by the class of the column, or of each cell where it has none. What is missing
-is nothing, and what no table of fixes has is named by its class, as <complex>, which the program refuses where it is read."""
+is nothing, and what no table of fixes has is named by its class, as <complex>, which is refused where it is read."""
 
 from __future__ import annotations
 
 import datetime as clock
 import re
 from decimal import Decimal
+from functools import lru_cache
 from typing import Any, Callable, List
 
 import numpy
 import pandas
 from numpy.typing import NDArray
+
+from ..errors import one_line
 
 Cells = List[str]
 EXACT = 2 ** 53  # from here on numbers of floating point are not all whole numbers
@@ -20,7 +23,9 @@ MOST_BITS = 13_000  # of a whole number, which Python writes with up to 4,300 di
 PARTS = {"s": 1, "ms": 10 ** 3, "us": 10 ** 6, "ns": 10 ** 9}  # of a second
 IANA = re.compile("[A-Za-z]+(/[A-Za-z0-9_+-]+)*")  # how a time zone is named
 TRUTHS = {True: "true", False: "false"}
-DAY = 86_400 * 10 ** 9  # nanoseconds
+SECONDS = 86_400  # of a day
+DAY = SECONDS * 10 ** 9  # nanoseconds
+THOUSAND = 1000
 
 
 def cells_of(series: pandas.Series) -> Cells:
@@ -72,10 +77,30 @@ def moments(times: NDArray[Any], has_zone: bool) -> Cells:
         times, unit = times.astype("datetime64[s]"), "s"
     rest = numpy.where(numpy.isnat(times), 0, times.astype("int64"))
     needed = next(name for name, parts in PARTS.items() if not (rest % max(PARTS[unit] // parts, 1)).any())
+    if needed == "s":
+        return whole_moments(times.astype("datetime64[s]"), "T" if has_zone else " ", "Z" if has_zone else "")
     text = "\n".join(numpy.datetime_as_string(times.astype(f"datetime64[{needed}]")).tolist()).replace("NaT", "")
     if not has_zone:
         return text.replace("T", " ").split("\n")
     return [f"{time}Z" if time else "" for time in text.split("\n")]
+
+
+def whole_moments(times: NDArray[Any], between: str, behind: str) -> Cells:
+    """The cells of whole seconds: days and clocks occur often, and are written once each."""
+    is_missing = numpy.isnat(times)
+    day, clock = numpy.divmod(numpy.where(is_missing, 0, times.astype("int64")), SECONDS)
+    at, days = pandas.factorize(day)
+    dates = texts([f"{date}{between}" for date in numpy.datetime_as_string(days.astype("datetime64[D]")).tolist()])
+    found = dates[at] + clocks(behind)[clock]
+    found[is_missing] = ""
+    return list(found.tolist())
+
+
+@lru_cache(maxsize=None)
+def clocks(behind: str) -> NDArray[Any]:
+    """All seconds of a day as texts, with what stands behind them."""
+    whole = numpy.datetime_as_string(numpy.arange(SECONDS).astype("datetime64[s]")).tolist()
+    return texts([f"{text[11:]}{behind}" for text in whole])
 
 
 def texts(several: Cells) -> NDArray[Any]:
@@ -174,9 +199,44 @@ def cell_of(value: Any) -> str:
     return odd_cell(value) if found is None else found(value)
 
 
+def row_named(labels: pandas.Index, at: int) -> str:
+    """A row by its label, and where that is not its place by that too."""
+    label = labels[at]
+    is_place = isinstance(label, (int, numpy.integer)) and label == at
+    return f"row {at}" if is_place else f"row {one_line(str(label))} (frame.iloc[{at}])"
+
+
+class OddCell(str):
+    """A cell of a value of which no text is known, by its class."""
+
+
 def odd_cell(value: Any) -> str:
     """What a table of fixes cannot have, by its class."""
-    return f"<{type(value).__name__}>"
+    return OddCell(f"<{type(value).__name__}>")
+
+
+def odd_row(series: pandas.Series) -> tuple[int, str] | None:
+    """The first row of a column whose value has no text, and its class; None where there is none."""
+    kind, types = series.dtype, pandas.api.types
+    is_number = types.is_numeric_dtype(kind) and not types.is_complex_dtype(kind)
+    is_plain = is_number or is_time(kind) or types.infer_dtype(series, skipna=True) == "string"
+    cells = [] if is_plain else cells_of(series)
+    return next(((at, cell[1:-1]) for at, cell in enumerate(cells) if isinstance(cell, OddCell)), None)
+
+
+def are_like_thousands(series: pandas.Series) -> bool:
+    """Whether the point of all numbers of floating point of a column could be one before thousands, as in 123.456."""
+    if not pandas.api.types.is_float_dtype(series.dtype):
+        return False
+    kind = getattr(series.dtype, "numpy_dtype", series.dtype)
+    numbers = series.to_numpy(dtype=kind if isinstance(kind, numpy.dtype) else "float64", na_value=numpy.nan)
+    numbers = numbers[~numpy.isnan(numbers)]
+    has_part = numbers[numbers != numpy.floor(numbers)]
+    if not len(has_part) or not (numpy.abs(numbers) < THOUSAND).all():
+        return False
+    wide = has_part.astype("float64")
+    thousandths, hundredths = ((numpy.rint(wide * parts) / parts).astype(numbers.dtype) for parts in (1000, 100))
+    return bool((thousandths == has_part).all() and (hundredths != has_part).all())
 
 
 def whole_cell(value: Any) -> str:

@@ -2,6 +2,7 @@
 
 from __future__ import annotations
 
+import hashlib
 import html
 from collections import Counter
 from dataclasses import dataclass, field, replace
@@ -12,20 +13,22 @@ import pandas
 from ..errors import refuse
 from ..zones import crs_of, text_of_crs
 from .cells import IANA, zone_name
+from .text import plain
 
 if TYPE_CHECKING:
     import geopandas
 
 PLACES = ("easting", "northing")
 SHOWN = 12  # lines of what is asked that are shown
+MARKS = {"use", "visible", "manually-marked-outlier", "algorithm-marked-outlier", "import-marked-outlier", "manually-marked-valid"}
 
 
 @dataclass(frozen=True)
 class Reading:
     """How fixes were read: the unit to which coordinates were rounded, their zone and reference system (None where it is not
     known), the zone of their times, how many metres the program added to coordinates, what was said, how many fixes were left
-    out by animal and reason, how many fixes each animal had, the names that files have of animals, and the record that the
-    program wrote."""
+    out by animal and reason, how many fixes each animal had, the names that files have of animals, the record that the program
+    wrote, and the checksum of the rows that were read."""
 
     unit: str
     zone: str | None
@@ -37,7 +40,9 @@ class Reading:
     counts: dict[str, int] = field(default_factory=dict)
     names: dict[str, str] = field(default_factory=dict)
     record: bytes | None = None  # None where they were bound of several
+    rows: str | None = None  # None where they were bound of several
     parts: tuple[Reading, ...] = ()  # of which they were bound
+    is_again: bool = False  # whether it is of fixes that were read before, and changed
 
     @property
     def system(self) -> Any:
@@ -59,10 +64,9 @@ def bound(readings: Iterable[Reading]) -> Reading:
         return parts[0]
     left: Counter[tuple[str, str]] = sum((Counter(part.left) for part in parts), Counter())
     counts: Counter[str] = sum((Counter(part.counts) for part in parts), Counter())
-    shift = max(part.shift[0] for part in parts), max(part.shift[1] for part in parts)
     return replace(
-        parts[0], shift=shift, notes=tuple(dict.fromkeys(note for part in parts for note in part.notes)), left=dict(left),
-        counts=dict(counts), names={name: own for part in parts for name, own in part.names.items()}, record=None, parts=tuple(parts))
+        parts[0], notes=tuple(dict.fromkeys(note for part in parts for note in part.notes)), left=dict(left), counts=dict(counts),
+        record=None, rows=None, parts=tuple(parts))
 
 
 def check_alike(parts: Sequence[Reading]) -> None:
@@ -142,6 +146,25 @@ def is_of_fixes(frame: pandas.DataFrame) -> bool:
         columns.count("time") + columns.count("second") >= 1)
 
 
+def title_of_time(fixes: pandas.DataFrame) -> str:
+    """The title of the times of fixes."""
+    return "time" if "time" in fixes else "second"
+
+
+def rows_of_fixes(fixes: Fixes) -> pandas.DataFrame:
+    """The rows of fixes as the program may read them again: animals, times, places, and marks that say which are used."""
+    marks = [at for at, title in enumerate(fixes.columns) if plain(str(title)) in MARKS]
+    own = [[*fixes.columns].index(title) for title in ("animal", title_of_time(fixes), *PLACES)]
+    return pandas.DataFrame(fixes).iloc[:, [*own, *marks]]
+
+
+def checksum_of_rows(fixes: Fixes) -> str:
+    """A checksum of such rows, in their order."""
+    rows = rows_of_fixes(fixes)
+    hashes = pandas.util.hash_pandas_object(rows, index=False)
+    return hashlib.sha256(repr([*rows.columns]).encode("utf-8", "surrogatepass") + hashes.to_numpy().tobytes()).hexdigest()
+
+
 def is_known(fixes: Fixes) -> bool:
     """Whether a frame has the columns of fixes, and it is known how they were read."""
     return fixes.reading is not None and is_of_fixes(fixes)
@@ -182,7 +205,7 @@ def head(fixes: Fixes, reading: Reading) -> str:
     if not len(fixes):
         return f"{counted}; {system}"
     sizes = [(fixes[title].max() - fixes[title].min()) / 1000 for title in PLACES]
-    title = "time" if "time" in fixes else "second"
+    title = title_of_time(fixes)
     ends = [str(end.date()) if isinstance(end, pandas.Timestamp) else f"second {end}"
             for end in (fixes[title].min(), fixes[title].max())]
     span = f"from {ends[0]} to {ends[1]}" + (f" in {clock_of(fixes)}" if title == "time" else "")

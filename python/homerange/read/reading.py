@@ -3,11 +3,12 @@
 from __future__ import annotations
 
 import os
-import re
 import tempfile
 import warnings
+from collections import Counter
+from dataclasses import replace
 from pathlib import Path
-from typing import Any, Iterable, Mapping, NamedTuple
+from typing import Any, Callable, Iterable, Mapping, NamedTuple, Sequence
 
 import numpy
 import pandas
@@ -16,26 +17,27 @@ from numpy.typing import NDArray
 from ..errors import FrameError, HomeRangeInfo, HomeRangeNote, one_line, path_of, refuse
 from ..program import find_split_program
 from ..record import Record, read_record
-from ..units import UNITS
+from ..units import UNITS, zone_text
 from .call import as_arguments, split_table
-from .cells import cell_of
-from .fixes import PLACES, Fixes, Reading
+from .fixes import PLACES, Fixes, Reading, checksum_of_rows, clock_of, reading_of, rows_of_fixes
+from .refusals import COLUMNS, check_cells, refuse_text
 from .systems import crs_named, options_of, refuse_zone, scale_said
-from .text import NAME, Column, Text, frame_given, text_of_frame, titles_named, write_text
+from .text import NAME, Text, frame_given, in_own_words, text_of_frame, with_time_named, write_text
 from .tracks import NAMED, Whole, left_out, own_names, read_tracks, rows_of
 from .words import words_of_options
 
 SINCE_1970 = (10 ** 8, 9_223_372_036)  # seconds that have a calendar: from 1973 to where pandas' times end
-ODD = re.compile("<[A-Za-z_0-9]+>")  # how a cell is written that no table can have
 # How lines begin that say what was taken, and nothing that was left out or changed.
 TAKEN = ("columns: ", "UTM coordinates are", "coordinates are those", "longitude and latitude are", "days and hours are",
          "ranges are by group", "not read: ", "times are read as ", "points of ")
 
 
 class ReadTable(NamedTuple):
-    """A table that was read: its fixes; the frame, None where it was a file; and of each fix its row there, where that was asked."""
+    """A table that was read: its fixes; what there is to say; the frame, None where it was a file; and of each fix its row there,
+    where that was asked."""
 
     fixes: Fixes
+    said: Sequence[str] = ()
     frame: pandas.DataFrame | None = None
     rows: NDArray[numpy.int64] | None = None
 
@@ -55,7 +57,8 @@ def read_fixes(x: Any, *, program: str | os.PathLike[str] | None = None, **optio
     options: those of homerange-split, with _ for hyphens (``from_`` for from): unit, zone, crs, animal, name, time, time_format,
         tz, easting, northing, lon, lat, argos, dop, fix, skip_unnamed, sensor, argos_class, max_dop, fix_type, since, until,
         max_speed, every, na and from_; and of files encoding, skip_lines and header. docs/TABLES.md says what each does, and how
-        a table is read. crs is the reference system of coordinates in metres, such as 'EPSG:3035'.
+        a table is read. crs is the reference system of coordinates in metres, such as 'EPSG:3035'. every is a text such as '2h'
+        or '30min', a timedelta, or a number of hours (so 7200 are 300 days).
     program: as in home_range.
 
     The program homerange-split, which lies beside homerange, reads the table: a data frame is written as a text for it. Fixes are
@@ -64,7 +67,8 @@ def read_fixes(x: Any, *, program: str | os.PathLike[str] | None = None, **optio
     there.
     """
     table = read_table(x, options, program)
-    tell(table.fixes.reading.notes if table.fixes.reading else ())
+    tell(table.said)
+    table.fixes.reading = replace(reading_of(table.fixes), rows=checksum_of_rows(table.fixes))
     return table.fixes
 
 
@@ -72,7 +76,7 @@ def read_table(
     x: Any, options: Mapping[str, Any], program: str | os.PathLike[str] | None = None, has_columns: bool = True,
 ) -> ReadTable:
     """The fixes of a file or a frame, of a frame with its own columns if they are wanted."""
-    own = frame_given(x)
+    own, options = frame_given(x), {**options, "tz": zone_text(options.get("tz"))}
     words_of_options({**options, "crs": None})  # what cannot be right is refused before anything is looked for
     with tempfile.TemporaryDirectory(prefix="homerange-") as folder:
         if isinstance(own, (str, os.PathLike)):
@@ -81,6 +85,37 @@ def read_table(
             helps = ": make it one, as by to_pandas()" if hasattr(own, "to_pandas") else ""
             refuse(f"a {type(x).__name__} is neither a path nor a data frame with a row for each fix{helps}", "empty")
         return read_frame(own, options, Path(folder), find_split_program(program), has_columns)
+
+
+def read_again(fixes: Fixes, program: str | os.PathLike[str] | None = None, has_columns: bool = True) -> ReadTable:
+    """Fixes as they were read, if their rows are still the same; else the program reads their rows as a frame. Only what was not
+    said before is said, and not what was taken."""
+    before = reading_of(fixes)
+    if not len(fixes):
+        refuse("no fix is left", "empty")
+    if before.rows == checksum_of_rows(fixes):
+        return ReadTable(fixes)
+    rows = rows_of_fixes(fixes)
+    known = {"zone": before.zone} if before.crs is None else {"crs": before.crs}
+    text = text_of_frame(rows.reset_index(drop=True), {"unit": before.unit, **known, "tz": clock_of(fixes)})
+    with tempfile.TemporaryDirectory(prefix="homerange-") as folder:
+        found = read_text(text._replace(labels=fixes.index), Path(folder), find_split_program(program), has_columns)
+    own = reading_of(found.fixes)
+    new = [note for note in own.notes if note not in before.notes and not note.startswith(TAKEN)]
+    own = replace(own, notes=(*before.notes, *new), left=left_of_both(before, own, fixes), is_again=True)
+    table = found.fixes if found.rows is None else with_columns(found.fixes, fixes, found.rows)
+    table.reading = own
+    return ReadTable(table, new, fixes, found.rows)
+
+
+def left_of_both(before: Reading, again: Reading, fixes: Fixes) -> dict[tuple[str, str], int]:
+    """How many fixes were left out when they were read, were taken away since, and were left out when they were read again."""
+    there = fixes["animal"].value_counts()
+    gone = {(name, "use"): max(count - int(there.get(name, 0)), 0) for name, count in before.counts.items()}
+    found = Counter(before.left)
+    for left in (gone, again.left):
+        found.update(left)
+    return {key: count for key, count in found.items() if count}
 
 
 def read_file(path: Path, options: Mapping[str, Any], folder: Path, program: str) -> ReadTable:
@@ -95,78 +130,59 @@ def read_file(path: Path, options: Mapping[str, Any], folder: Path, program: str
         raise FrameError(text if text.startswith(shown) else f"{shown}: {text}", fault.kind, fault.record) from None
     record = read_record(folder / "tracks" / "split.txt")
     whole = read_tracks(folder / "tracks", record)
-    return ReadTable(fixes_of(whole, record, folder, options.get("tz"), crs, []))
+    fixes = fixes_of(whole, record, folder, options.get("tz"), crs, [])
+    return ReadTable(fixes, reading_of(fixes).notes)
 
 
 def read_frame(frame: pandas.DataFrame, options: Mapping[str, Any], folder: Path, program: str, has_columns: bool) -> ReadTable:
     """The fixes of a data frame, with its own columns if they are wanted."""
     if not len(frame) or not len(frame.columns):
         refuse("the data frame has no row of a fix", "empty")
-    text = text_of_frame(frame, options)
-    words = [*(["--records"] if has_columns else []), *words_of_options(text.options)]
-    try:
-        write_text(text, folder / NAME)
-        split_table(NAME, "tracks", words, program, str(folder))
-    except FrameError as fault:
-        raise of_row(fault, frame.index) from None
+    found = read_text(text_of_frame(frame, options), folder, program, has_columns)
+    if found.rows is None:
+        return found._replace(frame=frame)
+    return found._replace(fixes=with_columns(found.fixes, frame, found.rows), frame=frame)
+
+
+def read_text(text: Text, folder: Path, program: str, has_rows: bool) -> ReadTable:
+    """The fixes of the text of a frame, with the row of each if these are wanted."""
+    text = split_text(text, folder, program, ["--records"] if has_rows else [])
     record = read_record(folder / "tracks" / "split.txt")
     whole = read_tracks(folder / "tracks", record)
-    refuse_odd(record, text)
-    fixes = fixes_of(whole, record, folder, text.options.get("tz"), text.crs, text.notes)
-    if not has_columns:
-        return ReadTable(fixes, frame)
-    rows = rows_of(folder / "tracks", whole)
-    return ReadTable(with_columns(fixes, frame, rows), frame, rows)
+    check_cells(text, record)
+    fixes = fixes_of(whole, record, folder, text.options.get("tz"), text.crs, text.notes, lambda line: said_of(line, text))
+    return ReadTable(fixes, reading_of(fixes).notes, None, rows_of(folder / "tracks", whole) if has_rows else None)
 
 
-def of_row(fault: FrameError, labels: pandas.Index) -> FrameError:
-    """A refusal with the row by its label, and with options as arguments. That of the program may name the text, which nobody
-    knows."""
-    text = as_arguments(str(fault).removeprefix(f"{NAME}: "), fault.kind)
-    if fault.record is None:
-        return FrameError(text, fault.kind)
-    return FrameError(f"{row_named(labels, fault.record - 1)}: {text}", fault.kind, fault.record)
+def split_text(text: Text, folder: Path, program: str, words: Sequence[str]) -> Text:
+    """Has the program make tracks of a text; answers the text that it took at last."""
+    while True:
+        try:
+            write_text(text, folder / NAME)
+            split_table(NAME, "tracks", [*words, *words_of_options(text.options)], program, str(folder))
+            return text
+        except FrameError as fault:
+            text = with_time_named(text, str(fault)) or refuse_text(text, fault)
 
 
-def row_named(labels: pandas.Index, at: int) -> str:
-    """A row by its label, and where that is not its place by that too."""
-    label = labels[at]
-    is_place = isinstance(label, (int, numpy.integer)) and label == at
-    return f"row {at}" if is_place else f"row {one_line(str(label))} (frame.iloc[{at}])"
+def said_of(line: str, text: Text) -> str:
+    """A line that the program says of a text."""
+    return in_own_words(line, text) if line.startswith(COLUMNS) else line
 
 
-def refuse_odd(record: Record, text: Text) -> None:
-    """Refuses animals that are named by what has no text, such as lists."""
-    own = own_names(record)
-    odd = {name for name in map(lambda name: own.get(name, name), record.tracks) if ODD.fullmatch(name)}
-    named = titles_named(text.options.get("animal"))
-    taken = next((line for line in record.said if line.startswith("columns: ")), "")
-    for column in text.columns if odd else ():
-        is_animal = column.title in named or taken.startswith(f"columns: {column.title},")
-        at = odd_row(column, odd) if is_animal else None
-        if at is not None:
-            what = f"{column.title} is of the class {type(column.values.iloc[at]).__name__}"
-            refuse(f"{row_named(text.labels, at)}: {what}, which is no name: make it text", "name", at + 1)
-
-
-def odd_row(column: Column, odd: set[str]) -> int | None:
-    """The first row whose cell is one of these words, and no text; None where there is none."""
-    cells = enumerate(column.values.tolist())
-    return next((at for at, value in cells if not isinstance(value, str) and cell_of(value) in odd), None)
-
-
-def fixes_of(whole: Whole, record: Record, folder: Path, tz: str | None, crs: Any, notes: Iterable[str]) -> Fixes:
+def fixes_of(whole: Whole, record: Record, folder: Path, tz: str | None, crs: Any, notes: Iterable[str],
+             in_words: Callable[[str], str] = str) -> Fixes:
     """The fixes of tracks with their record, in metres and by the clock of tz."""
     if crs is not None and record.zone is not None and options_of(crs, None).get("zone") != record.zone:
         refuse_zone(record.zone, crs)
     own, scale, clock = own_names(record), UNITS[record.unit].per_metre, tz or "UTC"
     names = [own.get(name, name) for name in whole.names]
     east, north = (numbers / scale - added for numbers, added in zip((whole.easting, whole.northing), record.shift))
-    is_calendar = len(whole.second) and SINCE_1970[0] <= whole.second.min() and whole.second.max() < SINCE_1970[1]
-    when = {"time": times_of(pandas.Series(whole.second), clock)} if is_calendar else {"second": whole.second}
+    is_dated = len(whole.second) and has_calendar(whole.second.min(), whole.second.max())
+    when = {"time": times_of(pandas.Series(whole.second), clock)} if is_dated else {"second": whole.second}
     fixes = Fixes({"animal": whole.per_fix(names), **when, "easting": east, "northing": north})
     middles = {name: (float(east[part].mean()), float(north[part].mean())) for name, part in zip(names, parts_of(whole.counts))}
-    said = [as_arguments(line) for line in record.said]
+    said = [as_arguments(in_words(line)) for line in record.said]
     shown = [*notes, *said, *scale_said(crs, record.zone, middles)]
     fixes.reading = Reading(
         record.unit, record.zone, crs, clock, record.shift, tuple(shown), left_out(record, own), dict(zip(names, whole.counts)),
@@ -182,12 +198,24 @@ def parts_of(counts: Iterable[int]) -> Iterable[slice]:
         first += count
 
 
+def has_calendar(first: int, last: int) -> bool:
+    """Whether seconds from the first to the last are dates."""
+    return bool(SINCE_1970[0] <= first and last < SINCE_1970[1])
+
+
 def times_of(seconds: pandas.Series, tz: str) -> pandas.Series:
     """Seconds since 1970 by the clock of tz; NaT after the year 2262, where pandas' times end."""
     whole = seconds.to_numpy("int64")
     nanoseconds = numpy.where(whole < SINCE_1970[1], 10 ** 9 * whole, numpy.iinfo("int64").min)
     times = pandas.Series(nanoseconds.view("datetime64[ns]"), seconds.index, name=seconds.name)
     return times.dt.tz_localize("UTC").dt.tz_convert(tz)
+
+
+def dates_of(times: pandas.Series) -> pandas.Series:
+    """Times in UTC, also those that are seconds, as of 1970."""
+    if pandas.api.types.is_integer_dtype(times.dtype):
+        return times_of(times.fillna(0).astype("int64"), "UTC").where(times.notna())
+    return times.dt.tz_convert("UTC")
 
 
 def with_columns(fixes: Fixes, frame: pandas.DataFrame, rows: NDArray[numpy.int64]) -> Fixes:

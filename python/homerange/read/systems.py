@@ -13,6 +13,7 @@ from numpy.typing import NDArray
 
 from ..errors import refuse
 from ..zones import REFUSED, TOLD, scale_of_crs, text_of_crs, zone_of, zone_of_crs
+from .cells import row_named
 
 if TYPE_CHECKING:
     import geopandas
@@ -20,6 +21,7 @@ if TYPE_CHECKING:
 DEGREES = "EPSG:4326"  # longitude and latitude as the program takes them
 HELP = "project it first, as by frame.to_crs(frame.estimate_utm_crs())"
 METRE = {"metre", "meter"}
+RADIUS = (6_350_000, 6_400_000)  # metres between which that of a body is one of the Earth
 TITLES = {"easting": "point easting", "northing": "point northing"}
 TITLES_OF_DEGREES = {"lon": "point longitude", "lat": "point latitude"}
 
@@ -38,6 +40,9 @@ def crs_named(crs: Any) -> Any:
     is_name = isinstance(crs, str) and not re.search("[:+=\\[{]|^[0-9]+$", crs)
     if found is None or is_name and found.name.lower() != crs.lower():
         refuse(f"crs={crs!r} names no reference system", "crs")
+    if found.is_geographic:
+        refuse(f"the CRS {found.name} has longitude and latitude, which are no plane coordinates: name their columns by lon and lat, "
+               "without crs", "crs")
     check_plane(found)
     return None if is_local(found) else found
 
@@ -47,8 +52,15 @@ def is_local(crs: Any) -> bool:
     return crs is None or bool(getattr(crs, "is_engineering", False))
 
 
+def check_body(crs: Any) -> None:
+    """Refuses a reference system of another body than the Earth."""
+    if crs.ellipsoid is not None and not RADIUS[0] < crs.ellipsoid.semi_major_metre < RADIUS[1]:
+        refuse(f"the CRS {crs.name} is of another body than the Earth", "crs")
+
+
 def check_plane(crs: Any) -> None:
     """Refuses a reference system that is no plane in metres."""
+    check_body(crs)
     units = {axis.unit_name for axis in crs.axis_info[:2]}
     if not crs.is_projected and not crs.is_engineering:
         refuse(f"the CRS {crs.name} is not a plane one in metres: {HELP}", "crs")
@@ -75,10 +87,22 @@ def refuse_zone(zone: Any, crs: Any) -> None:
            f"{'that of ' + own if own else 'none of UTM'}: give one of the two", "zone")
 
 
-def columns_of_points(points: geopandas.GeoSeries) -> tuple[dict[str, pandas.Series], list[str]]:
+def check_points(points: geopandas.GeoSeries, labels: pandas.Index) -> None:
+    """Refuses other shapes, and points of another body."""
+    kinds = points.geom_type.to_numpy()
+    odd = numpy.flatnonzero((kinds != "Point") & ~(points.isna() | points.is_empty).to_numpy())
+    if len(odd):
+        shape = kinds[odd[0]].lower()
+        refuse(f"{row_named(labels, int(odd[0]))}: the geometry is a {shape}, and points are wanted", "number", int(odd[0]) + 1)
+    if points.crs is not None:
+        check_body(points.crs)
+
+
+def columns_of_points(points: geopandas.GeoSeries, labels: pandas.Index) -> tuple[dict[str, pandas.Series], list[str]]:
     """The columns of points by the options that name them, and what is to be said: of a plane in metres as they are, of degrees
     turned into those of WGS 84."""
     crs = points.crs
+    check_points(points, labels)
     if crs is None or not crs.is_geographic:
         sides = dict(zip(TITLES, sides_of(points)))
         if crs is not None:
@@ -102,22 +126,17 @@ def are_degrees(east: pandas.Series, north: pandas.Series) -> bool:
 
 
 def sides_of(points: geopandas.GeoSeries, into: str | None = None) -> tuple[pandas.Series, pandas.Series]:
-    """The two coordinates of points, of which some may be transformed; missing where there is none, and the class of another
-    shape."""
-    kinds, is_empty = points.geom_type.to_numpy(), (points.isna() | points.is_empty).to_numpy()
-    is_point = (kinds == "Point") & ~is_empty
+    """The two coordinates of points, of which some may be transformed; missing where there is none."""
+    is_point = ~(points.isna() | points.is_empty).to_numpy()
     own = points[is_point] if into is None else points[is_point].to_crs(into)
-    odd = {at: f"<{kinds[at].lower()}>" for at in numpy.flatnonzero(~is_point & ~is_empty).tolist()}
-    return side_of(own.x, is_point, odd), side_of(own.y, is_point, odd)
+    return side_of(own.x, is_point), side_of(own.y, is_point)
 
 
-def side_of(values: pandas.Series, is_point: NDArray[numpy.bool_], odd: Mapping[int, str]) -> pandas.Series:
-    """One coordinate of points, whose other rows are odd or missing."""
+def side_of(values: pandas.Series, is_point: NDArray[numpy.bool_]) -> pandas.Series:
+    """One coordinate of points, whose other rows are missing."""
     found = numpy.full(len(is_point), numpy.nan)
     found[is_point] = values
-    side = pandas.Series(found, dtype=object if odd else None)
-    side.iloc[[*odd]] = [*odd.values()]
-    return side
+    return pandas.Series(found)
 
 
 def scale_said(crs: Any, zone: str | None, middles: Mapping[str, tuple[float, float]]) -> list[str]:

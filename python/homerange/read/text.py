@@ -13,8 +13,8 @@ from typing import TYPE_CHECKING, Any, Mapping, NamedTuple, NoReturn, Sequence
 import numpy
 import pandas
 
-from ..errors import refuse
-from .cells import IANA, Cells, cells_of, is_time, zone_name
+from ..errors import one_line, refuse
+from .cells import IANA, Cells, are_like_thousands, cells_of, is_time, zone_name
 from .systems import TITLES, TITLES_OF_DEGREES, columns_of_points, crs_named, is_local, options_of
 
 if TYPE_CHECKING:
@@ -22,6 +22,7 @@ if TYPE_CHECKING:
 
 CELLS = 2 ** 18  # that are written together
 NAME = "fixes.csv"
+INDEX = "index"  # what pandas calls the one level of an index that has no name
 COORDINATES = ("easting", "northing", "lon", "lat")
 OF_FILES = ("encoding", "skip_lines", "header")  # options
 TIMES = {"second", "timestamp", "t-", "date", "time", "datetime", "date-time", "acquisition-time", "tracked-at"}  # usual titles
@@ -36,13 +37,14 @@ class Column(NamedTuple):
 
 class Text(NamedTuple):
     """A frame as it is written: its columns, the options by which the program reads it, the reference system of its coordinates
-    as far as it is known, and what is to be said."""
+    as far as it is known, what is to be said, and the title that a column got, with its own."""
 
     columns: list[Column]
     labels: pandas.Index
     options: dict[str, Any]
     crs: Any
     notes: list[str]
+    renamed: tuple[str, str] | None = None
 
 
 def frame_given(frame: Any) -> Any:
@@ -60,7 +62,7 @@ def text_of_frame(frame: pandas.DataFrame, options: Mapping[str, Any]) -> Text:
     if points is not None:
         if crs is not None:
             refuse("crs: points bring their own CRS; frame.set_crs names it, and frame.to_crs projects them into another")
-        places, notes = columns_of_points(points)
+        places, notes = columns_of_points(points, frame.index)
         for option, values in places.items():
             found[option] = title_of_place(option, columns)
             columns.append(Column(found[option], values))
@@ -97,18 +99,24 @@ def columns_of(frame: pandas.DataFrame, options: Mapping[str, Any]) -> list[Colu
 
 def levels_of(frame: pandas.DataFrame, options: Mapping[str, Any]) -> list[Column]:
     """The levels of an index that have a name, or are times, or are among others, as columns."""
-    if isinstance(frame.index, pandas.RangeIndex):
+    named, found = [title for name in ("animal", "time") for title in titles_named(options.get(name))], []
+    if is_of_rows(frame.index) and frame.index.name not in named:
         return []
-    named, found = titles_named(options.get("time")), []
     for at, name in enumerate(frame.index.names):
         values = frame.index.get_level_values(at).to_series(index=pandas.RangeIndex(len(frame)))
-        title = f"level_{at}" if name is None else str(name)
+        title = str(name) if name is not None else f"level_{at}" if frame.index.nlevels > 1 else INDEX
         if has_times(values) and (name is None or plain(title) not in TIMES) and title not in named:
             title = "datetime"
-        elif name is None and frame.index.nlevels == 1:
+        elif title == INDEX and title not in named:
             continue
         found.append(Column(title, values))
     return found
+
+
+def is_of_rows(index: pandas.Index) -> bool:
+    """Whether an index numbers rows, as pandas does without a name, and trackintel as id."""
+    name = index.name
+    return name is None and isinstance(index, pandas.RangeIndex) or name == "id" and is_number(index) and index.is_unique
 
 
 def is_there(level: Column, columns: Sequence[Column]) -> bool:
@@ -141,8 +149,12 @@ def points_of(frame: pandas.DataFrame) -> geopandas.GeoSeries | None:
 
 def title_of_place(option: str, columns: Sequence[Column]) -> str:
     """The title of a column of points, which the frame has not."""
-    title, titles = {**TITLES, **TITLES_OF_DEGREES}[option], {column.title for column in columns}
-    several = (f"{title} {number}" for number in count(2))
+    return free_title({**TITLES, **TITLES_OF_DEGREES}[option], columns)
+
+
+def free_title(title: str, columns: Sequence[Column]) -> str:
+    """A title that no column has: this one, or with a number behind it."""
+    titles, several = {column.title for column in columns}, (f"{title} {number}" for number in count(2))
     return next(found for found in chain([title], several) if found not in titles)
 
 
@@ -190,17 +202,41 @@ def zone_of_times(columns: Sequence[Column], options: Mapping[str, Any]) -> tupl
     return zones[0], [f"days and hours are those of {zones[0]}, the zone of {[*times][0]}"]
 
 
-def is_number(values: pandas.Series) -> bool:
+def with_time_named(text: Text, refusal: str) -> Text | None:
+    """The text with a column of moments named as the time, where no title is a usual one and that is the only one, or under
+    another title, where its own says a clock: the program cannot know that these are moments. None where it refused something
+    else."""
+    moments = [column for column in text.columns if has_times(column.values) and None not in zones_in(column.values)]
+    own = re.sub("^column [0-9]+ ", "", refusal)
+    odd = next((column for column in moments if own.startswith(f"'{one_line(column.title)}' says ")), None)
+    if odd is None or text.renamed is not None:
+        is_only = "no column has a usual title for the time" in refusal and text.options.get("time") is None and len(moments) == 1
+        return text._replace(options={**text.options, "time": moments[0].title}) if is_only else None
+    title = free_title("datetime", text.columns)
+    columns = [column._replace(title=title) if column is odd else column for column in text.columns]
+    return text._replace(columns=columns, options={**text.options, "time": title}, renamed=(title, odd.title))
+
+
+def in_own_words(said: str, text: Text) -> str:
+    """What is said of a text with the title that a column has itself, where it got another."""
+    if text.renamed is None:
+        return said
+    title, own = text.renamed
+    return re.sub(rf"(?<![\w-]){re.escape(title)}(?![\w-])", one_line(own).replace("\\", r"\\"), said)
+
+
+def is_number(values: pandas.Series | pandas.Index) -> bool:
     return bool(pandas.api.types.is_numeric_dtype(values.dtype))
 
 
 def write_text(text: Text, path: Path) -> None:
     """Writes the text of a frame."""
     rows = max(CELLS // len(text.columns), 1)
+    longer = [are_like_thousands(column.values) for column in text.columns]
     with open(path, "wb") as file:
         file.write(encoded([[title] for title in quoted([column.title for column in text.columns])], text, None))
         for first in range(0, len(text.labels), rows):
-            cells = [quoted_of(column.values.iloc[first:first + rows]) for column in text.columns]
+            cells = [quoted_of(column.values.iloc[first:first + rows], own) for column, own in zip(text.columns, longer)]
             file.write(encoded(cells, text, first))
 
 
@@ -225,9 +261,11 @@ def refuse_text(columns: Sequence[Cells], text: Text, first: int | None) -> NoRe
     raise AssertionError("all cells are text")
 
 
-def quoted_of(values: pandas.Series) -> Cells:
-    """The cells of a column, in quotes where they need some."""
+def quoted_of(values: pandas.Series, is_longer: bool) -> Cells:
+    """The cells of a column, in quotes where they need some, or with a further 0 behind decimals."""
     cells = cells_of(values)
+    if is_longer:
+        return [f"{cell}0" if "." in cell else cell for cell in cells]
     return cells if isinstance(values.dtype, numpy.dtype) and values.dtype.kind in "biufM" else quoted(cells)
 
 

@@ -7,10 +7,10 @@ import math
 import re
 from datetime import date, datetime, timedelta, timezone
 from decimal import Decimal
-from numbers import Real
+from numbers import Integral, Real
 from typing import Any, Callable, Iterable, Mapping
 
-from ..errors import refuse
+from ..errors import refuse, truth_of
 
 LONGEST_WORD = 2 ** 16  # bytes of a word; the system takes some more
 LENGTHS = {"h": 3600, "min": 60, "s": 1}
@@ -98,9 +98,9 @@ def bound_of(value: Any, option: str) -> str:
 
 
 def words_of(value: Any, option: str) -> str:
-    """One word, several between commas, or several words and numbers."""
-    if isinstance(value, str):
-        return value
+    """One word or number, several between commas, or several words and numbers."""
+    if isinstance(value, (str, Real)):
+        return word_of(value, option)
     if isinstance(value, (bytes, Mapping)) or not isinstance(value, Iterable):
         refuse(f"{option}={type(value).__name__} is no name: a text, or several, is wanted")
     return listed([word_of(word, option) for word in value], option)
@@ -109,8 +109,9 @@ def words_of(value: Any, option: str) -> str:
 def word_of(word: Any, option: str) -> str:
     if isinstance(word, str):
         return word
-    is_number = isinstance(word, Real) and not isinstance(word, bool) and math.isfinite(word)
-    return digits_of(float(word)) if is_number else refuse(f"{option}: {word!r} is no word: a text is wanted")
+    if not isinstance(word, Real) or isinstance(word, bool) or not math.isfinite(word):
+        refuse(f"{option}: {word!r} is no word: a text is wanted")
+    return str(int(word)) if isinstance(word, Integral) else digits_of(float(word))
 
 
 def columns_of(value: Any, option: str) -> str:
@@ -150,10 +151,7 @@ def words_of_options(options: Mapping[str, Any]) -> list[str]:
         name = unknown[0]
         refuse(f"there is no option {name}: {ELSEWHERE[name]}" if name in ELSEWHERE else f"there is no option {name}")
     given = {name: value for name, value in options.items() if value is not None}
-    odd = next((name for name in FLAGS if not isinstance(given.get(name, False), bool)), None)
-    if odd is not None:
-        refuse(f"{odd}={given[odd]!r} is neither True nor False")
-    flags = [f"--{in_program(name)}" for name in FLAGS if given.pop(name, False)]
+    flags = [f"--{in_program(name)}" for name in FLAGS if truth_of(given.pop(name, False), name)]
     return [*flags, *(f"--{in_program(name)}={said(FORMS[name](value, name), name)}" for name, value in given.items())]
 
 
