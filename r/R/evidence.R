@@ -101,8 +101,8 @@ report_of_folder <- function(x, folder, names, program, record, words, now) {
   made
 }
 
-# Puts the fixes of ranges into the folder's tracks, a file for each animal, with the record of how they were made: that of the
-# program, where they are as it made them. Others are split again. Answers the names that animals have in files.
+# Puts the fixes of ranges into the folder's tracks, a file for each animal, with the program's record of how they were made.
+# Answers the names that animals have in files.
 put_frame <- function(x, folder) {
   tracks <- file.path(folder, "tracks")
   names <- names_of_files(x)
@@ -111,39 +111,11 @@ put_frame <- function(x, folder) {
     records <- c(list(second = own$moment), own[c("easting", "northing")])
     write_track(file.path(tracks, paste0(names[place], ".csv")), records, names[place], seq_len(nrow(own)))
   }
-  if (!is.null(x$read$record)) {
-    write_lines(file.path(tracks, "split.txt"), x$read$record)
-    if (is_of_record(tracks)) return(names)
+  write_lines(file.path(tracks, "split.txt"), x$read$record)
+  if (isTRUE(x$read$is_again)) {
+    tell_note("the fixes are not as they were read: what was left out before is neither in the folder nor on its page", "left_out")
   }
-  unlink(tracks, recursive = TRUE)
-  tell_note("the fixes are not as they were read: what was left out before is neither in the folder nor on its page", "left_out")
-  split_again(x, tracks)
-}
-
-# Whether the tracks in a folder are those of the record beside them.
-is_of_record <- function(folder) {
-  tracks <- record_in(folder)$tracks
-  made <- checksums_of(folder)
-  wanted <- `names<-`(tracks$checksum, paste0(tracks$animal, ".csv"))
-  setequal(names(made), c(names(wanted), "split.txt")) && all(made[names(wanted)] == wanted)
-}
-
-# Has the program split the fixes of ranges, which were changed since they were read.
-split_again <- function(x, into) {
-  is_time <- inherits(x$fixes$time, "POSIXct")
-  places <- in_metres(x, x$fixes)
-  columns <- list(animal = x$fixes$animal, time = if (is_time) .POSIXct(x$fixes$moment, "UTC") else x$fixes$moment,
-                  easting = places[, 1], northing = places[, 2])
-  if (!is_time) names(columns)[2] <- "second"
-  crs <- if (is.null(x$zone) && !is.null(x$crs)) text_of_crs(x$crs)
-  words <- c(paste0("--unit=", x$unit), paste0("--zone=", x$zone)[!is.null(x$zone)], paste0("--crs=", crs)[!is.null(crs)],
-             paste0("--tz=", x$tz)[x$tz != "UTC"])
-  in_folder(function(folder) {
-    text <- file.path(folder, name_of_frame)
-    write_frame(columns, NULL, text)
-    run_split(text, words, into, function(kind, record, text) refuse(kind, "these fixes cannot be split again: ", text))
-  })
-  unname(files_of(record_in(into))[x$animals$animal])
+  names
 }
 
 # Copies the files that were read into a folder, with their record: the one that was named, or the one beside them.

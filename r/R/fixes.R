@@ -65,8 +65,7 @@ bound_facts <- function(facts) {
   found <- facts[[1]]
   if (length(facts) == 1) return(found)
   found$notes <- unlist(lapply(facts, `[[`, "notes"))
-  found$record <- NULL  # there is none of all
-  found$files <- NULL
+  found[c("record", "files", "checksum")] <- NULL  # there is none of all
   counts <- unlist(lapply(facts, `[[`, "fixes"))
   found$fixes <- vapply(split(counts, factor(names(counts), unique(names(counts)))), sum, 0)
   found$left_out <- summed_left(do.call(rbind, lapply(facts, `[[`, "left_out")))

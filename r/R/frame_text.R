@@ -6,13 +6,18 @@ widest_kind <- 64  # bytes of a text among those whose cells are written as byte
 widest_number <- 17  # bytes of a number among these
 bytes_at_once <- 4e6
 
-# Writes the text of a data frame: its columns, and then further columns of cells.
-write_frame <- function(columns, more, path) {
-  titles <- c(readable(names(columns)), names(more))
+# The parts of columns, by their titles.
+parts_of_frame <- function(columns) {
+  titles <- readable(names(columns))
   if (grepl(signs_between_fields, titles[1])) {
     refuse("columns", "column 1 is titled '", titles[1], "', of which the table would be one with semicolons or tabs: rename it")
   }
-  parts <- c(Map(parts_of_column, columns, titles[seq_along(columns)]), lapply(more, parts_of_cells))
+  `names<-`(Map(parts_of_column, columns, titles), titles)
+}
+
+# Writes columns of parts as the text of a table.
+write_parts <- function(parts, path) {
+  titles <- names(parts)
   output <- file(path, "wb")
   on.exit(close(output))
   writeLines(enc2utf8(paste(quoted(titles), collapse = ",")), output, useBytes = TRUE)
@@ -65,13 +70,13 @@ matrix_of_bytes <- function(texts) {
 
 # The bytes of some cells, a vector for each place, with 0 where a cell has none.
 bytes_of_part <- function(part, rows) {
-  if (!is.null(part$numbers)) return(bytes_of_numbers(part$numbers[rows], part$decimals))
+  if (!is.null(part$numbers)) return(bytes_of_numbers(part$numbers[rows], part$decimals, part$zero))
   place <- part$place[rows]
   lapply(seq_len(nrow(part$bytes)), function(at) part$bytes[at, place])
 }
 
-# The bytes of numbers with so many decimals, of which those at the end that are 0 are not written.
-bytes_of_numbers <- function(numbers, places) {
+# The bytes of numbers with so many decimals, of which those at the end that are 0 are not written, but for a further one.
+bytes_of_numbers <- function(numbers, places, zero = FALSE) {
   is_missing <- is.na(numbers)
   scaled <- round(abs(replace(numbers, is_missing, 0)) * 10^places)
   whole <- scaled %/% 10^places
@@ -82,7 +87,7 @@ bytes_of_numbers <- function(numbers, places) {
     bytes <- c(bytes, list(as.raw(46 * (part > 0))), lapply(seq_len(places), function(place) {
       rest <- part %% 10^(places - place + 1)
       as.raw((48 + rest %/% 10^(places - place)) * (rest > 0))
-    }))
+    }), if (zero) list(as.raw(48 * (part > 0))))
   }
   if (any(is_missing)) lapply(bytes, replace, is_missing, as.raw(0)) else bytes
 }

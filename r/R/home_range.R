@@ -10,8 +10,7 @@ home_range <- function(x, levels = c(50, 95, 100), by = NULL, ..., progress = in
   program <- homerange_program()  # refuses now, and not after all has been read, where there is none
   read <- fixes_to_take(x, list(...), quiet, has_rows = !is.null(by))
   whole <- whole_fixes(read$fixes)
-  repeated <- repeats_of(read$fixes, whole$fixes)
-  if (!quiet) for (line in repeated) tell_note(line, "same")
+  note <- NULL
   if (!is.null(by)) {
     whole <- grouped_fixes(whole, labels_of(read$fixes, by, read$frame))
     note <- paste0("ranges are by group: ", nrow(whole$groups), " of ", count_of(length(unique(whole$groups$of)), "animal"))
@@ -22,21 +21,21 @@ home_range <- function(x, levels = c(50, 95, 100), by = NULL, ..., progress = in
     run_all(program, write_tracks(whole$fixes, folder), unique(whole$fixes$animal), words, isTRUE(progress))
   })
   if (!identical(report$rows$second, whole$fixes$moment)) refuse("check", "the report has not the times of the fixes")
-  ranges <- ranges_of_fixes(report, whole, read$fixes, c(repeated, if (!is.null(by)) note))
+  ranges <- ranges_of_fixes(report, whole, read$fixes, note)
   ranges$program <- identity_of(program)
   ranges$call <- own_call(match.call())
   ranges
 }
 
-# Fixes that were read, or those of a table with the rows of a frame that they are.
+# Fixes as they were read, or those of a table with the rows of a frame that they are.
 fixes_to_take <- function(x, options, quiet, has_rows) {
-  if (!inherits(x, "homerange_fixes")) return(read_table(x, options, quiet, has_rows))
-  if (length(options)) {
+  is_read <- inherits(x, "homerange_fixes")
+  if (is_read && length(options)) {
     name <- c(names(options), "")[1]
     what <- if (nzchar(name)) name else "there is an argument too many"
     refuse("option", what, ": these fixes are read already, and options of reading go to read_fixes")
   }
-  list(fixes = x)
+  if (is_read && is_as_read(x)) list(fixes = x) else read_table(x, options, quiet, has_rows)
 }
 
 # The ranges of a report of fixes, with what is known of these.
@@ -46,7 +45,7 @@ ranges_of_fixes <- function(report, whole, fixes, note) {
   ranges <- new_home_range(report, whole$fixes$time, whole$fixes, left, facts$crs, whole$shift, facts$zone, c(facts$notes, note),
                            facts$tz)
   ranges["groups"] <- list(whole$groups)
-  ranges$read <- facts[intersect(c("record", "files"), names(facts))]
+  ranges$read <- facts[intersect(c("record", "files", "is_again"), names(facts))]
   ranges
 }
 

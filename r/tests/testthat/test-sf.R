@@ -67,8 +67,8 @@ test_that("points that cannot be taken are refused, with the call that helps", {
   refused(sf::st_transform(hare_points(), 3857), "stretches areas: sf::st_transform(x, 32633)")
   refused(sf::st_as_sf(data.frame(x = 1, y = 2, z = 3), coords = c("x", "y", "z"), crs = 4978), "x: WGS 84 is no plane of eastings")
   shapes <- sf::st_sfc(sf::st_point(1:2), sf::st_linestring(diag(2)), crs = 32633)
-  refused(sf::st_set_geometry(hare_points()[1:2, ], shapes), "row 2: point easting is '<linestring>' and not a number")
-  refused(sf::st_cast(hare_points(), "MULTIPOINT"), "row 1: point easting is '<multipoint>'")
+  refused(sf::st_set_geometry(hare_points()[1:2, ], shapes), "row 2: the geometry is a linestring, and points are wanted")
+  refused(sf::st_cast(hare_points(), "MULTIPOINT"), "row 1: the geometry is a multipoint, and points are wanted")
   renamed <- hare_points()
   names(renamed)[3] <- "shape"
   refused(renamed, "x has no geometry where sf looks for it: sf::st_geometry(x) <- \"COLUMN\" says where it is")
