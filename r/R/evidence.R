@@ -89,7 +89,7 @@ report_of_folder <- function(x, folder, names, program, record, words, now) {
   before <- checksums_of(folder)
   files <- used_tracks(folder)
   call <- c("--percent", paste(unique(x$percents$level), collapse = ","), "--unit", x$unit)
-  write_lines(file.path(folder, "report.txt"), report_of_files(program$path, call, files, folder))
+  write_report_of(program$path, call, files, folder)
   made <- ranges_of_report(x, folder, names, record)
   after <- checksums_of(folder)
   changed <- names(before)[!(after[names(before)] == before) %in% TRUE]
@@ -106,11 +106,7 @@ report_of_folder <- function(x, folder, names, program, record, words, now) {
 put_frame <- function(x, folder) {
   tracks <- file.path(folder, "tracks")
   names <- names_of_files(x)
-  for (place in seq_along(names)) {
-    own <- x$fixes[x$fixes$animal == x$animals$animal[place], ]
-    records <- c(list(second = own$moment), own[c("easting", "northing")])
-    write_track(file.path(tracks, paste0(names[place], ".csv")), records, names[place], seq_len(nrow(own)))
-  }
+  write_tracks(x$fixes, tracks, names)
   write_lines(file.path(tracks, "split.txt"), x$read$record)
   if (isTRUE(x$read$is_again)) {
     tell_note("the fixes are not as they were read: what was left out before is neither in the folder nor on its page", "left_out")
@@ -158,40 +154,45 @@ identity_of <- function(path) {
   list(path = path, version = version, checksum = checksum_of(path))
 }
 
-# The lines of the report of files, as one run would give them if it took them all. Of more than that each group has its own
+# Writes the report of files in a folder, as one run would make it if it took them all. Of more than that each group has its own
 # run, and each two groups one more, of which the overlaps are taken.
-report_of_files <- function(program, words, files, folder) {
-  tables <- NULL
-  overlaps <- NULL
-  for (run in plan_runs(length(files))) {
-    lines <- run_in(folder, program, c(words, "--", files[run$places]))
-    is_overlap <- startsWith(lines, "overlap,")
-    overlaps <- c(overlaps, lines[is_overlap])
-    if (!run$is_pair) {
-      is_whole <- length(lines) > 0 && startsWith(lines[length(lines)], "end,")
-      if (!is_whole) refuse("report", "the report is cut off")
-      is_again <- length(tables) > 0 & lines == "unit,dm"
-      tables <- c(tables, lines[!is_overlap & !is_again & !startsWith(lines, "end,")])
-    }
-  }
-  animals <- sub("^animal,([^,]*),.*", "\\1", tables[startsWith(tables, "animal,")])
-  pairs <- sub("^overlap,([^,]*,[^,]*),.*", "\\1", overlaps)
-  wanted <- paste(rep(animals, each = length(animals)), animals, sep = ",")[c(!diag(length(animals)))]
-  c(tables, overlaps[match(wanted, pairs)], paste0("end,", length(animals)))
+write_report_of <- function(program, words, files, folder) {
+  path <- file.path(folder, "report.txt")
+  plan <- plan_runs(length(files))
+  if (length(plan) == 1) return(run_in(folder, program, c(words, "--", files), path))
+  parts <- lapply(plan, function(run) {
+    run_in(folder, program, c(words, "--", files[run$places]), path)
+    parts_of_report(report_text(path))
+  })
+  is_pair <- vapply(plan, `[[`, NA, "is_pair")
+  tables <- sub("(?<=\n)unit,dm\n", "", paste(vapply(parts[!is_pair], `[[`, "", "tables"), collapse = ""), perl = TRUE)
+  lines <- unlist(lapply(parts, `[[`, "overlaps"))
+  names <- unlist(lapply(parts[!is_pair], `[[`, "animals"))
+  wanted <- paste(rep(names, each = length(names)), names, sep = ",")[c(!diag(length(names)))]
+  write_lines(path, c(sub("\n$", "", tables), lines[match(wanted, sub("^overlap,([^,]*,[^,]*),.*", "\\1", lines))],
+                      paste0("end,", length(names))))
 }
 
-# The lines that the program reports within a folder.
-run_in <- function(folder, program, words) {
+# A report's text up to its overlaps, these as lines, and its animals.
+parts_of_report <- function(text) {
+  check_form(text, "the report")
+  ends <- regexpr("\n(overlap|end),", text, useBytes = TRUE)
+  lines <- lines_of_text(text)
+  list(tables = `Encoding<-`(rawToChar(charToRaw(text)[seq_len(ends)]), Encoding(text)), overlaps = lines[startsWith(lines, "overlap,")],
+       animals = sub("^animal,([^,]*),.*", "\\1", lines[startsWith(lines, "animal,")]))
+}
+
+# Has the program write its report into a file, within a folder.
+run_in <- function(folder, program, words, path) {
   fault <- tempfile("fault")
-  output <- tempfile("report")
+  path <- normalizePath(path, mustWork = FALSE)
   old <- setwd(folder)
   on.exit({
     setwd(old)
-    unlink(c(fault, output))
+    unlink(fault)
   })
-  status <- suppressWarnings(system2(program, shQuote(words), stdout = output, stderr = fault))
+  status <- suppressWarnings(system2(program, shQuote(words), stdout = path, stderr = fault))
   if (status != 0) refuse_run(status, readLines(fault, warn = FALSE, encoding = "UTF-8"), character(), character())
-  readLines(output, warn = FALSE, encoding = "UTF-8")
 }
 
 # The ranges of the report that was made in a folder, by the names of the files, once it is seen that they are these.

@@ -30,7 +30,8 @@ grouped_fixes <- function(whole, labels) {
   fixes$animal <- known$animal[place]
   fixes <- fixes[order(place, method = "radix"), ]
   row.names(fixes) <- NULL
-  list(shift = whole$shift, fixes = fixes, groups = known)
+  note <- paste0("ranges are by group: ", nrow(known), " of ", count_of(length(unique(known$of)), "animal"))
+  list(shift = whole$shift, fixes = fixes, groups = known, note = note)
 }
 
 # The group of each fix. Where a frame was read, values are those of its rows.

@@ -95,10 +95,16 @@ levels_drawn <- function(x) if (is.null(x$fixes)) 100 else sort(unique(x$percent
 # What is drawn of each animal.
 shapes_of_page <- function(x) {
   polygons <- lapply(levels_drawn(x), function(level) rings_of(x, level))
-  lapply(seq_along(x$animals$animal), function(number) {
-    own <- x$fixes[x$fixes$animal == x$animals$animal[number], ]
+  shapes_of_animals(x, polygons, !is.null(x$fixes), seq_along(x$animals$animal))
+}
+
+# What is drawn of the animals of these numbers.
+shapes_of_animals <- function(x, polygons, has_fixes, numbers) {
+  places <- if (has_fixes) in_metres(x, x$fixes)
+  rows <- if (has_fixes) split(seq_along(x$fixes$animal), factor(x$fixes$animal, x$animals$animal))
+  lapply(numbers, function(number) {
     list(number = number, polygons = lapply(polygons, `[[`, number),
-         fixes = if (is.null(own)) matrix(0, 0, 2) else in_metres(x, own))
+         fixes = if (has_fixes) places[rows[[number]], , drop = FALSE] else matrix(0, 0, 2))
   })
 }
 

@@ -4,17 +4,20 @@
 read_fixes <- function(x, ..., quiet = FALSE) {
   local_numbers()
   if (!is_truth(quiet)) refuse("option", "quiet: TRUE or FALSE is wanted")
-  with_checksum(read_table(x, list(...), quiet)$fixes)
+  with_checksum(in_folder(function(folder) read_table(x, list(...), quiet, folder))$fixes)
 }
 
-# The fixes, and beside them what was said. Of a frame they have its further columns, and it is known which of how many rows each
-# is, unless that is not wanted.
-read_table <- function(x, options, quiet, has_rows = TRUE) {
+# The fixes, and beside them what was said and the tracks that the program made in a folder. Of a frame they have its further
+# columns, and it is known which of how many rows each is, unless that is not wanted.
+read_table <- function(x, options, quiet, folder, has_rows = TRUE) {
   given <- options_given(options)
-  read <- in_folder(function(folder) {
-    if (inherits(x, "homerange_fixes")) return(read_again(x, given, folder, has_rows))
-    if (is_text(x)) read_file(x, given, folder) else read_frame(x, given, folder, has_rows)
-  })
+  read <- if (inherits(x, "homerange_fixes")) {
+    read_again(x, given, folder, has_rows)
+  } else if (is_text(x)) {
+    read_file(x, given, folder)
+  } else {
+    read_frame(x, given, folder, has_rows)
+  }
   if (!quiet) for (line in read$said) tell_note(line, kind_of_said(line))
   read
 }
@@ -43,7 +46,8 @@ fixes_of_tracks <- function(into, tz, crs, said, further = function(record, fixe
   fixes <- read_tracks(into, record)
   table <- table_of_fixes(fixes, record, tz, further(record, fixes))
   said <- c(said, if (!is.null(crs)) check_scale(table, crs))
-  list(fixes = new_fixes(table, facts_of_record(record, file.path(into, "split.txt"), tz, crs, said)), said = said)
+  facts <- facts_of_record(record, file.path(into, "split.txt"), tz, crs, said)
+  list(fixes = new_fixes(table, facts), said = said, tracks = tracks_named(into, record$tracks$animal, names(facts$fixes)))
 }
 
 # The fixes of tracks as a table: animal, time in a zone or seconds since a start of one's own, eastings and northings in metres.

@@ -5,7 +5,8 @@ report_form <- paste0(
   "^(?:unit,dm\n)?+(?:animal,([^,\n]++),fixes,[0-9]++\n(?:box,\\1(?:,[0-9]++){4}\n)*+(?:row,\\1(?:,[0-9]++){4}\n)*+",
   "(?:corner,\\1(?:,[0-9]++){3}\n)*+(?:percent,\\1(?:,[0-9]++){4}\n)*+)*+(?:overlap(?:,[^,\n]++){2}(?:,[0-9]++){2}\n)*+"
 )
-end_form <- "(?<![^\n])end,([0-9]++)\n?\\z"
+end_form <- "(?:^|\n)end,([0-9]+)\n?$"
+longest_end <- 40  # bytes of the last line
 most_bytes <- 2^31 - 1  # that R has as one text
 
 # The fields of each kind of line, and how many of them are texts, which stand before the numbers.
@@ -21,7 +22,7 @@ kinds_of_codes <- replace(integer(256), utf8ToInt("abrcpo") + 1, seq_along(field
 report_text <- function(path) {
   size <- file.size(path)
   if (size > most_bytes) refuse("report", path, ": it is longer than R can read: take fewer animals at once")
-  text_of_bytes(readBin(path, "raw", size), path)
+  text_of_file(path, size)
 }
 
 # The tables of a report's text, which is refused where it is not a whole report.
@@ -47,11 +48,13 @@ parse_overlaps <- function(text, name = "the report") {
 
 # Refuses a text that has not the form of a report; the number of animals that its last line says.
 check_form <- function(text, name) {
-  end <- regexpr(end_form, text, perl = TRUE, useBytes = TRUE)
-  if (end < 0) refuse("report", name, ": there is no end line, so it is cut off or no report")
+  size <- nchar(text, "bytes")
+  last <- rawToChar(charToRaw(text)[seq.int(max(size - longest_end, 0) + 1, length.out = min(size, longest_end))])
+  end <- regmatches(last, regexec(end_form, last, useBytes = TRUE))[[1]]
+  if (!length(end)) refuse("report", name, ": there is no end line, so it is cut off or no report")
   fits <- attr(regexpr(report_form, text, perl = TRUE, useBytes = TRUE), "match.length")
-  if (fits + 1 != end) refuse_line(text, fits, name)
-  field_wholes(charToRaw(text), attr(end, "capture.start"), attr(end, "capture.length"))
+  if (fits + nchar(sub("^\n", "", end[1]), "bytes") != size) refuse_line(text, fits, name)
+  as.numeric(end[2])
 }
 
 # Refuses the line of a text that stands behind these first bytes, which are whole lines that are right.
