@@ -6,19 +6,21 @@ form_of_evidence <- "1"  # that of tables, layers, page and records: another byt
 
 # Makes the folder of evidence of home ranges, whose page is written with the other arguments.
 homerange_evidence <- function(x, folder, ...) {
-  local_numbers()
+  local_options(x, folder, ...)
   check_ranges(x)
   check_whole(x, "evidence")
+  odd <- setdiff(if (...length()) c(...names(), ""[is.null(...names())]), names(formals(fill_evidence))[-(1:3)])
+  if (length(odd)) refuse("option", "there is no argument ", if (nzchar(odd[1])) odd[1] else "without a name")
   if (isTRUE(x$is_part)) refuse("option", "x: evidence is made of the ranges of one call or one report, with all their animals")
   if (is.null(x$fixes)) refuse("option", "evidence needs the fixes: read_report(file, files = ..)")
   check_definition(x)
-  if (!is_text(folder) || !nzchar(folder)) refuse("option", "folder: the name of a new folder is wanted")
+  if (!is_text(folder) || !nzchar(folder)) refuse("option", argument_text("folder", folder), " is no path")
   folder <- sub("(.)/+$", "\\1", folder)
   if (is_there(folder)) refuse("text", folder, " is there already: name another folder")
   local_utf8(names_of_files(x))
   program <- identity_of(homerange_program())
   part <- paste0(folder, ".part")
-  if (is_there(part)) refuse("text", part, " is there already: is another call at work?")
+  if (is_there(part)) refuse("text", part, " is there: another call is at work, or was killed and left it to be removed")
   on.exit(unlink(part, recursive = TRUE), add = TRUE, after = FALSE)
   make_folder(file.path(part, "tracks"))
   fill_evidence(x, part, program, ...)
@@ -52,6 +54,7 @@ local_utf8 <- function(names, frame = parent.frame()) {
 
 fill_evidence <- function(x, folder, program, title = NULL, study = NULL, species = NULL, by = NULL, reserve = NULL,
                           reserve_name = NULL, tz = NULL, made = NULL) {
+  check_typed(list(title = title, study = study, species = species, by = by, reserve_name = reserve_name), made)
   zone <- zone_of_page(x, tz)
   rings <- if (!is.null(reserve)) rings_in_order(rings_of_boundary(boundary_of(x, reserve)))
   words <- list(title = title, study = study, species = species, by = by, day = if (!is.null(made)) format(made, "%Y-%m-%d"),

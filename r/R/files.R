@@ -6,13 +6,23 @@ digits_of_four <- matrix(as.raw(48 + rep(0:9999, each = 4) %/% c(1000, 100, 10, 
 
 # Refuses what cannot be the name of a file that is to be written.
 check_path <- function(path) {
-  if (!is_text(path) || !nzchar(path)) refuse("option", "path: the name of one file is wanted")
+  if (!is_text(path) || !nzchar(path)) refuse("option", argument_text("path", path), " is no path")
   if (dir.exists(path)) refuse("file", path, " is a folder")
   if (!dir.exists(dirname(path))) refuse("file", path, ": there is no such folder")
 }
 
+# A file that is open to be written; where it cannot be, what the system says of it is refused.
+open_file <- function(path) {
+  said <- "it cannot be written"
+  hear <- function(warning) {
+    said <<- sub("^.*: ", "", conditionMessage(warning))
+    invokeRestart("muffleWarning")
+  }
+  tryCatch(withCallingHandlers(file(path, "wb"), warning = hear), error = function(fault) refuse("file", path, ": ", said))
+}
+
 write_lines <- function(path, lines) {
-  output <- file(path, "wb")
+  output <- open_file(path)
   on.exit(close(output))
   writeLines(enc2utf8(lines), output, useBytes = TRUE)
 }

@@ -10,7 +10,7 @@ bytes_at_once <- 4e6
 parts_of_frame <- function(columns) {
   titles <- readable(names(columns))
   if (grepl(signs_between_fields, titles[1])) {
-    refuse("columns", "column 1 is titled '", titles[1], "', of which the table would be one with semicolons or tabs: rename it")
+    refuse("columns", "the first column is titled '", titles[1], "', whose sign would be taken for what stands between fields: rename it")
   }
   `names<-`(Map(parts_of_column, columns, titles), titles)
 }

@@ -4,9 +4,9 @@ most_levels <- 8
 
 # The home ranges of the animals of fixes, or of a table of fixes, which is read first.
 home_range <- function(x, levels = c(50, 95, 100), by = NULL, ..., progress = interactive(), quiet = FALSE) {
-  local_numbers()
+  local_options(x, levels, by, ..., progress, quiet)
   levels <- checked_levels(levels)
-  if (!is_truth(quiet)) refuse("option", "quiet: TRUE or FALSE is wanted")
+  check_truth(quiet, "quiet")
   program <- homerange_program()  # refuses now, and not after all has been read, where there is none
   ranges <- in_folder(function(folder) {
     read <- fixes_to_take(x, list(...), quiet, folder, has_rows = !is.null(by))
@@ -28,8 +28,8 @@ fixes_to_take <- function(x, options, quiet, folder, has_rows) {
   is_read <- inherits(x, "homerange_fixes")
   if (is_read && length(options)) {
     name <- c(names(options), "")[1]
-    what <- if (nzchar(name)) name else "there is an argument too many"
-    refuse("option", what, ": these fixes are read already, and options of reading go to read_fixes")
+    what <- if (nzchar(name)) name else "an argument without a name"
+    refuse("option", what, " says how a table is read, and these fixes were read already: give it to read_fixes")
   }
   if (is_read && is_as_read(x)) list(fixes = x) else read_table(x, options, quiet, folder, has_rows)
 }
@@ -39,7 +39,7 @@ ranges_of_fixes <- function(report, whole, fixes) {
   facts <- facts_of(fixes)
   left <- if (is.null(whole$groups)) left_since(fixes)
   ranges <- new_home_range(report, whole$fixes$time, whole$fixes, left, facts$crs, whole$shift, facts$zone,
-                           c(facts$notes, whole$note), facts$tz)
+                           c(facts$notes, whole$note), clock_of_fixes(fixes))
   ranges["groups"] <- list(whole$groups)
   ranges$read <- facts[intersect(c("record", "files", "is_again"), names(facts))]
   ranges

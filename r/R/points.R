@@ -6,7 +6,7 @@
 places_of_frame <- function(x, given) {
   names_places <- any(c("easting", "northing", "lon", "lat") %in% names(given))
   if (!inherits(x, "sf") || names_places) return(places_of_columns(x, given, names_places))
-  if (!is.null(given$crs)) refuse("option", "crs: points of sf bring their own, and sf::st_set_crs(x, ..) gives them another")
+  if (!is.null(given$crs)) refuse("option", "crs: points bring their own CRS; sf::st_set_crs names it, and sf::st_transform projects them into another")
   if (!has_sf()) refuse("crs", "a table of sf wants the package sf, which is not installed")
   shapes <- tryCatch(sf::st_geometry(x), error = function(fault) refuse("columns", "x has no geometry where sf looks for it: ",
                                                                        "sf::st_geometry(x) <- \"COLUMN\" says where it is"))
@@ -76,7 +76,7 @@ places_of_columns <- function(x, given, names_places) {
   if (is_without_place(crs, "crs")) return(NULL)
   points <- "the points, as by sf::st_as_sf(x, coords = c(EASTING, NORTHING), crs = ..)"
   if (is_in_degrees(crs, points, function() matrix(0, 0, 2))) {
-    refuse("crs", "crs: ", crs$Name, " has longitude and latitude, which are no plane coordinates: name their columns by lon ",
+    refuse("crs", "the CRS ", crs$Name, " has longitude and latitude, which are no plane coordinates: name their columns by lon ",
            "and lat, without crs")
   }
   plane_of(crs, given)

@@ -2,8 +2,8 @@
 
 # The fixes of a file or of a data frame.
 read_fixes <- function(x, ..., quiet = FALSE) {
-  local_numbers()
-  if (!is_truth(quiet)) refuse("option", "quiet: TRUE or FALSE is wanted")
+  local_options(x, ..., quiet)
+  check_truth(quiet, "quiet")
   with_checksum(in_folder(function(folder) read_table(x, list(...), quiet, folder))$fixes)
 }
 

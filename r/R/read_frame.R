@@ -1,5 +1,9 @@
 # Reads a data frame, which is written as text for the program: what it is asked, and what is refused, by the rows of the frame.
 
+# What the program says of a name such as 1e+05, and what R made it of.
+remedy_of_files <- "write its column as text, before a spreadsheet opens it"
+remedy_of_frames <- "its column is text that was made of numbers: keep them as numbers, or make text by format(x, scientific = FALSE)"
+
 # The fixes of a data frame.
 read_frame <- function(x, given, folder, has_rows) {
   check_frame(x, given)
@@ -21,15 +25,14 @@ read_frame <- function(x, given, folder, has_rows) {
 
 check_frame <- function(x, given) {
   if (!is.data.frame(x)) {
-    help <- ", or an sf of points, or the name of one file"
-    if (inherits(x, "Spatial")) help <- ": sf::st_as_sf(x) makes one of it"
-    if (inherits(x, "ltraj")) help <- ": adehabitatLT::ld(x) makes one of it"
-    refuse("empty", "a data frame is wanted", help)
+    help <- if (inherits(x, "Spatial")) ": sf::st_as_sf(x) makes one of it" else
+      if (inherits(x, "ltraj")) ": adehabitatLT::ld(x) makes one of it"
+    refuse("empty", "a ", class(x)[1], " is neither a path nor a data frame with a row for each fix", help)
   }
-  if (nrow(x) == 0) refuse("empty", "there are no rows")
-  if (ncol(x) == 0) refuse("columns", "there are no columns")
-  odd <- c(intersect(options_of_files, names(given)), if (identical(given$from, "gpx")) "from")
-  if (length(odd)) refuse("option", odd[1], ": this is for files, and not for a data frame")
+  if (!nrow(x) || !ncol(x)) refuse("empty", "the data frame has no row of a fix")
+  odd <- intersect(options_of_files, names(given))
+  if (length(odd)) refuse("option", odd[1], " is for files, and not for a data frame: leave it out")
+  if (identical(given$from, "gpx")) refuse("option", "from = \"gpx\" is for files of GPX, and not for a data frame: leave it out")
 }
 
 # The options of a table of move2, which says itself which columns have the animal and the time.
@@ -132,6 +135,7 @@ check_cells <- function(frame, said) {
   odd <- Filter(Negate(is.null), lapply(frame$parts, odd_cell))
   odd <- odd[!vapply(names(odd), is_listed, NA, not_read)]
   if (length(odd)) refuse_cell(frame, "unread", odd)
+  check_units(frame, said)
   for (title in titles_of_animals(frame, said)) {
     column <- as.list(frame$x)[[title]]
     row <- if (is.double(column) && !is.object(column)) which(column != floor(column))[1]
@@ -139,6 +143,17 @@ check_cells <- function(frame, said) {
       number <- cells_of_numbers(column[row])
       refuse_row(frame$x, "name", row, paste0(title, " is ", number, ", a number that is not whole: make it text"))
     }
+  }
+}
+
+# Refuses degrees that were taken as metres, and lengths that were taken as degrees.
+check_units <- function(frame, said) {
+  has_units <- vapply(as.list(frame$x), inherits, NA, "units")
+  for (title in Filter(function(title) is_taken(title, said), names(frame$x)[has_units])) {
+    unit <- name_of_unit(frame$x[[title]])
+    wanted <- if (any(startsWith(said, "longitude and latitude are "))) "degrees" else "metres"
+    is_odd <- switch(wanted, degrees = !unit %in% c("", "1", degrees_of_units), metres = unit %in% degrees_of_units)
+    if (is_odd && !any(startsWith(said, "UTM coordinates are "))) refuse("columns", title, " is in ", unit, ", and ", wanted, " are wanted")
   }
 }
 
@@ -163,7 +178,9 @@ refuse_frame <- function(frame, refusal, folder) {
   odd <- Filter(function(cell) grepl(paste0("<", cell$class, ">"), refusal$text, fixed = TRUE), odd)
   named <- vapply(names(odd), grepl, NA, refusal$text, fixed = TRUE)
   if (length(odd)) refuse_cell(frame, refusal$kind, if (any(named)) odd[named] else odd)
-  refuse_row(frame$x, refusal$kind, refusal$record, with_own_title(gsub(folder, "", refusal$text, fixed = TRUE), frame))
+  text <- with_own_title(sub(file.path(folder, name_of_frame), "the table", refusal$text, fixed = TRUE), frame)
+  text <- sub(remedy_of_files, remedy_of_frames, text, fixed = TRUE)
+  refuse_row(frame$x, refusal$kind, refusal$record, text)
 }
 
 # Makes a call; a record of what it refuses is a row of the frame.
@@ -196,12 +213,18 @@ clock_of_frame <- function(x, given) {
   list(tz = zones[[1]], column = column, line = paste0("days and hours are those of ", zones[[1]], ", the zone of ", column))
 }
 
-# The zone of date-times. What R has without one is by the clock of the session, whose TZ goes before what R remembers of it.
+# The zone of date-times. What R has without one is by the clock of the session.
 zone_of_times <- function(times) {
   zone <- c(attr(times, "tzone"), "")[1]
-  if (zone == "") zone <- Sys.getenv("TZ")
-  if (zone == "") zone <- c(suppressWarnings(Sys.timezone()), "UTC")[1]
-  if (is.na(zone)) return("UTC")
+  if (zone == "") zone <- zone_of_session()
   zone <- sub("^:", "", zone)
   if (zone %in% c("GMT", "Etc/UTC", "Etc/GMT")) "UTC" else zone
+}
+
+# The zone of the session: that of TZ, or of the system, of whose files one has it. Sys.timezone would call other programs.
+zone_of_session <- function() {
+  zone <- Sys.getenv("TZ")
+  if (zone == "" && file.exists("/etc/timezone")) zone <- c(readLines("/etc/timezone", 1, warn = FALSE), "")[1]
+  if (zone == "") zone <- sub(".*/zoneinfo/", "", c(Sys.readlink("/etc/localtime"), "")[1])
+  if (zone == "" || is.na(zone)) "UTC" else zone
 }

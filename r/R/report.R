@@ -51,7 +51,7 @@ check_form <- function(text, name) {
   size <- nchar(text, "bytes")
   last <- rawToChar(charToRaw(text)[seq.int(max(size - longest_end, 0) + 1, length.out = min(size, longest_end))])
   end <- regmatches(last, regexec(end_form, last, useBytes = TRUE))[[1]]
-  if (!length(end)) refuse("report", name, ": there is no end line, so it is cut off or no report")
+  if (!length(end)) refuse("report", name, " is cut off: its last line is not 'end,' with the number of animals")
   fits <- attr(regexpr(report_form, text, perl = TRUE, useBytes = TRUE), "match.length")
   if (fits + nchar(sub("^\n", "", end[1]), "bytes") != size) refuse_line(text, fits, name)
   as.numeric(end[2])
@@ -146,13 +146,15 @@ put_overlaps <- function(counts, overlaps) {
 
 # The home ranges of a report that was made elsewhere, of its files where they are named, and of the record of these.
 read_report <- function(file, start = NULL, files = NULL, record = NULL) {
-  local_numbers()
-  if (!is_text(file)) refuse("option", "file: the name of one file is wanted")
-  if (!is.null(start) && !inherits(start, "POSIXct")) refuse("option", "start: a time as POSIXct is wanted")
-  if (!is.null(files) && (!is.character(files) || !length(files) || anyNA(files))) {
-    refuse("option", "files: names of files are wanted")
+  local_options(file, start, files, record)
+  if (!is_text(file)) refuse("option", argument_text("file", file), " is no path")
+  if (!is.null(start) && (!inherits(start, "POSIXct") || length(start) != 1 || !is.finite(start))) {
+    refuse("option", argument_text("start", start), " is no time as POSIXct")
   }
-  if (!is.null(record) && !is_text(record)) refuse("option", "record: the name of one file is wanted")
+  if (!is.null(files) && (!is.character(files) || !length(files) || anyNA(files))) {
+    refuse("option", argument_text("files", files), " are no paths")
+  }
+  if (!is.null(record) && !is_text(record)) refuse("option", argument_text("record", record), " is no path")
   if (!file.exists(file) || dir.exists(file)) refuse("file", file, ": there is no such file")
   report <- parse_report(report_text(file), file)
   animals <- report$animals$animal
@@ -235,7 +237,7 @@ with_record <- function(ranges, record) {
 
 # Writes the report of home ranges, with the names that animals have in files, as the program would of those.
 write_report <- function(x, path) {
-  local_numbers()
+  local_options()
   check_ranges(x)
   check_path(path)
   if (anyNA(x$overlaps)) refuse("option", "x: these are ranges of several reports, whose overlaps are not known")

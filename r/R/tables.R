@@ -12,7 +12,7 @@ hectares_of <- function(ranges, area2) area2 / units_known[[ranges$unit]]$hectar
 # A column of areas by its title, or one of the package units.
 area_column <- function(ranges, area2, area, units) {
   if (!is_text(area) || !area %in% names(areas_known)) refuse("option", "area: \"ha\", \"m2\" or \"km2\" is wanted")
-  if (!is_truth(units)) refuse("option", "units: TRUE or FALSE is wanted")
+  check_truth(units, "units")
   unit <- areas_known[[area]]
   values <- area2 / round(units_known[[ranges$unit]]$hectare * unit$hectares)
   if (!units) return(`names<-`(list(values), unit$title))
@@ -70,7 +70,7 @@ homerange_curve <- function(x, area = "ha", units = FALSE) {
 # How many fixes, or which share, of a row's animal lie in the polygon of a column's animal.
 homerange_overlap <- function(x, share = FALSE, level = 100) {
   check_ranges(x)
-  if (!is_truth(share)) refuse("option", "share: TRUE or FALSE is wanted")
+  check_truth(share, "share")
   check_level(x, level)
   counts <- if (level == 100) x$overlaps else overlaps_at_level(x, level)
   if (share) counts / x$animals$fixes else counts
@@ -113,7 +113,7 @@ levels_of <- function(ranges) {
 
 # Refuses what is no level whose polygons are known.
 check_level <- function(ranges, level) {
-  local_numbers()
+  local_options()
   known <- sort(unique(c(ranges$percents$level, 100)))
   if (!is_number(level) || !level %in% known) {
     refuse("option", "level: one of ", paste(known, collapse = ", "), " is wanted; home_range takes others as levels")
@@ -123,12 +123,14 @@ check_level <- function(ranges, level) {
   }
 }
 
-check_ranges <- function(x) if (!inherits(x, "home_range")) refuse("option", "x: a home range is wanted")
+check_ranges <- function(x) {
+  if (!inherits(x, "home_range")) refuse("option", "a ", class(x)[1], " has no ranges: home_range makes them")
+}
 
 # The polygons of levels as a table of sf, a row for each animal and level. Without an area a polygon is a line or a point.
 st_as_sf.home_range <- function(x, levels = NULL, drop_flat = FALSE, area = "ha", units = FALSE, ...) {
   check_dots(...)
-  if (!is_truth(drop_flat)) refuse("option", "drop_flat: TRUE or FALSE is wanted")
+  check_truth(drop_flat, "drop_flat")
   if (is.null(levels)) levels <- levels_of(x)
   if (!is.numeric(levels) || !length(levels) || anyDuplicated(levels)) refuse("option", "levels: different numbers are wanted")
   rings <- unlist(lapply(levels, function(level) unname(rings_of(x, level))), recursive = FALSE)
@@ -172,7 +174,7 @@ print.home_range <- function(x, ...) {
 
 # The lines that are printed.
 format.home_range <- function(x, ...) {
-  local_numbers()
+  local_options()
   check_dots(...)
   number <- nrow(x$animals)
   times <- range(x$rows$time)

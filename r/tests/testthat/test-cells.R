@@ -124,7 +124,7 @@ test_that("the text has all columns below their titles, and further ones behind 
                    "id,\"a \"\"day\"\"\",x,point easting\na,2024-05-01,1.5,1\n\"b,c\",2024-05-02,,2\n")
   expect_identical(text_of(data.frame(x = c(1, NA))), "x\n1\n\"\"\n")
   for (title in c("a;b", "a\tb")) {
-    expect_error(text_of(`names<-`(table, c(title, "b", "c"))), "column 1 is titled 'a", class = "homerange_columns_error")
+    expect_error(text_of(`names<-`(table, c(title, "b", "c"))), "the first column is titled 'a", class = "homerange_columns_error")
   }
   expect_identical(text_of(data.frame(b = 1, "a;b" = 2, check.names = FALSE)), "b,a;b\n1,2\n")
   old <- Sys.getlocale("LC_CTYPE")

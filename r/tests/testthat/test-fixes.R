@@ -143,11 +143,11 @@ test_that("a table of groups says that these are not looked at", {
 test_that("what is no table is refused", {
   skip_without_split()
   refused <- function(x, text) expect_error(read_quietly(x), text, fixed = TRUE, class = "homerange_empty_error")
-  refused(list(1), "a data frame is wanted, or an sf of points, or the name of one file")
-  refused(c("a", "b"), "a data frame is wanted")
-  refused(structure(list(), class = "ltraj"), "a data frame is wanted: adehabitatLT::ld(x) makes one of it")
-  refused(frame()[0, ], "there are no rows")
-  expect_error(read_quietly(frame()[integer()]), "there are no columns", class = "homerange_columns_error")
+  refused(list(1), "a list is neither a path nor a data frame with a row for each fix")
+  refused(c("a", "b"), "a character is neither a path nor a data frame")
+  refused(structure(list(), class = "ltraj"), "with a row for each fix: adehabitatLT::ld(x) makes one of it")
+  refused(frame()[0, ], "the data frame has no row of a fix")
+  refused(frame()[integer()], "the data frame has no row of a fix")
 })
 
 test_that("a move2 table says which columns it has", {
@@ -223,9 +223,9 @@ test_that("fixes that are alike are bound", {
   expect_identical(facts_of(parts), facts_of(fixes))
   expect_identical(left_since(parts)$fixes, c(1, 1))
   refused <- function(other, text) expect_error(rbind(fixes, other), text, fixed = TRUE, class = "homerange_option_error")
-  refused(named(unit = "dm"), "they differ in their unit")
-  refused(named(zone = "33N"), "they differ in their zone")
-  refused(named(tz = "UTC"), "they differ in their zone of times")
+  refused(named(unit = "dm"), "fixes of the unit m and of dm are not bound: read them alike")
+  refused(named(zone = "33N"), "fixes of the reference system not known and of EPSG:32633 (WGS 84 / UTM zone 33N) are not bound")
+  refused(named(tz = "UTC"), "fixes of the time zone Europe/Berlin and of UTC are not bound: read them alike")
   refused(named(frame()[-6]), "some have no column 'note'")
   refused(frame(), "and not to data.frame")
 })
@@ -254,8 +254,8 @@ test_that("ranges of fixes are those of their table, and options are not told tw
   mixed <- fixes[order(fixes$easting), ]
   expect_setequal(quietly(home_range(mixed))$animals$animal, c("Asta", "Bruno", "Cilla"))
   expect_identical(homerange_curve(quietly(home_range(mixed)))$hectares[mixed$animal == "none"], numeric())
-  expect_error(home_range(fixes, zone = "33N"), "zone: these fixes are read already", class = "homerange_option_error")
-  expect_error(home_range(fixes, 95, NULL, "33N"), "there is an argument too many", class = "homerange_option_error")
+  expect_error(home_range(fixes, zone = "33N"), "zone says how a table is read, and these fixes were read already: give it to read_fixes", class = "homerange_option_error")
+  expect_error(home_range(fixes, 95, NULL, "33N"), "an argument without a name says how a table is read", class = "homerange_option_error")
 })
 
 test_that("fixes that were changed are read again, and only what is new is said", {

@@ -31,7 +31,7 @@ test_that("areas are in the unit that is asked", {
     expect_identical(summary(ranges)$hectares, 4)
   }
   expect_error(summary(ranges, area = "acre"), "area: \"ha\", \"m2\" or \"km2\"", class = "homerange_option_error")
-  expect_error(summary(ranges, units = 1), "units: TRUE or FALSE", class = "homerange_option_error")
+  expect_error(summary(ranges, units = 1), "units = 1 is neither TRUE nor FALSE", class = "homerange_option_error")
 })
 
 test_that("areas are of the package units where they are asked to be", {
@@ -67,7 +67,7 @@ test_that("st_as_sf is an sf of all levels, with a CRS or without", {
   refused(sf::st_as_sf(ranges, levels = 50), "level: one of 75, 100 is wanted")
   refused(sf::st_as_sf(ranges, levels = c(75, 75)), "levels: different numbers are wanted")
   refused(sf::st_as_sf(ranges, level = 75, crs = 1), "there is no argument")
-  refused(sf::st_as_sf(ranges, drop_flat = 1), "drop_flat: TRUE or FALSE")
+  refused(sf::st_as_sf(ranges, drop_flat = 1), "drop_flat = 1 is neither TRUE nor FALSE")
 })
 
 test_that("without flat ranges a shapefile can be written", {
@@ -121,7 +121,7 @@ test_that("what is said has a class of its kind, and is kept where it is not sai
   expect_setequal(kinds, paste0("homerange_", c("left_out", "rounded", "sorted", "guessed"), "_note"))
   expect_silent(quiet <- home_range(fixes, quiet = TRUE))
   expect_identical(quiet$notes, ranges$notes)
-  expect_error(home_range(fixes, quiet = "yes"), "quiet: TRUE or FALSE", class = "homerange_option_error")
+  expect_error(home_range(fixes, quiet = "yes"), "is neither TRUE nor FALSE", class = "homerange_option_error")
 })
 
 test_that("the options of numbers and decimals change nothing", {
@@ -168,7 +168,7 @@ test_that("a report is written as the program writes it", {
   for (write in list(write_report, write_page)) {
     expect_error(write(ranges, file.path(folder, "none", "x")), "none/x: there is no such folder$", class = "homerange_file_error")
     expect_error(write(ranges, folder), " is a folder$", class = "homerange_file_error")
-    expect_error(write(ranges, NA), "path: the name of one file", class = "homerange_option_error")
+    expect_error(write(ranges, NA), "path = NA is no path", class = "homerange_option_error")
   }
   odd <- transform(fixes, animal = sub("fox", "fox, red", animal, fixed = TRUE))
   ranges <- quietly(home_range(odd))

@@ -183,7 +183,7 @@ test_that("fixes are thinned to what can be seen", {
 
 test_that("what cannot be drawn is refused", {
   expect_error(plot(report(), "hull"), class = "homerange_option_error")
-  expect_error(plot(report(), animals = "wolf"), "there is no animal wolf", class = "homerange_option_error")
+  expect_error(plot(report(), animals = "wolf"), "there is no animal \"wolf\"", class = "homerange_option_error")
   expect_error(plot(report(), animals = character(0)), "there is none", class = "homerange_option_error")
   expect_error(plot(report(), by = "day"), class = "homerange_option_error")
   expect_error(plot(report(), share = "yes"), class = "homerange_option_error")

@@ -45,7 +45,7 @@ test_that("a program that cannot run is an error of its own", {
 test_that("a report that is cut off or of other animals is refused", {
   skip_without_split()
   local_program("echo animal,b,fixes,1")
-  expect_error(quietly(home_range(fixes())), "there is no end line", class = "homerange_report_error")
+  expect_error(quietly(home_range(fixes())), "is cut off: its last line is not", class = "homerange_report_error")
   lines <- c("animal,b,fixes,1", "box,b,0,0,0,0", "row,b,1,0,1,0", "corner,b,1,0,0", "percent,b,50,1,1,0", "end,1")
   local_program(paste("echo", lines))
   expect_error(quietly(home_range(fixes())), "not the animals of its files", class = "homerange_check_error")

@@ -55,10 +55,10 @@ test_that("what is no whole report is refused", {
   refused <- function(lines, message) {
     expect_error(read_report(written(lines)), message, class = "homerange_report_error")
   }
-  refused(square[-21], "there is no end line, so it is cut off or no report")
-  refused(character(), "there is no end line")
+  refused(square[-21], "is cut off: its last line is not 'end,' with the number of animals")
+  refused(character(), "is cut off: its last line is not")
   refused(replace(square, 21, "end,3"), "it has 2 animals, and its last line says 3")
-  refused(replace(square, 21, "end,"), "there is no end line")
+  refused(replace(square, 21, "end,"), "is cut off: its last line is not")
   refused("end,0", "it has no animals")
   for (line in c(1:20)) refused(square[-line], "")
   for (line in c(1:20)) refused(square[c(seq_len(line), line:21)], "")
@@ -69,7 +69,7 @@ test_that("what is no whole report is refused", {
   refused(square[c(1:6, 8, 7, 9:21)], "lines are missing, or there twice")
   refused(square[c(1:2, 7, 3:6, 8:21)], "line 4 is none of a report there: row,NA,1,10,1,0$")
   refused(c(square[19:20], square[-(19:20)]), "line 3 is none of a report there: animal,NA,fixes,4$")
-  refused(c(square, "", ""), "there is no end line")
+  refused(c(square, "", ""), "is cut off: its last line is not")
   refused(sub("Ha\u0219e", "NA", square), "an animal is there twice")
   refused(replace(square, 15, "row,Hare,1,5,1,0"), "line 15 is none of a report there: row,Hare,1,5,1,0$")
   refused(replace(square, 19, "overlap,NA,Hare,0,4"), "an animal that has no line animal")

@@ -32,7 +32,7 @@ test_that("what is no reserve is refused", {
   skip_if_not_installed("sf")
   ranges <- quietly(home_range(herd()))
   expect_error(homerange_share(ranges, "reserve.shp"), "an sf geometry is wanted", class = "homerange_option_error")
-  expect_error(homerange_share(deer, box(0, 1)), "a home range is wanted", class = "homerange_option_error")
+  expect_error(homerange_share(deer, box(0, 1)), "has no ranges: home_range makes them", class = "homerange_option_error")
   placed <- sf::st_sfc(box(0, 1), crs = 32633)
   expect_error(homerange_share(ranges, placed), "the ranges have no CRS", class = "homerange_crs_error")
   known <- quietly(home_range(herd(), crs = 32633))
@@ -54,7 +54,7 @@ test_that("there are no arguments that are swallowed", {
   refused(format(ranges, digits = 2))
   refused(print(ranges, digits = 2))
   refused(plot(ranges, pch = 2))
-  expect_error(homerange_overlap(ranges, "share"), "share: TRUE or FALSE", class = "homerange_option_error")
+  expect_error(homerange_overlap(ranges, "share"), "share = \"share\" is neither TRUE nor FALSE", class = "homerange_option_error")
 })
 
 test_that("a boundary of the system of a site is one without a system", {
