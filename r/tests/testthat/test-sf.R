@@ -65,7 +65,7 @@ test_that("points that cannot be taken are refused, with the call that helps", {
   feet <- sf::st_as_sf(walk("hare", 50, 21, at = c(981000, 199000)), coords = c("easting", "northing"), crs = 2263)
   refused(feet, "is in US survey foot and not in metres: sf::st_transform(x, 32618)")
   refused(sf::st_transform(hare_points(), 3857), "grow away from the equator: sf::st_transform(x, 32633)")
-  refused(sf::st_as_sf(data.frame(x = 1, y = 2, z = 3), coords = c("x", "y", "z"), crs = 4978), "x: WGS 84 is no plane of eastings")
+  refused(sf::st_as_sf(data.frame(x = 1, y = 2, z = 3), coords = c("x", "y", "z"), crs = 4978), "the CRS WGS 84 is not a plane one in metres: project the points first")
   shapes <- sf::st_sfc(sf::st_point(1:2), sf::st_linestring(diag(2)), crs = 32633)
   refused(sf::st_set_geometry(hare_points()[1:2, ], shapes), "row 2: the geometry is a linestring, and points are wanted")
   refused(sf::st_cast(hare_points(), "MULTIPOINT"), "row 1: the geometry is a multipoint, and points are wanted")
