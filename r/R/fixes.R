@@ -47,7 +47,7 @@ check_bound <- function(one, first) {
   }
   own <- facts_of(one)
   facts <- facts_of(first)
-  what <- c(unit = "unit", crs = "reference system", tz = "time zone")
+  what <- c(unit = "unit", system_compared(own, facts), tz = "time zone")
   for (name in names(what)) {
     if (!is_same_fact(own[[name]], facts[[name]])) {
       refuse("option", "fixes of the ", what[[name]], " ", fact_text(facts[[name]]), " and of ", fact_text(own[[name]]),
@@ -56,6 +56,11 @@ check_bound <- function(one, first) {
   }
   odd <- c(setdiff(names(one), names(first)), setdiff(names(first), names(one)))
   if (length(odd)) refuse("option", "fixes are not bound, since some have no column '", odd[1], "'")
+}
+
+# By which of their facts the reference systems of two are compared: without the package sf the zone alone is known.
+system_compared <- function(one, other) {
+  if (is.null(one$crs) && is.null(other$crs)) c(zone = "zone") else c(crs = "reference system")
 }
 
 # Whether facts are the same: a reference system has several forms of text, and a program lies at several paths.

@@ -1,9 +1,9 @@
 # Drawings of home ranges: the polygons over the fixes, and the curves of area.
 
-plot.home_range <- function(x, what = c("ranges", "curve"), level = 100, animals = NULL, over = NULL, label = "boundary",
+plot.home_range <- function(x, what = c("ranges", "curve"), levels = 100, animals = NULL, over = NULL, label = "boundary",
                             main = "", reset = TRUE, fixes = TRUE, by = c("fix", "date"), share = FALSE, facets = FALSE,
                             col = NULL, xlab = NULL, ylab = NULL, xlim = NULL, ylim = NULL, ...) {
-  local_options(x, what, level, animals, over, label, main, reset, fixes, by, share, facets, col, xlab, ylab, xlim, ylim, ...)
+  local_options(x, what, levels, animals, over, label, main, reset, fixes, by, share, facets, col, xlab, ylab, xlim, ylim, ...)
   check_title(...)
   what <- word_of_these(what, c("ranges", "curve"), "what")
   by <- word_of_these(by, c("fix", "date"), "by")
@@ -16,7 +16,7 @@ plot.home_range <- function(x, what = c("ranges", "curve"), level = 100, animals
   if (what == "curve") {
     draw_curves(x, drawn, by, share, facets, asked)
   } else {
-    draw_ranges(x, drawn, drawn_levels(x, level), fixes, check_over(x, over), label, facets, asked)
+    draw_ranges(x, drawn, drawn_levels(x, levels), fixes, check_over(x, over), label, facets, asked)
   }
   invisible(x)
 }
@@ -66,10 +66,9 @@ drawn_animals <- function(ranges, animals, col) {
 }
 
 # The levels of a map, from the highest on.
-drawn_levels <- function(ranges, level) {
-  for (one in level) rings_of(ranges, one)  # refuses what is none
-  if (!length(level)) refuse("option", "level: there is none")
-  sort(unique(level), decreasing = TRUE)
+drawn_levels <- function(ranges, levels) {
+  check_levels(ranges, levels)
+  sort(levels, decreasing = TRUE)
 }
 
 # The geometry to draw over a map, which has to be in the CRS of the fixes.

@@ -76,7 +76,7 @@ c.home_range <- function(...) {
 # Refuses home ranges that differ from others in what one table says of all.
 check_alike <- function(one, first) {
   check_ranges(one)
-  what <- c(unit = "unit", shift = "shift", zone = "zone", crs = "CRS", tz = "zone of times", program = "program")
+  what <- c(unit = "unit", shift = "shift", system_compared(one, first), tz = "time zone", program = "program")
   differs <- !vapply(names(what), function(own) is_same_fact(unclass(one)[[own]], unclass(first)[[own]]), NA)
   if (any(differs)) refuse("option", "they differ in their ", what[differs][1])
   if (is.null(one$groups) != is.null(first$groups)) refuse("option", "they differ: those of one are by groups")

@@ -27,7 +27,7 @@ test_that("a report is read", {
   expect_equal(homerange_curve(ranges)$hectares, c(0, 0, 2, 4, 0))
   expect_equal(homerange_overlap(ranges), matrix(c(4, 1, 0, 1), 2, dimnames = list(c("NA", "Ha\u0219e"), c("NA", "Ha\u0219e"))))
   expect_equal(homerange_corners(ranges)[["NA"]], cbind(easting = c(0, 200, 200, 0), northing = c(0, 0, 200, 200)))
-  expect_error(homerange_corners(ranges, 50), "no corners of polygons below 100", class = "homerange_option_error")
+  expect_error(homerange_corners(ranges, 50), "polygons below 100 per cent need the fixes", class = "homerange_option_error")
 })
 
 test_that("lines may end as those of other systems do, and numbers have any digits", {

@@ -72,7 +72,7 @@ test_that("points that cannot be taken are refused, with the call that helps", {
   renamed <- hare_points()
   names(renamed)[3] <- "shape"
   refused(renamed, "x has no geometry where sf looks for it: sf::st_geometry(x) <- \"COLUMN\" says where it is")
-  expect_error(read_fixes(hare_points(), crs = 3035), "crs: points of sf bring their own", class = "homerange_option_error")
+  expect_error(read_fixes(hare_points(), crs = 3035), "crs: points bring their own CRS", class = "homerange_option_error")
   refused(hare_points(), "the coordinates are of the zone 32N, and the CRS WGS 84 / UTM zone 33N is that of 33N: give one", zone = "32N")
   expect_identical(facts_of(read_fixes(hare_points(), zone = "33 n", quiet = TRUE))$zone, "33N")
 })
