@@ -27,7 +27,7 @@ for (size in list(c(1, 1e6), c(200, 5e3), c(960, 1e2))) {
   time <- seconds_of(ranges <- home_range(table, quiet = TRUE, progress = FALSE))
   peak <- sum(gc()[, 6])
   polygons <- seconds_of(homerange_corners(ranges, 95))
-  overlaps <- seconds_of(homerange_overlap(ranges, level = 95))
+  overlaps <- seconds_of(homerange_overlap(ranges, levels = 95))
   cat(sprintf("%d animals of %.0f fixes: R %.1f s, program %.1f s, %.0f MB; polygons %.1f s, overlaps at 95 %% %.1f s\n",
               size[1], size[2], time[["R"]], time[["program"]], peak, polygons[["R"]], overlaps[["R"]]))
 }

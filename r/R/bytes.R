@@ -30,11 +30,10 @@ digits_before <- function(bytes, ends, widths) {
   wholes - 48 * cumsum(powers_of_ten)[widths]
 }
 
-# The text of bytes in UTF-8, marked as such unless it is ASCII, whose lines end in LF; what is no text is refused. Without a
-# byte 0 it is read by readChar, which is faster than rawToChar.
-text_of_bytes <- function(bytes, path) {
-  has_zero <- length(grepRaw(as.raw(0), bytes, fixed = TRUE)) > 0
-  text <- if (has_zero) rawToChar(bytes[bytes != 0]) else readChar(bytes, length(bytes), useBytes = TRUE)
+# The text of a file of so many bytes in UTF-8, marked as such unless it is ASCII, whose lines end in LF; what is no text is refused.
+text_of_file <- function(path, size) {
+  text <- if (size > 0) suppressWarnings(readChar(path, size, useBytes = TRUE)) else ""
+  has_zero <- nchar(text, "bytes") < size
   if (grepl("[^\\x01-\\x0c\\x0e-\\x7f]", text, perl = TRUE, useBytes = TRUE)) {
     if (!validUTF8(text)) refuse("text", path, " is no text in UTF-8")
     text <- gsub("\r\n?", "\n", text, perl = TRUE, useBytes = TRUE)

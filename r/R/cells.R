@@ -1,13 +1,14 @@
 # How the columns of a data frame are written as the cells of a text, by their classes: docs/TABLES.md, Data frames.
 #
-# Cells are text in UTF-8, "" where they are missing. A class of which nothing is known is written by its name, as <complex>,
-# which the program refuses where it reads that column. A column is written in parts, one behind the other in each cell: texts
-# by their kinds and the place of each cell among these, or numbers with decimals.
+# Cells are text in UTF-8, "" where they are missing. One of a class of which nothing is known is odd: it is written by the class,
+# as <complex>, and refused where that column is read. A column is written in parts, one behind the other in each cell: texts by
+# their kinds and the place of each cell among these, or numbers with decimals.
 
 most_exact <- 2^53
 most_short <- 1e15  # below which a number has no more digits than a double holds
 most_places <- 9  # decimals of numbers that are written without a look at each
 most_days <- 4e6  # from 1970: the calendar of R is slow beyond
+thousand <- 1000
 metres_of_units <- c(m = 1, metre = 1, meter = 1, km = 1000)
 degrees_of_units <- c("\u00b0", "degree", "arc_degree", "degrees")
 
@@ -24,7 +25,7 @@ parts_of_column <- function(column, title) {
   if (inherits(column, "integer64")) return(parts_of_cells(digits_of_integer64(column)))
   if (inherits(column, "POSIXct")) return(parts_of_moments(as.numeric(column)))
   if (inherits(column, "Date")) return(list(part_of_days(floor(as.numeric(column)), "")))
-  if (inherits(column, c("ITime", "hms"))) return(parts_of_cells(cells_of_clocks(column)))
+  if (inherits(column, c("ITime", "hms"))) return(parts_of_clocks(column))
   if (inherits(column, "units")) return(parts_of_units(column))
   if (has_own_class(column)) return(parts_of_class(column))
   if (is.logical(column)) return(list(part_of_kinds(c("false", "true"), column + 1L)))
@@ -37,13 +38,13 @@ cells_of_column <- function(column, title) texts_of_parts(parts_of_column(column
 texts_of_parts <- function(parts) do.call(paste0, lapply(parts, texts_of_part))
 
 texts_of_part <- function(part) {
-  if (!is.null(part$numbers)) return(cells_of_numbers(part$numbers))
+  if (!is.null(part$numbers)) return(with_zero(cells_of_numbers(part$numbers), part$zero))
   texts <- part$kinds[part$place]
   replace(texts, is.na(texts), "")
 }
 
-# A part of texts: its kinds, and the place of each cell among them.
-part_of_kinds <- function(kinds, place) list(kinds = kinds, place = place)
+# A part of texts: its kinds, the place of each cell among them, and which kinds are odd.
+part_of_kinds <- function(kinds, place, odd = FALSE) list(kinds = kinds, place = place, odd = odd)
 
 parts_of_cells <- function(cells) {
   kinds <- distinct(cells)
@@ -53,7 +54,19 @@ parts_of_cells <- function(cells) {
 # Whether cells mean something else than the numbers or truths they are kept as.
 has_own_class <- function(column) isS4(column) || length(setdiff(oldClass(column), c("AsIs", "noquote"))) > 0
 
-parts_of_class <- function(column) list(part_of_kinds(paste0("<", class(column)[1], ">"), rep(1L, NROW(column))))
+parts_of_class <- function(column, name = class(without_class(column, "AsIs"))[1]) {
+  list(part_of_kinds(paste0("<", name, ">"), rep(1L, NROW(column)), odd = TRUE))
+}
+
+without_class <- function(column, class) `oldClass<-`(column, setdiff(oldClass(column), class))
+
+# The first row with an odd cell and its class; NULL where there is none.
+odd_cell <- function(parts) {
+  for (part in parts) {
+    row <- if (any(part$odd)) which(rep_len(part$odd, length(part$kinds))[part$place])[1]
+    if (length(row) && !is.na(row)) return(list(row = row, class = gsub("^<|>$", "", part$kinds[part$place[row]])))
+  }
+}
 
 # A column of text, by its different texts and the place of each cell among them. One that cannot be UTF-8 is refused by its
 # row.
@@ -99,8 +112,19 @@ readable <- function(text) {
 # Numbers: those with few decimals and digits, or else their texts.
 parts_of_numbers <- function(numbers) {
   places <- places_of_decimals(numbers)
-  if (is.na(places)) parts_of_cells(cells_of_numbers(numbers)) else list(list(numbers = numbers, decimals = places))
+  if (is.na(places)) return(parts_of_cells(cells_of_numbers(numbers)))
+  list(list(numbers = numbers, decimals = places, zero = places == 3 && look_like_thousands(numbers)))
 }
+
+# Whether numbers of at most three decimals are such as 123.456 and 123 alone, whose point may be one before thousands to the
+# program: so a 0 is written behind them.
+look_like_thousands <- function(numbers) {
+  numbers <- numbers[!is.na(numbers)]
+  has_part <- numbers != floor(numbers)
+  all(abs(numbers) < thousand) && all(round(numbers[has_part] * 100) / 100 != numbers[has_part])
+}
+
+with_zero <- function(cells, zero) if (zero) sub("([.].*)", "\\10", cells) else cells
 
 # How many decimals all of some numbers have; NA where one has too many, or has no end.
 places_of_decimals <- function(numbers) {
@@ -170,7 +194,7 @@ parts_of_moments <- function(seconds) {
   clock <- whole - 86400 * day
   clock[is_far] <- NA
   has_part <- isTRUE(any(seconds > whole))
-  parts <- list(part_of_days(day, "T", "<POSIXct>"), part_of_clocks(clock, if (has_part) "" else "Z"))
+  parts <- list(part_of_days(day, "T"), part_of_clocks(clock, if (has_part) "" else "Z"))
   if (!has_part) return(parts)
   c(parts, parts_of_cells(ifelse(is_far, "", paste0(decimals_of(seconds), "Z"))))
 }
@@ -189,11 +213,11 @@ by_distinct <- function(values, action) {
   action(kinds)[places_of(values, kinds)]
 }
 
-# Days since 1970 as dates, with what stands behind them. Those that are too far are written by their class.
-part_of_days <- function(days, behind, far = "<Date>") {
+# Days since 1970 as dates, with what stands behind them. Those that are too far are no time to the program either.
+part_of_days <- function(days, behind) {
   kinds <- distinct(days)
   is_near <- is.finite(kinds) & abs(kinds) <= most_days
-  texts <- ifelse(is.na(kinds), "", far)
+  texts <- ifelse(is.na(kinds), "", ifelse(kinds > 0, "inf", "-inf"))
   texts[is_near] <- paste0(format(.Date(kinds[is_near])), behind)
   part_of_kinds(texts, places_of(days, kinds))
 }
@@ -221,14 +245,16 @@ decimals_of <- function(seconds) {
   texts
 }
 
-# Clocks of days, of data.table or hms; what is none is written by its class.
-cells_of_clocks <- function(column) {
+# Clocks of days, of data.table or hms; what is none is odd.
+parts_of_clocks <- function(column) {
   seconds <- as.numeric(unclass(column))
   is_clock <- is.finite(seconds) & seconds >= 0 & seconds < 86400
-  cells <- ifelse(is.na(seconds), "", paste0("<", class(column)[1], ">"))
+  word <- paste0("<", class(column)[1], ">")
+  cells <- ifelse(is.na(seconds), "", word)
   own <- seconds[is_clock]
   cells[is_clock] <- paste0(texts_of_part(part_of_clocks(floor(own), "")), decimals_of(own))
-  cells
+  kinds <- distinct(cells)
+  list(part_of_kinds(kinds, places_of(cells, kinds), odd = kinds == word))
 }
 
 # Lengths in metres, degrees and numbers without a unit; other units are written by their names.
@@ -238,7 +264,7 @@ parts_of_units <- function(column) {
   if (name %in% c("", "1", degrees_of_units)) return(parts_of_numbers(as.numeric(values)))
   if (name %in% names(metres_of_units)) return(parts_of_numbers(values * metres_of_units[[name]]))
   metres <- in_unit(column, "m")
-  if (is.null(metres)) parts_of_cells(rep(paste0("<units ", name, ">"), length(column))) else parts_of_numbers(metres)
+  if (is.null(metres)) parts_of_class(column, paste("units", name)) else parts_of_numbers(metres)
 }
 
 # The name of a column's unit, such as m/s.

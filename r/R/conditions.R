@@ -34,11 +34,21 @@ tell_note <- function(line, kind) {
   message(structure(class = classes, list(message = paste0("homerange: ", one_line(line), "\n"), call = NULL)))
 }
 
-# Has numbers written by digits, with a point, until the function in this frame ends, whatever the options of the session are.
-local_numbers <- function(frame = parent.frame()) {
-  old <- options(scipen = 15, OutDec = ".", digits = 7)
+# Has numbers written by digits, with a point, and text read as it is, until the function in this frame ends, whatever the options
+# of the session are. The arguments of that function are evaluated before.
+local_options <- function(..., frame = parent.frame()) {
+  list(...)
+  old <- options(scipen = 15, OutDec = ".", digits = 7, encoding = "native.enc")
   do.call(on.exit, list(bquote(options(.(old))), add = TRUE), envir = frame)
 }
+
+# Refuses what is neither TRUE nor FALSE.
+check_truth <- function(value, name) {
+  if (!is_truth(value)) refuse("option", argument_text(name, value), " is neither TRUE nor FALSE")
+}
+
+# An argument with its value, as a refusal has it.
+argument_text <- function(name, value) paste0(name, " = ", what_it_is(value))
 
 in_digits <- function(numbers) format(numbers, big.mark = ",", decimal.mark = ".", scientific = FALSE, trim = TRUE)
 

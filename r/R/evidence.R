@@ -6,19 +6,21 @@ form_of_evidence <- "1"  # that of tables, layers, page and records: another byt
 
 # Makes the folder of evidence of home ranges, whose page is written with the other arguments.
 homerange_evidence <- function(x, folder, ...) {
-  local_numbers()
+  local_options(x, folder, ...)
   check_ranges(x)
   check_whole(x, "evidence")
+  odd <- setdiff(if (...length()) c(...names(), ""[is.null(...names())]), names(formals(fill_evidence))[-(1:3)])
+  if (length(odd)) refuse("option", "there is no argument ", if (nzchar(odd[1])) odd[1] else "without a name")
   if (isTRUE(x$is_part)) refuse("option", "x: evidence is made of the ranges of one call or one report, with all their animals")
   if (is.null(x$fixes)) refuse("option", "evidence needs the fixes: read_report(file, files = ..)")
   check_definition(x)
-  if (!is_text(folder) || !nzchar(folder)) refuse("option", "folder: the name of a new folder is wanted")
+  if (!is_text(folder) || !nzchar(folder)) refuse("option", argument_text("folder", folder), " is no path")
   folder <- sub("(.)/+$", "\\1", folder)
   if (is_there(folder)) refuse("text", folder, " is there already: name another folder")
   local_utf8(names_of_files(x))
   program <- identity_of(homerange_program())
   part <- paste0(folder, ".part")
-  if (is_there(part)) refuse("text", part, " is there already: is another call at work?")
+  if (is_there(part)) refuse("text", part, " is there: another call is at work, or was killed and left it to be removed")
   on.exit(unlink(part, recursive = TRUE), add = TRUE, after = FALSE)
   make_folder(file.path(part, "tracks"))
   fill_evidence(x, part, program, ...)
@@ -52,6 +54,7 @@ local_utf8 <- function(names, frame = parent.frame()) {
 
 fill_evidence <- function(x, folder, program, title = NULL, study = NULL, species = NULL, by = NULL, reserve = NULL,
                           reserve_name = NULL, tz = NULL, made = NULL) {
+  check_typed(list(title = title, study = study, species = species, by = by, reserve_name = reserve_name), made)
   zone <- zone_of_page(x, tz)
   rings <- if (!is.null(reserve)) rings_in_order(rings_of_boundary(boundary_of(x, reserve)))
   words <- list(title = title, study = study, species = species, by = by, day = if (!is.null(made)) format(made, "%Y-%m-%d"),
@@ -89,7 +92,7 @@ report_of_folder <- function(x, folder, names, program, record, words, now) {
   before <- checksums_of(folder)
   files <- used_tracks(folder)
   call <- c("--percent", paste(unique(x$percents$level), collapse = ","), "--unit", x$unit)
-  write_lines(file.path(folder, "report.txt"), report_of_files(program$path, call, files, folder))
+  write_report_of(program$path, call, files, folder)
   made <- ranges_of_report(x, folder, names, record)
   after <- checksums_of(folder)
   changed <- names(before)[!(after[names(before)] == before) %in% TRUE]
@@ -101,49 +104,17 @@ report_of_folder <- function(x, folder, names, program, record, words, now) {
   made
 }
 
-# Puts the fixes of ranges into the folder's tracks, a file for each animal, with the record of how they were made: that of the
-# program, where they are as it made them. Others are split again. Answers the names that animals have in files.
+# Puts the fixes of ranges into the folder's tracks, a file for each animal, with the program's record of how they were made.
+# Answers the names that animals have in files.
 put_frame <- function(x, folder) {
   tracks <- file.path(folder, "tracks")
   names <- names_of_files(x)
-  for (place in seq_along(names)) {
-    own <- x$fixes[x$fixes$animal == x$animals$animal[place], ]
-    records <- c(list(second = own$moment), own[c("easting", "northing")])
-    write_track(file.path(tracks, paste0(names[place], ".csv")), records, names[place], seq_len(nrow(own)))
+  write_tracks(x$fixes, tracks, names)
+  write_lines(file.path(tracks, "split.txt"), x$read$record)
+  if (isTRUE(x$read$is_again)) {
+    tell_note("the fixes are not as they were read: what was left out before is neither in the folder nor on its page", "left_out")
   }
-  if (!is.null(x$read$record)) {
-    write_lines(file.path(tracks, "split.txt"), x$read$record)
-    if (is_of_record(tracks)) return(names)
-  }
-  unlink(tracks, recursive = TRUE)
-  tell_note("the fixes are not as they were read: what was left out before is neither in the folder nor on its page", "left_out")
-  split_again(x, tracks)
-}
-
-# Whether the tracks in a folder are those of the record beside them.
-is_of_record <- function(folder) {
-  tracks <- record_in(folder)$tracks
-  made <- checksums_of(folder)
-  wanted <- `names<-`(tracks$checksum, paste0(tracks$animal, ".csv"))
-  setequal(names(made), c(names(wanted), "split.txt")) && all(made[names(wanted)] == wanted)
-}
-
-# Has the program split the fixes of ranges, which were changed since they were read.
-split_again <- function(x, into) {
-  is_time <- inherits(x$fixes$time, "POSIXct")
-  places <- in_metres(x, x$fixes)
-  columns <- list(animal = x$fixes$animal, time = if (is_time) .POSIXct(x$fixes$moment, "UTC") else x$fixes$moment,
-                  easting = places[, 1], northing = places[, 2])
-  if (!is_time) names(columns)[2] <- "second"
-  crs <- if (is.null(x$zone) && !is.null(x$crs)) text_of_crs(x$crs)
-  words <- c(paste0("--unit=", x$unit), paste0("--zone=", x$zone)[!is.null(x$zone)], paste0("--crs=", crs)[!is.null(crs)],
-             paste0("--tz=", x$tz)[x$tz != "UTC"])
-  in_folder(function(folder) {
-    text <- file.path(folder, name_of_frame)
-    write_frame(columns, NULL, text)
-    run_split(text, words, into, function(kind, record, text) refuse(kind, "these fixes cannot be split again: ", text))
-  })
-  unname(files_of(record_in(into))[x$animals$animal])
+  names
 }
 
 # Copies the files that were read into a folder, with their record: the one that was named, or the one beside them.
@@ -186,40 +157,45 @@ identity_of <- function(path) {
   list(path = path, version = version, checksum = checksum_of(path))
 }
 
-# The lines of the report of files, as one run would give them if it took them all. Of more than that each group has its own
+# Writes the report of files in a folder, as one run would make it if it took them all. Of more than that each group has its own
 # run, and each two groups one more, of which the overlaps are taken.
-report_of_files <- function(program, words, files, folder) {
-  tables <- NULL
-  overlaps <- NULL
-  for (run in plan_runs(length(files))) {
-    lines <- run_in(folder, program, c(words, "--", files[run$places]))
-    is_overlap <- startsWith(lines, "overlap,")
-    overlaps <- c(overlaps, lines[is_overlap])
-    if (!run$is_pair) {
-      is_whole <- length(lines) > 0 && startsWith(lines[length(lines)], "end,")
-      if (!is_whole) refuse("report", "the report is cut off")
-      is_again <- length(tables) > 0 & lines == "unit,dm"
-      tables <- c(tables, lines[!is_overlap & !is_again & !startsWith(lines, "end,")])
-    }
-  }
-  animals <- sub("^animal,([^,]*),.*", "\\1", tables[startsWith(tables, "animal,")])
-  pairs <- sub("^overlap,([^,]*,[^,]*),.*", "\\1", overlaps)
-  wanted <- paste(rep(animals, each = length(animals)), animals, sep = ",")[c(!diag(length(animals)))]
-  c(tables, overlaps[match(wanted, pairs)], paste0("end,", length(animals)))
+write_report_of <- function(program, words, files, folder) {
+  path <- file.path(folder, "report.txt")
+  plan <- plan_runs(length(files))
+  if (length(plan) == 1) return(run_in(folder, program, c(words, "--", files), path))
+  parts <- lapply(plan, function(run) {
+    run_in(folder, program, c(words, "--", files[run$places]), path)
+    parts_of_report(report_text(path))
+  })
+  is_pair <- vapply(plan, `[[`, NA, "is_pair")
+  tables <- sub("(?<=\n)unit,dm\n", "", paste(vapply(parts[!is_pair], `[[`, "", "tables"), collapse = ""), perl = TRUE)
+  lines <- unlist(lapply(parts, `[[`, "overlaps"))
+  names <- unlist(lapply(parts[!is_pair], `[[`, "animals"))
+  wanted <- paste(rep(names, each = length(names)), names, sep = ",")[c(!diag(length(names)))]
+  write_lines(path, c(sub("\n$", "", tables), lines[match(wanted, sub("^overlap,([^,]*,[^,]*),.*", "\\1", lines))],
+                      paste0("end,", length(names))))
 }
 
-# The lines that the program reports within a folder.
-run_in <- function(folder, program, words) {
+# A report's text up to its overlaps, these as lines, and its animals.
+parts_of_report <- function(text) {
+  check_form(text, "the report")
+  ends <- regexpr("\n(overlap|end),", text, useBytes = TRUE)
+  lines <- lines_of_text(text)
+  list(tables = `Encoding<-`(rawToChar(charToRaw(text)[seq_len(ends)]), Encoding(text)), overlaps = lines[startsWith(lines, "overlap,")],
+       animals = sub("^animal,([^,]*),.*", "\\1", lines[startsWith(lines, "animal,")]))
+}
+
+# Has the program write its report into a file, within a folder.
+run_in <- function(folder, program, words, path) {
   fault <- tempfile("fault")
-  output <- tempfile("report")
+  path <- normalizePath(path, mustWork = FALSE)
   old <- setwd(folder)
   on.exit({
     setwd(old)
-    unlink(c(fault, output))
+    unlink(fault)
   })
-  status <- suppressWarnings(system2(program, shQuote(words), stdout = output, stderr = fault))
+  status <- suppressWarnings(system2(program, shQuote(words), stdout = path, stderr = fault))
   if (status != 0) refuse_run(status, readLines(fault, warn = FALSE, encoding = "UTF-8"), character(), character())
-  readLines(output, warn = FALSE, encoding = "UTF-8")
 }
 
 # The ranges of the report that was made in a folder, by the names of the files, once it is seen that they are these.

@@ -47,17 +47,29 @@ check_bound <- function(one, first) {
   }
   own <- facts_of(one)
   facts <- facts_of(first)
-  what <- c(unit = "unit", zone = "zone", crs = "CRS", tz = "zone of times")
-  same <- vapply(names(what), function(name) identical(comparable(own[[name]]), comparable(facts[[name]])), NA)
-  if (!all(same)) refuse("option", "fixes are not bound, since they differ in their ", what[!same][1])
+  what <- c(unit = "unit", system_compared(own, facts), tz = "time zone")
+  for (name in names(what)) {
+    if (!is_same_fact(own[[name]], facts[[name]])) {
+      refuse("option", "fixes of the ", what[[name]], " ", fact_text(facts[[name]]), " and of ", fact_text(own[[name]]),
+             " are not bound: read them alike")
+    }
+  }
   odd <- c(setdiff(names(one), names(first)), setdiff(names(first), names(one)))
   if (length(odd)) refuse("option", "fixes are not bound, since some have no column '", odd[1], "'")
 }
 
-# A fact as it is compared: a reference system has several forms of text, and a program lies at several paths.
-comparable <- function(fact) {
-  if (inherits(fact, "crs")) text_of_crs(fact) else if (is.list(fact)) fact$checksum else fact
+# By which of their facts the reference systems of two are compared: without the package sf the zone alone is known.
+system_compared <- function(one, other) {
+  if (is.null(one$crs) && is.null(other$crs)) c(zone = "zone") else c(crs = "reference system")
 }
+
+# Whether facts are the same: a reference system has several forms of text, and a program lies at several paths.
+is_same_fact <- function(one, other) {
+  if (inherits(one, "crs") && inherits(other, "crs")) return(isTRUE(one == other))
+  if (is.list(one) && is.list(other)) identical(one$checksum, other$checksum) else identical(one, other)
+}
+
+fact_text <- function(fact) if (is.null(fact)) "not known" else if (inherits(fact, "crs")) text_of_crs(fact) else fact
 
 # What is known of fixes that are bound. Those of one reading are what they were.
 bound_facts <- function(facts) {
@@ -65,8 +77,7 @@ bound_facts <- function(facts) {
   found <- facts[[1]]
   if (length(facts) == 1) return(found)
   found$notes <- unlist(lapply(facts, `[[`, "notes"))
-  found$record <- NULL  # there is none of all
-  found$files <- NULL
+  found[c("record", "files", "checksum")] <- NULL  # there is none of all
   counts <- unlist(lapply(facts, `[[`, "fixes"))
   found$fixes <- vapply(split(counts, factor(names(counts), unique(names(counts)))), sum, 0)
   found$left_out <- summed_left(do.call(rbind, lapply(facts, `[[`, "left_out")))
@@ -121,7 +132,7 @@ print.homerange_fixes <- function(x, ...) {
 
 # The lines that are printed above the rows.
 format.homerange_fixes <- function(x, ...) {
-  local_numbers()
+  local_options()
   facts <- facts_of(x)
   asked <- grepl("[?]$", facts$notes)
   read <- unique(grep("^(columns: |not read: )", facts$notes, value = TRUE))

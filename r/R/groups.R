@@ -30,7 +30,8 @@ grouped_fixes <- function(whole, labels) {
   fixes$animal <- known$animal[place]
   fixes <- fixes[order(place, method = "radix"), ]
   row.names(fixes) <- NULL
-  list(shift = whole$shift, fixes = fixes, groups = known)
+  note <- paste0("ranges are by group: ", nrow(known), " of ", count_of(length(unique(known$of)), "animal"))
+  list(shift = whole$shift, fixes = fixes, groups = known, note = note)
 }
 
 # The group of each fix. Where a frame was read, values are those of its rows.
@@ -39,8 +40,7 @@ labels_of <- function(fixes, by, frame = NULL) {
   if (is_text(by) && by %in% names(periods)) return(labels_of_period(fixes, by))
   if (is_text(by) && nrow(fixes) > 1) {
     if (!by %in% names(fixes)) {
-      refuse("option", "by: \"", by, "\" is none of ", paste0("\"", names(periods), "\"", collapse = ", "),
-             ", and no column of the fixes")
+      refuse("columns", "by: there is no column \"", by, "\", and it is none of ", paste0("\"", names(periods), "\"", collapse = ", "))
     }
     by <- fixes[[by]]
   } else if (!is.null(frame)) {
@@ -51,10 +51,11 @@ labels_of <- function(fixes, by, frame = NULL) {
 
 # A value for each of so many rows or fixes.
 values_of <- function(by, number, what) {
-  if (length(by) != number || is.list(by)) {
-    refuse("option", "by: \"year\", \"month\", \"season\", a column, a function of the fixes, or a group for each of the ",
-           number, " ", what, " is wanted")
+  if (is.list(by) || is.language(by) || is.environment(by)) {
+    refuse("option", argument_text("by", by), " is none of ", paste0("\"", names(periods), "\"", collapse = ", "),
+           ", no column of the fixes, no value for each of them, and no function of them")
   }
+  if (length(by) != number) refuse("option", "by is ", count_of(length(by), "value"), " for ", number, " ", what)
   by
 }
 
@@ -63,7 +64,7 @@ text_of_groups <- function(by) {
   if (is.numeric(by) && !is.object(by) && any(by != floor(by), na.rm = TRUE)) {
     odd <- which(by != floor(by))[1]
     number <- cells_of_numbers(by[odd])
-    refuse("option", "row ", odd, ": by has a group that is ", number, ", a number that is not whole", record = odd)
+    refuse("option", "row ", odd, ": by has a group that is '", number, "', a number that is not whole: make it text", record = odd)
   }
   if (is.character(by) || is.factor(by)) return(in_utf8(as.character(by)))
   cells <- cells_of_column(by, "by")
@@ -88,11 +89,14 @@ check_labels <- function(labels, rows) {
 # The period of each fix, by the clock of the fixes.
 labels_of_period <- function(fixes, by) {
   if (by %in% names(fixes)) {
-    refuse("option", "by: \"", by, "\" is a period and a column of the fixes: by = fixes$", by, " takes the column")
+    refuse("option", "by = \"", by, "\" is a period of the calendar, and a column too: by = fixes$", by, " takes the column")
   }
-  if (!"time" %in% names(fixes)) refuse("option", "by: numbers of a column 'second' have no calendar")
+  if (!"time" %in% names(fixes)) {
+    refuse("option", "by = \"", by, "\": seconds have no calendar: make times of them, as by .POSIXct(x$second, \"UTC\")")
+  }
+  clock <- clock_of_fixes(fixes)
   by_distinct(900 * (as.numeric(fixes$time) %/% 900), function(quarters) {  # in which no clock is moved
-    day <- as.POSIXlt(.POSIXct(quarters, tz = facts_of(fixes)$tz), tz = facts_of(fixes)$tz)
+    day <- as.POSIXlt(.POSIXct(quarters, tz = clock), tz = clock)
     periods[[by]](list(year = day$year + 1900, month = day$mon + 1))
   })
 }

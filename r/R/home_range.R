@@ -4,49 +4,44 @@ most_levels <- 8
 
 # The home ranges of the animals of fixes, or of a table of fixes, which is read first.
 home_range <- function(x, levels = c(50, 95, 100), by = NULL, ..., progress = interactive(), quiet = FALSE) {
-  local_numbers()
+  local_options(x, levels, by, ..., progress, quiet)
   levels <- checked_levels(levels)
-  if (!is_truth(quiet)) refuse("option", "quiet: TRUE or FALSE is wanted")
+  check_truth(quiet, "quiet")
   program <- homerange_program()  # refuses now, and not after all has been read, where there is none
-  read <- fixes_to_take(x, list(...), quiet, has_rows = !is.null(by))
-  whole <- whole_fixes(read$fixes)
-  repeated <- repeats_of(read$fixes, whole$fixes)
-  if (!quiet) for (line in repeated) tell_note(line, "same")
-  if (!is.null(by)) {
-    whole <- grouped_fixes(whole, labels_of(read$fixes, by, read$frame))
-    note <- paste0("ranges are by group: ", nrow(whole$groups), " of ", count_of(length(unique(whole$groups$of)), "animal"))
-    if (!quiet) tell_note(note, "guessed")
-  }
-  words <- c("--unit", facts_of(read$fixes)$unit, "--percent", levels)
-  report <- in_folder(function(folder) {
-    run_all(program, write_tracks(whole$fixes, folder), unique(whole$fixes$animal), words, isTRUE(progress))
+  ranges <- in_folder(function(folder) {
+    read <- fixes_to_take(x, list(...), quiet, folder, has_rows = !is.null(by))
+    whole <- whole_fixes(read$fixes)
+    if (!is.null(by)) whole <- grouped_fixes(whole, labels_of(read$fixes, by, read$frame))
+    if (!is.null(by) && !quiet) tell_note(whole$note, "guessed")
+    tracks <- if (is.null(by) && !is.null(read$tracks)) read$tracks else write_tracks(whole$fixes, folder)
+    report <- run_all(program, tracks, c("--unit", facts_of(read$fixes)$unit, "--percent", levels), isTRUE(progress))
+    if (!identical(report$rows$second, whole$fixes$moment)) refuse("check", "the report has not the times of the fixes")
+    ranges_of_fixes(report, whole, read$fixes)
   })
-  if (!identical(report$rows$second, whole$fixes$moment)) refuse("check", "the report has not the times of the fixes")
-  ranges <- ranges_of_fixes(report, whole, read$fixes, c(repeated, if (!is.null(by)) note))
   ranges$program <- identity_of(program)
   ranges$call <- own_call(match.call())
   ranges
 }
 
-# Fixes that were read, or those of a table with the rows of a frame that they are.
-fixes_to_take <- function(x, options, quiet, has_rows) {
-  if (!inherits(x, "homerange_fixes")) return(read_table(x, options, quiet, has_rows))
-  if (length(options)) {
+# Fixes as they were read, or those of a table with the rows of a frame that they are.
+fixes_to_take <- function(x, options, quiet, folder, has_rows) {
+  is_read <- inherits(x, "homerange_fixes")
+  if (is_read && length(options)) {
     name <- c(names(options), "")[1]
-    what <- if (nzchar(name)) name else "there is an argument too many"
-    refuse("option", what, ": these fixes are read already, and options of reading go to read_fixes")
+    what <- if (nzchar(name)) name else "an argument without a name"
+    refuse("option", what, " says how a table is read, and these fixes were read already: give it to read_fixes")
   }
-  list(fixes = x)
+  if (is_read && is_as_read(x)) list(fixes = x) else read_table(x, options, quiet, folder, has_rows)
 }
 
 # The ranges of a report of fixes, with what is known of these.
-ranges_of_fixes <- function(report, whole, fixes, note) {
+ranges_of_fixes <- function(report, whole, fixes) {
   facts <- facts_of(fixes)
   left <- if (is.null(whole$groups)) left_since(fixes)
-  ranges <- new_home_range(report, whole$fixes$time, whole$fixes, left, facts$crs, whole$shift, facts$zone, c(facts$notes, note),
-                           facts$tz)
+  ranges <- new_home_range(report, whole$fixes$time, whole$fixes, left, facts$crs, whole$shift, facts$zone,
+                           c(facts$notes, whole$note), clock_of_fixes(fixes))
   ranges["groups"] <- list(whole$groups)
-  ranges$read <- facts[intersect(c("record", "files"), names(facts))]
+  ranges$read <- facts[intersect(c("record", "files", "is_again"), names(facts))]
   ranges
 }
 

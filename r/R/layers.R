@@ -53,7 +53,7 @@ write_fixes <- function(ranges, path) {
   system <- if (is.na(crs)) plane_in_metres else crs$wkt
   in_folder(function(folder) {
     text <- file.path(folder, "fixes.csv")
-    write_frame(columns_of_layer(ranges), NULL, text)
+    write_parts(parts_of_frame(columns_of_layer(ranges)), text)
     writeLines("\"String\",\"Integer\",\"DateTime\",\"CoordX\",\"CoordY\"", file.path(folder, "fixes.csvt"))
     options <- c("-f", "GPKG", "-nln", "fixes", "-nlt", "POINT", "-lco", "SPATIAL_INDEX=NO", "-a_srs", system, "-oo",
                  "KEEP_GEOM_COLUMNS=NO", "-gt", "unlimited")

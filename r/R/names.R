@@ -16,8 +16,9 @@ names_by_program <- function(animals) {
   table <- list(animal = rep(animals, each = 2), second = rep(c(0, 60), length(animals)), easting = 500000, northing = 5000000)
   in_folder(function(folder) {
     path <- file.path(folder, name_of_frame)
-    write_frame(as.list(list2DF(lapply(table, rep_len, 2 * length(animals)))), NULL, path)
-    run_split(path, character(), file.path(folder, "tracks"), function(kind, record, text) refuse(kind, text))
+    write_parts(parts_of_frame(lapply(table, rep_len, 2 * length(animals))), path)
+    refusal <- run_split(path, character(), file.path(folder, "tracks"))
+    if (!is.null(refusal)) refuse(refusal$kind, refusal$text)
     files_of(read_record(file.path(folder, "tracks", "split.txt")))[animals]
   })
 }

@@ -29,8 +29,7 @@ options_given <- function(options) {
   odd <- setdiff(names(options), options_of_reading)
   if (length(odd) || length(options) > sum(nzchar(names(options)))) {
     name <- c(odd[nzchar(odd)], "without a name")[1]
-    known <- paste0("; there are ", paste(sort(options_of_reading), collapse = ", "))
-    refuse("option", "there is no option ", name, if (name %in% names(elsewhere)) paste0(": ", elsewhere[[name]]) else known)
+    refuse("option", "there is no option ", name, if (name %in% names(elsewhere)) paste0(": ", elsewhere[[name]]))
   }
   twice <- names(options)[duplicated(names(options))]
   if (length(twice)) refuse("option", twice[1], " is there twice")
@@ -49,7 +48,7 @@ words_of_options <- function(given) {
 word_of_option <- function(option, value) {
   name <- paste0("--", gsub("_", "-", option, fixed = TRUE))
   if (option == "skip_unnamed") {
-    if (!is_truth(value)) refuse("option", option, ": TRUE or FALSE is wanted")
+    check_truth(value, option)
     return(if (value) name else "")
   }
   paste0(name, "=", text_for_program(text_of_option(option, value), option))
@@ -59,7 +58,7 @@ word_of_option <- function(option, value) {
 text_for_program <- function(text, what) {
   is_utf8 <- Encoding(text) != "bytes" && validUTF8(in_utf8(text))
   if (!is_utf8 || nchar(text, "bytes") > longest_word) {
-    refuse("option", what, ": its text cannot be told to the program: is it UTF-8, and short?")
+    refuse("option", what, " is ", substr(readable(text), 1, 60), ", which the program cannot be told: is it UTF-8, and short?")
   }
   in_utf8(text)
 }
@@ -74,14 +73,14 @@ text_of_option <- function(option, value) {
 }
 
 text_of_text <- function(option, value) {
-  if (!is_text(value)) refuse("option", option, ": one text is wanted")
+  if (!is_text(value)) refuse("option", argument_text(option, value), " is no text")
   as.vector(value)
 }
 
 # The title of a column, or several.
 text_of_titles <- function(option, value) {
   if (!is.character(value) || !length(value) || anyNA(value)) {
-    refuse("option", option, ": the name of one column is wanted, or of several")
+    refuse("option", argument_text(option, value), " is no name of a column: a text, or several, is wanted")
   }
   if (length(value) == 1) as.vector(value) else with_commas(option, as.vector(value))
 }
@@ -90,7 +89,10 @@ text_of_titles <- function(option, value) {
 text_of_words <- function(option, value) {
   if (is.factor(value)) value <- as.character(value)
   if (is.numeric(value) && !is.object(value)) value <- cells_of_numbers(value)
-  if (!is.character(value) || !length(value) || anyNA(value)) refuse("option", option, ": text is wanted")
+  if (!length(value)) refuse("option", option, ": there is no word")
+  if (!is.character(value) || anyNA(value)) {
+    refuse("option", argument_text(option, value), " is no name: a text, or several, is wanted")
+  }
   if (length(value) == 1) as.vector(value) else with_commas(option, as.vector(value))
 }
 
@@ -103,7 +105,7 @@ with_commas <- function(option, words) {
 # A number, of a plain class or as text, of which the program says whether it can be right.
 text_of_number <- function(option, value) {
   if (is_text(value)) return(as.vector(value))
-  if (is.object(value) || !is_number(value)) refuse("option", option, ": one number is wanted, and not ", what_it_is(value))
+  if (is.object(value) || !is_number(value) || value < 0) refuse("option", option, " is ", what_it_is(value), " and not a number from 0")
   cells_of_numbers(as.numeric(value))
 }
 
@@ -111,12 +113,12 @@ text_of_number <- function(option, value) {
 what_it_is <- function(value) {
   if (is.object(value) || !is.atomic(value)) return(class(value)[1])
   if (length(value) != 1) return(paste(length(value), "values"))
-  if (is.character(value)) paste0("\"", value, "\"") else if (is.numeric(value)) format(value, digits = 15) else format(value)
+  if (is.character(value) && !is.na(value)) paste0("\"", readable(value), "\"") else format(value, digits = if (is.numeric(value)) 15)
 }
 
 text_of_count <- function(option, value) {
   if (is.object(value) || !is_number(value) || value < 0 || value != floor(value)) {
-    refuse("option", option, ": a whole number from 0 is wanted")
+    refuse("option", option, " is ", what_it_is(value), " and not a number from 0")
   }
   sprintf("%.0f", value)
 }
@@ -133,11 +135,12 @@ text_of_speed <- function(value) {
 text_of_bound <- function(option, value) {
   if (is_text(value)) return(as.vector(value))
   if (length(value) != 1 && !inherits(value, "POSIXlt") || !inherits(value, c("Date", "POSIXt"))) {
-    number <- if (is.numeric(value) && !is.object(value)) ", and a number may be a day or a second"
-    refuse("option", option, ": one time is wanted, such as \"2024-05-01\" or \"2024-05-01 00:30:04\"", number)
+    refuse("option", argument_text(option, value), " is neither a text such as \"2024-05-01\" nor a date")
   }
   cell <- cells_of_column(value, option)
-  if (length(cell) != 1 || cell == "") refuse("option", option, ": one time is wanted, such as \"2024-05-01\"")
+  if (length(cell) != 1 || !grepl("^[0-9-]*[0-9]", cell)) {
+    refuse("option", argument_text(option, value), " is neither a text such as \"2024-05-01\" nor a date")
+  }
   cell
 }
 
@@ -145,14 +148,11 @@ text_of_bound <- function(option, value) {
 text_of_length <- function(every) {
   if (is_text(every)) return(as.vector(every))
   seconds <- seconds_of_length(every)
-  if (is.null(seconds) || length(seconds) != 1 || !is.finite(seconds)) {
-    refuse("option", "every: one length of time is wanted, such as \"2h\" or \"30min\", and not ", what_it_is(every))
-  }
-  if (round(seconds) < 1 || seconds >= longest_length) {
-    refuse("option", "every is not a second or more, such as \"2h\" or \"30min\"")
+  if (length(seconds) != 1 || !is.finite(seconds) || round(seconds) < 1 || seconds >= longest_length) {
+    refuse("option", argument_text("every", every), " is not a second or more, such as \"2h\" or \"30min\"")
   }
   if (abs(seconds - round(seconds)) > 1e-6) {
-    refuse("option", "every is no whole number of seconds: write such as \"90min\" or \"5s\"")
+    refuse("option", argument_text("every", every), " is no whole number of seconds: write such as \"90min\" or \"5s\"")
   }
   sprintf("%.0fs", round(seconds))
 }

@@ -7,10 +7,11 @@ least_of_map <- c(m = 100, dm = 10)  # metres that a map is wide at least, whose
 # Writes the page.
 write_page <- function(x, path, title = NULL, study = NULL, species = NULL, by = NULL, reserve = NULL, reserve_name = NULL,
                        tz = NULL, made = NULL) {
-  local_numbers()
+  local_options(x, path, title, study, species, by, reserve, reserve_name, tz, made)
   check_ranges(x)
   check_whole(x, "a page")
   check_path(path)
+  check_typed(list(title = title, study = study, species = species, by = by, reserve_name = reserve_name), made)
   zone <- zone_of_page(x, tz)
   day <- as.POSIXlt(if (is.null(made)) as.POSIXlt(Sys.time(), tz = zone) else made)
   program <- tryCatch(identity_of(homerange_program()), homerange_program_error = function(fault) list(version = "homerange"))
@@ -19,11 +20,20 @@ write_page <- function(x, path, title = NULL, study = NULL, species = NULL, by =
   invisible(path)
 }
 
+# Refuses what was typed in and is no text, and a day that is none.
+check_typed <- function(words, made) {
+  for (name in names(words)) {
+    if (!is.null(words[[name]]) && !is_text(words[[name]])) refuse("option", argument_text(name, words[[name]]), " is no text")
+  }
+  if (is.null(made) || length(made) == 1 && inherits(made, c("Date", "POSIXct")) && !is.na(made)) return(invisible())
+  refuse("option", argument_text("made", made), " is no date")
+}
+
 # The zone of the dates of a page.
 zone_of_page <- function(x, tz) {
   zone <- if (!is.null(tz)) tz else if (is.null(x$tz)) "UTC" else x$tz
   if (!is_text(zone) || !zone %in% c("UTC", "GMT", OlsonNames())) {
-    refuse("option", "tz='", format(zone)[1], "' is no time zone such as 'Europe/Ljubljana'")
+    refuse("option", argument_text("tz", zone), " is no time zone such as \"Europe/Ljubljana\"")
   }
   zone
 }
@@ -45,7 +55,9 @@ put_page <- function(x, path, words, rings, zone, day, program) {
     checksums = checksums_table(x$record, x$checksum, program$version, program$checksum)
   ))
   template <- paste0(readLines(system.file("extdata", "page.html", package = "homerange"), encoding = "UTF-8"), "\n", collapse = "")
-  writeBin(charToRaw(enc2utf8(fill_template(template, places))), path)
+  output <- open_file(path)
+  on.exit(close(output))
+  writeBin(charToRaw(enc2utf8(fill_template(template, places))), output)
 }
 
 # The template with its places filled, once: what stands for a place in a user's text stays.
@@ -95,10 +107,16 @@ levels_drawn <- function(x) if (is.null(x$fixes)) 100 else sort(unique(x$percent
 # What is drawn of each animal.
 shapes_of_page <- function(x) {
   polygons <- lapply(levels_drawn(x), function(level) rings_of(x, level))
-  lapply(seq_along(x$animals$animal), function(number) {
-    own <- x$fixes[x$fixes$animal == x$animals$animal[number], ]
+  shapes_of_animals(x, polygons, !is.null(x$fixes), seq_along(x$animals$animal))
+}
+
+# What is drawn of the animals of these numbers.
+shapes_of_animals <- function(x, polygons, has_fixes, numbers) {
+  places <- if (has_fixes) in_metres(x, x$fixes)
+  rows <- if (has_fixes) split(seq_along(x$fixes$animal), factor(x$fixes$animal, x$animals$animal))
+  lapply(numbers, function(number) {
     list(number = number, polygons = lapply(polygons, `[[`, number),
-         fixes = if (is.null(own)) matrix(0, 0, 2) else in_metres(x, own))
+         fixes = if (has_fixes) places[rows[[number]], , drop = FALSE] else matrix(0, 0, 2))
   })
 }
 

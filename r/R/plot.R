@@ -1,21 +1,22 @@
 # Drawings of home ranges: the polygons over the fixes, and the curves of area.
 
-plot.home_range <- function(x, what = c("ranges", "curve"), level = 100, animals = NULL, over = NULL, label = "boundary",
+plot.home_range <- function(x, what = c("ranges", "curve"), levels = 100, animals = NULL, over = NULL, label = "boundary",
                             main = "", reset = TRUE, fixes = TRUE, by = c("fix", "date"), share = FALSE, facets = FALSE,
                             col = NULL, xlab = NULL, ylab = NULL, xlim = NULL, ylim = NULL, ...) {
-  local_numbers()
+  local_options(x, what, levels, animals, over, label, main, reset, fixes, by, share, facets, col, xlab, ylab, xlim, ylim, ...)
   check_title(...)
   what <- word_of_these(what, c("ranges", "curve"), "what")
   by <- word_of_these(by, c("fix", "date"), "by")
-  for (flag in c("fixes", "share", "facets", "reset")) check_flag(get(flag), flag)
+  for (flag in c("fixes", "share", "facets", "reset")) check_truth(get(flag), flag)
   drawn <- drawn_animals(x, animals, col)
   old <- par("mai", "mfrow", "mar", "oma", "cex", "mgp", "tcl")
   if (reset) on.exit(par(old), add = TRUE)
+  for (side in c("xlim", "ylim")) check_limits(get(side), side)
   asked <- list(main = main, xlab = xlab, ylab = ylab, xlim = xlim, ylim = ylim, titles = list(...))
   if (what == "curve") {
     draw_curves(x, drawn, by, share, facets, asked)
   } else {
-    draw_ranges(x, drawn, drawn_levels(x, level), fixes, check_over(x, over), label, facets, asked)
+    draw_ranges(x, drawn, drawn_levels(x, levels), fixes, check_over(x, over), label, facets, asked)
   }
   invisible(x)
 }
@@ -24,11 +25,13 @@ plot.home_range <- function(x, what = c("ranges", "curve"), level = 100, animals
 word_of_these <- function(value, words, name) {
   if (identical(value, words)) return(words[1])
   if (is_text(value) && value %in% words) return(value)
-  refuse("option", name, ": ", paste0("\"", words, "\"", collapse = " or "), " is wanted")
+  refuse("option", argument_text(name, value), " is neither ", paste0("\"", words, "\"", collapse = " nor "))
 }
 
-check_flag <- function(value, name) {
-  if (!is.logical(value) || length(value) != 1 || is.na(value)) refuse("option", name, ": TRUE or FALSE is wanted")
+# Refuses what are no two ends of an axis.
+check_limits <- function(value, name) {
+  is_good <- is.null(value) || length(value) == 2 && all(is.finite(value)) && value[1] != value[2]
+  if (!is_good) refuse("option", argument_text(name, value), " are no two ends of an axis")
 }
 
 arguments_of_titles <- c("sub", "outer", "family", paste0(c("cex.", "col.", "font."), rep(c("main", "sub", "lab"), each = 3)))
@@ -44,12 +47,15 @@ check_title <- function(...) {
 # their own.
 drawn_animals <- function(ranges, animals, col) {
   known <- ranges$animals$animal
-  missing <- setdiff(animals, known)
-  if (length(missing)) refuse("option", "animals: there is no animal ", missing[1])
+  if (!is.null(animals) && !is.character(animals) && !is.factor(animals)) refuse("option", argument_text("animals", animals), " are no names")
+  missing <- setdiff(as.character(animals), known)
+  if (length(missing)) refuse("option", "there is no animal \"", missing[1], "\"")
   if (!is.null(animals) && !length(animals)) refuse("option", "animals: there is none")
   number <- which(known %in% if (is.null(animals)) known else animals)
   drawn <- data.frame(number = number, name = known[number], colour = animal_colours[(number - 1) %% length(animal_colours) + 1])
   if (is.null(col)) return(drawn)
+  is_colour <- vapply(col, function(own) !is.na(own) && !inherits(try(col2rgb(own), silent = TRUE), "try-error"), NA)
+  if (!length(col) || !all(is_colour)) refuse("option", "col: ", what_it_is(if (length(col)) col[[which(!is_colour)[1]]] else col), " is no colour")
   if (is.null(names(col))) {
     drawn$colour <- rep_len(col, nrow(drawn))
   } else {
@@ -60,10 +66,9 @@ drawn_animals <- function(ranges, animals, col) {
 }
 
 # The levels of a map, from the highest on.
-drawn_levels <- function(ranges, level) {
-  for (one in level) rings_of(ranges, one)  # refuses what is none
-  if (!length(level)) refuse("option", "level: there is none")
-  sort(unique(level), decreasing = TRUE)
+drawn_levels <- function(ranges, levels) {
+  check_levels(ranges, levels)
+  sort(levels, decreasing = TRUE)
 }
 
 # The geometry to draw over a map, which has to be in the CRS of the fixes.

@@ -24,11 +24,7 @@ draw_ranges <- function(ranges, drawn, levels, fixes, over, label, facets, asked
 # What is drawn of each animal.
 shapes_drawn <- function(ranges, drawn, levels, fixes) {
   polygons <- lapply(levels, function(level) rings_of(ranges, level))
-  lapply(drawn$number, function(number) {
-    own <- if (fixes) ranges$fixes[ranges$fixes$animal == ranges$animals$animal[number], ]
-    list(number = number, polygons = lapply(polygons, `[[`, number),
-         fixes = if (is.null(own)) matrix(0, 0, 2) else in_metres(ranges, own))
-  })
+  shapes_of_animals(ranges, polygons, fixes && !is.null(ranges$fixes), drawn$number)
 }
 
 # What a map shows, as wide as it has to be: all ranges, and the boundary, where it is not so much wider that they would not be

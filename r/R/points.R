@@ -6,29 +6,32 @@
 places_of_frame <- function(x, given) {
   names_places <- any(c("easting", "northing", "lon", "lat") %in% names(given))
   if (!inherits(x, "sf") || names_places) return(places_of_columns(x, given, names_places))
-  if (!is.null(given$crs)) refuse("option", "crs: points of sf bring their own, and sf::st_set_crs(x, ..) gives them another")
+  if (!is.null(given$crs)) refuse("option", "crs: points bring their own CRS; sf::st_set_crs names it, and sf::st_transform projects them into another")
   if (!has_sf()) refuse("crs", "a table of sf wants the package sf, which is not installed")
   shapes <- tryCatch(sf::st_geometry(x), error = function(fault) refuse("columns", "x has no geometry where sf looks for it: ",
                                                                        "sf::st_geometry(x) <- \"COLUMN\" says where it is"))
   shapes <- sf::st_zm(shapes)
   crs <- sf::st_crs(shapes)
-  at <- coordinates_of(shapes)
+  at <- coordinates_of(x, shapes)
   has_place <- !is_without_place(crs, "x")
   if (!has_place && is.na(crs) && look_like_degrees(at)) {
     refuse("degrees", "the points have no CRS, and lie as longitude and latitude do: sf::st_set_crs(x, 4326) says so where ",
            "they are")
   }
-  if (has_place && is_in_degrees(crs, "x", function() at)) return(points_in_degrees(x, shapes, at, crs))
+  if (has_place && is_in_degrees(crs, "x", function() at)) return(points_in_degrees(x, at, crs))
   plane <- plane_of(if (has_place) crs, given)
-  points <- points_as_columns(x, shapes, at, c("easting", "northing"))
-  list(columns = points$columns, words = c(plane$words, points$words), crs = plane$crs)
+  points <- points_as_columns(x, at, c("easting", "northing"))
+  list(parts = points$parts, words = c(plane$words, points$words), crs = plane$crs)
 }
 
 # The eastings and northings of points, NA where there is none.
-coordinates_of <- function(shapes) {
-  is_point <- as.character(sf::st_geometry_type(shapes)) == "POINT" & !sf::st_is_empty(shapes)
+coordinates_of <- function(x, shapes) {
+  kinds <- as.character(sf::st_geometry_type(shapes))
+  is_there <- !sf::st_is_empty(shapes)
+  odd <- which(kinds != "POINT" & is_there)[1]
+  if (!is.na(odd)) refuse_row(x, "number", odd, paste0("the geometry is a ", in_small(kinds[odd]), ", and points are wanted"))
   at <- matrix(NA_real_, length(shapes), 2)
-  if (any(is_point)) at[is_point, ] <- sf::st_coordinates(shapes[is_point])[, 1:2]
+  if (any(is_there)) at[is_there, ] <- sf::st_coordinates(shapes[is_there])[, 1:2]
   at
 }
 
@@ -38,14 +41,12 @@ look_like_degrees <- function(at) {
   nrow(at) > 0 && all(abs(at[, 1]) <= 180 & abs(at[, 2]) <= 90) && any(at != round(at))
 }
 
-# The columns of points, and the options that name them. What is no point is written by its kind.
-points_as_columns <- function(x, shapes, at, sides) {
-  kinds <- as.character(sf::st_geometry_type(shapes))
-  odd <- which(kinds != "POINT" & !sf::st_is_empty(shapes))
+# The columns of points, and the options that name them.
+points_as_columns <- function(x, at, sides) {
   titles <- vapply(paste("point", c(easting = "easting", northing = "northing", lon = "longitude", lat = "latitude")[sides]),
                    free_title, "", names(x), USE.NAMES = FALSE)
-  columns <- lapply(1:2, function(side) replace(cells_of_numbers(at[, side]), odd, paste0("<", in_small(kinds[odd]), ">")))
-  list(columns = `names<-`(columns, titles), words = paste0("--", sides, "=", titles))
+  parts <- lapply(1:2, function(side) parts_of_numbers(at[, side]))
+  list(parts = `names<-`(parts, titles), words = paste0("--", sides, "=", titles))
 }
 
 # Words of letters without accents in small ones, which in Turkish has others for I.
@@ -58,12 +59,12 @@ free_title <- function(title, titles) {
 }
 
 # Points of a geographic system, as degrees of WGS 84.
-points_in_degrees <- function(x, shapes, at, crs) {
+points_in_degrees <- function(x, at, crs) {
   is_there <- is.finite(rowSums(at))
   is_other <- !(crs$epsg %in% 4326 || crs == sf::st_crs("OGC:CRS84"))
   if (is_other && any(is_there)) at[is_there, ] <- in_degrees(at[is_there, , drop = FALSE], crs)
   line <- if (is_other) paste0("points of ", crs$Name, " are turned into longitude and latitude of WGS 84")
-  c(list(line = line), points_as_columns(x, shapes, at, c("lon", "lat")))
+  c(list(line = line), points_as_columns(x, at, c("lon", "lat")))
 }
 
 # What is told of columns whose reference system is named, or is that of an amt track.
@@ -75,7 +76,7 @@ places_of_columns <- function(x, given, names_places) {
   if (is_without_place(crs, "crs")) return(NULL)
   points <- "the points, as by sf::st_as_sf(x, coords = c(EASTING, NORTHING), crs = ..)"
   if (is_in_degrees(crs, points, function() matrix(0, 0, 2))) {
-    refuse("crs", "crs: ", crs$Name, " has longitude and latitude, which are no plane coordinates: name their columns by lon ",
+    refuse("crs", "the CRS ", crs$Name, " has longitude and latitude, which are no plane coordinates: name their columns by lon ",
            "and lat, without crs")
   }
   plane_of(crs, given)

@@ -68,7 +68,7 @@ run_program <- function(program, files, animals, options) {
   on.exit(unlink(c(output, fault)))
   words <- shQuote(c(options, files))
   status <- suppressWarnings(system2(program, words, stdout = output, stderr = fault))
-  if (status != 0) refuse_run(status, readLines(fault, warn = FALSE, encoding = "UTF-8"), files, animals)
+  if (status != 0) refuse_run(status, readLines(fault, warn = FALSE, encoding = "UTF-8"), `Encoding<-`(files, "UTF-8"), animals)
   report_text(output)
 }
 
@@ -89,27 +89,32 @@ as_groups <- function(values) {
   structure(match(values, levels), levels = as.character(levels), class = "factor")
 }
 
-# Writes the fixes of each animal to a file. The file and the animal in it are named by a number, since the program takes not
-# each name.
-write_tracks <- function(fixes, folder) {
-  records <- c(list(second = fixes$moment), fixes[c("easting", "northing")])
-  rows <- split(seq_along(fixes$animal), as_groups(fixes$animal))
-  files <- file.path(folder, paste0(seq_along(rows), ".csv"))
-  for (at in seq_along(rows)) write_track(files[at], records, as.character(at), rows[[at]])
-  files
+# Tracks in a folder: their files, the names that these and the animals in them have, and the animals' own names.
+tracks_named <- function(folder, names, animals) {
+  list2DF(list(file = in_bytes(file.path(folder, paste0(names, ".csv"))), name = names, animal = animals))
 }
 
-# What is parsed of the report of these files, which have numbers for names, with the names of their animals.
-report_of <- function(program, files, animals, options, parse) {
-  report <- parse(run_program(program, files, animals, options))
-  for (table in setdiff(names(report), "unit")) report[[table]] <- with_names(report[[table]], files, animals)
+# Writes the fixes of each animal to a file. The file and the animal in it are named by a number, since the program takes not
+# each name.
+write_tracks <- function(fixes, folder, names = NULL) {
+  records <- c(list(second = fixes$moment), fixes[c("easting", "northing")])
+  rows <- split(seq_along(fixes$animal), as_groups(fixes$animal))
+  tracks <- tracks_named(folder, if (is.null(names)) as.character(seq_along(rows)) else names, names(rows))
+  for (at in seq_along(rows)) write_track(tracks$file[at], records, tracks$name[at], rows[[at]])
+  tracks
+}
+
+# What is parsed of the report of tracks, with the animals' own names.
+report_of <- function(program, tracks, options, parse) {
+  report <- parse(run_program(program, tracks$file, tracks$animal, options))
+  for (table in setdiff(names(report), "unit")) report[[table]] <- with_names(report[[table]], tracks)
   report
 }
 
-# A table of a report with the names of the animals in place of those of their files.
-with_names <- function(table, files, animals) {
+# A table of a report with the animals' own names.
+with_names <- function(table, tracks) {
   for (column in intersect(c("animal", "other"), names(table))) {
-    found <- animals[match(table[[column]], sub("[.]csv$", "", basename(files)))]
+    found <- tracks$animal[match(table[[column]], tracks$name)]
     if (anyNA(found)) refuse("check", "the report has not the animals of its files")
     table[[column]] <- found
   }

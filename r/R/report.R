@@ -5,7 +5,8 @@ report_form <- paste0(
   "^(?:unit,dm\n)?+(?:animal,([^,\n]++),fixes,[0-9]++\n(?:box,\\1(?:,[0-9]++){4}\n)*+(?:row,\\1(?:,[0-9]++){4}\n)*+",
   "(?:corner,\\1(?:,[0-9]++){3}\n)*+(?:percent,\\1(?:,[0-9]++){4}\n)*+)*+(?:overlap(?:,[^,\n]++){2}(?:,[0-9]++){2}\n)*+"
 )
-end_form <- "(?<![^\n])end,([0-9]++)\n?\\z"
+end_form <- "(?:^|\n)end,([0-9]+)\n?$"
+longest_end <- 40  # bytes of the last line
 most_bytes <- 2^31 - 1  # that R has as one text
 
 # The fields of each kind of line, and how many of them are texts, which stand before the numbers.
@@ -21,7 +22,7 @@ kinds_of_codes <- replace(integer(256), utf8ToInt("abrcpo") + 1, seq_along(field
 report_text <- function(path) {
   size <- file.size(path)
   if (size > most_bytes) refuse("report", path, ": it is longer than R can read: take fewer animals at once")
-  text_of_bytes(readBin(path, "raw", size), path)
+  text_of_file(path, size)
 }
 
 # The tables of a report's text, which is refused where it is not a whole report.
@@ -47,11 +48,13 @@ parse_overlaps <- function(text, name = "the report") {
 
 # Refuses a text that has not the form of a report; the number of animals that its last line says.
 check_form <- function(text, name) {
-  end <- regexpr(end_form, text, perl = TRUE, useBytes = TRUE)
-  if (end < 0) refuse("report", name, ": there is no end line, so it is cut off or no report")
+  size <- nchar(text, "bytes")
+  last <- rawToChar(charToRaw(text)[seq.int(max(size - longest_end, 0) + 1, length.out = min(size, longest_end))])
+  end <- regmatches(last, regexec(end_form, last, useBytes = TRUE))[[1]]
+  if (!length(end)) refuse("report", name, " is cut off: its last line is not 'end,' with the number of animals")
   fits <- attr(regexpr(report_form, text, perl = TRUE, useBytes = TRUE), "match.length")
-  if (fits + 1 != end) refuse_line(text, fits, name)
-  field_wholes(charToRaw(text), attr(end, "capture.start"), attr(end, "capture.length"))
+  if (fits + nchar(sub("^\n", "", end[1]), "bytes") != size) refuse_line(text, fits, name)
+  as.numeric(end[2])
 }
 
 # Refuses the line of a text that stands behind these first bytes, which are whole lines that are right.
@@ -143,13 +146,15 @@ put_overlaps <- function(counts, overlaps) {
 
 # The home ranges of a report that was made elsewhere, of its files where they are named, and of the record of these.
 read_report <- function(file, start = NULL, files = NULL, record = NULL) {
-  local_numbers()
-  if (!is_text(file)) refuse("option", "file: the name of one file is wanted")
-  if (!is.null(start) && !inherits(start, "POSIXct")) refuse("option", "start: a time as POSIXct is wanted")
-  if (!is.null(files) && (!is.character(files) || !length(files) || anyNA(files))) {
-    refuse("option", "files: names of files are wanted")
+  local_options(file, start, files, record)
+  if (!is_text(file)) refuse("option", argument_text("file", file), " is no path")
+  if (!is.null(start) && (!inherits(start, "POSIXct") || length(start) != 1 || !is.finite(start))) {
+    refuse("option", argument_text("start", start), " is no time as POSIXct")
   }
-  if (!is.null(record) && !is_text(record)) refuse("option", "record: the name of one file is wanted")
+  if (!is.null(files) && (!is.character(files) || !length(files) || anyNA(files))) {
+    refuse("option", argument_text("files", files), " are no paths")
+  }
+  if (!is.null(record) && !is_text(record)) refuse("option", argument_text("record", record), " is no path")
   if (!file.exists(file) || dir.exists(file)) refuse("file", file, ": there is no such file")
   report <- parse_report(report_text(file), file)
   animals <- report$animals$animal
@@ -232,7 +237,7 @@ with_record <- function(ranges, record) {
 
 # Writes the report of home ranges, with the names that animals have in files, as the program would of those.
 write_report <- function(x, path) {
-  local_numbers()
+  local_options()
   check_ranges(x)
   check_path(path)
   if (anyNA(x$overlaps)) refuse("option", "x: these are ranges of several reports, whose overlaps are not known")

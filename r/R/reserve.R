@@ -1,17 +1,20 @@
 # How much of home ranges lies in a reserve.
 
-# A row for each animal with the hectares of its polygon, those of them in the reserve, and their share.
-homerange_share <- function(x, reserve, level = 100) {
+# A row for each animal and level with the hectares of the polygon, those of them in the reserve, and their share.
+homerange_share <- function(x, reserve, levels = 100) {
   check_ranges(x)
+  check_levels(x, levels)
   if (!has_sf()) refuse("option", "homerange_share wants the package sf, which is not installed")
   boundary <- boundary_of(x, reserve)
-  shapes <- sf::st_sfc(lapply(unname(rings_of(x, level)), as_shape), crs = crs_or_none(x))
+  rings <- unlist(lapply(levels, function(level) unname(rings_of(x, level))), recursive = FALSE)
+  shapes <- sf::st_sfc(lapply(rings, as_shape), crs = crs_or_none(x))
   area_of <- function(shapes) sum(as.numeric(sf::st_area(shapes)))
   places <- seq_along(shapes)
   whole <- vapply(places, function(at) area_of(shapes[at]), 0)
   inside <- vapply(places, function(at) area_of(sf::st_intersection(shapes[at], boundary)), 0)
-  with_groups(x, data.frame(animal = x$animals$animal, level = level, hectares = whole / 10000, inside = inside / 10000,
-                            share = ifelse(whole > 0, inside / whole, NA_real_)))
+  animals <- x$animals$animal
+  with_groups(x, data.frame(animal = rep(animals, length(levels)), level = rep(levels, each = length(animals)), hectares = whole / 10000,
+                            inside = inside / 10000, share = ifelse(whole > 0, inside / whole, NA_real_)))
 }
 
 crs_or_none <- function(ranges) if (is.null(ranges$crs)) sf::NA_crs_ else ranges$crs

@@ -15,15 +15,16 @@ plan_runs <- function(number) {
   c(alone, pairs)
 }
 
-# The report of all files, as one run would give it if it took them. Of two groups those animals are run whose boxes meet: no
+# The report of all tracks, as one run would give it if it took them. Of two groups those animals are run whose boxes meet: no
 # polygon covers a fix outside its box.
-run_all <- function(program, files, animals, options, progress) {
-  plan <- plan_runs(length(files))
+run_all <- function(program, tracks, options, progress) {
+  animals <- tracks$animal
+  plan <- plan_runs(nrow(tracks))
   is_pair <- vapply(plan, `[[`, NA, "is_pair")
   bar <- if (progress && length(plan) > 1) txtProgressBar(max = length(plan), style = 3)
   if (!is.null(bar)) on.exit(close(bar))
   done <- function(step) if (!is.null(bar)) setTxtProgressBar(bar, step)
-  call <- function(places, parse) report_of(program, files[places], animals[places], options, parse)
+  call <- function(places, parse) report_of(program, tracks[places, ], options, parse)
   reports <- lapply(which(!is_pair), function(step) {
     done(step - 1)
     call(plan[[step]]$places, parse_report)

@@ -17,23 +17,22 @@ kind_of_said <- function(line) {
   if (any(fits)) kinds_of_said[[which(fits)[1]]] else "left_out"
 }
 
-# Has the program split a table of text into the tracks of a folder; what it refuses is refused by this function, which is given
-# the kind, the record and the text.
-run_split <- function(path, words, into, refuse_table) {
+# Has the program split a table of text into the tracks of a folder; answers what it refuses: the kind, the record and the text.
+run_split <- function(path, words, into) {
   program <- split_program()
   fault <- tempfile("fault", dirname(into))
   on.exit(unlink(fault))
   call <- vapply(c("--machine", words, paste0("--into=", into), "--", path), function(word) shQuote(in_bytes(word)), "")
   status <- suppressWarnings(system2(program, call, stdout = FALSE, stderr = fault))
-  if (status != 0) refuse_split(status, fault, refuse_table)
+  if (status != 0) refusal_of_split(status, fault)
 }
 
 # A text as its bytes in UTF-8, whatever the locale is: so the system gets it.
 in_bytes <- function(text) `Encoding<-`(in_utf8(text), "unknown")
 
-# Stops with what the program refuses: a record of CSV of the kind, the file, the number of the record that has the fault, and
-# the text.
-refuse_split <- function(status, fault, refuse_table) {
+# What the program refuses: a record of CSV of the kind, the file, the number of the record that has the fault, and the text. What
+# is no such record is a fault of the program.
+refusal_of_split <- function(status, fault) {
   said <- tryCatch(utils::read.csv(fault, header = FALSE, colClasses = "character", na.strings = character(), encoding = "UTF-8"),
                    error = function(error) data.frame())
   known <- c(kinds_of_tables, "option", "memory", "output")
@@ -41,7 +40,7 @@ refuse_split <- function(status, fault, refuse_table) {
     lines <- c(readLines(fault, warn = FALSE, encoding = "UTF-8"), "it says no more")
     refuse("program", "homerange-split ended with status ", status, ": ", lines[1])
   }
-  refuse_table(said[[1]], if (nzchar(said[[3]])) as.numeric(said[[3]]), as_arguments(said[[4]]))
+  list(kind = said[[1]], record = if (nzchar(said[[3]])) as.numeric(said[[3]]), text = as_arguments(said[[4]]))
 }
 
 # Options of the command line in a text, as arguments of R. A word behind one is its value, unless it goes on with the sentence.

@@ -24,6 +24,10 @@ length.home_range <- function(x) nrow(x$animals)
 
 names.home_range <- function(x) x$animals$animal
 
+`names<-.home_range` <- function(x, value) {
+  refuse("option", "ranges have the names of their animals: rename these in the table, and make the ranges again")
+}
+
 `[[.home_range` <- function(x, i) {
   if (length(i) != 1) refuse("option", "the name or the place of one animal is wanted")
   x[i]
@@ -72,8 +76,8 @@ c.home_range <- function(...) {
 # Refuses home ranges that differ from others in what one table says of all.
 check_alike <- function(one, first) {
   check_ranges(one)
-  what <- c(unit = "unit", shift = "shift", zone = "zone", crs = "CRS", tz = "zone of times", program = "program")
-  differs <- !vapply(names(what), function(own) identical(comparable(unclass(one)[[own]]), comparable(unclass(first)[[own]])), NA)
+  what <- c(unit = "unit", shift = "shift", system_compared(one, first), tz = "time zone", program = "program")
+  differs <- !vapply(names(what), function(own) is_same_fact(unclass(one)[[own]], unclass(first)[[own]]), NA)
   if (any(differs)) refuse("option", "they differ in their ", what[differs][1])
   if (is.null(one$groups) != is.null(first$groups)) refuse("option", "they differ: those of one are by groups")
   if (!identical(unique(one$percents$level), unique(first$percents$level))) refuse("option", "they differ in their levels")

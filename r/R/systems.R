@@ -5,6 +5,8 @@
 system_of_a_site <- "\\b(ENGCRS|ENGINEERINGCRS|LOCAL_CS)\\["
 unit_of_a_site <- "UNIT\\[\"([^\"]*)\",\\s*([-+.0-9eE]+)"
 
+radius_of_earth <- c(6350000, 6400000)  # metres between which that of a body is one of the Earth
+
 has_sf <- function() requireNamespace("sf", quietly = TRUE)
 
 # Whether a reference system is that of no place: none, or that of a site in metres. Of a site in another unit it is refused.
@@ -20,16 +22,20 @@ is_without_place <- function(crs, name) {
 
 # Whether a reference system that has a place has longitude and latitude. What is no plane in metres either is refused.
 is_in_degrees <- function(crs, name, coordinates) {
+  major <- as.numeric(crs$SemiMajor)
+  if (is.finite(major) && !(major > radius_of_earth[1] && major < radius_of_earth[2])) {
+    refuse("crs", "the CRS ", one_line(crs$Name), " is of another body than the Earth")
+  }
   if (isTRUE(sf::st_is_longlat(crs))) return(TRUE)
   has_way <- isTRUE(nzchar(crs$proj4string)) && !grepl("+proj=geocent", crs$proj4string, fixed = TRUE)
-  if (!has_way) refuse("crs", name, ": ", one_line(crs$Name), " is no plane of eastings and northings: project the points first")
+  if (!has_way) refuse("crs", "the CRS ", one_line(crs$Name), " is not a plane one in metres: project the points first")
   unit <- crs$units_gdal
   kind <- "crs"
   why <- if (!isTRUE(unit %in% c("metre", "meter", "Metre", "Meter", "m"))) {
-    paste0("the unit of the coordinates is not the metre but ", unit)
+    paste0("the CRS ", one_line(crs$Name), " is in ", unit, " and not in metres")
   } else if (grepl("Pseudo.Mercator", crs$wkt)) {
     kind <- "scale"
-    "web maps' Mercator projection stretches areas"
+    paste0("areas in the CRS ", one_line(crs$Name), " grow away from the equator")
   }
   if (!is.null(why)) refuse(kind, why, ": sf::st_transform(", name, ", ", utm_code_of(coordinates(), crs), ")")
   FALSE
@@ -53,10 +59,10 @@ in_degrees <- function(coordinates, crs) {
 # A reference system that was named.
 named_crs <- function(crs) {
   if (!has_sf()) refuse("option", "crs: this wants the package sf, which is not installed")
-  if (!inherits(crs, "crs") && length(crs) != 1) refuse("crs", "crs: one coordinate reference system is wanted")
-  crs <- tryCatch(suppressWarnings(sf::st_crs(crs)), error = function(fault) refuse("crs", "crs: ", conditionMessage(fault)))
-  if (is.na(crs)) refuse("crs", "crs: there is no such coordinate reference system")
-  crs
+  if (!inherits(crs, "crs") && length(crs) != 1) refuse("crs", argument_text("crs", crs), " names no reference system")
+  found <- tryCatch(suppressWarnings(sf::st_crs(crs)), error = function(fault) sf::NA_crs_)
+  if (is.na(found)) refuse("crs", argument_text("crs", crs), " names no reference system")
+  found
 }
 
 # The EPSG code of a zone, on the ellipsoid of WGS 84.

@@ -12,7 +12,7 @@ hectares_of <- function(ranges, area2) area2 / units_known[[ranges$unit]]$hectar
 # A column of areas by its title, or one of the package units.
 area_column <- function(ranges, area2, area, units) {
   if (!is_text(area) || !area %in% names(areas_known)) refuse("option", "area: \"ha\", \"m2\" or \"km2\" is wanted")
-  if (!is_truth(units)) refuse("option", "units: TRUE or FALSE is wanted")
+  check_truth(units, "units")
   unit <- areas_known[[area]]
   values <- area2 / round(units_known[[ranges$unit]]$hectare * unit$hectares)
   if (!units) return(`names<-`(list(values), unit$title))
@@ -67,14 +67,28 @@ homerange_curve <- function(x, area = "ha", units = FALSE) {
   with_groups(x, list2DF(c(as.list(x$rows[c("animal", "n", "time", "corners")]), area_column(x, x$rows$area2, area, units))))
 }
 
-# How many fixes, or which share, of a row's animal lie in the polygon of a column's animal.
-homerange_overlap <- function(x, share = FALSE, level = 100) {
+# How many fixes, or which share, of a row's animal lie in the polygon of a column's animal; of several levels a list, and tidy a
+# table with a row for each two animals and level.
+homerange_overlap <- function(x, share = FALSE, levels = 100, tidy = FALSE) {
   check_ranges(x)
-  if (!is_truth(share)) refuse("option", "share: TRUE or FALSE is wanted")
-  check_level(x, level)
-  counts <- if (level == 100) x$overlaps else overlaps_at_level(x, level)
-  if (share) counts / x$animals$fixes else counts
+  check_truth(share, "share")
+  check_truth(tidy, "tidy")
+  check_levels(x, levels)
+  counts <- lapply(levels, function(level) if (level == 100) x$overlaps else overlaps_at_level(x, level))
+  if (tidy) return(with_groups(x, do.call(rbind, Map(tidy_overlaps, counts, levels, list(x$animals$fixes)))))
+  by_level(if (share) lapply(counts, `/`, x$animals$fixes) else counts, levels)
 }
+
+# A row for each two animals: how many fixes of the one lie in the polygon of the other.
+tidy_overlaps <- function(counts, level, fixes) {
+  names <- rownames(counts)
+  number <- length(names)
+  list2DF(list(animal = rep(names, each = number), other = rep(names, number), level = rep(level, number^2), count = c(t(counts)),
+               fixes = rep(fixes, each = number), share = c(t(counts / fixes))))
+}
+
+# What was found of levels: of one alone that, of several a list by level.
+by_level <- function(found, levels) if (length(levels) == 1) found[[1]] else `names<-`(found, levels)
 
 # The same counts of the polygons of a lower level, by the exact place of each fix.
 overlaps_at_level <- function(ranges, level) {
@@ -94,16 +108,14 @@ overlaps_at_level <- function(ranges, level) {
   matrix(counts, number, dimnames = list(names, names))
 }
 
-# The corners of each animal's polygon in metres.
-homerange_corners <- function(x, level = 100) {
+# The corners of each animal's polygon in metres; of several levels a list.
+homerange_corners <- function(x, levels = 100) {
   check_ranges(x)
-  rings_of(x, level)
+  check_levels(x, levels)
+  by_level(lapply(levels, rings_of, ranges = x), levels)
 }
 
-rings_of <- function(ranges, level) {
-  check_level(ranges, level)
-  lapply(whole_rings(ranges, level), in_metres, ranges = ranges)
-}
+rings_of <- function(ranges, level) lapply(whole_rings(ranges, level), in_metres, ranges = ranges)
 
 # The levels whose polygons are known: without fixes that of all alone.
 levels_of <- function(ranges) {
@@ -111,26 +123,31 @@ levels_of <- function(ranges) {
   if (is.null(ranges$fixes)) 100 else levels
 }
 
-# Refuses what is no level whose polygons are known.
-check_level <- function(ranges, level) {
-  local_numbers()
+# Refuses what are no levels whose polygons are known.
+check_levels <- function(ranges, levels) {
+  local_options()
   known <- sort(unique(c(ranges$percents$level, 100)))
-  if (!is_number(level) || !level %in% known) {
-    refuse("option", "level: one of ", paste(known, collapse = ", "), " is wanted; home_range takes others as levels")
+  odd <- if (is.numeric(levels) && !is.object(levels)) setdiff(levels, known) else levels
+  if (length(odd) || !length(levels)) {
+    refuse("option", argument_text("levels", if (is.numeric(odd)) odd[1] else odd), " is none of these ranges (",
+           paste(known, collapse = ", "), ")")
   }
-  if (level < 100 && is.null(ranges$fixes)) {
-    refuse("option", "level: a report has no corners of polygons below 100; home_range makes them from fixes")
+  if (anyDuplicated(levels)) refuse("option", "levels: ", levels[duplicated(levels)][1], " is there twice")
+  if (any(levels < 100) && is.null(ranges$fixes)) {
+    refuse("option", "polygons below 100 per cent need the fixes: read_report(file, files = ..)")
   }
 }
 
-check_ranges <- function(x) if (!inherits(x, "home_range")) refuse("option", "x: a home range is wanted")
+check_ranges <- function(x) {
+  if (!inherits(x, "home_range")) refuse("option", "a ", class(x)[1], " has no ranges: home_range makes them")
+}
 
 # The polygons of levels as a table of sf, a row for each animal and level. Without an area a polygon is a line or a point.
 st_as_sf.home_range <- function(x, levels = NULL, drop_flat = FALSE, area = "ha", units = FALSE, ...) {
   check_dots(...)
-  if (!is_truth(drop_flat)) refuse("option", "drop_flat: TRUE or FALSE is wanted")
+  check_truth(drop_flat, "drop_flat")
   if (is.null(levels)) levels <- levels_of(x)
-  if (!is.numeric(levels) || !length(levels) || anyDuplicated(levels)) refuse("option", "levels: different numbers are wanted")
+  check_levels(x, levels)
   rings <- unlist(lapply(levels, function(level) unname(rings_of(x, level))), recursive = FALSE)
   table <- do.call(rbind, lapply(levels, level_table, ranges = x))
   shown <- if (drop_flat) table$corners > 2 else TRUE
@@ -172,7 +189,7 @@ print.home_range <- function(x, ...) {
 
 # The lines that are printed.
 format.home_range <- function(x, ...) {
-  local_numbers()
+  local_options()
   check_dots(...)
   number <- nrow(x$animals)
   times <- range(x$rows$time)

@@ -5,6 +5,10 @@
 \alias{as.list.home_range}
 \alias{length.home_range}
 \alias{names.home_range}
+\alias{names<-.home_range}
+\alias{subset.home_range}
+\alias{filter.home_range}
+\alias{all.equal.home_range}
 \alias{rbind.home_range}
 \alias{unique.home_range}
 \title{Some Animals, and Animals of Several Tables}
@@ -24,14 +28,25 @@
 
 \method{names}{home_range}(x)
 
+\method{names}{home_range}(x) <- value
+
+\method{subset}{home_range}(x, subset, ...)
+
+\method{filter}{home_range}(.data, ...)
+
+\method{all.equal}{home_range}(target, current, ...)
+
 \method{unique}{home_range}(x, ...)
 }
 \arguments{
-\item{x}{a home range, from \code{\link{home_range}} or \code{\link{read_report}}.}
+\item{x, .data, target, current}{a home range, from \code{\link{home_range}} or \code{\link{read_report}}.}
 \item{i}{the animals, by their names, their places or truths, in the wanted order; of \code{[[} one of them.}
 \item{...}{of \code{c} and \code{rbind} home ranges of different animals, which have the same unit, levels, reference system, shift,
-  zone of times and program; else none.}
+  zone of times and program; of \code{filter} what \code{subset} takes, and of \code{all.equal} its other arguments; else none.}
 \item{deparse.level}{not used.}
+\item{subset}{which animals are taken, by columns of a table with a row for each range: \code{animal}, \code{group} where ranges are
+  by groups, \code{fixes}, \code{first}, \code{last}, \code{left_out}, and \code{hectares_95} and the like for each level.}
+\item{value}{names, which are refused: ranges have those of their animals.}
 }
 \details{
 Overlaps of animals of different parts are counted from the fixes, as the program counts them; where a part is a report without
@@ -39,11 +54,13 @@ its fixes they are \code{NA}. \code{\link{homerange_evidence}} takes neither, bu
 }
 \value{
 An object of class \code{home_range}, as of \code{\link{home_range}}. \code{length} is the number of animals, \code{names} are
-theirs, and \code{as.list}, and so \code{lapply}, has the range of each.
+theirs, and \code{as.list}, and so \code{lapply}, has the range of each. \code{filter} is that of dplyr. \code{all.equal} compares what
+ranges have, and neither the calls that made them nor what was made of them since.
 }
 \examples{
 report <- read_report(system.file("extdata", "report.txt", package = "homerange"))
 report[c("otter", "fox")]
+subset(report, hectares_100 > 1)
 vapply(report, function(one) summary(one)$hectares[1], 0)
 c(report["otter"], report["fox"])
 }

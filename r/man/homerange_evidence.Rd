@@ -35,7 +35,7 @@ same report again, that another method computes each of its numbers, and that ta
 and of their record. Whether the table was right nobody can see from it.
 
 Fixes that are as \code{\link{read_fixes}} has read them go with the record of that. Those that were filtered, bound or changed since
-are split again by the program, and the record is that of this split.
+were read again by the program for \code{\link{home_range}}, and the record is that of this second reading.
 
 Of a report that was read with its files these are copied, with the record that was named, or else the \code{split.txt} beside
 them; they have to be as it says. Where it is the record of a split, the verifier holds the folder to the export too.

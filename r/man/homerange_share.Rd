@@ -3,16 +3,16 @@
 \title{The Share of Home Ranges in a Reserve}
 \description{How much of each animal's polygon lies in a reserve, also of those that lie outside it.}
 \usage{
-homerange_share(x, reserve, level = 100)
+homerange_share(x, reserve, levels = 100)
 }
 \arguments{
 \item{x}{a home range, from \code{\link{home_range}} or \code{\link{read_report}}.}
 \item{reserve}{an \code{sf} geometry of polygons, which are taken together. It may be in another coordinate reference system
   (CRS) than the ranges; where those have none, it must have none, and its coordinates are theirs.}
-\item{level}{the level of the polygons in per cent, as \code{\link{homerange_corners}} takes it.}
+\item{levels}{one level of the polygons in per cent or several, as \code{\link{homerange_corners}} takes them.}
 }
 \value{
-A data frame with a row for each animal, in the order of \code{x}:
+A data frame with a row for each animal, in the order of \code{x}, level by level:
 \item{animal}{the animal's name; behind it stands \code{group} where ranges are by groups.}
 \item{level}{the level in per cent.}
 \item{hectares}{the area of its polygon in hectares.}
@@ -27,6 +27,6 @@ A boundary that crosses itself, one without an area, and what is no \code{sf} ge
 found <- tryCatch(nzchar(homerange_program()), homerange_program_error = function(fault) FALSE)
 if (found && requireNamespace("sf", quietly = TRUE)) {
   reserve <- sf::st_buffer(sf::st_sfc(sf::st_point(c(562000, 5134000)), crs = 32633), 1000)
-  homerange_share(home_range(deer), reserve, level = 95)
+  homerange_share(home_range(deer), reserve, levels = 95)
 }
 }

@@ -6,7 +6,7 @@ Draws the polygons of home ranges over the fixes, or the area of each animal's r
 made beside the plot or, for more than 40 animals, below it.
 }
 \usage{
-\method{plot}{home_range}(x, what = c("ranges", "curve"), level = 100, animals = NULL,
+\method{plot}{home_range}(x, what = c("ranges", "curve"), levels = 100, animals = NULL,
      over = NULL, label = "boundary", main = "", reset = TRUE, fixes = TRUE,
      by = c("fix", "date"), share = FALSE, facets = FALSE, col = NULL,
      xlab = NULL, ylab = NULL, xlim = NULL, ylim = NULL, ...)
@@ -14,7 +14,7 @@ made beside the plot or, for more than 40 animals, below it.
 \arguments{
 \item{x}{a home range, from \code{\link{home_range}} or \code{\link{read_report}}.}
 \item{what}{\code{"ranges"} for a map, \code{"curve"} for the curves of incremental area analysis.}
-\item{level}{for a map the level or the levels of the polygons, as \code{\link{homerange_corners}} takes them. Each has a kind of
+\item{levels}{for a map the level or the levels of the polygons, as \code{\link{homerange_corners}} takes them. Each has a kind of
   line of its own, the same for all animals.}
 \item{animals}{the names of the animals to draw; all, if left out. An animal has its number and its colour in each drawing.}
 \item{over}{for a map an \code{sf} geometry of polygons or lines in the CRS of the fixes, such as the boundary of a reserve. It

@@ -9,7 +9,8 @@ for what. What is read can be looked at, filtered and bound before \code{\link{h
 read_fixes(x, ..., quiet = FALSE)
 }
 \arguments{
-\item{x}{a data frame with a row for each fix, an \code{sf} table of points, or the name of a file of text or GPX.}
+\item{x}{a data frame with a row for each fix, an \code{sf} table of points, the name of a file of text or GPX, or fixes that were
+  read, whose unit, reference system and zone of times stay where others are not named.}
 \item{...}{options, of which each is left out where it is \code{NULL}:
   \describe{
   \item{\code{unit}}{to what coordinates are rounded: \code{"m"} for whole metres, \code{"dm"} for whole decimetres. The
@@ -48,7 +49,8 @@ usual titles of columns, times and coordinates, marks of outliers, sensors and f
 rounded, and what is refused. A data frame is written as text, which the program reads as that of a file. So text in it is
 read as in a file, and other classes are written as they mean: moments of \code{POSIXct} in UTC, with as many decimals as they
 have; \code{Date} as a day; factors by their labels; numbers by the fewest digits that give them back; lengths of the package
-units in metres. A class of which nothing is known is refused where that column is read. A \code{move2} table says itself which
+units in metres. A class of which nothing is known, also labelled values of haven, is refused where that column is read. Moments
+are moments whatever their title says, and the time where no title is a usual one and one column alone has some. A \code{move2} table says itself which
 columns have the animal and the time, and an amt track its reference system.
 
 Points of sf have to be of a plane in metres, or in degrees of any geographic system. Points without a reference system, or of the

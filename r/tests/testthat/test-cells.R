@@ -5,6 +5,14 @@ cells <- function(column) {
   ifelse(is.na(found), "", found)
 }
 
+# The text of a frame.
+text_of <- function(x, more = list()) {
+  path <- tempfile()
+  on.exit(unlink(path))
+  write_parts(c(parts_of_frame(as.list(x)), lapply(more, parts_of_cells)), path)
+  rawToChar(readBin(path, "raw", file.size(path)))
+}
+
 test_that("numbers have the fewest digits that give them back, and no exponent below 2^53", {
   expect_identical(cells(c(0, -0, 1, 562000.4, -0.5, 0.1, 100000, 1e15, 123456789012345)),
                    c("0", "0", "1", "562000.4", "-0.5", "0.1", "100000", "1000000000000000", "123456789012345"))
@@ -19,6 +27,15 @@ test_that("numbers have the fewest digits that give them back, and no exponent b
   old <- options(OutDec = ",", scipen = -9, digits = 3)
   on.exit(options(old))
   expect_identical(cells(c(1234.5, 1e5)), c("1234.5", "100000"))
+})
+
+test_that("numbers of three decimals below 1000 have one more, since their point is none before thousands", {
+  expect_identical(cells(c(123.456, -7.001, 5, NA)), c("123.4560", "-7.0010", "5", ""))
+  expect_identical(cells(c(1e-300 * 0, 0.125)), c("0", "0.1250"))
+  for (others in list(c(123.456, 1000), c(123.456, 1.5), c(1.001, 999.9995), c(12, 1.5), 1:3)) {
+    expect_identical(cells(others), as.character(others))
+  }
+  expect_identical(text_of(data.frame(a = c(1.001, 2, NA), b = c(10.125, 20.5, 3))), "a,b\n1.0010,10.125\n2,20.5\n,3\n")
 })
 
 test_that("truths, texts and factors are written as they are", {
@@ -47,7 +64,7 @@ test_that("moments are those of UTC, with as many decimals as they need", {
                    c("2024-05-01T10:00:00.5Z", "2024-05-01T10:00:00.123Z", "2024-05-01T10:00:00.25Z"))
   expect_identical(cells(.POSIXct(c(-1, 2^32, 253402300800), "UTC")),
                    c("1969-12-31T23:59:59Z", "2106-02-07T06:28:16Z", "10000-01-01T00:00:00Z"))
-  expect_identical(cells(.POSIXct(c(1e300, Inf, NaN), "UTC")), c("<POSIXct>", "<POSIXct>", ""))
+  expect_identical(cells(.POSIXct(c(1e300, -Inf, NaN), "UTC")), c("inf", "-inf", ""))
   expect_identical(cells(as.Date(c("2024-05-01", NA, "1969-12-31"))), c("2024-05-01", "", "1969-12-31"))
   expect_identical(cells(.Date(19844.9)), "2024-05-01")
   expect_identical(cells(structure(c(0L, 36000L, 86399L), class = "ITime")), c("00:00:00", "10:00:00", "23:59:59"))
@@ -83,7 +100,7 @@ test_that("lengths are metres, degrees and bare numbers are as they are, and oth
   expect_identical(cells(in_units(2.5, character())), "2.5")
   expect_identical(cells(in_units(2.5, "m", "s")), "<units m/s>")
   skip_if_not_installed("units")
-  expect_identical(cells(units::set_units(10, "ft")), "3.048")
+  expect_identical(cells(units::set_units(100, "ft")), "30.48")
   expect_identical(cells(units::set_units(10, "rad")), "<units rad>")
 })
 
@@ -100,14 +117,6 @@ test_that("a class of which nothing is known is written by its name", {
   expect_identical(cells(lubridate::hours(1:2)), rep("<Period>", 2))
 })
 
-# The text of a frame.
-text_of <- function(x, more = NULL) {
-  path <- tempfile()
-  on.exit(unlink(path))
-  write_frame(as.list(x), more, path)
-  rawToChar(readBin(path, "raw", file.size(path)))
-}
-
 test_that("the text has all columns below their titles, and further ones behind them", {
   table <- data.frame(id = c("a", "b,c"), when = as.Date("2024-05-01") + 0:1, x = c(1.5, NA))
   names(table)[2] <- "a \"day\""
@@ -115,7 +124,7 @@ test_that("the text has all columns below their titles, and further ones behind 
                    "id,\"a \"\"day\"\"\",x,point easting\na,2024-05-01,1.5,1\n\"b,c\",2024-05-02,,2\n")
   expect_identical(text_of(data.frame(x = c(1, NA))), "x\n1\n\"\"\n")
   for (title in c("a;b", "a\tb")) {
-    expect_error(text_of(`names<-`(table, c(title, "b", "c"))), "column 1 is titled 'a", class = "homerange_columns_error")
+    expect_error(text_of(`names<-`(table, c(title, "b", "c"))), "the first column is titled 'a", class = "homerange_columns_error")
   }
   expect_identical(text_of(data.frame(b = 1, "a;b" = 2, check.names = FALSE)), "b,a;b\n1,2\n")
   old <- Sys.getlocale("LC_CTYPE")

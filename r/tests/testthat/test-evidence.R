@@ -90,7 +90,7 @@ test_that("its tracks have a record", {
   expect_identical(read_record(file.path(folder, "tracks", "split.txt"))$options, if (has_sf) list(zone = "33N") else list())
 })
 
-test_that("fixes that were filtered or bound are split again, and those of a file keep its record", {
+test_that("evidence of fixes that were filtered or bound is of their second reading, and of those of a file of its record", {
   skip_without_split()
   path <- file.path(local_folder(), "export.csv")
   table <- transform(fixes_by_hand(), time = format(time, "%Y-%m-%d %H:%M:%S"))
@@ -105,7 +105,7 @@ test_that("fixes that were filtered or bound are split again, and those of a fil
                    c("old_boar,1714523400,562200,5134000", "old_boar,1714525200,562200,5134200", "old_boar,1714528800,562000,5134200"))
   expect_identical(attr(verified(some), "status"), 3L)
   again <- rbind(fixes[fixes$animal == "vixen", ], fixes[fixes$animal != "vixen", ])
-  expect_identical(record_of(local_evidence(quietly(home_range(again, 100)))), whole)
+  expect_identical(record_of(local_evidence(quietly(home_range(again, 100))))[1], "export,fixes.csv")
   both <- rbind(fixes, read_fixes(path, since = "2024-05-01", quiet = TRUE)[7, ])
   expect_identical(record_of(local_evidence(quietly(home_range(both, 100))))[1], "export,fixes.csv")
   moved <- transform_fixes(fixes[fixes$animal != "one", ], "easting", fixes$easting[fixes$animal != "one"] - 3e6)
@@ -360,7 +360,7 @@ test_that("a record that is none is refused", {
   expect_error(read_record(path), "has no line 'export'", class = "homerange_text_error")
   expect_error(read_report(1), class = "homerange_option_error")
   report <- system.file("extdata", "report.txt", package = "homerange")
-  expect_error(read_report(report, record = path, files = 1), "names of files", class = "homerange_option_error")
+  expect_error(read_report(report, record = path, files = 1), "files = 1 are no paths", class = "homerange_option_error")
   expect_error(read_report(report, record = tempfile()), "there is no such file", class = "homerange_file_error")
   expect_error(read_report(report, files = tempfile()), "there is no such file", class = "homerange_file_error")
 })
@@ -388,9 +388,9 @@ test_that("what cannot be right is refused, and leaves nothing", {
   folder <- local_folder()
   into <- file.path(folder, "hand-in")
   report <- read_report(system.file("extdata", "report.txt", package = "homerange"))
-  expect_error(homerange_evidence(1, into), "a home range is wanted", class = "homerange_option_error")
+  expect_error(homerange_evidence(1, into), "has no ranges: home_range makes them", class = "homerange_option_error")
   expect_error(homerange_evidence(report, into), "evidence needs the fixes", class = "homerange_option_error")
-  expect_error(homerange_evidence(ranges, ""), "a new folder is wanted", class = "homerange_option_error")
+  expect_error(homerange_evidence(ranges, ""), "folder = \"\" is no path", class = "homerange_option_error")
   expect_error(homerange_evidence(ranges, folder), "is there already", class = "homerange_text_error")
   same <- fixes_by_hand()
   same$animal[6:7] <- "old\\boar"

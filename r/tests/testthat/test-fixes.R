@@ -10,6 +10,9 @@ frame <- function() {
   )
 }
 
+# A square of 4 hectares, in the order of time.
+square <- function(animal) data.frame(animal = animal, second = 60 * 0:3, easting = c(0, 200, 200, 0), northing = c(0, 0, 200, 200))
+
 read_quietly <- function(...) read_fixes(..., quiet = TRUE)
 named <- function(x = frame(), ...) read_quietly(x, time = "when", easting = "x", northing = "y", ...)
 
@@ -82,12 +85,16 @@ test_that("a row that is refused is named by its label", {
 
 test_that("columns of classes are read as meant, or refused by name", {
   skip_without_split()
-  expect_error(named(transform(frame(), x = complex(real = y))), "row 1: x is '<complex>' .*: make text, numbers or times of it$",
+  expect_error(named(transform(frame(), x = complex(real = y))), "row 1: x is of the class complex, of which no cell is known: make text, numbers or times of it$",
                class = "homerange_number_error")
-  expect_error(named(transform(frame(), when = as.difftime(1:6, units = "mins"))), "row 1: when is '<difftime>'", class = "homerange_time_error")
+  expect_error(named(transform(frame(), when = as.difftime(1:6, units = "mins"))), "row 1: when is of the class difftime", class = "homerange_time_error")
   expect_identical(nrow(named(transform(frame(), note = complex(real = y)))), 4L)
-  expect_error(named(transform(frame(), animal = complex(real = 1))), "row 1: animal is <complex>, which is no name", class = "homerange_name_error")
+  expect_error(named(transform(frame(), animal = complex(real = 1))), "row 1: animal is of the class complex", class = "homerange_unread_error")
   expect_identical(unique(named(transform(frame(), animal = "<complex>", note = complex(real = y)))$animal), "<complex>")
+  table <- cbind(frame(), sensor.type = I(c(list(NULL), as.list(1:5))))
+  expect_error(named(table), "row 1: sensor.type is of the class list, of which no cell is known", class = "homerange_unread_error")
+  expect_error(named(cbind(frame(), id = c(1, 1.5)), animal = "id"), "row 2: id is 1.5, a number that is not whole: make it text", class = "homerange_name_error")
+  expect_error(named(transform(frame(), animal = c(1, 1, 1 / 3))), "row 3: animal is 0.3333333333333333, a number that is not whole")
   for (title in c(NA, "")) {
     fixes <- named(`names<-`(cbind(frame(), 1), c(names(frame()), title)))
     expect_identical(dim(fixes), c(4L, 10L))
@@ -96,6 +103,28 @@ test_that("columns of classes are read as meant, or refused by name", {
   table$time <- structure(rep(36000L, 6), class = "ITime")
   fixes <- read_quietly(table[setdiff(names(table), "when")], time = c("date", "time"))
   expect_identical(unique(fixes$time), as.POSIXct("2024-05-01 10:00", tz = "UTC"))
+})
+
+test_that("moments are the time whatever their title says", {
+  skip_without_split()
+  times <- as.POSIXct("2024-05-01 02:00", tz = "UTC") + 3600 * 0:3
+  table <- data.frame(animal = "a", easting = 562000 + 0:3, northing = 5134000)
+  for (title in c("timestamp_utc", "time_local", "UTC_datetime", "local time")) {
+    for (tz in c("UTC", "Asia/Tokyo")) {
+      typed <- `names<-`(cbind(table, times), c(names(table), title))
+      for (time in list(NULL, title)) {
+        fixes <- read_quietly(typed, tz = tz, time = time)
+        expect_identical(as.numeric(fixes$time), as.numeric(times))
+        expect_match(facts_of(fixes)$notes, paste0("^columns: animal, ", title, ", easting"), all = FALSE)
+      }
+    }
+  }
+  text <- `names<-`(cbind(table, format(times)), c(names(table), "local time"))
+  expect_error(read_quietly(text), class = "homerange_columns_error")
+  expect_error(read_quietly(text, time = "local time"), "says local", class = "homerange_columns_error")
+  several <- cbind(table, released = times, caught = times)
+  expect_error(read_quietly(several), "no column has a usual title for the time", class = "homerange_columns_error")
+  expect_error(read_quietly(cbind(table, time_utc = c(times[1:3], NA)), tz = "Asia/Tokyo"), "row 4: there is no time_utc", class = "homerange_time_error")
 })
 
 test_that("a table of groups says that these are not looked at", {
@@ -114,11 +143,11 @@ test_that("a table of groups says that these are not looked at", {
 test_that("what is no table is refused", {
   skip_without_split()
   refused <- function(x, text) expect_error(read_quietly(x), text, fixed = TRUE, class = "homerange_empty_error")
-  refused(list(1), "a data frame is wanted, or an sf of points, or the name of one file")
-  refused(c("a", "b"), "a data frame is wanted")
-  refused(structure(list(), class = "ltraj"), "a data frame is wanted: adehabitatLT::ld(x) makes one of it")
-  refused(frame()[0, ], "there are no rows")
-  expect_error(read_quietly(frame()[integer()]), "there are no columns", class = "homerange_columns_error")
+  refused(list(1), "a list is neither a path nor a data frame with a row for each fix")
+  refused(c("a", "b"), "a character is neither a path nor a data frame")
+  refused(structure(list(), class = "ltraj"), "with a row for each fix: adehabitatLT::ld(x) makes one of it")
+  refused(frame()[0, ], "the data frame has no row of a fix")
+  refused(frame()[integer()], "the data frame has no row of a fix")
 })
 
 test_that("a move2 table says which columns it has", {
@@ -194,9 +223,9 @@ test_that("fixes that are alike are bound", {
   expect_identical(facts_of(parts), facts_of(fixes))
   expect_identical(left_since(parts)$fixes, c(1, 1))
   refused <- function(other, text) expect_error(rbind(fixes, other), text, fixed = TRUE, class = "homerange_option_error")
-  refused(named(unit = "dm"), "they differ in their unit")
-  refused(named(zone = "33N"), "they differ in their zone")
-  refused(named(tz = "UTC"), "they differ in their zone of times")
+  refused(named(unit = "dm"), "fixes of the unit m and of dm are not bound: read them alike")
+  refused(named(zone = "33N"), "fixes of the reference system not known and of EPSG:32633 (WGS 84 / UTM zone 33N) are not bound")
+  refused(named(tz = "UTC"), "fixes of the time zone Europe/Berlin and of UTC are not bound: read them alike")
   refused(named(frame()[-6]), "some have no column 'note'")
   refused(frame(), "and not to data.frame")
 })
@@ -225,25 +254,56 @@ test_that("ranges of fixes are those of their table, and options are not told tw
   mixed <- fixes[order(fixes$easting), ]
   expect_setequal(quietly(home_range(mixed))$animals$animal, c("Asta", "Bruno", "Cilla"))
   expect_identical(homerange_curve(quietly(home_range(mixed)))$hectares[mixed$animal == "none"], numeric())
-  expect_error(home_range(fixes, zone = "33N"), "zone: these fixes are read already", class = "homerange_option_error")
-  expect_error(home_range(fixes, 95, NULL, "33N"), "there is an argument too many", class = "homerange_option_error")
+  expect_error(home_range(fixes, zone = "33N"), "zone says how a table is read, and these fixes were read already: give it to read_fixes", class = "homerange_option_error")
+  expect_error(home_range(fixes, 95, NULL, "33N"), "an argument without a name says how a table is read", class = "homerange_option_error")
 })
 
-test_that("fixes that were changed are refused", {
+test_that("fixes that were changed are read again, and only what is new is said", {
+  skip_without_program()
+  fixes <- named(frame()[c(3, 1, 2, 4:6), ], zone = "33N")  # in the order of time
+  said_of <- function(fixes) sub("^homerange: (.*)\n$", "\\1", capture_messages(home_range(fixes, 100)))
+  expect_identical(said_of(fixes), character())
+  expect_identical(said_of(fixes[order(fixes$easting), ]), "1 records of fox come before an earlier one: sorted by time")
+  expect_identical(said_of(fixes[c(1, 1:4), ]), "1 records of fox have the second of the one before, and 1 its place: kept")
+  expect_identical(said_of(`names<-`(fixes[c(1:5)], names(fixes)[1:5])), character())
+  half <- transform_fixes(fixes, "easting", fixes$easting + 0.25)
+  expect_identical(said_of(half), "coordinates are rounded to whole metres, which moves a fix by at most 0.25 m")
+  away <- quietly(home_range(transform_fixes(named(), "easting", named()$easting - 1e6), 100))
+  expect_identical(homerange_corners(away)[["hare/1"]], cbind(easting = -437990, northing = 5134001))
+  swapped <- transform_fixes(transform_fixes(fixes, "easting", fixes$northing), "northing", fixes$easting)
+  expect_error(quietly(home_range(swapped)), class = "homerange_scale_error")
+  refused <- function(fixes, text, kind) expect_error(quietly(home_range(fixes)), text, class = paste0("homerange_", kind, "_error"))
+  timeless <- quietly(home_range(transform_fixes(fixes, "time", NULL), 100))
+  expect_identical(homerange_curve(timeless)$time, c(0, 1, 2, 3))
+  refused(transform_fixes(fixes, "animal", NA), "row 1: there is no animal", "animal")
+  refused(transform_fixes(named(), "easting", c(0, 1e8, 0, 0)), "grid", "grid")
+  refused(fixes[0, ], "no fix is left", "empty")
+  refused(structure(fixes, homerange = NULL), "it is not known how these fixes were read", "option")
+})
+
+test_that("what a second reading leaves out is left out beside what was before", {
   skip_without_program()
   fixes <- named()
-  refused <- function(fixes, text, kind) {
-    expect_error(quietly(home_range(fixes)), text, class = paste0("homerange_", kind, "_error"))
+  fixes$use <- c(TRUE, FALSE, TRUE, TRUE)
+  fixes$easting[3] <- NA
+  ranges <- quietly(home_range(fixes[fixes$animal == "fox", ], 100))
+  expect_identical(as.list(homerange_left_out(ranges)), list(
+    animal = c("fox", "fox", "hare/1", "hare/1"), reason = c("coordinates", "outlier", "coordinates", "use"), fixes = c(1, 2, 1, 1)))
+  again <- quietly(read_fixes(fixes, unit = "dm"))
+  expect_identical(again[["note"]], c("c", "b"))
+  expect_identical(facts_of(again)$unit, "dm")
+})
+
+test_that("groups of fixes that were changed go by their rows and columns", {
+  skip_without_program()
+  fixes <- quietly(read_fixes(square("a")))
+  fixes$side <- c("w", "e", "e", "w")
+  mixed <- fixes[4:1, ]
+  for (by in list("side", mixed$side, function(fixes) fixes$side)) {
+    ranges <- quietly(home_range(mixed, 100, by))
+    expect_identical(lapply(homerange_corners(ranges), unname), list(
+      "a w" = rbind(c(0, 0), c(0, 200)), "a e" = rbind(c(200, 0), c(200, 200))))
   }
-  refused(transform_fixes(fixes, "easting", fixes$easting + 0.5), "easting has a number that is not whole: fixes were changed", "number")
-  refused(transform_fixes(fixes, "easting", NA_real_), "easting is not of numbers alone", "number")
-  refused(transform_fixes(fixes, "time", NULL), "fixes have columns animal, time or second", "columns")
-  refused(transform_fixes(fixes, "animal", NA), "there is a fix without an animal", "animal")
-  refused(transform_fixes(fixes, "easting", c(0, 1e8, 0, 0)), "fixes lie farther from each other", "grid")
-  refused(fixes[0, ], "no fix is left", "empty")
-  moved <- quietly(home_range(transform_fixes(fixes, "easting", fixes$easting - 1e6), 100))
-  expect_identical(moved$shift, c(1e6, 0))
-  expect_identical(homerange_corners(moved)[["hare/1"]], cbind(easting = -437990, northing = 5134001))
 })
 
 test_that("a file may be of a reference system that is named", {
@@ -258,61 +318,38 @@ test_that("a file may be of a reference system that is named", {
   expect_error(read_fixes(file, crs = 4326), "no plane coordinates", class = "homerange_crs_error")
 })
 
-square <- function(animal) data.frame(animal = animal, second = 60 * 0:3, easting = c(0, 200, 200, 0), northing = c(0, 0, 200, 200))
-
-test_that("fixes that became more are said", {
-  skip_without_program()
-  skip_without_split()
-  fixes <- quietly(read_fixes(rbind(square("a"), square("b"))))
-  twice <- fixes[c(1:4, 1:4, 5:8), ]
-  expect_message(home_range(twice, 100), "^homerange: 4 records of a have the second of the one before, and 4 its place: kept",
-                 class = "homerange_same_note")
-  expect_silent(home_range(fixes, 100))
-})
-
-test_that("marks that were set on fixes are refused", {
+test_that("marks that were set on fixes are read", {
   skip_without_program()
   skip_without_split()
   fixes <- quietly(read_fixes(square("a")))
-  for (mark in list(list(use = c(1, 1, 0, 1)), list(visible = c(TRUE, TRUE, TRUE, FALSE)), list(use = rep(c("true", "false"), 2)))) {
+  for (mark in list(list(use = c(1, 1, 0, 1)), list(visible = c(TRUE, TRUE, TRUE, FALSE)), list("Manually marked.outlier" = c(TRUE, FALSE, FALSE, NA)))) {
     marked <- fixes
     marked[[names(mark)]] <- mark[[1]]
-    expect_error(home_range(marked), "is false for [12] of the fixes, which were read without them", class = "homerange_mark_error")
+    expect_message(ranges <- home_range(marked, 100), "1 outliers: left out", class = "homerange_left_out_note")
+    expect_identical(summary(ranges)$hectares, 2)
   }
   fixes$use <- 1
   fixes$visible <- FALSE  # which is not looked at beside use
   expect_identical(summary(home_range(fixes, 100))$hectares, 4)
 })
 
-test_that("fixes whose columns have other classes are refused", {
+test_that("columns of fixes that got other classes are read as those of a frame", {
   skip_without_program()
   skip_without_split()
   start <- as.POSIXct("2024-03-30 20:00", tz = "UTC")
   table <- data.frame(animal = "a", time = start + 3600 * 0:3, easting = c(0, 200, 200, 0), northing = c(0, 0, 200, 200))
-  fixes <- quietly(read_fixes(table))
+  fixes <- quietly(read_fixes(table, tz = "Europe/Berlin"))
   changed <- function(title, column) {
     fixes[[title]] <- column
-    home_range(fixes)
+    quietly(home_range(fixes, 100))
   }
-  for (column in list(as.Date(table$time), factor(format(table$time)), format(table$time), table$time - start)) {
-    expect_error(changed("time", column), "time is .* and no POSIXct: fixes were changed", class = "homerange_time_error")
+  for (column in list(format(fixes$time), factor(format(fixes$time)), `attr<-`(fixes$time, "tzone", "UTC"))) {
+    expect_identical(as.numeric(homerange_curve(changed("time", column))$time), as.numeric(fixes$time))
   }
-  for (column in list(as.character(table$easting), factor(table$easting), as.list(table$easting), as.Date(table$easting, start))) {
-    expect_error(changed("easting", column), "easting is .* and no column of numbers", class = "homerange_number_error")
-  }
+  expect_identical(summary(changed("easting", factor(table$easting)))$hectares, 4)
+  expect_error(changed("time", table$time - start), "row 1: time is of the class difftime, of which no cell is known")
+  expect_error(changed("easting", as.list(table$easting)), "row 1: easting is of the class list, of which no cell is known")
   expect_output(print(fixes["animal"]), "animal")
-})
-
-test_that("animals that were not read are bound by rbind alone", {
-  skip_without_program()
-  skip_without_split()
-  fixes <- quietly(read_fixes(square("a")))
-  more <- structure(rbind(as.data.frame(fixes), square("b")[c("animal", "second", "easting", "northing")]), class = class(fixes),
-                    homerange = facts_of(fixes))
-  expect_error(home_range(more), "'b' is none of the animals that were read", class = "homerange_option_error")
-  renamed <- fixes
-  renamed$animal <- "c"
-  expect_identical(names(home_range(renamed, 100)), "c")
 })
 
 test_that("a matrix is no name of an animal, and no group", {
@@ -320,7 +357,7 @@ test_that("a matrix is no name of an animal, and no group", {
   skip_without_split()
   table <- rbind(square("a"), square("b"))
   table$animal <- cbind(table$animal, "gps")
-  expect_error(quietly(read_fixes(table)), "animal is <matrix>, which is no name", class = "homerange_name_error")
+  expect_error(quietly(read_fixes(table)), "animal is of the class matrix", class = "homerange_unread_error")
   fixes <- quietly(read_fixes(square("a")))
   for (by in list(as.difftime(1:4, units = "days"), complex(4), as.raw(1:4))) {
     expect_error(home_range(fixes, by = by), "by has a group of the class .*, which is no text", class = "homerange_option_error")

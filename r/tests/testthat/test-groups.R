@@ -81,16 +81,18 @@ test_that("what is no group is refused", {
   skip_without_program()
   table <- cbind(frame(), sex = "f", year = 1)
   fixes <- read_frame_quietly(table)
-  refused <- function(by, text, ...) expect_error(quietly(home_range(fixes, by = by, ...)), text, fixed = TRUE, class = "homerange_option_error")
-  refused("week", "by: \"week\" is none of \"year\", \"month\", \"season\", and no column of the fixes")
-  refused("year", "by: \"year\" is a period and a column of the fixes: by = fixes$year takes the column")
-  refused(5, "a group for each of the 80 fixes is wanted")
-  refused(rep("a", 79), "a group for each of the 80 fixes is wanted")
-  refused(rep(1.5, 80), "row 1: by has a group that is 1.5, a number that is not whole")
-  refused(as.list(1:80), "a group for each of the 80 fixes is wanted")
+  refused <- function(by, text, class = "homerange_option_error") {
+    expect_error(quietly(home_range(fixes, by = by)), text, fixed = TRUE, class = class)
+  }
+  refused("week", "by: there is no column \"week\", and it is none of \"year\", \"month\", \"season\"", "homerange_columns_error")
+  refused("year", "by = \"year\" is a period of the calendar, and a column too: by = fixes$year takes the column")
+  refused(5, "by is 1 value for 80 fixes")
+  refused(rep("a", 79), "by is 79 values for 80 fixes")
+  refused(rep(1.5, 80), "row 1: by has a group that is '1.5', a number that is not whole: make it text")
+  refused(as.list(1:80), "by = list is none of \"year\", \"month\", \"season\", no column of the fixes, no value for each of them")
   refused(replace(rep("a", 80), 5, NA), "row 5: by has no group: leave fixes without a group out")
   seconds <- walk("a", 9, 1)
-  expect_error(quietly(home_range(seconds, by = "month")), "by: numbers of a column 'second' have no calendar",
+  expect_error(quietly(home_range(seconds, by = "month")), "by = \"month\": seconds have no calendar: make times of them",
                class = "homerange_option_error")
   both <- rbind(walk("a", 6, 1), walk("a 1", 6, 2))
   expect_error(quietly(home_range(both, by = rep(c("1 2", "2"), each = 6))), "'a' and 'a 1' both have a range named 'a 1 2': rename one",

@@ -60,5 +60,5 @@ test_that("times are those of the fixes", {
   start <- as.POSIXct("2024-05-01", tz = "UTC")
   found <- homerange_growth(read_report(report, start = start))
   expect_identical(found$within_95_time, start + 1800 * (found$within_95_fix - 1))
-  expect_error(homerange_growth(1), "a home range is wanted", class = "homerange_option_error")
+  expect_error(homerange_growth(1), "has no ranges: home_range makes them", class = "homerange_option_error")
 })

@@ -31,7 +31,7 @@ test_that("areas are in the unit that is asked", {
     expect_identical(summary(ranges)$hectares, 4)
   }
   expect_error(summary(ranges, area = "acre"), "area: \"ha\", \"m2\" or \"km2\"", class = "homerange_option_error")
-  expect_error(summary(ranges, units = 1), "units: TRUE or FALSE", class = "homerange_option_error")
+  expect_error(summary(ranges, units = 1), "units = 1 is neither TRUE nor FALSE", class = "homerange_option_error")
 })
 
 test_that("areas are of the package units where they are asked to be", {
@@ -64,10 +64,10 @@ test_that("st_as_sf is an sf of all levels, with a CRS or without", {
   ranges <- quietly(home_range(fixes, levels = c(75, 100)))
   expect_equal(sf::st_as_sf(ranges, levels = 75, area = "km2")$square_kilometres, c(0.02, 4.5))
   refused <- function(call, text) expect_error(call, text, class = "homerange_option_error")
-  refused(sf::st_as_sf(ranges, levels = 50), "level: one of 75, 100 is wanted")
-  refused(sf::st_as_sf(ranges, levels = c(75, 75)), "levels: different numbers are wanted")
+  refused(sf::st_as_sf(ranges, levels = 50), "levels = 50 is none of these ranges .75, 100.")
+  refused(sf::st_as_sf(ranges, levels = c(75, 75)), "levels: 75 is there twice")
   refused(sf::st_as_sf(ranges, level = 75, crs = 1), "there is no argument")
-  refused(sf::st_as_sf(ranges, drop_flat = 1), "drop_flat: TRUE or FALSE")
+  refused(sf::st_as_sf(ranges, drop_flat = 1), "drop_flat = 1 is neither TRUE nor FALSE")
 })
 
 test_that("without flat ranges a shapefile can be written", {
@@ -99,12 +99,12 @@ test_that("overlaps at a level are those of sf", {
     hulls <- sf::st_sfc(unname(hulls))
     wanted <- t(vapply(points, function(own) colSums(sf::st_intersects(own, hulls, sparse = FALSE)), numeric(4)))
     colnames(wanted) <- names(points)
-    expect_identical(homerange_overlap(ranges, level = level), wanted)
-    expect_equal(homerange_overlap(ranges, share = TRUE, level = level), wanted / c(120, 90, 61, 100))
+    expect_identical(homerange_overlap(ranges, levels = level), wanted)
+    expect_equal(homerange_overlap(ranges, share = TRUE, levels = level), wanted / c(120, 90, 61, 100))
   }
-  expect_error(homerange_overlap(ranges, level = 90), "level: one of 50, 95, 100", class = "homerange_option_error")
+  expect_error(homerange_overlap(ranges, levels = 90), "levels = 90 is none of these ranges (50, 95, 100)", fixed = TRUE, class = "homerange_option_error")
   report <- read_report(system.file("extdata", "report.txt", package = "homerange"))
-  expect_error(homerange_overlap(report, level = 95), "no corners of polygons below 100", class = "homerange_option_error")
+  expect_error(homerange_overlap(report, levels = 95), "polygons below 100 per cent need the fixes", class = "homerange_option_error")
 })
 
 test_that("what is said has a class of its kind, and is kept where it is not said", {
@@ -121,7 +121,7 @@ test_that("what is said has a class of its kind, and is kept where it is not sai
   expect_setequal(kinds, paste0("homerange_", c("left_out", "rounded", "sorted", "guessed"), "_note"))
   expect_silent(quiet <- home_range(fixes, quiet = TRUE))
   expect_identical(quiet$notes, ranges$notes)
-  expect_error(home_range(fixes, quiet = "yes"), "quiet: TRUE or FALSE", class = "homerange_option_error")
+  expect_error(home_range(fixes, quiet = "yes"), "is neither TRUE nor FALSE", class = "homerange_option_error")
 })
 
 test_that("the options of numbers and decimals change nothing", {
@@ -168,7 +168,7 @@ test_that("a report is written as the program writes it", {
   for (write in list(write_report, write_page)) {
     expect_error(write(ranges, file.path(folder, "none", "x")), "none/x: there is no such folder$", class = "homerange_file_error")
     expect_error(write(ranges, folder), " is a folder$", class = "homerange_file_error")
-    expect_error(write(ranges, NA), "path: the name of one file", class = "homerange_option_error")
+    expect_error(write(ranges, NA), "path = NA is no path", class = "homerange_option_error")
   }
   odd <- transform(fixes, animal = sub("fox", "fox, red", animal, fixed = TRUE))
   ranges <- quietly(home_range(odd))

@@ -108,7 +108,7 @@ test_that("a boundary is on the map", {
 })
 
 test_that("what cannot be right is refused", {
-  expect_error(write_page(1, "page.html"), "a home range is wanted", class = "homerange_option_error")
-  expect_error(write_page(example_ranges(), ""), "the name of one file is wanted", class = "homerange_option_error")
+  expect_error(write_page(1, "page.html"), "has no ranges: home_range makes them", class = "homerange_option_error")
+  expect_error(write_page(example_ranges(), ""), "path = \"\" is no path", class = "homerange_option_error")
   expect_error(write_page(example_ranges(), "page.html", tz = "Mars"), "no time zone", class = "homerange_option_error")
 })

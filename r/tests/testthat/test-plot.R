@@ -63,7 +63,7 @@ test_that("margins stay where more is to be drawn", {
 test_that("home ranges are drawn with fixes and several levels", {
   skip_without_program()
   ranges <- quietly(home_range(deer))
-  drawn(function() plot(ranges, level = c(50, 95, 100)))
+  drawn(function() plot(ranges, levels = c(50, 95, 100)))
   drawn(function() plot(ranges, animals = c("Asta", "Cilla"), fixes = FALSE, facets = TRUE))
   drawn(function() plot(ranges, "curve", animals = "Cilla", by = "date"))
   small <- quietly(home_range(data.frame(id = c("a", "b", "b"), date = as.Date("2024-05-01") + 0:2, x = 1:3, y = 1:3)))
@@ -136,7 +136,7 @@ test_that("levels have lines of their own, and names in the key", {
   skip_without_program()
   lines <- lines_of_levels(8)
   expect_false(anyDuplicated(lines) > 0)
-  found <- texts_of(function() plot(quietly(home_range(deer)), level = c(50, 95, 100)))
+  found <- texts_of(function() plot(quietly(home_range(deer)), levels = c(50, 95, 100)))
   expect_true(all(c("100 %", "95 %", "50 %") %in% found))
 })
 
@@ -183,10 +183,10 @@ test_that("fixes are thinned to what can be seen", {
 
 test_that("what cannot be drawn is refused", {
   expect_error(plot(report(), "hull"), class = "homerange_option_error")
-  expect_error(plot(report(), animals = "wolf"), "there is no animal wolf", class = "homerange_option_error")
+  expect_error(plot(report(), animals = "wolf"), "there is no animal \"wolf\"", class = "homerange_option_error")
   expect_error(plot(report(), animals = character(0)), "there is none", class = "homerange_option_error")
   expect_error(plot(report(), by = "day"), class = "homerange_option_error")
   expect_error(plot(report(), share = "yes"), class = "homerange_option_error")
   expect_error(plot(report(), pch = 3), "there is no argument pch", class = "homerange_option_error")
-  expect_error(drawn(function() plot(report(), level = 95)), "below 100", class = "homerange_option_error")
+  expect_error(drawn(function() plot(report(), levels = 95)), "below 100 per cent need the fixes", class = "homerange_option_error")
 })

@@ -16,19 +16,22 @@ test_that("each status has its class, and animals stand for files", {
   }
 })
 
-test_that("files and animals are numbers in a folder that is gone afterwards", {
+test_that("files are those of the split in a folder that is gone afterwards, and of groups have numbers for names", {
   skip_without_split()
   folder <- local_folder()
   said <- file.path(folder, "said")
   local_program(sprintf("echo \"$@\" >'%s'; cat \"$5\" >>'%s'; exit 3", said, said))
-  expect_error(quietly(home_range(fixes(), levels = c(5, 50), unit = "dm")),
-               "the program ended with status 3: it says no more", class = "homerange_memory_error")
-  lines <- readLines(said)
-  files <- strsplit(lines[1], " ")[[1]]
-  expect_identical(files[1:4], c("--unit", "dm", "--percent", "5,50"))
-  expect_identical(basename(files[5:6]), c("1.csv", "2.csv"))
-  expect_identical(lines[-1], c("animal,second,easting,northing", "1,0,0,0", "1,1,10,10"))
-  expect_false(dir.exists(dirname(files[5])))
+  for (by in list(NULL, c("w", "w", "e", "e"))) {
+    expect_error(quietly(home_range(fixes(), levels = c(5, 50), by = by, unit = "dm")),
+                 "the program ended with status 3: it says no more", class = "homerange_memory_error")
+    lines <- readLines(said)
+    files <- strsplit(lines[1], " /")[[1]]
+    names <- if (is.null(by)) c("red fox", "b") else c("1", "2")
+    expect_identical(files[1], "--unit dm --percent 5,50")
+    expect_identical(basename(files[2:3]), paste0(names, ".csv"))
+    expect_identical(lines[-1], c("animal,second,easting,northing", paste0(names[1], c(",0,0,0", ",1,10,10"))))
+    expect_false(dir.exists(paste0("/", dirname(files[2]))))
+  }
 })
 
 test_that("a program that cannot run is an error of its own", {
@@ -42,7 +45,7 @@ test_that("a program that cannot run is an error of its own", {
 test_that("a report that is cut off or of other animals is refused", {
   skip_without_split()
   local_program("echo animal,b,fixes,1")
-  expect_error(quietly(home_range(fixes())), "there is no end line", class = "homerange_report_error")
+  expect_error(quietly(home_range(fixes())), "is cut off: its last line is not", class = "homerange_report_error")
   lines <- c("animal,b,fixes,1", "box,b,0,0,0,0", "row,b,1,0,1,0", "corner,b,1,0,0", "percent,b,50,1,1,0", "end,1")
   local_program(paste("echo", lines))
   expect_error(quietly(home_range(fixes())), "not the animals of its files", class = "homerange_check_error")

@@ -27,7 +27,7 @@ test_that("a report is read", {
   expect_equal(homerange_curve(ranges)$hectares, c(0, 0, 2, 4, 0))
   expect_equal(homerange_overlap(ranges), matrix(c(4, 1, 0, 1), 2, dimnames = list(c("NA", "Ha\u0219e"), c("NA", "Ha\u0219e"))))
   expect_equal(homerange_corners(ranges)[["NA"]], cbind(easting = c(0, 200, 200, 0), northing = c(0, 0, 200, 200)))
-  expect_error(homerange_corners(ranges, 50), "no corners of polygons below 100", class = "homerange_option_error")
+  expect_error(homerange_corners(ranges, 50), "polygons below 100 per cent need the fixes", class = "homerange_option_error")
 })
 
 test_that("lines may end as those of other systems do, and numbers have any digits", {
@@ -55,10 +55,10 @@ test_that("what is no whole report is refused", {
   refused <- function(lines, message) {
     expect_error(read_report(written(lines)), message, class = "homerange_report_error")
   }
-  refused(square[-21], "there is no end line, so it is cut off or no report")
-  refused(character(), "there is no end line")
+  refused(square[-21], "is cut off: its last line is not 'end,' with the number of animals")
+  refused(character(), "is cut off: its last line is not")
   refused(replace(square, 21, "end,3"), "it has 2 animals, and its last line says 3")
-  refused(replace(square, 21, "end,"), "there is no end line")
+  refused(replace(square, 21, "end,"), "is cut off: its last line is not")
   refused("end,0", "it has no animals")
   for (line in c(1:20)) refused(square[-line], "")
   for (line in c(1:20)) refused(square[c(seq_len(line), line:21)], "")
@@ -69,7 +69,7 @@ test_that("what is no whole report is refused", {
   refused(square[c(1:6, 8, 7, 9:21)], "lines are missing, or there twice")
   refused(square[c(1:2, 7, 3:6, 8:21)], "line 4 is none of a report there: row,NA,1,10,1,0$")
   refused(c(square[19:20], square[-(19:20)]), "line 3 is none of a report there: animal,NA,fixes,4$")
-  refused(c(square, "", ""), "there is no end line")
+  refused(c(square, "", ""), "is cut off: its last line is not")
   refused(sub("Ha\u0219e", "NA", square), "an animal is there twice")
   refused(replace(square, 15, "row,Hare,1,5,1,0"), "line 15 is none of a report there: row,Hare,1,5,1,0$")
   refused(replace(square, 19, "overlap,NA,Hare,0,4"), "an animal that has no line animal")

@@ -54,7 +54,7 @@ test_that("home ranges that cannot stand together are refused", {
   refused(quietly(home_range(other, unit = "dm")), "they differ in their unit")
   refused(quietly(home_range(other, levels = 50)), "they differ in their levels")
   refused(quietly(home_range(transform(other, easting = easting - 1e6))), "they differ in their shift")
-  refused(1, "a home range is wanted")
+  refused(1, "has no ranges: home_range makes them")
   days <- data.frame(animal = "wolf", date = as.Date("2024-05-01") + 0:2, x = 1:3, y = c(1, 5, 2))
   refused(quietly(home_range(days)), "they differ in their times")
 })

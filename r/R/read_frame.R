@@ -1,0 +1,230 @@
+# Reads a data frame, which is written as text for the program: what it is asked, and what is refused, by the rows of the frame.
+
+# What the program says of a name such as 1e+05, and what R made it of.
+remedy_of_files <- "write its column as text, before a spreadsheet opens it"
+remedy_of_frames <- "its column is text that was made of numbers: keep them as numbers, or make text by format(x, scientific = FALSE)"
+
+# The fixes of a data frame.
+read_frame <- function(x, given, folder, has_rows) {
+  check_frame(x, given)
+  frame <- frame_to_split(x, with_columns_of(x, given))
+  into <- file.path(folder, "tracks")
+  frame <- split_frame(frame, folder, into, has_rows)
+  said <- read_record(file.path(into, "split.txt"))$said
+  is_of_columns <- startsWith(said, "columns: ")
+  said[is_of_columns] <- with_own_title(said[is_of_columns], frame)
+  check_cells(frame, said)
+  rows <- NULL
+  said <- c(groups_of_dplyr(x), frame$places$line, frame$clock$line, said)
+  read <- fixes_of_tracks(into, c(given$tz, frame$clock$tz, "UTC")[1], frame$places$crs, said, function(record, fixes) {
+    if (has_rows) rows <<- records_of_fixes(into, record, fixes)
+    if (has_rows) rows_of_columns(columns_of(x), rows, nrow(x))
+  })
+  c(read, list(frame = list(rows = rows, number = nrow(x))))
+}
+
+check_frame <- function(x, given) {
+  if (!is.data.frame(x)) {
+    help <- if (inherits(x, "Spatial")) ": sf::st_as_sf(x) makes one of it" else
+      if (inherits(x, "ltraj")) ": adehabitatLT::ld(x) makes one of it"
+    refuse("empty", "a ", class(x)[1], " is neither a path nor a data frame with a row for each fix", help)
+  }
+  if (!nrow(x) || !ncol(x)) refuse("empty", "the data frame has no row of a fix")
+  odd <- intersect(options_of_files, names(given))
+  if (length(odd)) refuse("option", odd[1], " is for files, and not for a data frame: leave it out")
+  if (identical(given$from, "gpx")) refuse("option", "from = \"gpx\" is for files of GPX, and not for a data frame: leave it out")
+}
+
+# The options of a table of move2, which says itself which columns have the animal and the time.
+with_columns_of <- function(x, given) {
+  if (is.null(given[["animal"]])) given[["animal"]] <- attr(x, "track_id_column", exact = TRUE)
+  if (is.null(given[["time"]])) given[["time"]] <- attr(x, "time_column", exact = TRUE)
+  given
+}
+
+# What the program gets of a frame: the parts of its columns and of its points, and what it is asked.
+frame_to_split <- function(x, given) {
+  places <- places_of_frame(x, given)
+  parts <- with_rows(x, parts_of_frame(columns_of(x)))
+  list(x = x, given = given, places = places, parts = c(parts, places$parts), clock = clock_of_frame(x, given),
+       moments = readable(names(x))[vapply(as.list(x), inherits, NA, "POSIXt")])
+}
+
+# Has the program split a frame into tracks, as often as something is known better for it; answers how it was asked at last.
+split_frame <- function(frame, folder, into, has_rows) {
+  path <- file.path(folder, name_of_frame)
+  write_parts(frame$parts, path)
+  repeat {
+    words <- c(if (has_rows) "--records", words_of_options(frame$given), frame$places$words,
+               if (!is.null(frame$clock$tz)) paste0("--tz=", frame$clock$tz))
+    refusal <- run_split(path, words, into)
+    better <- if (is.null(refusal)) without_clock(frame, into) else with_moments(frame, refusal)
+    if (is.null(better)) break
+    unlink(into, recursive = TRUE)
+    if (!identical(names(better$parts), names(frame$parts))) write_parts(better$parts, path)
+    frame <- better
+  }
+  if (!is.null(refusal)) refuse_frame(frame, refusal, folder)
+  frame
+}
+
+# A frame without the clock of a column that was not read, since its times may be of another zone than those that were; NULL
+# where that is not so.
+without_clock <- function(frame, into) {
+  if (is.null(frame$clock$tz)) return(NULL)
+  title <- c(frame$renamed["to"], frame$clock$column)
+  if (any(vapply(title, is_taken, NA, read_record(file.path(into, "split.txt"))$said))) return(NULL)
+  frame["clock"] <- list(NULL)
+  frame
+}
+
+# A frame whose column of moments is named as the time where no title is a usual one, or has a title that says no clock: that
+# these are moments the program cannot know. NULL where it refused something else.
+with_moments <- function(frame, refusal) {
+  said <- sub("^column [0-9]+ ", "", refusal$text)
+  refused <- Filter(function(title) startsWith(said, paste0("'", one_line(title), "' says ")), frame$moments)
+  is_unnamed <- startsWith(refusal$text, "no column has a usual title for the time") && is.null(frame$given$time)
+  if (is_unnamed && length(frame$moments) == 1) {
+    frame$given$time <- frame$moments
+  } else if (length(refused) && is.null(frame$renamed)) {
+    frame$renamed <- c(from = refused[[1]], to = free_title("datetime", names(frame$parts)))
+    names(frame$parts)[names(frame$parts) == refused[[1]]] <- frame$renamed[["to"]]
+    frame$given$time <- frame$renamed[["to"]]
+  } else {
+    return(NULL)
+  }
+  frame
+}
+
+# Texts with the title that a column has itself, where it got another.
+with_own_title <- function(texts, frame) {
+  if (is.null(frame$renamed)) return(texts)
+  sub(frame$renamed[["to"]], one_line(frame$renamed[["from"]]), texts, fixed = TRUE)
+}
+
+# Whether a line that was said names a column as taken, or as not read.
+is_taken <- function(title, said) is_listed(title, grep("^columns: ", said, value = TRUE))
+
+is_listed <- function(title, lines) {
+  lines <- paste0(sub("; [0-9]+ animals, box .*", "", sub("^[a-z ]*:", ",", lines)), ",")
+  any(grepl(paste0(", ", one_line(title), ","), lines, fixed = TRUE))
+}
+
+# The columns of a frame but for the geometry of sf.
+columns_of <- function(x) {
+  columns <- as.list(x)
+  if (inherits(x, "sf")) columns[setdiff(seq_along(columns), match(attr(x, "sf_column"), names(columns)))] else columns
+}
+
+# The further columns of the fixes, which are these rows of a frame of so many.
+rows_of_columns <- function(columns, rows, number) {
+  if (identical(rows, seq_len(number))) return(columns)
+  lapply(columns, function(column) if (length(dim(column)) == 2) column[rows, , drop = FALSE] else column[rows])
+}
+
+# What is said of a table of dplyr that is by groups.
+groups_of_dplyr <- function(x) {
+  by <- setdiff(names(attr(x, "groups", exact = TRUE)), ".rows")
+  if (length(by) < 2) return(NULL)
+  paste0("groups of the table are not looked at (", paste(by, collapse = ", "), "): by makes ranges of groups")
+}
+
+# Refuses the first cell that is odd in a column that was read, and a number that is not whole as the name of an animal.
+check_cells <- function(frame, said) {
+  not_read <- grep("^not read: ", said, value = TRUE)
+  odd <- Filter(Negate(is.null), lapply(frame$parts, odd_cell))
+  odd <- odd[!vapply(names(odd), is_listed, NA, not_read)]
+  if (length(odd)) refuse_cell(frame, "unread", odd)
+  check_units(frame, said)
+  for (title in titles_of_animals(frame, said)) {
+    column <- as.list(frame$x)[[title]]
+    row <- if (is.double(column) && !is.object(column)) which(column != floor(column))[1]
+    if (length(row) && !is.na(row)) {
+      number <- cells_of_numbers(column[row])
+      refuse_row(frame$x, "name", row, paste0(title, " is ", number, ", a number that is not whole: make it text"))
+    }
+  }
+}
+
+# Refuses degrees that were taken as metres, and lengths that were taken as degrees.
+check_units <- function(frame, said) {
+  has_units <- vapply(as.list(frame$x), inherits, NA, "units")
+  for (title in Filter(function(title) is_taken(title, said), names(frame$x)[has_units])) {
+    unit <- name_of_unit(frame$x[[title]])
+    wanted <- if (any(startsWith(said, "longitude and latitude are "))) "degrees" else "metres"
+    is_odd <- switch(wanted, degrees = !unit %in% c("", "1", degrees_of_units), metres = unit %in% degrees_of_units)
+    if (is_odd && !any(startsWith(said, "UTM coordinates are "))) refuse("columns", title, " is in ", unit, ", and ", wanted, " are wanted")
+  }
+}
+
+# The titles of the columns that were taken for the animal: those that were named, or the first of all that were taken.
+titles_of_animals <- function(frame, said) {
+  if (any(startsWith(said, "no column has a usual title for the animal"))) return(character())
+  taken <- grep("^columns: ", said, value = TRUE)
+  is_first <- function(title) startsWith(taken, paste0("columns: ", one_line(title), ","))
+  c(frame$given$animal, Filter(is_first, names(frame$parts)))
+}
+
+# Refuses the first of odd cells.
+refuse_cell <- function(frame, kind, odd) {
+  first <- which.min(vapply(odd, `[[`, 0L, "row"))
+  refuse_row(frame$x, kind, odd[[first]]$row, paste0(names(odd)[first], " is of the class ", odd[[first]]$class,
+                                                      ", of which no cell is known: make text, numbers or times of it"))
+}
+
+# Refuses what the program refused of a frame. An odd cell is named by its class.
+refuse_frame <- function(frame, refusal, folder) {
+  odd <- Filter(Negate(is.null), lapply(frame$parts, odd_cell))
+  odd <- Filter(function(cell) grepl(paste0("<", cell$class, ">"), refusal$text, fixed = TRUE), odd)
+  named <- vapply(names(odd), grepl, NA, refusal$text, fixed = TRUE)
+  if (length(odd)) refuse_cell(frame, refusal$kind, if (any(named)) odd[named] else odd)
+  text <- with_own_title(sub(file.path(folder, name_of_frame), "the table", refusal$text, fixed = TRUE), frame)
+  text <- sub(remedy_of_files, remedy_of_frames, text, fixed = TRUE)
+  refuse_row(frame$x, refusal$kind, refusal$record, text)
+}
+
+# Makes a call; a record of what it refuses is a row of the frame.
+with_rows <- function(x, call) {
+  tryCatch(call, homerange_data_error = function(fault) refuse_row(x, fault$kind, fault$record, conditionMessage(fault)))
+}
+
+# Refuses a table with the row that has the fault, by its label.
+refuse_row <- function(x, kind, record, text) {
+  text <- gsub("\\brecord ([0-9]+)\\b", "row \\1", text, perl = TRUE)
+  if (is.null(record)) refuse(kind, text)
+  label <- row.names(x)[record]
+  where <- if (label == record) paste0("row ", label, ": ") else paste0("row ", label, " (x[", record, ", ]): ")
+  refuse(kind, where, text, record = record)
+}
+
+# The zone by whose clock days and hours of a frame are counted: that of its only column with one, where none is named.
+clock_of_frame <- function(x, given) {
+  if (!is.null(given$tz)) return(NULL)
+  is_time <- vapply(as.list(x), inherits, NA, "POSIXt")
+  zones <- vapply(as.list(x)[is_time], zone_of_times, "")
+  if (length(unique(zones)) > 1) {
+    return(list(line = paste0("days and hours are those of UTC, since times are of ", paste(sort(unique(zones)), collapse = ", "))))
+  }
+  if (!length(zones) || zones[[1]] == "UTC") return(NULL)
+  column <- readable(names(x)[is_time][1])
+  if (!zones[[1]] %in% OlsonNames()) {
+    return(list(line = paste0("days and hours are those of UTC, since the zone ", zones[[1]], " of ", column, " has no name")))
+  }
+  list(tz = zones[[1]], column = column, line = paste0("days and hours are those of ", zones[[1]], ", the zone of ", column))
+}
+
+# The zone of date-times. What R has without one is by the clock of the session.
+zone_of_times <- function(times) {
+  zone <- c(attr(times, "tzone"), "")[1]
+  if (zone == "") zone <- zone_of_session()
+  zone <- sub("^:", "", zone)
+  if (zone %in% c("GMT", "Etc/UTC", "Etc/GMT")) "UTC" else zone
+}
+
+# The zone of the session: that of TZ, or of the system, of whose files one has it. Sys.timezone would call other programs.
+zone_of_session <- function() {
+  zone <- Sys.getenv("TZ")
+  if (zone == "" && file.exists("/etc/timezone")) zone <- c(readLines("/etc/timezone", 1, warn = FALSE), "")[1]
+  if (zone == "") zone <- sub(".*/zoneinfo/", "", c(Sys.readlink("/etc/localtime"), "")[1])
+  if (zone == "" || is.na(zone)) "UTC" else zone
+}
