@@ -1,5 +1,5 @@
-// Laws of counts, for who reads what is promised. Each is a function that does nothing and promises the law; nobody
-// calls it.
+// Laws of counts, for who reads what is promised. Each is a function that does nothing and promises the law; proofs
+// of crates above call it.
 
 ghost use Rattle.split_counts.specs.Laws.{EveryRecordIsCountedOnce, OneAnimalAndOneReasonAreCounted};
 

@@ -118,7 +118,7 @@ fn check(alloc: Global, said: &mut Said, sheet: &Sheet<'_>, ledger: &Ledger) -> 
 /// # Errors
 ///
 /// The table has no record, or no fix is left; a name has an end of a line; each animal has one record; seconds may be those of a
-/// minute; fixes are of several sensors and none is named, or of Argos and no class is named; no fix is of a sensor that is named;
+/// minute, or have no dates, which an option has; fixes are of several sensors and none is named, or of Argos and no class is named; no fix is of a sensor that is named;
 /// or memory ran out.
 pub fn check_ledger(
     alloc: Global,

@@ -81,7 +81,8 @@ fn no_place_text(
         &mut text,
         ": a word for what is missing is named by --na, such as --na ",
     )?;
-    push_degrees(&mut text, latitude)?;
+    let is_far = MOST_LONGITUDE < longitude.unsigned_abs();
+    push_degrees(&mut text, if is_far { longitude } else { latitude })?;
     Ok(text)
 }
 

@@ -1,11 +1,12 @@
-// Whether a column of seconds may have those of a minute.
+// Whether a column of seconds may have those of a minute, and whether it has dates.
 
-use crate::sheet::Sheet;
+use crate::sheet::{Sheet, title_at};
 use crate::stop::{Stop, refused};
-use crate::words::{push, push_number};
+use crate::words::{push, push_number, push_option};
 use range_plane::OutOfMemory;
 use split_reading::{Ledger, Row, Told};
 use split_refusal::Kind;
+use split_times::FIRST_SECOND;
 use std::alloc::{AllocError, Global};
 
 // How many seconds a minute has. More fixes of an animal than these are not all of its first minute.
@@ -70,7 +71,58 @@ fn minute_text(alloc: Global, count: u64, name: &[u8]) -> Result<Vec<u8>, AllocE
     Ok(text)
 }
 
-// Refuses a column of seconds that may be that of the second of a minute: more than 60 of an animal are all below 60.
+// That these seconds have no dates, which an option has.
+fn dates_text(
+    alloc: Global,
+    title: &[u8],
+    most: u64,
+    option: &str,
+    value: &[u8],
+) -> Result<Vec<u8>, AllocError> {
+    let mut text = Vec::new(alloc);
+    push(&mut text, "the seconds of ")?;
+    text.extend_from_slice(title)?;
+    push(&mut text, " end with ")?;
+    push_number(&mut text, usize::try_from(most).unwrap_or(usize::MAX))?;
+    push(
+        &mut text,
+        ", so they begin at a start of their own and have no dates: leave out ",
+    )?;
+    push_option(&mut text, option, value)?;
+    Ok(text)
+}
+
+// The option that has a date, and its date, if one was named.
+fn dated_option<'a>(sheet: &Sheet<'a>) -> Option<(&'static str, &'a [u8])> {
+    let wanted = &sheet.wanted;
+    if !wanted.since.is_empty() {
+        Some(("--since", wanted.since))
+    } else if !wanted.until.is_empty() {
+        Some(("--until", wanted.until))
+    } else {
+        None
+    }
+}
+
+// Refuses dates beside seconds that are not since 1970.
+fn check_dates(alloc: Global, sheet: &Sheet<'_>, all: &[Seconds]) -> Result<(), Stop> {
+    let Some((option, value)) = dated_option(sheet) else {
+        return Ok(());
+    };
+    let most = all.iter().map(|own| own.most).max().unwrap_or(0);
+    if FIRST_SECOND <= most {
+        return Ok(());
+    }
+    let title = match sheet.columns.time.first() {
+        Some(column) => title_at(sheet, *column),
+        None => b"",
+    };
+    let text = dates_text(alloc, title, most, option, value);
+    Err(refused(alloc, Kind::Option, None, text))
+}
+
+// Refuses a column of seconds that may be that of the second of a minute: more than 60 of an animal are all below 60; and one that has no
+// dates beside an option that has.
 pub(crate) fn check_seconds(alloc: Global, sheet: &Sheet<'_>, ledger: &Ledger) -> Result<(), Stop> {
     if !sheet.columns.is_second {
         return Ok(());
@@ -82,5 +134,5 @@ pub(crate) fn check_seconds(alloc: Global, sheet: &Sheet<'_>, ledger: &Ledger) -
             return Err(refused(alloc, Kind::Time, None, text));
         }
     }
-    Ok(())
+    check_dates(alloc, sheet, &all)
 }

@@ -4,16 +4,9 @@ use crate::clocks::{ClockSaid, clock_said, is_of_utc};
 use crate::columns::{Columns, Pair};
 use crate::fault::TitleFault;
 use crate::named::Named;
+use crate::sentences::title_at;
 use crate::units::unit_said;
 use std::alloc::Allocator;
-
-// The title of a column.
-fn title_at<'t>(titles: &[&'t [u8]], at: usize) -> &'t [u8] {
-    match titles.get(at) {
-        Some(title) => title,
-        None => b"",
-    }
-}
 
 // Refuses a column of coordinates whose title says another unit.
 fn refuse_unit<'a>(titles: &[&[u8]], at: usize, is_metres: bool) -> Result<(), TitleFault<'a>> {

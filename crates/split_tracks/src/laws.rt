@@ -1,5 +1,5 @@
-// Laws of tracks, for who reads what is promised. Each is a function that does nothing and promises the law; nobody
-// calls it.
+// Laws of tracks, for who reads what is promised. Each is a function that does nothing and promises the law; proofs
+// of crates above call it.
 
 ghost use Rattle.split_tracks.specs.Laws.{EveryRecordHasOnePlace, TracksAreInTheOrderOfTime};
 
