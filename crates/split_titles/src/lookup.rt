@@ -138,7 +138,7 @@ pub(crate) fn first_place(titles: &[&[u8]], wanted: &[u8]) -> Option<usize>
     None
 }
 
-// The column of a title that was named, or of the first of several between `|` that is there.
+// The column of a title that was named, or of the first of several between `|` that is there. Two of one title are refused.
 pub(crate) fn named_place<'a>(
     titles: &[&[u8]],
     wanted: &'a [u8],
@@ -146,9 +146,16 @@ pub(crate) fn named_place<'a>(
 ) -> Result<usize, TitleFault<'a>>
     ensures { IfOk result (λ at. at < length titles.now) }
 {
-    match first_place(titles, wanted) {
-        Some(at) => Ok(at),
-        None => Err(TitleFault::NoColumn { role, wanted }),
+    let Some(first) = first_place(titles, wanted) else {
+        return Err(TitleFault::NoColumn { role, wanted });
+    };
+    match next_place(titles, first + 1, titles[first], true) {
+        Some(second) => Err(TitleFault::OneTitle {
+            first,
+            second,
+            title: role.words(),
+        }),
+        None => Ok(first),
     }
 }
 
