@@ -3,8 +3,8 @@
 #
 # Writes OUT/groups/NNNN, the files TRACKS/*.csv in groups of at most 32, one per line; OUT/sums/NNNN, their checksums;
 # OUT/options, the options of homerange, one per line; OUT/program, the checksum and the name of the program, which
-# HOMERANGE names (if left out, that of program.sh); and OUT/steps, the runs, one per line: 'A A' for the tables of group A,
-# 'A B' for the overlaps of groups A and B. A run that stands is made again where one of these is another, whatever times
+# HOMERANGE names (if left out, that of program.sh); and OUT/steps, the runs, one per line: first 'A A' for the tables of each group,
+# then 'A B' for the overlaps of each two. A run that stands is made again where one of these is another, whatever times
 # files have. OUT/report.txt is removed. OPTION .. may stand before TRACKS too; what homerange refuses of them is refused here.
 set -eu
 LC_ALL=C
@@ -66,5 +66,5 @@ printf %s "$options" | keep options
 sha256sum "$program" | keep program
 for group in groups/*; do
     printf '%s\n' "${group##*/}"
-done | awk '{ name[NR] = $0 } END { for (i = 1; i <= NR; i++) for (j = i; j <= NR; j++) print name[i], name[j] }' |
+done | awk '{ name[NR] = $0; print $0, $0 } END { for (i = 1; i <= NR; i++) for (j = i + 1; j <= NR; j++) print name[i], name[j] }' |
     keep steps

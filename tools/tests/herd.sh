@@ -24,6 +24,28 @@ holds 'a herd runs with a changed input' $herd
 holds 'a changed input is run again' cmp direct herd/report.txt
 holds 'what it is not in is not made again' [ "$(stat -c %y herd/reports/0000.txt)" = "$mark" ]
 
+# Of a second group that lies elsewhere but for two animals these are run with those of the first whose boxes they meet.
+rm -rf apart tracks_apart called
+mkdir tracks_apart
+for track in tracks/*.csv; do
+    number=${track#tracks/deer} east=0
+    case $number in
+        0003[2-9]* | 0004[1-9]* | 0005[1-9]* | 0006*) east=200000 ;;
+    esac
+    awk -F, -v OFS=, -v east="$east" 'NR > 1 { $3 += east } 1' "$track" >"tracks_apart/${track#tracks/}"
+done
+"$HOMERANGE" tracks_apart/*.csv >direct
+printf '#!/bin/sh\nfor word; do echo "$word"; done | grep -c csv >>"%s/called"\nexec "%s" "$@"\n' "$work" "$HOMERANGE" >counting
+chmod +x counting
+holds 'a herd of two groups apart runs' env HOMERANGE=./counting JOBS=1 "$tools/herd/run.sh" tracks_apart apart
+holds 'a herd of two groups apart is one direct run' cmp direct apart/report.txt
+holds 'of a pair of groups those are run that may meet' [ "$(sed -n 4p called)" -lt 40 ]
+rm apart/pairs/* apart/reports/*.key
+holds 'a pair is run before its groups' "$tools/herd/step.sh" apart 0000 0001
+holds 'it is run whole' [ "$(sed -n 5p called)" = 64 ]
+holds 'a herd goes on after that' env HOMERANGE=./counting "$tools/herd/run.sh" tracks_apart apart
+holds 'a pair that was run whole is the same' cmp direct apart/report.txt
+
 # Other options, fewer files.
 "$HOMERANGE" --unit dm --percent 95 tracks/*.csv >direct
 holds 'a herd runs with options' $herd --unit dm --percent 95
@@ -40,6 +62,7 @@ holds 'a herd runs of fewer files' $herd
 holds 'fewer files are run anew' cmp direct herd/report.txt
 
 # A new program makes all anew, even one of an older date; a step of another one than the plan's is refused.
+rm called
 printf '#!/bin/sh\necho >>"%s/called"\nexec "%s" "$@"\n' "$work" "$HOMERANGE" >another
 chmod +x another
 touch -d '1 day ago' another

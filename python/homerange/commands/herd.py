@@ -23,7 +23,7 @@ import sys
 from array import array
 from concurrent.futures import ThreadPoolExecutor
 from contextlib import contextmanager
-from itertools import chain, combinations_with_replacement
+from itertools import chain, combinations
 from pathlib import Path
 from typing import Callable, Iterator, Sequence
 
@@ -60,7 +60,7 @@ def read_groups(out: Path) -> dict[str, int]:
     groups = {path.name: len(lines_of(path)) for path in sorted((out / "groups").iterdir())}
     need(groups, f"{out / 'groups'}: there is none")
     need(list(groups) == [f"{number:04}" for number in range(len(groups))], f"{out / 'groups'}: one is not there")
-    planned = [f"{first} {second}" for first, second in combinations_with_replacement(groups, 2)]
+    planned = [*(f"{group} {group}" for group in groups), *map(" ".join, combinations(groups, 2))]
     need(lines_of(out / "steps") == planned, f"{out / 'steps'}: not the steps of the {len(groups)} groups")
     return groups
 
