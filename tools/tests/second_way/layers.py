@@ -19,7 +19,10 @@ from .records import Run
 from .tables import moment
 
 Place = tuple[float, float]
-COLUMNS = {"ranges": "geom, animal, level, fixes, kept, corners, hectares, first, last, unit", "fixes": "geom, animal, n, time"}
+# A time with thousandths of a second, which some versions of GDAL leave out.
+FIRST, LAST, TIME = (f"strftime('%Y-%m-%dT%H:%M:%fZ', {title})" for title in ("first", "last", "time"))
+COLUMNS = {"ranges": f"geom, animal, level, fixes, kept, corners, hectares, {FIRST}, {LAST}, unit",
+           "fixes": f"geom, animal, n, {TIME}"}
 ENVELOPES = {0: 0, 1: 4}  # how many numbers the box of a shape has, by its kind
 PARAMETER = re.compile(r'PARAMETER\["([a-z_]+)",([-0-9.]+)\]')
 METRES = ('DATUM["WGS_1984"', 'PROJECTION["Transverse_Mercator"]', 'UNIT["metre",1')
