@@ -45,7 +45,7 @@ def season_of(year: int, month: int) -> str:
     return f"{first:04}-{first + 1:04} {season}"
 
 
-PERIODS: dict[str, Callable[[int, int], str]] = {"year": year_of, "season": season_of, "month": month_of}
+PERIODS: dict[str, Callable[[int, int], str]] = {"year": year_of, "month": month_of, "season": season_of}
 
 
 def check_by(by: Any) -> None:
