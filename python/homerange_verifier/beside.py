@@ -13,7 +13,7 @@ from homerange.record import Record
 PACKAGE = Path(__file__).resolve().parents[1] / "homerange"
 RELEASE = PACKAGE / "release" if (PACKAGE / "release" / "homerange").is_file() else PACKAGE.parents[1] / "release"
 # A room has files of any name, of which Python is to import none.
-MAKE = (sys.executable, "-P", "-c", "import sys; sys.path.insert(0, sys.argv.pop(1)); from homerange.results import main; main()",
+MAKE = (sys.executable, "-P", "-c", "import sys; sys.path.insert(0, sys.argv.pop(1)); from homerange.write.results import main; main()",
         str(PACKAGE.parent))
 
 

@@ -12,7 +12,8 @@ from frames import frame_of, with_splitter
 
 import homerange
 from homerange import home_range
-from homerange import program as finder, runs
+from homerange import program as finder
+from homerange.ranges import runs
 from homerange.program import find_program, find_split_program
 
 POINTS = cloud(6, 20)

@@ -9,10 +9,10 @@ from typing import Any, Callable, NamedTuple, Sequence
 import numpy
 import pandas
 
-from .errors import UNPRINTABLE, refuse
-from .read.cells import cells_of, odd_row, row_named
-from .read.fixes import Fixes
-from .read.reading import ReadTable
+from ..errors import UNPRINTABLE, refuse
+from ..read.cells import cells_of, odd_row, row_named
+from ..read.fixes import Fixes
+from ..read.reading import ReadTable
 from .outer import Track
 from .tracks import Tracks
 

@@ -12,22 +12,22 @@ from typing import TYPE_CHECKING, Any, Callable, Iterable, Sequence, Tuple
 import numpy
 import pandas
 
-from .bar import progress_of
-from .errors import ReportError, check_file, path_of, refuse, truth_of
+from ..bar import progress_of
+from ..errors import ReportError, check_file, path_of, refuse, truth_of
+from ..program import Program, checksum_of, find_program, program_of
+from ..read.fixes import Fixes, clock_of, is_of_fixes, reading_of
+from ..read.reading import ReadTable, has_calendar, read_again, read_table, tell, times_of
+from ..read.systems import crs_named
+from ..record import Record, read_record
+from ..report import Corners, Percent, Report, Table, doubled_area, read as read_lines
+from ..units import UNITS, zone_of_time, zone_text
 from .groups import Group, check_by, group_tracks, is_period, labels_of
 from .growth import share
 from .outer import counts_within, polygon_kept
 from .overview import Facts, Row, facts_of, reasons_of, rows_of
-from .program import Program, checksum_of, find_program, program_of
-from .read.fixes import Fixes, clock_of, is_of_fixes, reading_of
-from .read.reading import ReadTable, has_calendar, read_again, read_table, tell, times_of
-from .read.systems import crs_named
-from .record import Record, read_record
-from .report import Corners, Percent, Report, Table, doubled_area, read as read_lines
-from .report_rows import rows_in
+from .rows import rows_in
 from .runs import Runs
 from .tracks import Tracks, tracks_of_files, tracks_of_fixes
-from .units import UNITS, zone_of_time, zone_text
 
 if TYPE_CHECKING:
     import geopandas
@@ -314,7 +314,7 @@ class HomeRanges:
 
         Refused are a folder that is there, two names that come out the same, ranges without fixes, and what is refused
         of reports and programs elsewhere."""
-        from .output import write_folder
+        from ..write.output import write_folder
 
         tell(write_folder(self, folder, page))
 

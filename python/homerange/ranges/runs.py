@@ -9,11 +9,11 @@ from concurrent.futures import ThreadPoolExecutor
 from pathlib import Path
 from typing import Callable, Mapping, Sequence, Tuple
 
-from .errors import FAULTS, ProgramError, ReportError, one_line
+from ..errors import FAULTS, ProgramError, ReportError, one_line
+from ..program import Step, steps_of, workers
+from ..report import Corners, Report, lines_of, overlaps_of, parse
 from .outer import Track
-from .program import Step, steps_of, workers
-from .report import Corners, Report, lines_of, overlaps_of, parse
-from .report_rows import rows_in
+from .rows import rows_in
 from .tracks import track_text
 
 Progress = Callable[[int, int], object]  # is called with how many of how many runs are done
