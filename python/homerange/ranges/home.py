@@ -4,6 +4,7 @@ from __future__ import annotations
 
 import math
 import os
+import tempfile
 from collections import Counter
 from functools import cached_property
 from pathlib import Path
@@ -385,27 +386,29 @@ def home_range(
     if jobs is not None:
         jobs = whole_numbers([jobs], 1, 1024, "jobs")[0]
     shown, found = progress_of(progress), program_of(find_program(program))
-    table = table_of(x, reading, program, by)
-    tracks, groups = tracks_of_fixes(table.fixes), dict[str, Group]()
-    if by is not None:
-        tracks, groups = group_tracks(tracks, labels_of(table, by))
-    own = reading_of(table.fixes)
-    tell([*table.said, *tracks.notes[len(own.notes):]])
-    report = Runs(found.path, tracks.by_name, ",".join(map(str, wanted)), own.unit).report(shown, jobs)
+    with tempfile.TemporaryDirectory(prefix="homerange-") as folder:
+        table = table_of(x, reading, Path(folder), program, by)
+        tracks, groups = tracks_of_fixes(table.fixes), dict[str, Group]()
+        if by is not None:
+            tracks, groups = group_tracks(tracks, labels_of(table, by))
+        own, files = reading_of(table.fixes), Path(folder) / "tracks"
+        tell([*table.said, *tracks.notes[len(own.notes):]])
+        made = files if files.is_dir() and by is None else None  # the files that the program made of these tracks
+        report = Runs(found.path, tracks.by_name, ",".join(map(str, wanted)), own.unit, made, tracks.names).report(shown, jobs)
     ranges = HomeRanges(report, tracks, crs=own.system, tz=clock_of(table.fixes), program=found)
     ranges.groups = groups
     return ranges
 
 
-def table_of(x: Any, reading: dict[str, Any], program: str | os.PathLike[str] | None, by: Any) -> ReadTable:
+def table_of(x: Any, reading: dict[str, Any], folder: Path, program: str | os.PathLike[str] | None, by: Any) -> ReadTable:
     """The fixes as they were given, or as they are read; without a frame's own columns where nobody asks for them."""
     has_columns = by is not None and not is_period(by)
     if not isinstance(x, Fixes) or not is_of_fixes(x):
-        return read_table(x, reading, program, has_columns)
+        return read_table(x, reading, folder, program, has_columns)
     named = next((name for name, value in reading.items() if value is not None), None)
     if named is not None:
         refuse(f"{named} says how a table is read, and these fixes were read already: give it to read_fixes")
-    return read_again(x, program, has_columns)
+    return read_again(x, folder, program, has_columns)
 
 
 def read_report(
@@ -485,8 +488,8 @@ def boundary_of(ranges: HomeRanges, reserve: Any) -> Any:
     if reserve.area == 0:
         refuse("the reserve has no area")
     if own is None and is_in_degrees(reserve.bounds) and not meets(reserve.bounds, box_of_ranges(ranges)):
-        refuse("the reserve has no CRS, and lies as longitude and latitude do: make a GeoSeries of it with its CRS, which is taken to "
-               "that of the ranges", "degrees")
+        refuse("the reserve has no CRS, and lies as longitude and latitude do: make a GeoSeries of it with its CRS, which is taken "
+               "to that of the ranges", "degrees")
     return reserve
 
 
