@@ -28,12 +28,12 @@ from .errors import (
 )
 
 if TYPE_CHECKING:
-    from .layers import write_layers
-    from .page import write_page
-    from .plot import plot_curve, plot_ranges
-    from .ranges import HomeRanges, home_range, read_report, share_inside
+    from .ranges.home import HomeRanges, home_range, read_report, share_inside
     from .read.fixes import Fixes
     from .read.reading import read_fixes
+    from .write.layers import write_layers
+    from .write.page import write_page
+    from .write.plot import plot_curve, plot_ranges
 
 __version__ = "1.0.0"
 __all__ = [
@@ -48,11 +48,12 @@ def __getattr__(name: str) -> Any:
     """What needs pandas is loaded when it is first asked for: tables of text are read without it."""
     if name not in __all__:
         raise AttributeError(f"module 'homerange' has no attribute {name!r}")
-    from . import layers, page, plot, ranges
+    from .ranges import home
     from .read import fixes, reading
+    from .write import layers, page, plot
 
     places = {"write_layers": layers, "write_page": page, "Fixes": fixes, "read_fixes": reading, **dict.fromkeys(DRAWN, plot)}
-    return getattr(places.get(name, ranges), name)
+    return getattr(places.get(name, home), name)
 
 
 def __dir__() -> list[str]:

@@ -14,7 +14,7 @@ PACKAGE = Path(__file__).resolve().parents[1] / "homerange"
 RELEASE = PACKAGE / "release" if (PACKAGE / "release" / "homerange").is_file() else PACKAGE.parents[1] / "release"
 # A room has files of any name, of which Python is to import none. Its option -P is not yet known to 3.10.
 MAKE = (sys.executable, "-c",
-        "import sys; sys.path = [sys.argv.pop(1), *filter(None, sys.path)]; from homerange.results import main; main()",
+        "import sys; sys.path = [sys.argv.pop(1), *filter(None, sys.path)]; from homerange.write.results import main; main()",
         str(PACKAGE.parent))
 
 

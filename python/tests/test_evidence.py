@@ -11,8 +11,9 @@ import pytest
 from exact import cloud
 from frames import frame_of, with_splitter
 
-from homerange import FrameError, HomeRangeInfo, HomeRangeNote, ProgramError, ReportError, evidence, home_range, read_fixes, read_report
-from homerange.output import cell_text, shown_cell
+from homerange import FrameError, HomeRangeInfo, HomeRangeNote, ProgramError, ReportError, home_range, read_fixes, read_report
+from homerange.write import evidence
+from homerange.write.output import cell_text, shown_cell
 from homerange.program import find_program
 
 TOOLS = Path(__file__).parents[2] / "tools"

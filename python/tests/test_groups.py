@@ -117,7 +117,7 @@ def test_rows_without_a_group(frame):
 
 
 @pytest.mark.parametrize("by, said", [
-    ("week", "by: there is no column 'week', and it is none of 'year', 'season', 'month'"), (5, "by=5 is none of 'year', 'season', 'month'"),
+    ("week", "by: there is no column 'week', and it is none of 'year', 'month', 'season'"), (5, "by=5 is none of 'year', 'month', 'season'"),
     ({"a": 1}, "by=.* is none of"), (["a"] * 79, "by is 79 values for 80 rows"), (lambda fixes: 5, "by is 5 for 80 rows"),
     (pandas.Series(["a"] * 79), "by is a Series with another index than the frame"),
     (pandas.Series([1.5] * 80), "row .*: by has a group that is '1.5', a number that is not whole"),

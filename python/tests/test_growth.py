@@ -9,7 +9,7 @@ from exact import area2, cloud, hull
 from frames import frame_of
 
 from homerange import FrameError, home_range, read_report
-from homerange.growth import growth_of
+from homerange.ranges.growth import growth_of
 from homerange.program import find_program
 from homerange.record import read_record
 

@@ -1,12 +1,13 @@
-"""Who may import whom: what reads fixes stands on a few modules alone, so that it can be read, and taken, by itself."""
+"""Who may import whom: a folder knows itself, those before it and the modules beside the folders, which know each other alone."""
 import ast
 from pathlib import Path
 
 import homerange
 
 PACKAGE = Path(homerange.__file__).parent
-BELOW = {"errors", "program", "record", "report", "units", "zones"}  # what reading stands on, and what these stand on
-WITHOUT_PANDAS = ("call", "words")  # which commands take
+FOLDERS = ("read", "ranges", "write", "commands")  # each stands on those before it
+WITHOUT_PANDAS = ("read/call", "read/words", "write/evidence")  # which commands take
+UPWARD = {("ranges/home", "write/output")}  # the method evidence, which hands on
 
 
 def imports_of(path):
@@ -24,16 +25,25 @@ def imports_of(path):
     return own, others
 
 
-def test_reading_stands_on_little():
-    for path in (PACKAGE / "read").glob("*.py"):
+def name_of(path):
+    return path.relative_to(PACKAGE).with_suffix("").as_posix()
+
+
+def folder_of(name):
+    return name.rpartition("/")[0]
+
+
+def test_each_folder_stands_on_those_before_it():
+    for path in sorted(PACKAGE.rglob("*.py")):
+        name = name_of(path)
         own, _ = imports_of(path)
-        assert {name for name in own if not name.startswith("read/")} <= BELOW, path.name
-    for name in BELOW:
+        allowed = {"", *FOLDERS[:FOLDERS.index(folder_of(name)) + 1]} if folder_of(name) else {""}
+        odd = {other for other in own if folder_of(other) not in allowed and (name, other) not in UPWARD}
+        assert name == "__init__" or not odd, f"{name} imports {odd}"
+
+
+def test_what_commands_take_needs_no_pandas():
+    beside = [name_of(path) for path in PACKAGE.glob("*.py") if path.name != "__init__.py"]
+    for name in (*beside, *WITHOUT_PANDAS):
         own, others = imports_of(PACKAGE / f"{name}.py")
-        assert own <= BELOW | {"__version__"} and not others & {"pandas", "numpy"}, name
-
-
-def test_options_and_the_call_need_no_pandas():
-    for name in WITHOUT_PANDAS:
-        own, others = imports_of(PACKAGE / "read" / f"{name}.py")
-        assert own <= BELOW | {f"read/{other}" for other in WITHOUT_PANDAS} and not others & {"pandas", "numpy"}, name
+        assert own <= {"__version__", *beside, *WITHOUT_PANDAS} and not others & {"pandas", "numpy"}, name

@@ -12,7 +12,7 @@ from frames import frame_of, noted
 
 import homerange
 from homerange import home_range, write_layers
-from homerange.layers import put_layers
+from homerange.write.layers import put_layers
 
 geopandas = pytest.importorskip("geopandas")
 SQUARE = [(500000, 5000000), (500100, 5000000), (500100, 5000100), (500000, 5000100)]
@@ -46,7 +46,7 @@ def test_polygons_of_all_levels_stand_in_one_layer(herd, tmp_path):
 @pytest.mark.parametrize("text", ["+proj=utm +zone=33 +datum=WGS84 +units=m", "+proj=laea +lat_0=46 +lon_0=15 +units=m"])
 def test_a_definition_has_no_code_in_the_layers(tmp_path, text):
     """Whatever writes them: pyogrio would write the code of the first, EPSG:32633, and fiona writes none."""
-    from homerange.layers import placed
+    from homerange.write.layers import placed
 
     frame = geopandas.GeoDataFrame(geometry=geopandas.points_from_xy([500000], [5000000]), crs=text)
     assert placed(frame).crs.to_epsg() is None and placed(frame).crs == frame.crs

@@ -7,10 +7,10 @@ from exact import cloud, hull
 from frames import frame_of
 
 from homerange import FrameError, home_range, write_page
-from homerange.drawing import counts_of, step_of
-from homerange.page import in_order
-from homerange.page_curves import Axes, Curve, steps
-from homerange.page_map import WIDTH, Frame, Numbers, Shape, maps, outlines, overlaps, thinned
+from homerange.write.drawing import counts_of, step_of
+from homerange.write.page import in_order
+from homerange.write.page_curves import Axes, Curve, steps
+from homerange.write.page_map import WIDTH, Frame, Numbers, Shape, maps, outlines, overlaps, thinned
 
 SQUARE = [(0.0, 0.0), (2000.0, 0.0), (2000.0, 2000.0), (0.0, 2000.0)]
 

@@ -5,10 +5,10 @@ from array import array
 import pytest
 from pages import area, length, share
 
-from homerange.formats import Clock, fixed, hectares, interval, listed, share_of_fixes, with_sign
-from homerange.overview import Row, facts_of
-from homerange.page_tables import without_range
-from homerange.page_text import difference, said, system_of
+from homerange.write.formats import Clock, fixed, hectares, interval, listed, share_of_fixes, with_sign
+from homerange.ranges.overview import Row, facts_of
+from homerange.write.page_tables import without_range
+from homerange.write.page_text import difference, said, system_of
 from homerange.report import Rows, Table
 
 

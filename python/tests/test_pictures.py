@@ -11,7 +11,7 @@ matplotlib.use("Agg")
 from matplotlib import pyplot  # noqa: E402
 
 from homerange import FrameError, home_range, plot_curve, plot_ranges  # noqa: E402
-from homerange.plot_style import COLOURS  # noqa: E402
+from homerange.write.plot_style import COLOURS  # noqa: E402
 
 HERD = {"vixen": cloud(1, 60), "_boar": cloud(2, 40), "a$b$": cloud(3, 30), "NA": cloud(4, 1)}
 SQUARE = [(0, 0), (20_000, 0), (20_000, 20_000), (0, 20_000)]

@@ -12,7 +12,8 @@ from frames import frame_of, with_splitter
 
 import homerange
 from homerange import home_range
-from homerange import program as finder, runs
+from homerange import program as finder
+from homerange.ranges import runs
 from homerange.program import find_program, find_split_program
 
 POINTS = cloud(6, 20)
@@ -49,7 +50,7 @@ def runnable(path):
     (1, homerange.FileError), (2, homerange.OptionError), (3, homerange.OutOfMemoryError), (4, homerange.OutputError),
     (5, homerange.CutError)])
 def test_each_status_has_its_error(stand_in, status, kind):
-    program = stand_in('echo "homerange: 1.csv: record 5: what is wrong" >&2', f"exit {status}")
+    program = stand_in('echo "homerange: ./old boar.csv: record 5: what is wrong" >&2', f"exit {status}")
     with pytest.raises(kind) as caught:
         home_range(frame_of(a=POINTS, **{"old boar": POINTS}), program=program)
     assert str(caught.value) == "homerange: old boar: record 5: what is wrong"
@@ -201,9 +202,9 @@ def test_ranges_know_their_program():
 
 @pytest.mark.parametrize("change, said", [
     ("s/^end,1$//", "is cut off"),
-    ("s/^row,0,7,/row,0,8,/", "line 9: 'row,0,8,.*, but 'row,0,7,'"),
-    ("/^box/d", "line 2: 'row,0,1,.*, but 'box,0,'"),
-    ("s/,0,/,b,/", "reports another unit, other animals or fixes"),
+    ("s/^row,a,7,/row,a,8,/", "line 9: 'row,a,8,.*, but 'row,a,7,'"),
+    ("/^box/d", "line 2: 'row,a,1,.*, but 'box,a,'"),
+    ("s/,a,/,b,/", "reports another unit, other animals or fixes"),
 ])
 def test_a_report_that_does_not_fit_is_refused(stand_in, change, said):
     with pytest.raises(homerange.ReportError, match=said):
@@ -212,7 +213,7 @@ def test_a_report_that_does_not_fit_is_refused(stand_in, change, said):
 
 def test_kept_fixes_that_are_not_those_of_the_report_are_refused(stand_in):
     """A program that reports the 95 per cent polygon of other fixes than the rule keeps."""
-    program = stand_in(f'"{real_program()}" "$@" | sed "s/^\\(percent,0,95,19,[0-9]*\\),.*/\\1,1/"')
+    program = stand_in(f'"{real_program()}" "$@" | sed "s/^\\(percent,a,95,19,[0-9]*\\),.*/\\1,1/"')
     found = home_range(frame_of(a=POINTS), program=program)
     with pytest.raises(homerange.ReportError, match="the 95 per cent polygon of a is not that of the report"):
         found.corners(95)

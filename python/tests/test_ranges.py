@@ -7,7 +7,8 @@ import pytest
 from exact import area2, cloud, covers, hull, nearest
 from frames import frame_of
 
-from homerange import FrameError, HomeRangeNote, home_range, read_fixes, runs
+from homerange import FrameError, HomeRangeNote, home_range, read_fixes
+from homerange.ranges import runs
 
 HERD = {
     "vixen": cloud(1, 120), "old boar": cloud(2, 75, 300, 562500), "Jäger": cloud(3, 9, 5), "NA": cloud(4, 41, 2000)}

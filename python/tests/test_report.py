@@ -11,9 +11,9 @@ from exact import area2, cloud, hull, nearest
 import homerange
 from homerange import FileError, FrameError, ReportError, read_report
 from homerange.program import find_program
-from homerange.outer import kept_of, outer_fixes, polygon_kept
+from homerange.ranges.outer import kept_of, outer_fixes, polygon_kept
 from homerange.report import kept_places, read
-from homerange.report_rows import rows_in
+from homerange.ranges.rows import rows_in
 
 TRACKS = {"vixen": cloud(7, 40), "old boar": cloud(8, 11)}
 

@@ -1,5 +1,6 @@
 # frames.R FOLDER: tables of fixes in a folder, and of each the evidence that the package for R makes of it as a data frame, in
-# by_r, and again of the files of one. same_frames.py makes that of the package for Python, by the same calls.
+# by_r, and again of the files of one; and what other calls say, or why they are refused, in by_r/said.csv. same_frames.py makes
+# that of the package for Python, by the same calls.
 suppressMessages(library(homerange))
 setwd(commandArgs(trailingOnly = TRUE)[1])
 day <- as.Date("2026-11-26")
@@ -31,6 +32,9 @@ one <- subset(transform(told, easting = easting - 562000, northing = northing - 
 hand_in("grid", one, name = "Fox", since = "2024-04-20 05:00")
 degrees <- transform(told, lon = 15 + (easting - 500000) / 77000, lat = 46 + (northing - 5095000) / 111000)
 hand_in("degrees", degrees[!is.na(degrees$lon), c("animal", "timestamp", "lon", "lat")])
+small <- data.frame(animal = "newt", second = c(0, 30, 90, 95), x = c(423.456, 430.125, 441.375, 433.001),
+                    y = c(288.204, 271.118, 280.251, 299.003))
+hand_in("decimals", small, unit = "dm")
 many <- data.frame(animal = paste0("deer", rep(1:70, each = 9)), second = 3600 * 0:8, easting = head(deer$utm.easting, 630),
                    northing = head(deer$utm.northing, 630))
 hand_in("many", many, 95, skip_unnamed = TRUE)
@@ -40,3 +44,47 @@ tracks <- file.path("by_r", "told", "tracks")
 files <- list.files(tracks, "[.]csv$", full.names = TRUE)
 ranges <- read_report(file.path("by_r", "told", "report.txt"), files = files, record = file.path(tracks, "split.txt"))
 suppressMessages(homerange_evidence(ranges, file.path("by_r", "again"), made = day))
+
+# What a call says, each line behind its name, or the kind and the text of its refusal.
+answer <- function(call) {
+  said <- character()
+  hear <- function(told) {
+    said <<- c(said, sub("^homerange: (.*)\n$", "\\1", conditionMessage(told)))
+    tryInvokeRestart("muffleMessage")
+  }
+  tryCatch({
+    withCallingHandlers(call(), message = hear)
+    data.frame(kind = rep("said", length(said)), text = said)
+  }, homerange_error = function(fault) data.frame(kind = fault$kind, text = conditionMessage(fault)))
+}
+
+# The fixes with other columns.
+changed <- function(...) {
+  columns <- list(...)
+  fixes[names(columns)] <- columns
+  fixes
+}
+
+fixes <- read_fixes(told, zone = "33N", quiet = TRUE)
+ranges <- home_range(fixes, 50, quiet = TRUE)
+seconds <- read_fixes(small, unit = "dm", quiet = TRUE)
+calls <- list(
+  all = function() read_fixes(told, zone = "33N"), decimals = function() read_fixes(small, unit = "dm"),
+  fixes = function() home_range(fixes), sorted = function() home_range(fixes[order(fixes$easting), ]),
+  moved = function() home_range(changed(easting = fixes$easting + 0.25)),
+  swapped = function() home_range(changed(easting = fixes$northing, northing = fixes$easting)),
+  twice = function() home_range(rbind(fixes, fixes)), marked = function() home_range(changed(use = fixes$easting %% 2)),
+  none = function() home_range(fixes[0, ]), again = function() home_range(fixes, zone = "33N"),
+  bound = function() rbind(fixes, read_fixes(told, zone = "33N", unit = "dm", quiet = TRUE)),
+  list = function() read_fixes(transform(told, sensor.type = I(as.list(animal)))),
+  part = function() read_fixes(transform(told, animal = 1.5)), rows = function() read_fixes(told[0, ]),
+  moments = function() read_fixes(transform(told[c("animal", "easting", "northing")], local_time = as.POSIXct(told$timestamp, tz = "UTC")), zone = "33N"),
+  option = function() read_fixes(told, nonsense = 1), zone = function() read_fixes(told, zone = 33), word = function() read_fixes(told, sensor = c("gps", "a,b")),
+  files = function() read_fixes(told, encoding = "latin-1"), degrees = function() read_fixes(told, crs = 4326),
+  moon = function() read_fixes(told, crs = "+proj=tmerc +R=1737400 +units=m"), by = function() home_range(fixes, by = "nothing"),
+  season = function() home_range(seconds, by = "season"), parts = function() home_range(seconds, by = c(1, 1.5, 2, 2)),
+  page = function() write_page(ranges, file.path("none", "page.html")), report = function() read_report("none")
+)
+answers <- lapply(calls, answer)
+found <- do.call(rbind, Map(function(name, own) cbind(call = rep(name, nrow(own)), own), names(answers), answers))
+write.csv(found, file.path("by_r", "said.csv"), row.names = FALSE)

@@ -11,7 +11,7 @@ from pages import Page, area, share
 
 sys.path.insert(0, str(Path(__file__).resolve().parents[2] / "python"))
 
-from homerange.output import cell_text
+from homerange.write.output import cell_text
 
 
 def read_tracks(path):

@@ -1,6 +1,8 @@
 """same_frames.py FOLDER: of the tables of frames.R in a folder, and of the evidence that the package for R makes of them in
 by_r, it makes that of the package for Python in by_python, and says which files are not the same bytes, or whose evidence
-the verifier of the repository does not hold."""
+the verifier of the repository does not hold; and which calls say something else, or are refused otherwise."""
+import csv
+import re
 import subprocess
 import sys
 import warnings
@@ -12,7 +14,7 @@ sys.path.insert(0, str(TOOLS.parent / "python"))
 
 import pandas
 
-from homerange import home_range, read_fixes, read_report
+from homerange import HomeRangeError, home_range, read_fixes, read_report, write_page
 from homerange.program import find_program
 
 OWN = ("made: ", "commit: ", "tool,")  # how lines begin that say what made a folder, and when
@@ -24,6 +26,7 @@ CALLS = {
     "system": {"crs": "EPSG:3035", "unit": "dm", "animal": "animal"},
     "filtered": {"crs": 3035},
     "grid": {"name": "Fox", "since": "2024-04-20 05:00"},
+    "decimals": {"unit": "dm"},
     "degrees": {},
     "many": {"skip_unnamed": True}}
 LEVELS = {"filtered": (33, 90), "many": 95}
@@ -43,6 +46,58 @@ def hand_in_again(folder):
     files = sorted((made / "tracks").glob("*.csv"))
     found = read_report(made / "report.txt", files=files, record=made / "tracks" / "split.txt")
     found.evidence(folder / "by_python" / "again", made=DAY)
+
+
+def calls_of(told, small):
+    """The calls of frames.R whose answers are compared."""
+    fixes, seconds = read_fixes(told, zone="33N"), read_fixes(small, unit="dm")
+    ranges = home_range(fixes, 50)
+    moments = told[["animal", "easting", "northing"]].assign(local_time=pandas.to_datetime(told["timestamp"], utc=True))
+    swapped = fixes.assign(easting=fixes["northing"], northing=fixes["easting"])
+    return {
+        "all": lambda: read_fixes(told, zone="33N"), "decimals": lambda: read_fixes(small, unit="dm"), "fixes": lambda: home_range(fixes),
+        "sorted": lambda: home_range(fixes.sort_values("easting", kind="stable")), "swapped": lambda: home_range(swapped),
+        "moved": lambda: home_range(fixes.assign(easting=fixes["easting"] + 0.25)), "twice": lambda: home_range(pandas.concat([fixes, fixes])),
+        "marked": lambda: home_range(fixes.assign(use=fixes["easting"] % 2)), "none": lambda: home_range(fixes.iloc[:0]),
+        "again": lambda: home_range(fixes, zone="33N"), "bound": lambda: pandas.concat([fixes, read_fixes(told, zone="33N", unit="dm")]),
+        "list": lambda: read_fixes(told.assign(**{"sensor.type": told["animal"].map(list)})), "rows": lambda: read_fixes(told.head(0)),
+        "part": lambda: read_fixes(told.assign(animal=1.5)), "moments": lambda: read_fixes(moments, zone="33N"),
+        "option": lambda: read_fixes(told, nonsense=1), "zone": lambda: read_fixes(told, zone=33),
+        "word": lambda: read_fixes(told, sensor=["gps", "a,b"]), "files": lambda: read_fixes(told, encoding="latin-1"),
+        "degrees": lambda: read_fixes(told, crs=4326), "moon": lambda: read_fixes(told, crs="+proj=tmerc +R=1737400 +units=m"),
+        "by": lambda: home_range(fixes, by="nothing"), "season": lambda: home_range(seconds, by="season"),
+        "parts": lambda: home_range(seconds, by=[1, 1.5, 2, 2]), "page": lambda: write_page(ranges, "none/page.html"),
+        "report": lambda: read_report("none")}
+
+
+def answer(call):
+    """What a call says, or the kind and the text of its refusal."""
+    with warnings.catch_warnings(record=True) as said:
+        warnings.simplefilter("always")
+        try:
+            call()
+        except HomeRangeError as fault:
+            kind = getattr(fault, "kind", type(fault).__name__.removesuffix("Error").lower())
+            return [(kind, str(fault))]
+    return [("said", str(warning.message)) for warning in said]
+
+
+def plain(text):
+    """A line of either language, without what each has by its own syntax."""
+    text = re.sub(r" \((frame[.]iloc\[[0-9]+\]|x\[[0-9]+, \])\)", "", text.replace('"', "'").replace(" = ", "="))
+    return re.sub(": (make times of them|leave fixes without|project it|make it one).*", "", text)
+
+
+def other_answers(folder):
+    """The calls whose answers are not the same in both languages, with both."""
+    told, small = (pandas.read_csv(folder / f"{name}.csv") for name in ("told", "decimals"))
+    for table in (told, small):
+        table.index += 1  # as rows are numbered in R
+    with open(folder / "by_r" / "said.csv", encoding="utf-8", newline="") as file:
+        by_r = [(row["call"], row["kind"], plain(row["text"])) for row in csv.DictReader(file)]
+    by_python = [(name, kind, plain(text)) for name, call in calls_of(told, small).items() for kind, text in answer(call)]
+    return [f"{who}: {', '.join(own)}" for who, these, those in (("R", by_r, by_python), ("Python", by_python, by_r))
+            for own in these if own not in those]
 
 
 def shared(path):
@@ -78,4 +133,4 @@ hand_in_again(folder)
 names = [*CALLS, "again"]
 found = [path for name in names for path in others(folder, name)]
 faults = [f"not the same bytes: {', '.join(found)}"] if found else []
-sys.exit("\n".join([*faults, *(fault for name in names for fault in unheld(folder, name))]) or 0)
+sys.exit("\n".join([*faults, *other_answers(folder), *(fault for name in names for fault in unheld(folder, name))]) or 0)

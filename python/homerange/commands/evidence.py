@@ -18,8 +18,8 @@ import sys
 from pathlib import Path
 
 from ..errors import HomeRangeError, OptionError, one_line
-from ..evidence import Wish, write_evidence, write_herd_evidence
 from ..program import program_of
+from ..write.evidence import Wish, write_evidence, write_herd_evidence
 from .options import Options, program_of_command, show_all
 
 

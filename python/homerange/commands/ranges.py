@@ -18,12 +18,12 @@ import sys
 from pathlib import Path
 
 from ..about import TYPED, read_about
-from ..units import UNITS, zone_of_time
 from ..bar import Log
 from ..errors import FrameError, HomeRangeError, OptionError, one_line
-from ..evidence import ABOUT, Wish, make_report, new_folder
 from ..program import program_of
 from ..read.call import split_table
+from ..units import UNITS, zone_of_time
+from ..write.evidence import ABOUT, Wish, make_report, new_folder
 from .options import Options, program_of_command, show_all, split_program_of_command
 from .tables import add_page_options, check_libraries, words_of, write_all
 
@@ -106,7 +106,7 @@ def fill(folder: Path, options: argparse.Namespace, log: Log, program: str, spli
         log.say(line, by="split")
     log.at("running the program")
     words = words_of(options, options.clock or options.tz or "UTC")
-    from ..report_rows import rows_in
+    from ..ranges.rows import rows_in
 
     report = make_report(Path(), Wish(options.percent, None, program_of(program)), words, rows_in)
     write_all(Path(), options.over, read_about(Path(ABOUT)), log, program, report)

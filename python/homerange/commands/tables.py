@@ -24,18 +24,18 @@ from pathlib import Path
 from typing import TYPE_CHECKING
 
 from ..about import TYPED, About, Words
-from ..units import zone_of_time
 from ..bar import Log
 from ..errors import HomeRangeError, refuse
-from ..evidence import TRACKS, Wish, about_of, used_tracks
 from ..program import find_program, program_of
 from ..record import record_in
-from ..results import BOUNDARY, LAYERS, PAGE, TABLES, read_ranges, write_results
+from ..units import zone_of_time
+from ..write.evidence import TRACKS, Wish, about_of, used_tracks
+from ..write.results import BOUNDARY, LAYERS, PAGE, TABLES, read_ranges, write_results
 from ..zones import text_of_zone, zone_of
 from .options import Options
 
 if TYPE_CHECKING:
-    from ..ranges import HomeRanges
+    from ..ranges.home import HomeRanges
     from ..report import Report
 
 PICTURES = ("curves.png", "ranges.png")
@@ -62,8 +62,8 @@ def write_pictures(ranges: HomeRanges, folder: Path) -> None:
     """Writes the curves, of many animals each in a panel of its own, and the polygons of all levels that can be had."""
     import matplotlib
 
-    from ..page import levels_drawn
-    from ..plot import plot_curve, plot_ranges
+    from ..write.page import levels_drawn
+    from ..write.plot import plot_curve, plot_ranges
 
     matplotlib.use("Agg")
     many = len(ranges.animals) > MANY
@@ -75,7 +75,7 @@ def write_pictures(ranges: HomeRanges, folder: Path) -> None:
 def write_all(folder: Path, over: Path | None, about: About, log: Log, program: str | None = None,
               report: Report | None = None) -> None:
     """Writes all that is made of a report, which may be known, into its folder; the page has what the record of the run says."""
-    from ..page import rings_given, write_rings
+    from ..write.page import rings_given, write_rings
 
     log.at("reading the report")
     ranges = read_ranges(folder, about, program, report)

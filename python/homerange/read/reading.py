@@ -66,28 +66,28 @@ def read_fixes(x: Any, *, program: str | os.PathLike[str] | None = None, **optio
     (HomeRangeInfo). What cannot be right is refused (FrameError), with the row; ProgramError is raised where the program is not
     there.
     """
-    table = read_table(x, options, program)
+    with tempfile.TemporaryDirectory(prefix="homerange-") as folder:
+        table = read_table(x, options, Path(folder), program)
     tell(table.said)
     table.fixes.reading = replace(reading_of(table.fixes), rows=checksum_of_rows(table.fixes))
     return table.fixes
 
 
 def read_table(
-    x: Any, options: Mapping[str, Any], program: str | os.PathLike[str] | None = None, has_columns: bool = True,
+    x: Any, options: Mapping[str, Any], folder: Path, program: str | os.PathLike[str] | None = None, has_columns: bool = True,
 ) -> ReadTable:
-    """The fixes of a file or a frame, of a frame with its own columns if they are wanted."""
+    """The fixes of a file or a frame, of a frame with its own columns if they are wanted. The folder gets their tracks."""
     own, options = frame_given(x), {**options, "tz": zone_text(options.get("tz"))}
     words_of_options({**options, "crs": None})  # what cannot be right is refused before anything is looked for
-    with tempfile.TemporaryDirectory(prefix="homerange-") as folder:
-        if isinstance(own, (str, os.PathLike)):
-            return read_file(path_of(own, "path"), options, Path(folder), find_split_program(program))
-        if not isinstance(own, pandas.DataFrame):
-            helps = ": make it one, as by to_pandas()" if hasattr(own, "to_pandas") else ""
-            refuse(f"a {type(x).__name__} is neither a path nor a data frame with a row for each fix{helps}", "empty")
-        return read_frame(own, options, Path(folder), find_split_program(program), has_columns)
+    if isinstance(own, (str, os.PathLike)):
+        return read_file(path_of(own, "path"), options, folder, find_split_program(program))
+    if not isinstance(own, pandas.DataFrame):
+        helps = ": make it one, as by to_pandas()" if hasattr(own, "to_pandas") else ""
+        refuse(f"a {type(x).__name__} is neither a path nor a data frame with a row for each fix{helps}", "empty")
+    return read_frame(own, options, folder, find_split_program(program), has_columns)
 
 
-def read_again(fixes: Fixes, program: str | os.PathLike[str] | None = None, has_columns: bool = True) -> ReadTable:
+def read_again(fixes: Fixes, folder: Path, program: str | os.PathLike[str] | None = None, has_columns: bool = True) -> ReadTable:
     """Fixes as they were read, if their rows are still the same; else the program reads their rows as a frame. Only what was not
     said before is said, and not what was taken."""
     before = reading_of(fixes)
@@ -98,8 +98,7 @@ def read_again(fixes: Fixes, program: str | os.PathLike[str] | None = None, has_
     rows = rows_of_fixes(fixes)
     known = {"zone": before.zone} if before.crs is None else {"crs": before.crs}
     text = text_of_frame(rows.reset_index(drop=True), {"unit": before.unit, **known, "tz": clock_of(fixes)})
-    with tempfile.TemporaryDirectory(prefix="homerange-") as folder:
-        found = read_text(text._replace(labels=fixes.index), Path(folder), find_split_program(program), has_columns)
+    found = read_text(text._replace(labels=fixes.index), folder, find_split_program(program), has_columns)
     own = reading_of(found.fixes)
     new = [note for note in own.notes if note not in before.notes and not note.startswith(TAKEN)]
     own = replace(own, notes=(*before.notes, *new), left=left_of_both(before, own, fixes), is_again=True)

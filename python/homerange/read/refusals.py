@@ -57,8 +57,8 @@ def odd_cells(columns: Iterable[Column]) -> list[Odd]:
 def refuse_class(text: Text, cells: Sequence[Odd], kind: str) -> NoReturn:
     """Refuses the first of cells that have no text."""
     first = min(cells, key=lambda own: own.at)
-    what = f"{in_own_words(first.title, text)} is of the class {first.kind}"
-    refuse(f"{row_named(text.labels, first.at)}: {what}, of which no cell is known: make text, numbers or times of it", kind, first.at + 1)
+    what = f"{in_own_words(first.title, text)} is of the class {first.kind}, of which no cell is known"
+    refuse(f"{row_named(text.labels, first.at)}: {what}: make text, numbers or times of it", kind, first.at + 1)
 
 
 def check_cells(text: Text, record: Record) -> None:
@@ -93,7 +93,8 @@ def refuse_parts(text: Text, column: Column) -> None:
     values = column.values
     if isinstance(values.dtype, numpy.dtype) and values.dtype.kind in "biu" or pandas.api.types.infer_dtype(values) == "string":
         return
-    at = next((at for at, value in enumerate(values.tolist()) if isinstance(value, (float, numpy.floating)) and value % 1 > 0), None)
+    cells = enumerate(values.tolist())
+    at = next((at for at, value in cells if isinstance(value, (float, numpy.floating)) and value % 1 > 0), None)
     if at is not None:
         what = f"{column.title} is {cell_of(values.iloc[at])}, a number that is not whole: make it text"
         refuse(f"{row_named(text.labels, at)}: {what}", "name", at + 1)

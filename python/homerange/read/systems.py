@@ -41,8 +41,8 @@ def crs_named(crs: Any) -> Any:
     if found is None or is_name and found.name.lower() != crs.lower():
         refuse(f"crs={crs!r} names no reference system", "crs")
     if found.is_geographic:
-        refuse(f"the CRS {found.name} has longitude and latitude, which are no plane coordinates: name their columns by lon and lat, "
-               "without crs", "crs")
+        refuse(f"the CRS {found.name} has longitude and latitude, which are no plane coordinates: name their columns by lon and "
+               "lat, without crs", "crs")
     check_plane(found)
     return None if is_local(found) else found
 

@@ -14,7 +14,7 @@ sys.path.insert(0, str(Path(__file__).resolve().parents[3] / "python"))
 import pandas
 from homerange import FrameError, read_fixes
 from homerange.errors import one_line
-from homerange.tracks import track_text, tracks_of_fixes
+from homerange.ranges.tracks import track_text, tracks_of_fixes
 
 OF_FILES = {"encoding", "skip-lines", "header", "mark"}  # options
 # Why pandas makes another frame of a table than the text is.

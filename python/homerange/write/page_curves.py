@@ -4,7 +4,7 @@ from __future__ import annotations
 
 from typing import NamedTuple, Sequence
 
-from .units import UNITS
+from ..units import UNITS
 from .drawing import colour, counts_of, line, step_of, svg, text_at
 from .formats import fixes, place, with_sign
 

@@ -6,7 +6,7 @@ from array import array
 
 import numpy
 
-from .report import Rows, without_head
+from ..report import Rows, without_head
 
 COLUMNS = 4  # numbers of a row
 ENDS = numpy.frombuffer(b",,,\n", dtype=numpy.uint8)  # what stands behind them

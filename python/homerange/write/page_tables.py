@@ -16,7 +16,7 @@ from .formats import (
     NOTHING, UNBROKEN, Clock, attribute, days, escaped, fixed, fixes, hectares, interval, listed, named, share_of_area,
     share_of_fixes,
 )
-from .overview import Row, reasons_of
+from ..ranges.overview import Row, reasons_of
 
 WIDEST = 10  # how many reasons, and levels counted twice, one table has room for
 MOST_ANIMALS = 12  # of which overlaps are a square table

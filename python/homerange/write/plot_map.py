@@ -10,8 +10,8 @@ from .page import LEAST, rings_of
 from .page_map import (
     STYLES, Box, Frame, Numbers, Point, Shape, box_of, box_of_shapes, corners, length_text, side, thinned,
 )
+from ..ranges.home import HomeRanges, boundary_of
 from .plot_style import ALONE, EDGE, LEVELS, SMALL, Drawn, halo
-from .ranges import HomeRanges, boundary_of
 
 WIDE = 2500.0  # metres of a map from which on its axes are in kilometres
 CELL = 1.0  # points: of fixes that would cover each other one is drawn

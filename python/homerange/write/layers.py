@@ -13,16 +13,17 @@ from typing import TYPE_CHECKING, Iterator
 import numpy
 import pandas
 
-from .errors import check_place, files_as_said, path_of, refuse
-from .ranges import HomeRanges, check_ranges
-from .read.reading import dates_of, tell, times_of
-from .units import UNITS
-from .zones import code_of_crs
+from ..errors import check_place, files_as_said, path_of, refuse
+from ..program import PACKAGE
+from ..ranges.home import HomeRanges, check_ranges
+from ..read.reading import dates_of, tell, times_of
+from ..units import UNITS
+from ..zones import code_of_crs
 
 if TYPE_CHECKING:
     import geopandas
 
-    from .tracks import Tracks
+    from ..ranges.tracks import Tracks
 
 ROWS = 100  # that are written together
 NO_DATE = "1970-01-01T00:00:00.000Z"
@@ -135,7 +136,7 @@ def write_styles(path: Path, layers: list[str]) -> None:
     with closing(sqlite3.connect(path)) as base:
         base.execute(STYLES)
         for name in layers:
-            base.execute(STYLE, (name, Path(__file__).with_name(f"{name}.qml").read_text("utf-8"), NO_DATE))
+            base.execute(STYLE, (name, (PACKAGE / f"{name}.qml").read_text("utf-8"), NO_DATE))
         base.execute(LISTED, (NO_DATE,))
         base.commit()
 

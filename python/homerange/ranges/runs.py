@@ -9,20 +9,22 @@ from concurrent.futures import ThreadPoolExecutor
 from pathlib import Path
 from typing import Callable, Mapping, Sequence, Tuple
 
-from .errors import FAULTS, ProgramError, ReportError, one_line
+from ..errors import FAULTS, ProgramError, ReportError, one_line
+from ..program import Step, steps_of, workers
+from ..read.tracks import path_of_track
+from ..report import Corners, Report, lines_of, overlaps_of, parse
 from .outer import Track
-from .program import Step, steps_of, workers
-from .report import Corners, Report, lines_of, overlaps_of, parse
-from .report_rows import rows_in
+from .rows import rows_in
 from .tracks import track_text
 
 Progress = Callable[[int, int], object]  # is called with how many of how many runs are done
 Box = Tuple[int, int, int, int]
 
 
-def _call(program: str, levels: str, unit: str, folder: str, numbers: Sequence[int], names: Sequence[str]) -> str:
-    """The report of a run of the files with these numbers in the folder. Faults name the animal and not its file."""
-    command = [program, "--percent", levels, "--unit", unit, *(f"{number}.csv" for number in numbers)]
+def _call(program: str, levels: str, unit: str, folder: str, files: Mapping[str, str]) -> str:
+    """The report of a run of the tracks of animals, by the names of their files in the folder. Faults name the animal and not its
+    file."""
+    command: list[str | bytes] = [program, "--percent", levels, "--unit", unit, *(path_of_track(".", name) for name in files)]
     try:
         run = subprocess.run(command, cwd=folder, stdin=subprocess.DEVNULL, capture_output=True)
     except OSError as fault:
@@ -30,7 +32,7 @@ def _call(program: str, levels: str, unit: str, folder: str, numbers: Sequence[i
     if run.returncode == 0:
         return run.stdout.decode("utf-8", errors="replace")
     said = run.stderr.decode("utf-8", errors="replace").strip() or f"{program} ended with status {run.returncode}"
-    line = re.sub(r"\b([0-9]+)\.csv\b", lambda found: names[int(found[1])], said.splitlines()[-1])
+    line = re.sub(r"[.]/(.*?)[.]csv\b", lambda found: files.get(found[1], found[1]), said.splitlines()[-1])
     raise FAULTS.get(run.returncode, ProgramError)(one_line(line))
 
 
@@ -41,40 +43,47 @@ def _write_tracks(folder: str, tracks: Mapping[str, Track]) -> None:
 
 
 class Runs:
-    """The runs of tracks."""
+    """The runs of tracks, whose files may be known: their folder, and the names that they have there, but for those that are
+    the animals' own."""
 
-    def __init__(self, program: str, tracks: Mapping[str, Track], levels: str, unit: str) -> None:
-        self.program, self.tracks, self.levels, self.unit = program, tracks, levels, unit
-        self.numbers = {name: number for number, name in enumerate(tracks)}
+    def __init__(self, program: str, tracks: Mapping[str, Track], levels: str, unit: str, folder: Path | None = None,
+                 files: Mapping[str, str] = {}) -> None:
+        self.program, self.tracks, self.levels, self.unit, self.folder = program, tracks, levels, unit, folder
+        self.files = {name: str(number) if folder is None else files.get(name, name) for number, name in enumerate(tracks)}
         self.steps = steps_of(list(tracks))
+
+    def named(self, step: Step) -> dict[str, str]:
+        """The animals of a step, by the names of their files."""
+        return {self.files[name]: name for group in step for name in group}
 
     def text(self, folder: str, step: Step) -> str:
         """The report of a step, of a pair of groups the overlaps alone."""
-        numbers = [self.numbers[name] for group in step for name in group]
-        text = _call(self.program, self.levels, self.unit, folder, numbers, list(self.tracks))
+        text = _call(self.program, self.levels, self.unit, folder, self.named(step))
         return text if len(step) == 1 else text[text.find("\noverlap,") + 1:]
 
     def add(self, report: Report, step: Step, text: str) -> None:
         """Takes into the report what a step gave."""
-        names = {str(self.numbers[name]): name for group in step for name in group}
-        fixes = {number: len(self.tracks[name]) for number, name in names.items()}
+        names = self.named(step)
+        fixes = {file: len(self.tracks[name]) for file, name in names.items()}
         if len(step) == 2:
             overlaps = overlaps_of(lines_of(text, self.program), fixes)
         else:
             found = parse(lines_of(text, self.program), rows_in)
             overlaps = found.overlaps
-            reported = {number: table.fixes for number, table in found.tables.items()}
+            reported = {file: table.fixes for file, table in found.tables.items()}
             if found.unit != self.unit or [*reported.items()] != [*fixes.items()]:
                 raise ReportError(f"{self.program} reports another unit, other animals or fixes than those it was given")
-            report.tables.update({names[number]: table for number, table in found.tables.items()})
+            report.tables.update({names[file]: table for file, table in found.tables.items()})
         report.overlaps.update({(names[one], names[other]): count for (one, other), count in overlaps.items()})
 
     def report(self, progress: Progress | None = None, jobs: int | None = None) -> Report:
         """The report of all tracks, by so many processors. Of animals in two groups those are run whose boxes meet; no polygon
         covers a fix outside its box."""
         report = Report(self.unit, {}, {})
-        with tempfile.TemporaryDirectory(prefix="homerange-") as folder, workers(jobs) as pool:
-            _write_tracks(folder, self.tracks)
+        with tempfile.TemporaryDirectory(prefix="homerange-") as room, workers(jobs) as pool:
+            folder = room if self.folder is None else str(self.folder)
+            if self.folder is None:
+                _write_tracks(room, self.tracks)
             try:
                 self.run(report, [step for step in self.steps if len(step) == 1], folder, pool, progress)
                 self.run(report, self.pairs(report), folder, pool, progress)

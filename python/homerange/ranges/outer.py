@@ -9,7 +9,7 @@ from typing import Any, Mapping
 import numpy
 from numpy.typing import NDArray
 
-from .report import Corners, kept_count, nearest, polygon_of
+from ..report import Corners, kept_count, nearest, polygon_of
 
 Track = NDArray[numpy.int64]  # a row for each fix: its second, easting and northing
 Places = NDArray[numpy.int64]  # eastings and northings

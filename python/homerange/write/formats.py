@@ -20,8 +20,8 @@ import re
 from datetime import date, datetime
 from typing import Iterable
 
-from .units import UNITS, zone_of_time
-from .errors import one_line
+from ..errors import one_line
+from ..units import UNITS, zone_of_time
 
 MONTHS = ("Jan", "Feb", "Mar", "Apr", "May", "Jun", "Jul", "Aug", "Sep", "Oct", "Nov", "Dec")
 SINCE_1970 = range(10 ** 8, 10 ** 10)  # seconds that are times of a calendar, 1973 to 2286

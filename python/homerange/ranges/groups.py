@@ -9,10 +9,10 @@ from typing import Any, Callable, NamedTuple, Sequence
 import numpy
 import pandas
 
-from .errors import UNPRINTABLE, refuse
-from .read.cells import cells_of, odd_row, row_named
-from .read.fixes import Fixes
-from .read.reading import ReadTable
+from ..errors import UNPRINTABLE, refuse
+from ..read.cells import cells_of, odd_row, row_named
+from ..read.fixes import Fixes
+from ..read.reading import ReadTable
 from .outer import Track
 from .tracks import Tracks
 
@@ -45,7 +45,7 @@ def season_of(year: int, month: int) -> str:
     return f"{first:04}-{first + 1:04} {season}"
 
 
-PERIODS: dict[str, Callable[[int, int], str]] = {"year": year_of, "season": season_of, "month": month_of}
+PERIODS: dict[str, Callable[[int, int], str]] = {"year": year_of, "month": month_of, "season": season_of}
 
 
 def check_by(by: Any) -> None:

@@ -6,9 +6,9 @@ from __future__ import annotations
 from collections import Counter
 from typing import Mapping, NamedTuple, Sequence
 
+from ..record import REASONS
+from ..report import Percent, Table
 from .growth import Growth, growth_of
-from .record import REASONS
-from .report import Percent, Table
 
 
 class Facts(NamedTuple):

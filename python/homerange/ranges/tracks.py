@@ -15,11 +15,11 @@ import numpy
 import pandas
 from numpy.typing import NDArray
 
-from .errors import FrameError, ReportError
+from ..errors import FrameError, ReportError
+from ..read.fixes import PLACES, Fixes, reading_of
+from ..report import Report, polygon_of
+from ..units import UNITS, Unit
 from .outer import Track, outer_fixes
-from .read.fixes import PLACES, Fixes, reading_of
-from .report import Report, polygon_of
-from .units import UNITS, Unit
 
 Whole = NDArray[numpy.int64]
 ROWS = 1_000  # of a file that are read or written together

@@ -9,20 +9,20 @@ from datetime import date, datetime
 from pathlib import Path
 from typing import Any, Mapping, NamedTuple, Sequence
 
-from .about import Words
-from .units import zone_of_time, zone_text
+from ..about import Words
+from ..errors import ProgramError, check_place, files_as_said, path_of, refuse
+from ..program import PACKAGE, find_program, program_of
+from ..ranges.home import HomeRanges, boundary_of, check_ranges, check_whole
+from ..ranges.overview import Row
+from ..units import zone_of_time, zone_text
 from .drawing import colour
-from .errors import ProgramError, check_place, files_as_said, path_of, refuse
 from .formats import Clock, day_text, escaped, listed, named
-from .overview import Row
 from .page_curves import Curve, curves
 from .page_map import STYLES, Maps, Point, Shape, maps
 from .page_tables import Overlaps, animals_table, without_range
 from .page_text import System, checksums, left_out, method, options_of, said, sentences, system_of, verify
-from .program import find_program, program_of
-from .ranges import HomeRanges, boundary_of, check_ranges, check_whole
 
-TEMPLATE = Path(__file__).with_name("page.html")
+TEMPLATE = PACKAGE / "page.html"
 PLACE = re.compile(r"\{\{([a-z]+)\}\}")
 RING = ["ring", "easting", "northing"]
 RING_POINT = re.compile("([1-9][0-9]{0,8}),(-?[0-9]{1,9}[.][0-9]{3}),(-?[0-9]{1,9}[.][0-9]{3})")

@@ -9,15 +9,15 @@ from importlib.util import find_spec
 from pathlib import Path
 from typing import TYPE_CHECKING, NoReturn
 
-from .about import About, Words, read_about
-from .errors import HomeRangeError, one_line, refuse
+from ..about import About, Words, read_about
+from ..errors import HomeRangeError, one_line, refuse
+from ..record import Record, difference_from_record, record_in
+from ..report import Report, read
+from ..zones import system_of_text, text_of_crs
 from .evidence import ABOUT, REPORT, TRACKS
-from .record import Record, difference_from_record, record_in
-from .report import Report, read
-from .zones import system_of_text, text_of_crs
 
 if TYPE_CHECKING:
-    from .ranges import HomeRanges
+    from ..ranges.home import HomeRanges
 
 BOUNDARY, LAYERS, PAGE = "boundary.csv", "ranges.gpkg", "report.html"
 TABLES = ("summary.csv", "animals.csv", "overlaps.csv")
@@ -42,7 +42,7 @@ def words_beside(record: Record | None, ranges: HomeRanges, words: Words) -> Wor
 
 def read_ranges(folder: Path, about: About, program: str | None, report: Report | None = None) -> HomeRanges:
     """The ranges of the report, which may be known, once it is seen that they are those of the tracks as they were split."""
-    from .ranges import check_grid, ranges_of
+    from ..ranges.home import check_grid, ranges_of
 
     record = record_in(folder / TRACKS)
     split = folder / TRACKS / "split.txt" if record else None

@@ -12,11 +12,11 @@ import tempfile
 from pathlib import Path
 from typing import Any, Callable, Iterable, NamedTuple, Sequence, TextIO
 
-from .about import BESIDE, NO_COMMIT, About, Words, export_of, now, write_about
-from .errors import FAULTS, UNPRINTABLE, ProgramError, ReportError, one_line, refuse
-from .program import CLONE, MOST_ANIMALS, Program, checksum_of, steps_of, workers
-from .record import Record, difference_from_record, record_in
-from .report import TEXT, Animal, Lines, Reader, Report, Table, check_end, overlaps_of
+from ..about import BESIDE, NO_COMMIT, About, Words, export_of, now, write_about
+from ..errors import FAULTS, UNPRINTABLE, ProgramError, ReportError, one_line, refuse
+from ..program import CLONE, MOST_ANIMALS, Program, checksum_of, steps_of, workers
+from ..record import Record, difference_from_record, record_in
+from ..report import TEXT, Animal, Lines, Reader, Report, Table, check_end, overlaps_of
 
 SOURCES = ["crates.txt", "HANDLES", *(f":(glob)crates/*/{part}/**" for part in ("src", "specs", "proofs")), "python/homerange",
            "python/homerange_verifier", "r/R", "release", "tools"]

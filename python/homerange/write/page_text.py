@@ -5,10 +5,10 @@ from __future__ import annotations
 from collections import Counter
 from typing import Any, Mapping, NamedTuple, Sequence
 
-from .record import REASONS, Record
+from ..ranges.overview import Row
+from ..record import REASONS, Record
+from ..zones import scale_of_crs, scale_of_zone, text_of_crs, zone_of_crs
 from .formats import Clock, escaped, fixed, fixes, listed, named, with_sign
-from .overview import Row
-from .zones import scale_of_crs, scale_of_zone, text_of_crs, zone_of_crs
 
 MOST_SENTENCES = 40
 MOST_SAID = 12

@@ -6,10 +6,10 @@ from __future__ import annotations
 from math import ceil
 from typing import Any, Iterable, Mapping, NamedTuple, Sequence
 
-from .units import UNITS
-from .errors import one_line, refuse
+from ..errors import one_line, refuse
+from ..ranges.home import HomeRanges, check_ranges
+from ..units import UNITS
 from .formats import with_sign
-from .ranges import HomeRanges, check_ranges
 
 COLOURS = ("#0072b2", "#c44e00", "#00805e", "#a8437a", "#7a6200", "#4b3fa0", "#4d4d4d")
 # The lines of levels, from the highest on: width, dashes and how dark the polygon is filled.

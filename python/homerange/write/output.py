@@ -10,20 +10,20 @@ from typing import Any, Mapping
 
 import pandas
 
-from .about import Words, read_about
-from .errors import ReportError, check_place, files_as_said, path_of, refuse
+from ..about import Words, read_about
+from ..errors import ReportError, check_place, files_as_said, path_of, refuse
+from ..program import Program, checksum_of, find_program, program_of
+from ..ranges.home import HomeRanges, check_whole, ranges_of
+from ..ranges.rows import rows_in
+from ..ranges.tracks import Tracks, track_text
+from ..read.reading import dates_of
+from ..read.tracks import path_of_track
+from ..record import read_record, record_in
+from ..report import Report
+from ..units import zone_of_time, zone_text
 from .evidence import ABOUT, REPORT, TRACKS, Wish, copy_tracks, make_report, new_folder, used_tracks
 from .page import rings_given, words_typed, write_rings
-from .program import Program, checksum_of, find_program, program_of
-from .ranges import HomeRanges, check_whole, ranges_of
-from .read.reading import dates_of
-from .read.tracks import path_of_track
-from .record import read_record, record_in
-from .report import Report
-from .report_rows import rows_in
 from .results import BOUNDARY, words_beside, write_results
-from .tracks import Tracks, track_text
-from .units import zone_of_time, zone_text
 
 CHOSEN = "the fixes are not as they were read: what was left out before is neither in the folder nor on its page"
 FORMULAS = tuple("=+-@\t\r'")  # how texts begin that a spreadsheet may compute, or of which it hides the first sign

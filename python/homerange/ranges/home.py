@@ -4,6 +4,7 @@ from __future__ import annotations
 
 import math
 import os
+import tempfile
 from collections import Counter
 from functools import cached_property
 from pathlib import Path
@@ -12,22 +13,22 @@ from typing import TYPE_CHECKING, Any, Callable, Iterable, Sequence, Tuple
 import numpy
 import pandas
 
-from .bar import progress_of
-from .errors import ReportError, check_file, path_of, refuse, truth_of
+from ..bar import progress_of
+from ..errors import ReportError, check_file, path_of, refuse, truth_of
+from ..program import Program, checksum_of, find_program, program_of
+from ..read.fixes import Fixes, clock_of, is_of_fixes, reading_of
+from ..read.reading import ReadTable, has_calendar, read_again, read_table, tell, times_of
+from ..read.systems import crs_named
+from ..record import Record, read_record
+from ..report import Corners, Percent, Report, Table, doubled_area, read as read_lines
+from ..units import UNITS, zone_of_time, zone_text
 from .groups import Group, check_by, group_tracks, is_period, labels_of
 from .growth import share
 from .outer import counts_within, polygon_kept
 from .overview import Facts, Row, facts_of, reasons_of, rows_of
-from .program import Program, checksum_of, find_program, program_of
-from .read.fixes import Fixes, clock_of, is_of_fixes, reading_of
-from .read.reading import ReadTable, has_calendar, read_again, read_table, tell, times_of
-from .read.systems import crs_named
-from .record import Record, read_record
-from .report import Corners, Percent, Report, Table, doubled_area, read as read_lines
-from .report_rows import rows_in
+from .rows import rows_in
 from .runs import Runs
 from .tracks import Tracks, tracks_of_files, tracks_of_fixes
-from .units import UNITS, zone_of_time, zone_text
 
 if TYPE_CHECKING:
     import geopandas
@@ -314,7 +315,7 @@ class HomeRanges:
 
         Refused are a folder that is there, two names that come out the same, ranges without fixes, and what is refused
         of reports and programs elsewhere."""
-        from .output import write_folder
+        from ..write.output import write_folder
 
         tell(write_folder(self, folder, page))
 
@@ -385,27 +386,29 @@ def home_range(
     if jobs is not None:
         jobs = whole_numbers([jobs], 1, 1024, "jobs")[0]
     shown, found = progress_of(progress), program_of(find_program(program))
-    table = table_of(x, reading, program, by)
-    tracks, groups = tracks_of_fixes(table.fixes), dict[str, Group]()
-    if by is not None:
-        tracks, groups = group_tracks(tracks, labels_of(table, by))
-    own = reading_of(table.fixes)
-    tell([*table.said, *tracks.notes[len(own.notes):]])
-    report = Runs(found.path, tracks.by_name, ",".join(map(str, wanted)), own.unit).report(shown, jobs)
+    with tempfile.TemporaryDirectory(prefix="homerange-") as folder:
+        table = table_of(x, reading, Path(folder), program, by)
+        tracks, groups = tracks_of_fixes(table.fixes), dict[str, Group]()
+        if by is not None:
+            tracks, groups = group_tracks(tracks, labels_of(table, by))
+        own, files = reading_of(table.fixes), Path(folder) / "tracks"
+        tell([*table.said, *tracks.notes[len(own.notes):]])
+        made = files if files.is_dir() and by is None else None  # the files that the program made of these tracks
+        report = Runs(found.path, tracks.by_name, ",".join(map(str, wanted)), own.unit, made, tracks.names).report(shown, jobs)
     ranges = HomeRanges(report, tracks, crs=own.system, tz=clock_of(table.fixes), program=found)
     ranges.groups = groups
     return ranges
 
 
-def table_of(x: Any, reading: dict[str, Any], program: str | os.PathLike[str] | None, by: Any) -> ReadTable:
+def table_of(x: Any, reading: dict[str, Any], folder: Path, program: str | os.PathLike[str] | None, by: Any) -> ReadTable:
     """The fixes as they were given, or as they are read; without a frame's own columns where nobody asks for them."""
     has_columns = by is not None and not is_period(by)
     if not isinstance(x, Fixes) or not is_of_fixes(x):
-        return read_table(x, reading, program, has_columns)
+        return read_table(x, reading, folder, program, has_columns)
     named = next((name for name, value in reading.items() if value is not None), None)
     if named is not None:
         refuse(f"{named} says how a table is read, and these fixes were read already: give it to read_fixes")
-    return read_again(x, program, has_columns)
+    return read_again(x, folder, program, has_columns)
 
 
 def read_report(
@@ -487,8 +490,8 @@ def boundary_of(ranges: HomeRanges, reserve: Any) -> Any:
     if reserve.area == 0:
         refuse("the reserve has no area")
     if own is None and is_in_degrees(reserve.bounds) and not meets(reserve.bounds, box_of_ranges(ranges)):
-        refuse("the reserve has no CRS, and lies as longitude and latitude do: make a GeoSeries of it with its CRS, which is taken to "
-               "that of the ranges", "degrees")
+        refuse("the reserve has no CRS, and lies as longitude and latitude do: make a GeoSeries of it with its CRS, which is taken "
+               "to that of the ranges", "degrees")
     return reserve
 
 

@@ -6,8 +6,8 @@ from typing import TYPE_CHECKING, Any, Iterable, Literal, Sequence, overload
 
 import pandas
 
-from .units import UNITS
-from .errors import refuse, truth_of
+from ..errors import refuse, truth_of
+from ..units import UNITS
 from .formats import Clock
 from .page_curves import layout
 from .page_text import system_of
@@ -16,7 +16,7 @@ from .plot_style import (
     EDGE, LEAST_TEXT, LEVELS, SMALL, Drawn, add_key, area_axis, area_text, drawn_animals, halo, key_room, label,
     number_axes,
 )
-from .ranges import HomeRanges, whole_numbers
+from ..ranges.home import HomeRanges, whole_numbers
 
 if TYPE_CHECKING:
     from matplotlib.axes import Axes

@@ -1,0 +1,1 @@
+"""What is written of ranges: tables, layers, pictures, the page, and the folder of evidence."""
