@@ -188,7 +188,7 @@ parts_of_report <- function(text) {
 # Has the program write its report into a file, within a folder.
 run_in <- function(folder, program, words, path) {
   fault <- tempfile("fault")
-  path <- normalizePath(path, mustWork = FALSE)
+  path <- file.path(normalizePath(dirname(path)), basename(path))
   old <- setwd(folder)
   on.exit({
     setwd(old)
