@@ -12,7 +12,8 @@ plot.home_range <- function(x, what = c("ranges", "curve"), levels = 100, animal
   old <- par("mai", "mfrow", "mar", "oma", "cex", "mgp", "tcl")
   if (reset) on.exit(par(old), add = TRUE)
   for (side in c("xlim", "ylim")) check_limits(get(side), side)
-  asked <- list(main = main, xlab = xlab, ylab = ylab, xlim = xlim, ylim = ylim, titles = list(...))
+  for (word in c("main", "xlab", "ylab", "label")) check_word(get(word), word)
+  asked <- list(main = if (is.null(main)) "" else main, xlab = xlab, ylab = ylab, xlim = xlim, ylim = ylim, titles = list(...))
   if (what == "curve") {
     draw_curves(x, drawn, by, share, facets, asked)
   } else {
@@ -32,6 +33,12 @@ word_of_these <- function(value, words, name) {
 check_limits <- function(value, name) {
   is_good <- is.null(value) || length(value) == 2 && all(is.finite(value)) && value[1] != value[2]
   if (!is_good) refuse("option", argument_text(name, value), " are no two ends of an axis")
+}
+
+# Refuses what cannot be written beside a drawing.
+check_word <- function(value, name) {
+  is_good <- is.null(value) || is.expression(value) || is.call(value) || is.atomic(value) && length(value) == 1
+  if (!is_good) refuse("option", argument_text(name, value), " is no text")
 }
 
 arguments_of_titles <- c("sub", "outer", "family", paste0(c("cex.", "col.", "font."), rep(c("main", "sub", "lab"), each = 3)))
