@@ -56,11 +56,14 @@ bytes_of_values <- function(column, title) {
 # out by the first reading, since and by the second stands together; said is what the first had not said.
 read_again <- function(x, given, folder, has_rows) {
   facts <- facts_of(x)
-  if (is.null(facts)) refuse("option", "it is not known how these fixes were read, since they were joined to others: read them anew by read_fixes")
+  if (is.null(facts)) {
+    refuse("option", "it is not known how these fixes were read, since they were joined to others: read them anew by read_fixes")
+  }
   if (!nrow(x)) refuse("empty", "no fix is left")
   others <- setdiff(x$animal, names(facts$fixes))
   if (length(others) && nrow(x) > sum(facts$fixes)) {
-    refuse("option", "'", others[1], "' is none of the animals that were read, and there are more fixes than were read: bind fixes by rbind")
+    refuse("option", "'", others[1], "' is none of the animals that were read, and there are more fixes than were read: ",
+           "bind fixes by rbind")
   }
   own <- list(unit = facts$unit, zone = facts$zone, crs = if (is.null(facts$zone)) facts$crs, tz = clock_of_fixes(x))
   given <- c(given, Filter(Negate(is.null), own[setdiff(names(own), names(given))]))

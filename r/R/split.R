@@ -43,7 +43,8 @@ refusal_of_split <- function(status, fault) {
     lines <- c(readLines(fault, warn = FALSE, encoding = "UTF-8"), "it says no more")
     refuse("program", "homerange-split ended with status ", status, ": ", lines[1])
   }
-  list(kind = said[[1]], record = if (nzchar(said[[3]])) as.numeric(said[[3]]), text = as_arguments(sub(word_form, "\\1_\\2", said[[4]], perl = TRUE)))
+  text <- sub(word_form, "\\1_\\2", said[[4]], perl = TRUE)
+  list(kind = said[[1]], record = if (nzchar(said[[3]])) as.numeric(said[[3]]), text = as_arguments(text))
 }
 
 # Options of the command line in a text, as arguments of R. A word behind one is its value, unless it goes on with the sentence.
