@@ -39,7 +39,7 @@ checksum_of_fixes <- function(fixes) {
   output <- file(path, "wb")
   for (title in names(columns)) writeBin(bytes_of_values(columns[[title]], title), output)
   close(output)
-  unname(md5sum(path))
+  unname(tools::md5sum(path))
 }
 
 # What tells a column from others: of a class of its own all that R has of it, but for the zone in which moments are shown.
