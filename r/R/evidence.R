@@ -9,7 +9,7 @@ homerange_evidence <- function(x, folder, ...) {
   local_options(x, folder, ...)
   check_ranges(x)
   check_whole(x, "evidence")
-  odd <- setdiff(if (...length()) c(...names(), ""[is.null(...names())]), names(formals(fill_evidence))[-(1:3)])
+  odd <- setdiff(names_of_arguments(...), names(formals(fill_evidence))[-(1:3)])
   if (length(odd)) refuse("option", "there is no argument ", if (nzchar(odd[1])) odd[1] else "without a name")
   if (isTRUE(x$is_part)) refuse("option", "x: evidence is made of the ranges of one call or one report, with all their animals")
   if (is.null(x$fixes)) refuse("option", "evidence needs the fixes: read_report(file, files = ..)")
@@ -181,14 +181,15 @@ parts_of_report <- function(text) {
   check_form(text, "the report")
   ends <- regexpr("\n(overlap|end),", text, useBytes = TRUE)
   lines <- lines_of_text(text)
-  list(tables = `Encoding<-`(rawToChar(charToRaw(text)[seq_len(ends)]), Encoding(text)), overlaps = lines[startsWith(lines, "overlap,")],
+  tables <- rawToChar(charToRaw(text)[seq_len(ends)])
+  list(tables = `Encoding<-`(tables, Encoding(text)), overlaps = lines[startsWith(lines, "overlap,")],
        animals = sub("^animal,([^,]*),.*", "\\1", lines[startsWith(lines, "animal,")]))
 }
 
 # Has the program write its report into a file, within a folder.
 run_in <- function(folder, program, words, path) {
   fault <- tempfile("fault")
-  path <- normalizePath(path, mustWork = FALSE)
+  path <- file.path(normalizePath(dirname(path)), basename(path))
   old <- setwd(folder)
   on.exit({
     setwd(old)

@@ -5,6 +5,9 @@ rows_printed <- 6L
 
 new_fixes <- function(table, facts) structure(table, class = c("homerange_fixes", "data.frame"), homerange = facts)
 
+# Columns as a data frame; one of several itself is one column.
+frame_of <- function(columns) structure(columns, class = "data.frame", row.names = .set_row_names(NROW(columns[[1]])))
+
 facts_of <- function(fixes) attr(fixes, "homerange", exact = TRUE)
 
 # The fixes as a data frame alone.
@@ -32,7 +35,7 @@ rbind.homerange_fixes <- function(..., deparse.level = 1) {
   all <- Filter(Negate(is.null), list(...))
   for (one in all) check_bound(one, all[[1]])
   columns <- lapply(names(all[[1]]), function(title) joined_columns(lapply(all, `[[`, title)))
-  new_fixes(list2DF(`names<-`(columns, names(all[[1]]))), bound_facts(lapply(all, facts_of)))
+  new_fixes(frame_of(`names<-`(columns, names(all[[1]]))), bound_facts(lapply(all, facts_of)))
 }
 
 # Columns one below the other. Factors have all levels.

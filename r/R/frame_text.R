@@ -10,7 +10,8 @@ bytes_at_once <- 4e6
 parts_of_frame <- function(columns) {
   titles <- readable(names(columns))
   if (grepl(signs_between_fields, titles[1])) {
-    refuse("columns", "the first column is titled '", titles[1], "', whose sign would be taken for what stands between fields: rename it")
+    refuse("columns", "the first column is titled '", titles[1], "', whose sign would be taken for what stands between fields: ",
+           "rename it")
   }
   `names<-`(Map(parts_of_column, columns, titles), titles)
 }
@@ -81,7 +82,8 @@ bytes_of_numbers <- function(numbers, places, zero = FALSE) {
   has_part <- part > 0
   sign <- if (any(numbers < 0, na.rm = TRUE)) list(as.raw(45 * (!is_missing & numbers < 0)))
   bytes <- c(sign, list(digits_of_wholes(whole)))
-  if (any(has_part)) bytes <- c(bytes, list(as.raw(46 * has_part), decimal_bytes(part, places)), if (zero) list(as.raw(48 * has_part)))
+  if (any(has_part)) bytes <- c(bytes, list(as.raw(46 * has_part), decimal_bytes(part, places)))
+  if (zero) bytes <- c(bytes, list(as.raw(48 * has_part)))
   if (any(is_missing)) lapply(bytes, without_columns, is_missing) else bytes
 }
 

@@ -66,7 +66,7 @@ text_of_groups <- function(by) {
     number <- cells_of_numbers(by[odd])
     refuse("option", "row ", odd, ": by has a group that is '", number, "', a number that is not whole: make it text", record = odd)
   }
-  if (is.character(by) || is.factor(by)) return(in_utf8(as.character(by)))
+  if (is.character(by) || is.factor(by)) return(check_printable(in_utf8(as.character(by))))
   cells <- cells_of_column(by, "by")
   odd <- which(grepl("^<[^<>]+>$", cells))[1]
   if (!is.na(odd)) {
@@ -74,6 +74,13 @@ text_of_groups <- function(by) {
            record = odd)
   }
   cells
+}
+
+# Refuses a group that is more than one line.
+check_printable <- function(groups) {
+  odd <- which(one_line(groups) != groups)[1]
+  if (is.na(odd)) return(groups)
+  refuse("option", "row ", odd, ": by has a group that is '", groups[odd], "', with a control character: make it text", record = odd)
 }
 
 # Refuses a fix of no group, by its row.

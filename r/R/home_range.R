@@ -69,10 +69,14 @@ checked_levels <- function(levels) {
 
 # Refuses arguments that there are not.
 check_dots <- function(...) {
-  if (...length() == 0) return(invisible())
-  name <- ...names()[1]
-  is_unnamed <- is.null(name) || is.na(name) || name == ""
-  refuse("option", if (is_unnamed) "there is an argument too many" else paste("there is no argument", name))
+  names <- names_of_arguments(...)
+  if (length(names)) refuse("option", if (nzchar(names[1])) paste("there is no argument", names[1]) else "there is an argument too many")
+}
+
+# The names of arguments, "" of those without one.
+names_of_arguments <- function(...) {
+  given <- list(...)
+  if (is.null(names(given))) rep("", length(given)) else names(given)
 }
 
 # An object of a report's tables, the time of each row, and what else is known, such as the UTM zone and what was said.

@@ -12,7 +12,8 @@ plot.home_range <- function(x, what = c("ranges", "curve"), levels = 100, animal
   old <- par("mai", "mfrow", "mar", "oma", "cex", "mgp", "tcl")
   if (reset) on.exit(par(old), add = TRUE)
   for (side in c("xlim", "ylim")) check_limits(get(side), side)
-  asked <- list(main = main, xlab = xlab, ylab = ylab, xlim = xlim, ylim = ylim, titles = list(...))
+  for (word in c("main", "xlab", "ylab", "label")) check_word(get(word), word)
+  asked <- list(main = if (is.null(main)) "" else main, xlab = xlab, ylab = ylab, xlim = xlim, ylim = ylim, titles = list(...))
   if (what == "curve") {
     draw_curves(x, drawn, by, share, facets, asked)
   } else {
@@ -34,20 +35,26 @@ check_limits <- function(value, name) {
   if (!is_good) refuse("option", argument_text(name, value), " are no two ends of an axis")
 }
 
+# Refuses what cannot be written beside a drawing.
+check_word <- function(value, name) {
+  is_good <- is.null(value) || is.expression(value) || is.call(value) || is.atomic(value) && length(value) == 1
+  if (!is_good) refuse("option", argument_text(name, value), " is no text")
+}
+
 arguments_of_titles <- c("sub", "outer", "family", paste0(c("cex.", "col.", "font."), rep(c("main", "sub", "lab"), each = 3)))
 
 # Refuses arguments that are none of titles.
 check_title <- function(...) {
-  odd <- setdiff(if (...length()) ...names(), arguments_of_titles)
-  if (length(odd)) refuse("option", "there is no argument ", odd[1])
-  if (...length() > sum(nzchar(...names()))) refuse("option", "there is an argument too many")
+  odd <- setdiff(names_of_arguments(...), arguments_of_titles)
+  if (length(odd)) refuse("option", if (nzchar(odd[1])) paste("there is no argument", odd[1]) else "there is an argument too many")
 }
 
 # The animals that are wanted, in the order of the ranges: their numbers among all, their names, and the colours of the user or
 # their own.
 drawn_animals <- function(ranges, animals, col) {
   known <- ranges$animals$animal
-  if (!is.null(animals) && !is.character(animals) && !is.factor(animals)) refuse("option", argument_text("animals", animals), " are no names")
+  is_named <- is.null(animals) || is.character(animals) || is.factor(animals)
+  if (!is_named) refuse("option", argument_text("animals", animals), " are no names")
   missing <- setdiff(as.character(animals), known)
   if (length(missing)) refuse("option", "there is no animal \"", missing[1], "\"")
   if (!is.null(animals) && !length(animals)) refuse("option", "animals: there is none")
@@ -55,7 +62,8 @@ drawn_animals <- function(ranges, animals, col) {
   drawn <- data.frame(number = number, name = known[number], colour = animal_colours[(number - 1) %% length(animal_colours) + 1])
   if (is.null(col)) return(drawn)
   is_colour <- vapply(col, function(own) !is.na(own) && !inherits(try(col2rgb(own), silent = TRUE), "try-error"), NA)
-  if (!length(col) || !all(is_colour)) refuse("option", "col: ", what_it_is(if (length(col)) col[[which(!is_colour)[1]]] else col), " is no colour")
+  odd <- if (length(col)) unlist(col)[!is_colour] else list(col)
+  if (length(odd)) refuse("option", "col: ", what_it_is(odd[[1]]), " is no colour")
   if (is.null(names(col))) {
     drawn$colour <- rep_len(col, nrow(drawn))
   } else {

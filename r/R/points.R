@@ -6,7 +6,8 @@
 places_of_frame <- function(x, given) {
   names_places <- any(c("easting", "northing", "lon", "lat") %in% names(given))
   if (!inherits(x, "sf") || names_places) return(places_of_columns(x, given, names_places))
-  if (!is.null(given$crs)) refuse("option", "crs: points bring their own CRS; sf::st_set_crs names it, and sf::st_transform projects them into another")
+  if (!is.null(given$crs)) refuse("option", "crs: points bring their own CRS; sf::st_set_crs names it, and sf::st_transform ",
+                                     "projects them into another")
   if (!has_sf()) refuse("crs", "a table of sf wants the package sf, which is not installed")
   shapes <- tryCatch(sf::st_geometry(x), error = function(fault) refuse("columns", "x has no geometry where sf looks for it: ",
                                                                        "sf::st_geometry(x) <- \"COLUMN\" says where it is"))

@@ -39,7 +39,7 @@ checksum_of_fixes <- function(fixes) {
   output <- file(path, "wb")
   for (title in names(columns)) writeBin(bytes_of_values(columns[[title]], title), output)
   close(output)
-  unname(md5sum(path))
+  unname(tools::md5sum(path))
 }
 
 # What tells a column from others: of a class of its own all that R has of it, but for the zone in which moments are shown.
@@ -56,17 +56,24 @@ bytes_of_values <- function(column, title) {
 # out by the first reading, since and by the second stands together; said is what the first had not said.
 read_again <- function(x, given, folder, has_rows) {
   facts <- facts_of(x)
-  if (is.null(facts)) refuse("option", "it is not known how these fixes were read, since they were joined to others: read them anew by read_fixes")
+  if (is.null(facts)) {
+    refuse("option", "it is not known how these fixes were read, since they were joined to others: read them anew by read_fixes")
+  }
   if (!nrow(x)) refuse("empty", "no fix is left")
+  others <- setdiff(x$animal, names(facts$fixes))
+  if (length(others) && nrow(x) > sum(facts$fixes)) {
+    refuse("option", "'", others[1], "' is none of the animals that were read, and there are more fixes than were read: ",
+           "bind fixes by rbind")
+  }
   own <- list(unit = facts$unit, zone = facts$zone, crs = if (is.null(facts$zone)) facts$crs, tz = clock_of_fixes(x))
   given <- c(given, Filter(Negate(is.null), own[setdiff(names(own), names(given))]))
-  read <- read_frame(`row.names<-`(list2DF(columns_to_read(x)), row.names(x)), given, folder, has_rows)
+  read <- read_frame(`row.names<-`(frame_of(columns_to_read(x)), row.names(x)), given, folder, has_rows)
   read$said <- grep(form_of_taken, setdiff(read$said, facts$notes), value = TRUE, invert = TRUE)
   now <- facts_of(read$fixes)
   now$notes <- c(facts$notes, read$said)
   now$left_out <- summed_left(rbind(left_since(x), now$left_out))
   now$is_again <- TRUE
   more <- if (has_rows) rows_of_columns(as.list(x)[setdiff(names(x), names(read$fixes))], read$frame$rows, nrow(x))
-  read$fixes <- new_fixes(list2DF(c(as.list(read$fixes), more)), now)
+  read$fixes <- new_fixes(frame_of(c(as.list(read$fixes), more)), now)
   read
 }

@@ -14,6 +14,7 @@ read_table <- function(x, options, quiet, folder, has_rows = TRUE) {
   read <- if (inherits(x, "homerange_fixes")) {
     read_again(x, given, folder, has_rows)
   } else if (is_text(x)) {
+    if (!nzchar(x)) refuse("option", argument_text("x", x), " is no path")
     read_file(x, given, folder)
   } else {
     read_frame(x, given, folder, has_rows)
@@ -57,7 +58,7 @@ table_of_fixes <- function(fixes, record, tz, more) {
   time <- if (is_calendar) list(time = .POSIXct(fixes$second, tz = tz)) else list(second = fixes$second)
   own <- c(list(animal = unname(own_names(record)[record$tracks$animal])[fixes$track]), time,
            list(easting = fixes$easting / scale - record$shift[1], northing = fixes$northing / scale - record$shift[2]))
-  list2DF(c(own, more[!names(more) %in% names(own)]))
+  frame_of(c(own, more[!names(more) %in% names(own)]))
 }
 
 # What goes with fixes: of their record and what else is known.

@@ -153,7 +153,8 @@ check_units <- function(frame, said) {
     unit <- name_of_unit(frame$x[[title]])
     wanted <- if (any(startsWith(said, "longitude and latitude are "))) "degrees" else "metres"
     is_odd <- switch(wanted, degrees = !unit %in% c("", "1", degrees_of_units), metres = unit %in% degrees_of_units)
-    if (is_odd && !any(startsWith(said, "UTM coordinates are "))) refuse("columns", title, " is in ", unit, ", and ", wanted, " are wanted")
+    has_both <- any(startsWith(said, "UTM coordinates are "))
+    if (is_odd && !has_both) refuse("columns", title, " is in ", unit, ", and ", wanted, " are wanted")
   }
 }
 

@@ -30,6 +30,9 @@ run_split <- function(path, words, into) {
 # A text as its bytes in UTF-8, whatever the locale is: so the system gets it.
 in_bytes <- function(text) `Encoding<-`(in_utf8(text), "unknown")
 
+# An option that the program names as what it says a word of.
+word_form <- "^(argos|fix|max|skip|time)-(class|dop|format|lines|speed|type)(?= is )"
+
 # What the program refuses: a record of CSV of the kind, the file, the number of the record that has the fault, and the text. What
 # is no such record is a fault of the program.
 refusal_of_split <- function(status, fault) {
@@ -40,7 +43,8 @@ refusal_of_split <- function(status, fault) {
     lines <- c(readLines(fault, warn = FALSE, encoding = "UTF-8"), "it says no more")
     refuse("program", "homerange-split ended with status ", status, ": ", lines[1])
   }
-  list(kind = said[[1]], record = if (nzchar(said[[3]])) as.numeric(said[[3]]), text = as_arguments(said[[4]]))
+  text <- sub(word_form, "\\1_\\2", said[[4]], perl = TRUE)
+  list(kind = said[[1]], record = if (nzchar(said[[3]])) as.numeric(said[[3]]), text = as_arguments(text))
 }
 
 # Options of the command line in a text, as arguments of R. A word behind one is its value, unless it goes on with the sentence.

@@ -6,6 +6,7 @@ tables_of_animals <- c("animals", "rows", "corners", "percents", "fixes", "left_
 `[.home_range` <- function(x, i) {
   if (missing(i)) return(x)
   known <- x$animals$animal
+  if (is.list(i)) refuse("option", "the names or the places of animals are wanted, and not ", what_it_is(i))
   if (is.factor(i)) i <- as.character(i)
   is_place <- !is.numeric(i) || all(i %% 1 == 0)
   if (!is_place %in% TRUE) refuse("option", "there is no animal at this place")

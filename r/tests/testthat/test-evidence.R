@@ -112,6 +112,14 @@ test_that("evidence of fixes that were filtered or bound is of their second read
   expect_identical(grep("^shift,", record_of(local_evidence(quietly(home_range(moved, 100)))), value = TRUE), "shift,3000000,0")
 })
 
+test_that("a folder may be named from where the session stands", {
+  skip_without_program()
+  old <- setwd(local_folder())
+  on.exit(setwd(old))
+  homerange_evidence(quietly(home_range(walk("fox", 9, 1))), "hand-in")
+  expect_true(file.exists("hand-in/report.txt"))
+})
+
 test_that("names that Windows cannot tell apart or hold are others in files", {
   skip_without_program()
   fixes <- rbind(walk("Fox", 9, 1), walk("con", 9, 2), walk("FOX_2", 2, 3), walk("fox", 9, 4))

@@ -352,6 +352,30 @@ test_that("columns of fixes that got other classes are read as those of a frame"
   expect_output(print(fixes["animal"]), "animal")
 })
 
+test_that("animals that were not read are bound by rbind alone", {
+  skip_without_program()
+  skip_without_split()
+  fixes <- quietly(read_fixes(square("a")))
+  more <- structure(rbind(as.data.frame(fixes), square("b")[c("animal", "second", "easting", "northing")]), class = class(fixes),
+                    homerange = facts_of(fixes))
+  expect_error(home_range(more), "'b' is none of the animals that were read", class = "homerange_option_error")
+  renamed <- fixes
+  renamed$animal <- "c"
+  expect_identical(names(home_range(renamed, 100)), "c")
+})
+
+test_that("columns that are several themselves go with their fixes", {
+  skip_without_program()
+  table <- square("a")
+  table$pair <- matrix(1:8, 4)
+  table$both <- data.frame(m = 1:4, n = letters[1:4])
+  fixes <- quietly(read_fixes(table[4:1, ]))
+  expect_identical(fixes$pair[2, ], c(2L, 6L))
+  expect_identical(fixes[2:3, "both"]$n, c("b", "c"))
+  expect_identical(dim(rbind(fixes, fixes)$pair), c(8L, 2L))
+  expect_identical(summary(quietly(home_range(rbind(fixes, fixes), 100)))$fixes, 8)
+})
+
 test_that("a matrix is no name of an animal, and no group", {
   skip_without_program()
   skip_without_split()
