@@ -218,8 +218,9 @@ def test_fixes_that_became_more_are_said():
     assert len(said) == 1
     with pytest.warns(HomeRangeNote) as said:
         home_range(pandas.concat([fixes, fixes]))
-    assert [str(one.message) for one in said] == [
-        f"4 records of {name} have the second of the one before, and 4 its place: kept" for name in "ab"]
+    assert [str(one.message) for one in said] == [line for name in "ab" for line in (
+        f"1 records of {name} come before an earlier one: sorted by time",
+        f"4 records of {name} have the second of the one before, and 4 its place: kept")]
 
 
 @pytest.mark.parametrize("title, marks", [("use", [1, 1, 0, 1]), ("Visible", [True, True, True, False]), ("manually.marked_outlier", ["", "", "true", ""])])
