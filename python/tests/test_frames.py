@@ -100,7 +100,7 @@ def test_seconds_without_a_date_are_answered_as_they_are(start):
     found = home_range(pandas.DataFrame({**PART, "second": [start + second for second in PART["second"]]}), 100)
     assert found.summary()[["first", "last"]].values.tolist() == [[start, start + 180]]
     assert found.overview()[["first", "last", "within_95_time"]].values.tolist() == [[start, start + 180, start + 180]]
-    assert found.curve()["time"].tolist() == [start, start + 60, start + 120, start + 180]
+    assert found.curve()["second"].tolist() == [start, start + 60, start + 120, start + 180]
     assert found.growth()["within_95_time"].tolist() == [start + 180]
     assert home_range(pandas.DataFrame({**PART, "easting": 0}), 100).growth()["within_95_time"].isna().tolist() == [True]
 

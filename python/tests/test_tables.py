@@ -35,6 +35,42 @@ def test_time_in_the_index():
         assert found.curve()["time"].tolist() == frame.index.tolist()
 
 
+def test_animals_in_an_index_without_a_name_are_refused():
+    parts = {name: frame_of(a=SQUARE).drop(columns="animal") for name in ("fox", "hare")}
+    with pytest.raises(FrameError, match="^no column has a usual title for the animal, and level 0 of the index has texts that repeat"):
+        home_range(pandas.concat(parts))
+    assert home_range(pandas.concat(parts, names=["animal", None])).animals == ["fox", "hare"]
+    frame = frame_of(a=SQUARE, b=SQUARE).set_index("animal").rename_axis(None)
+    with pytest.raises(FrameError, match="^no column has a usual title for the animal, and the index has texts that repeat"):
+        home_range(frame)
+    with pytest.warns(HomeRangeNote):
+        assert home_range(frame, name="fox").animals == ["fox"]
+
+
+def test_a_time_that_nobody_named_wants_a_column_of_the_animal():
+    frame = frame_of(a=SQUARE, b=SQUARE).rename(columns={"timestamp": "zeit"})
+    assert home_range(frame).animals == ["a", "b"]
+    with pytest.raises(FrameError, match="neither for the animal nor for the time: name them, as by animal=.. and time='zeit'$"):
+        home_range(frame.rename(columns={"animal": "vogel"}))
+
+
+def test_times_are_no_names():
+    frame = frame_of(a=SQUARE, b=SQUARE)
+    days = frame["animal"].map({"a": pandas.Timestamp("2024-05-01"), "b": pandas.Timestamp("2024-05-02")})
+    for column in (days, days.dt.date):
+        with pytest.raises(FrameError, match="^row 0: animal is 2024-05-01.*, a time: make it text$"):
+            home_range(frame.assign(animal=column))
+
+
+def test_numbers_of_32_bits_say_how_far_they_are_apart():
+    frame = frame_of(a=SQUARE)
+    narrow = frame.assign(northing=frame["northing"].astype("float32"))
+    with pytest.warns(HomeRangeNote) as warned:
+        home_range(narrow, unit="dm")
+    assert noted(warned) == ["numbers of northing have 32 bits, and may be 0.5 m from the places that were measured"]
+    assert home_range(narrow).animals == home_range(frame, unit="dm").animals == ["a"]  # which says nothing
+
+
 def test_animal_and_time_in_the_index():
     frame = frame_of(a=SQUARE, b=SQUARE)
     found = home_range(frame.set_index(["animal", "timestamp"]))

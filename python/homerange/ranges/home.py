@@ -192,14 +192,16 @@ class HomeRanges:
 
     def curve(self) -> pandas.DataFrame:
         """The table of incremental area analysis (Harris et al. 1990), a row for each fix: ``animal``; ``n``, the
-        number of the fix; its ``time``; and ``corners`` and ``hectares`` of the polygon of the first n fixes."""
+        number of the fix; its ``time``; and ``corners`` and ``hectares`` of the polygon of the first n fixes. Where seconds
+        have no date they stand in a column ``second``, and ``time`` counts them from 1970-01-01."""
         tables = self._report.tables
         counts = [table.fixes for table in tables.values()]
         seconds, corners, areas = (numpy.concatenate(own) for own in zip(*(table.rows for table in tables.values())))
+        when = {"time": times_of(pandas.Series(seconds), self.tz)}
         return self.by_group(pandas.DataFrame({
             "animal": numpy.repeat(numpy.array([*tables], dtype=object), counts),
-            "n": numpy.concatenate([numpy.arange(1, count + 1) for count in counts]), "time": self._times(seconds),
-            "corners": corners, "hectares": areas / UNITS[self.unit].hectare}))
+            "n": numpy.concatenate([numpy.arange(1, count + 1) for count in counts]),
+            **(when if self._has_calendar else {"second": seconds, **when}), "corners": corners, "hectares": areas / UNITS[self.unit].hectare}))
 
     def overlap(self, share: bool = False, level: int = 100) -> pandas.DataFrame:
         """How many of the fixes of the row's animal lie in the polygon of the column's, its edges included; with

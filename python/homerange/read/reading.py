@@ -20,7 +20,7 @@ from ..record import Record, read_record
 from ..units import UNITS, zone_text
 from .call import as_arguments, split_table
 from .fixes import PLACES, Fixes, Reading, checksum_of_rows, clock_of, reading_of, rows_of_fixes
-from .refusals import COLUMNS, check_cells, refuse_text
+from .refusals import COLUMNS, check_cells, refuse_text, steps_said
 from .systems import crs_named, options_of, refuse_zone, scale_said
 from .text import NAME, Text, frame_given, in_own_words, text_of_frame, with_time_named, write_text
 from .tracks import NAMED, Whole, left_out, own_names, read_tracks, rows_of
@@ -149,7 +149,8 @@ def read_text(text: Text, folder: Path, program: str, has_rows: bool) -> ReadTab
     record = read_record(folder / "tracks" / "split.txt")
     whole = read_tracks(folder / "tracks", record)
     check_cells(text, record)
-    fixes = fixes_of(whole, record, folder, text.options.get("tz"), text.crs, text.notes, lambda line: said_of(line, text))
+    notes = [*text.notes, *steps_said(text, record)]
+    fixes = fixes_of(whole, record, folder, text.options.get("tz"), text.crs, notes, lambda line: said_of(line, text))
     return ReadTable(fixes, reading_of(fixes).notes, None, rows_of(folder / "tracks", whole) if has_rows else None)
 
 

@@ -4,20 +4,22 @@ class that has no text, in columns that the program read."""
 from __future__ import annotations
 
 import re
-from typing import Iterable, Iterator, NamedTuple, NoReturn, Sequence
+from typing import Any, Iterable, Iterator, NamedTuple, NoReturn, Sequence
 
 import numpy
 import pandas
 
 from ..errors import FrameError, one_line, refuse
 from ..record import Record
+from ..units import UNITS
 from .call import as_arguments
 from .cells import cell_of, odd_row, row_named
-from .text import NAME, Column, Text, in_own_words, titles_named
+from .text import NAME, Column, Text, has_times, in_own_words, titles_named
 
 # What the program says of files, and what is said of frames in its place.
 OF_FILES = {re.compile("(?<=a number that has lost digits): .*"): ": read its column as text, as by dtype=str",
             re.compile(f"^{NAME} has (.*): is its separator another[?]$"): r"the data frame has \1"}
+DEGREE = 111_320  # metres of one at the equator
 COLUMNS, UNREAD, NO_ANIMAL = "columns: ", "not read: ", "no column has a usual title for the animal"  # how lines begin
 
 
@@ -67,12 +69,30 @@ def check_cells(text: Text, record: Record) -> None:
     odd = odd_cells(columns)
     if odd:
         refuse_class(text, odd, "unread")
+    if any(line.startswith(NO_ANIMAL) for line in record.said):
+        if text.options.get("name") is None:
+            refuse_unnamed(text)
+        return
     taken = next((line for line in record.said if line.startswith(COLUMNS)), "")
-    has_animal = not any(line.startswith(NO_ANIMAL) for line in record.said)
     named = titles_named(text.options.get("animal"))
-    for column in columns if has_animal else ():
+    for column in columns:
         if column.title in named or taken.startswith(f"{COLUMNS}{one_line(column.title)}, "):
-            refuse_parts(text, column)
+            refuse_names(text, column)
+
+
+def refuse_unnamed(text: Text) -> None:
+    """Refuses a table without a column of the animal of which the time was found by its class alone, or whose index may have the
+    animals: texts that repeat, without a name."""
+    if text.finds_time:
+        refuse(f"no column has a usual title, neither for the animal nor for the time: name them, as by animal=.. and "
+               f"time={text.options['time']!r}", "columns")
+    labels = text.labels
+    for at, name in enumerate(labels.names):
+        own = labels.get_level_values(at)
+        if name is None and not own.is_unique and pandas.api.types.infer_dtype(own) in ("string", "categorical"):
+            level = f"level {at} of the index" if labels.nlevels > 1 else "the index"
+            refuse(f"no column has a usual title for the animal, and {level} has texts that repeat, and no name: if they are the "
+                   "animals, name it, as by frame.index.names", "columns")
 
 
 def columns_read(text: Text, record: Record) -> Iterator[Column]:
@@ -88,13 +108,37 @@ def columns_read(text: Text, record: Record) -> Iterator[Column]:
             yield column
 
 
-def refuse_parts(text: Text, column: Column) -> None:
-    """Refuses numbers that are not whole as names."""
+def refuse_names(text: Text, column: Column) -> None:
+    """Refuses times, and numbers that are not whole, as names."""
     values = column.values
     if isinstance(values.dtype, numpy.dtype) and values.dtype.kind in "biu" or pandas.api.types.infer_dtype(values) == "string":
         return
-    cells = enumerate(values.tolist())
-    at = next((at for at, value in cells if isinstance(value, (float, numpy.floating)) and value % 1 > 0), None)
+    is_time = has_times(values) or pandas.api.types.infer_dtype(values) == "date"
+    at = next((at for at, value in enumerate(values.tolist()) if is_time or has_part(value)), None)
     if at is not None:
-        what = f"{column.title} is {cell_of(values.iloc[at])}, a number that is not whole: make it text"
+        what = f"{column.title} is {cell_of(values.iloc[at])}, {'a time' if is_time else 'a number that is not whole'}: make it text"
         refuse(f"{row_named(text.labels, at)}: {what}", "name", at + 1)
+
+
+def has_part(value: Any) -> bool:
+    """Whether a value is a number that is not whole."""
+    return isinstance(value, (float, numpy.floating)) and bool(value % 1 > 0)
+
+
+def steps_said(text: Text, record: Record) -> list[str]:
+    """What is said of numbers of 32 or 16 bits that lie farther from each other than the unit."""
+    unit = 1 / UNITS[record.unit].per_metre
+    return [line for column in columns_read(text, record) for line in [step_said(column, unit)] if line is not None]
+
+
+def step_said(column: Column, unit: float) -> str | None:
+    """The same of one column, which are degrees or metres by their size."""
+    kind = getattr(column.values.dtype, "numpy_dtype", column.values.dtype)
+    if kind not in ("float32", "float16"):
+        return None
+    most = column.values.astype("float64").abs().max()
+    step = float(numpy.spacing(kind.type(most)))
+    metres = step * DEGREE if most <= 360 else step
+    if not unit < metres < most:
+        return None
+    return f"numbers of {column.title} have {8 * kind.itemsize} bits, and may be {metres:.2g} m from the places that were measured"

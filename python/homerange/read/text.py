@@ -37,7 +37,8 @@ class Column(NamedTuple):
 
 class Text(NamedTuple):
     """A frame as it is written: its columns, the options by which the program reads it, the reference system of its coordinates
-    as far as it is known, what is to be said, and the title that a column got, with its own."""
+    as far as it is known, what is to be said, the title that a column got, with its own, and whether its only moments are taken
+    as the time though nobody named them."""
 
     columns: list[Column]
     labels: pandas.Index
@@ -45,6 +46,7 @@ class Text(NamedTuple):
     crs: Any
     notes: list[str]
     renamed: tuple[str, str] | None = None
+    finds_time: bool = False
 
 
 def frame_given(frame: Any) -> Any:
@@ -211,7 +213,7 @@ def with_time_named(text: Text, refusal: str) -> Text | None:
     odd = next((column for column in moments if own.startswith(f"'{one_line(column.title)}' says ")), None)
     if odd is None or text.renamed is not None:
         is_only = "no column has a usual title for the time" in refusal and text.options.get("time") is None and len(moments) == 1
-        return text._replace(options={**text.options, "time": moments[0].title}) if is_only else None
+        return text._replace(options={**text.options, "time": moments[0].title}, finds_time=True) if is_only else None
     title = free_title("datetime", text.columns)
     columns = [column._replace(title=title) if column is odd else column for column in text.columns]
     return text._replace(columns=columns, options={**text.options, "time": title}, renamed=(title, odd.title))
