@@ -220,6 +220,18 @@ def test_fixes_are_chosen_and_sorted_as_in_any_frame(fixes):
     assert type(fixes["easting"]) is pandas.Series
 
 
+def test_fixes_are_read_again_with_what_they_have(splitter):
+    frame = frame_of(a=[(500_000.3 + east, 5_000_000 + north) for east, north in SQUARE]).assign(note=[*"wxyz"])
+    fixes = quietly(read_fixes, frame, unit="dm", zone="33N", tz="Asia/Tokyo")
+    again = read_fixes(fixes.iloc[1:])
+    assert again.equals(fixes.iloc[1:]) and again["note"].tolist() == [*"xyz"]
+    assert (again.reading.unit, again.reading.zone, again.reading.tz) == ("dm", "33N", "Asia/Tokyo")
+    assert again.left_out().values.tolist() == [["a", "use", 1]]
+    whole = quietly(read_fixes, fixes, unit="m", every="1h")
+    assert whole["easting"].tolist() == [500_000, 500_200] and whole.reading.zone == "33N" and len(whole) == 2
+    assert read_fixes(again).equals(again)
+
+
 def test_fixes_are_bound_if_they_are_alike(fixes, splitter):
     parts = pandas.concat([fixes[fixes["animal"] == "b"], fixes[fixes["animal"] == "a"]])
     assert type(parts) is Fixes and parts.reading == fixes.reading
