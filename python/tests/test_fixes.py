@@ -69,6 +69,9 @@ def test_times_are_of_the_zone_of_their_column(splitter):
     local = read_fixes(frame.assign(timestamp=frame["timestamp"].dt.tz_convert("Europe/Ljubljana")))
     assert str(local["time"].dtype) == "datetime64[ns, Europe/Ljubljana]" and local["time"].tolist() == frame["timestamp"].tolist()
     assert str(read_fixes(frame, tz="Asia/Tokyo")["time"].dtype) == "datetime64[ns, Asia/Tokyo]"
+    # A column that is not read has no say.
+    seconds = frame.assign(time=range(10 ** 9, 10 ** 9 + 4), released=local["time"]).drop(columns="timestamp")
+    assert str(read_fixes(seconds)["time"].dtype) == "datetime64[ns, UTC]"
     # A text without a zone is of the one that is named: in March it is an hour before UTC.
     text = frame.assign(timestamp=frame["timestamp"].dt.strftime("%Y-%m-%d %H:%M:%S"))
     assert read_fixes(text, tz="Europe/Ljubljana")["time"].tolist() == (frame["timestamp"] - pandas.Timedelta("1h")).tolist()

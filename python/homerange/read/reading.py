@@ -3,6 +3,7 @@
 from __future__ import annotations
 
 import os
+import shutil
 import tempfile
 import warnings
 from collections import Counter
@@ -20,9 +21,9 @@ from ..record import Record, read_record
 from ..units import UNITS, zone_text
 from .call import as_arguments, split_table
 from .fixes import PLACES, Fixes, Reading, checksum_of_rows, clock_of, is_known, reading_of, rows_of_fixes
-from .refusals import COLUMNS, check_cells, refuse_text
+from .refusals import COLUMNS, check_cells, columns_read, refuse_text
 from .systems import crs_named, options_of, refuse_zone, scale_said
-from .text import NAME, Text, frame_given, in_own_words, text_of_frame, with_time_named, write_text
+from .text import NAME, Text, frame_given, in_own_words, text_of_frame, with_time_named, without_clock, write_text
 from .tracks import NAMED, Whole, left_out, own_names, read_tracks, rows_of
 from .words import words_of_options
 
@@ -163,7 +164,11 @@ def split_text(text: Text, folder: Path, program: str, words: Sequence[str]) -> 
         try:
             write_text(text, folder / NAME)
             split_table(NAME, "tracks", [*words, *words_of_options(text.options)], program, str(folder))
-            return text
+            read = columns_read(text, read_record(folder / "tracks" / "split.txt"))
+            if not text.clock or any(in_own_words(column.title, text) in text.clock for column in read):
+                return text
+            text = without_clock(text)
+            shutil.rmtree(folder / "tracks")
         except FrameError as fault:
             text = with_time_named(text, str(fault)) or refuse_text(text, fault)
 
