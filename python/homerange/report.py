@@ -22,6 +22,7 @@ TEXT: dict[str, Any] = {"encoding": "utf-8", "errors": "surrogateescape", "newli
 NUMBER = "(?:0|[1-9][0-9]{0,16})"  # digits alone, at most those of the greatest area, and no zero before others
 NUMBERS = [re.compile(",".join([f"({NUMBER})"] * count) + "\n") for count in range(5)]  # so many at the end of a line
 ROWS = re.compile(f"(?:{NUMBER},{NUMBER},{NUMBER},{NUMBER}\n)*")
+LAST = 30  # bytes at the end of a report, with its last line
 PIECE = 4_096  # rows that are read together
 NAME = re.compile('[^\x00-\x1f\x7f,"]{1,32}')
 END = re.compile("end,[0-9]+\\n")
@@ -298,16 +299,16 @@ def check_end(text: str, where: str) -> None:
         raise ReportError(f"{one_line(where)} is cut off: its last line is not 'end,' with the number of animals")
 
 
-def lines_of(text: str, where: str) -> Lines:
+def lines_of(text: bytes, where: str) -> Lines:
     """The lines of a report that was read."""
-    check_end(text, where)
-    return Lines(io.StringIO(text, newline="\n"), where)
+    check_end(text[-LAST:].decode("latin-1"), where)
+    return Lines(io.TextIOWrapper(io.BytesIO(text), **TEXT), where)
 
 
 def read(path: str | os.PathLike[str], reader: Reader | None = None) -> Report:
     """The report in a file."""
     with open(path, "rb") as end:
-        end.seek(max(os.path.getsize(path) - 30, 0))
+        end.seek(max(os.path.getsize(path) - LAST, 0))
         check_end(end.read().decode("latin-1"), str(path))
     with open(path, **TEXT) as file:
         return parse(Lines(file, str(path)), reader)
@@ -318,18 +319,17 @@ def kept_count(fixes: int, level: int) -> int:
     return (level * fixes + 99) // 100
 
 
-def nearest(eastings: Sequence[int], northings: Sequence[int], places: Iterable[int], count: int) -> list[int]:
-    """Of fixes at some places so many, those nearest to the mean of all fixes, of fixes as near the earlier. All is
-    multiplied by the number of fixes, so that the numbers are whole and exact."""
-    fixes, east, north = len(eastings), sum(eastings), sum(northings)
+def nearest(some: Iterable[tuple[int, int, int]], fixes: int, sums: tuple[int, int], count: int) -> list[int]:
+    """Of some fixes, by their places in a track, eastings and northings, the places of so many: of those nearest to the mean of
+    all, whose number and sums are known, of fixes as near the earlier. All is multiplied by the number of fixes, so that the
+    numbers are whole and exact."""
+    def distance(fix: tuple[int, int, int]) -> int:
+        return (fixes * fix[1] - sums[0]) ** 2 + (fixes * fix[2] - sums[1]) ** 2
 
-    def distance(at: int) -> int:
-        return (fixes * eastings[at] - east) ** 2 + (fixes * northings[at] - north) ** 2
-
-    return sorted(places, key=distance)[:count]
+    return [place for place, _, _ in sorted(some, key=distance)[:count]]
 
 
 def kept_places(eastings: Sequence[int], northings: Sequence[int], level: int) -> list[int]:
     """The places of the fixes that a level keeps."""
-    fixes = len(eastings)
-    return sorted(nearest(eastings, northings, range(fixes), kept_count(fixes, level)))
+    fixes, all_fixes = len(eastings), zip(range(len(eastings)), eastings, northings)
+    return sorted(nearest(all_fixes, fixes, (sum(eastings), sum(northings)), kept_count(fixes, level)))

@@ -69,6 +69,9 @@ def test_times_are_of_the_zone_of_their_column(splitter):
     local = read_fixes(frame.assign(timestamp=frame["timestamp"].dt.tz_convert("Europe/Ljubljana")))
     assert str(local["time"].dtype) == "datetime64[ns, Europe/Ljubljana]" and local["time"].tolist() == frame["timestamp"].tolist()
     assert str(read_fixes(frame, tz="Asia/Tokyo")["time"].dtype) == "datetime64[ns, Asia/Tokyo]"
+    # A column that is not read has no say.
+    seconds = frame.assign(time=range(10 ** 9, 10 ** 9 + 4), released=local["time"]).drop(columns="timestamp")
+    assert str(read_fixes(seconds)["time"].dtype) == "datetime64[ns, UTC]"
     # A text without a zone is of the one that is named: in March it is an hour before UTC.
     text = frame.assign(timestamp=frame["timestamp"].dt.strftime("%Y-%m-%d %H:%M:%S"))
     assert read_fixes(text, tz="Europe/Ljubljana")["time"].tolist() == (frame["timestamp"] - pandas.Timedelta("1h")).tolist()
@@ -218,6 +221,18 @@ def test_fixes_are_chosen_and_sorted_as_in_any_frame(fixes):
     renamed = fixes.rename(columns={"easting": "x"})
     assert repr(renamed) == repr(pandas.DataFrame(renamed))
     assert type(fixes["easting"]) is pandas.Series
+
+
+def test_fixes_are_read_again_with_what_they_have(splitter):
+    frame = frame_of(a=[(500_000.3 + east, 5_000_000 + north) for east, north in SQUARE]).assign(note=[*"wxyz"])
+    fixes = quietly(read_fixes, frame, unit="dm", zone="33N", tz="Asia/Tokyo")
+    again = read_fixes(fixes.iloc[1:])
+    assert again.equals(fixes.iloc[1:]) and again["note"].tolist() == [*"xyz"]
+    assert (again.reading.unit, again.reading.zone, again.reading.tz) == ("dm", "33N", "Asia/Tokyo")
+    assert again.left_out().values.tolist() == [["a", "use", 1]]
+    whole = quietly(read_fixes, fixes, unit="m", every="1h")
+    assert whole["easting"].tolist() == [500_000, 500_200] and whole.reading.zone == "33N" and len(whole) == 2
+    assert read_fixes(again).equals(again)
 
 
 def test_fixes_are_bound_if_they_are_alike(fixes, splitter):

@@ -410,7 +410,7 @@ def table_of(x: Any, reading: dict[str, Any], folder: Path, program: str | os.Pa
     named = next((name for name, value in reading.items() if value is not None), None)
     if named is not None:
         refuse(f"{named} says how a table is read, and these fixes were read already: give it to read_fixes")
-    return read_again(x, folder, program, has_columns)
+    return read_again(x, {}, folder, program, has_columns)
 
 
 def read_report(

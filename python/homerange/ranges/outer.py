@@ -27,9 +27,10 @@ def polygon_kept(track: Track, level: int) -> Corners:
 
 def far_ends(places: Places) -> Corners:
     """Of some places those that lie farthest in some directions, counterclockwise."""
-    angles = 2 * math.pi / SOME * numpy.arange(SOME)
-    far = (places @ numpy.array([numpy.cos(angles), numpy.sin(angles)])).argmax(axis=0)
-    return [(east, north) for east, north in places[[*dict.fromkeys(far.tolist())]].tolist()]
+    east, north = places.T
+    angles = [2 * math.pi * at / SOME for at in range(SOME)]
+    far = dict.fromkeys(int((east * math.cos(angle) + north * math.sin(angle)).argmax()) for angle in angles)
+    return [(int(east[at]), int(north[at])) for at in far]
 
 
 def kept_of(track: Track, level: int) -> Track:
@@ -39,9 +40,9 @@ def kept_of(track: Track, level: int) -> Track:
     edge = numpy.partition(far, count - 1)[count - 1]
     is_near, is_far = far < edge - SLACK * (edge + 1), far > edge + SLACK * (edge + 1)
     # Where rounded distances do not tell it, whole numbers do.
-    unsure = numpy.flatnonzero(~is_near & ~is_far).tolist()
-    some = count - int(is_near.sum())
-    is_near[unsure if len(unsure) == some else nearest(east.tolist(), north.tolist(), unsure, some)] = True
+    unsure = numpy.flatnonzero(~is_near & ~is_far)
+    some = zip(unsure.tolist(), east[unsure].tolist(), north[unsure].tolist())
+    is_near[nearest(some, len(track), (int(east.sum()), int(north.sum())), count - int(is_near.sum()))] = True
     return numpy.asarray(track[is_near])
 
 

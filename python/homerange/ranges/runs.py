@@ -21,7 +21,7 @@ Progress = Callable[[int, int], object]  # is called with how many of how many r
 Box = Tuple[int, int, int, int]
 
 
-def _call(program: str, levels: str, unit: str, folder: str, files: Mapping[str, str]) -> str:
+def _call(program: str, levels: str, unit: str, folder: str, files: Mapping[str, str]) -> bytes:
     """The report of a run of the tracks of animals, by the names of their files in the folder. Faults name the animal and not its
     file."""
     command: list[str | bytes] = [program, "--percent", levels, "--unit", unit, *(path_of_track(".", name) for name in files)]
@@ -30,7 +30,7 @@ def _call(program: str, levels: str, unit: str, folder: str, files: Mapping[str,
     except OSError as fault:
         raise ProgramError(f"{program} does not run: {fault.strerror}") from fault
     if run.returncode == 0:
-        return run.stdout.decode("utf-8", errors="replace")
+        return run.stdout
     said = run.stderr.decode("utf-8", errors="replace").strip() or f"{program} ended with status {run.returncode}"
     line = re.sub(r"[.]/(.*?)[.]csv\b", lambda found: files.get(found[1], found[1]), said.splitlines()[-1])
     raise FAULTS.get(run.returncode, ProgramError)(one_line(line))
@@ -56,12 +56,12 @@ class Runs:
         """The animals of a step, by the names of their files."""
         return {self.files[name]: name for group in step for name in group}
 
-    def text(self, folder: str, step: Step) -> str:
+    def text(self, folder: str, step: Step) -> bytes:
         """The report of a step, of a pair of groups the overlaps alone."""
         text = _call(self.program, self.levels, self.unit, folder, self.named(step))
-        return text if len(step) == 1 else text[text.find("\noverlap,") + 1:]
+        return text if len(step) == 1 else text[text.find(b"\noverlap,") + 1:]
 
-    def add(self, report: Report, step: Step, text: str) -> None:
+    def add(self, report: Report, step: Step, text: bytes) -> None:
         """Takes into the report what a step gave."""
         names = self.named(step)
         fixes = {file: len(self.tracks[name]) for file, name in names.items()}

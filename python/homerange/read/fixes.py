@@ -159,9 +159,12 @@ def rows_of_fixes(fixes: Fixes) -> pandas.DataFrame:
 
 
 def checksum_of_rows(fixes: Fixes) -> str:
-    """A checksum of such rows, in their order."""
+    """A checksum of such rows, in their order; none of marks that are lists, which the program did not take."""
     rows = rows_of_fixes(fixes)
-    hashes = pandas.util.hash_pandas_object(rows, index=False)
+    try:
+        hashes = pandas.util.hash_pandas_object(rows, index=False)
+    except TypeError:
+        return ""
     return hashlib.sha256(repr([*rows.columns]).encode("utf-8", "surrogatepass") + hashes.to_numpy().tobytes()).hexdigest()
 
 

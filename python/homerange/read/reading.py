@@ -3,6 +3,7 @@
 from __future__ import annotations
 
 import os
+import shutil
 import tempfile
 import warnings
 from collections import Counter
@@ -19,10 +20,10 @@ from ..program import find_split_program
 from ..record import Record, read_record
 from ..units import UNITS, zone_text
 from .call import as_arguments, split_table
-from .fixes import PLACES, Fixes, Reading, checksum_of_rows, clock_of, reading_of, rows_of_fixes
-from .refusals import COLUMNS, check_cells, refuse_text, steps_said
+from .fixes import PLACES, Fixes, Reading, checksum_of_rows, clock_of, is_known, reading_of, rows_of_fixes
+from .refusals import COLUMNS, check_cells, columns_read, refuse_text, steps_said
 from .systems import crs_named, options_of, refuse_zone, scale_said
-from .text import NAME, Text, frame_given, in_own_words, text_of_frame, with_time_named, write_text
+from .text import NAME, Text, frame_given, in_own_words, text_of_frame, with_time_named, without_clock, write_text
 from .tracks import NAMED, Whole, left_out, own_names, read_tracks, rows_of
 from .words import words_of_options
 
@@ -53,7 +54,8 @@ def read_fixes(x: Any, *, program: str | os.PathLike[str] | None = None, **optio
     """The fixes of a table, as a data frame of pandas for ``home_range``, which knows how it was read.
 
     x: a file, such as an export of Movebank or of a collar, text or GPX; or a data frame of pandas with a row for each fix; or
-        a GeoDataFrame of points, or a trajectory or a collection of movingpandas.
+        a GeoDataFrame of points, or a trajectory or a collection of movingpandas; or fixes that were read before, which keep the
+        unit, the zone and the clock that they have unless these are named.
     options: those of homerange-split, with _ for hyphens (``from_`` for from): unit, zone, crs, animal, name, time, time_format,
         tz, easting, northing, lon, lat, argos, dop, fix, skip_unnamed, sensor, argos_class, max_dop, fix_type, since, until,
         max_speed, every, na and from_; and of files encoding, skip_lines and header. docs/TABLES.md says what each does, and how
@@ -67,7 +69,8 @@ def read_fixes(x: Any, *, program: str | os.PathLike[str] | None = None, **optio
     there.
     """
     with tempfile.TemporaryDirectory(prefix="homerange-") as folder:
-        table = read_table(x, options, Path(folder), program)
+        is_read = isinstance(x, Fixes) and is_known(x)
+        table = read_again(x, options, Path(folder), program) if is_read else read_table(x, options, Path(folder), program)
     tell(table.said)
     table.fixes.reading = replace(reading_of(table.fixes), rows=checksum_of_rows(table.fixes))
     return table.fixes
@@ -87,17 +90,19 @@ def read_table(
     return read_frame(own, options, folder, find_split_program(program), has_columns)
 
 
-def read_again(fixes: Fixes, folder: Path, program: str | os.PathLike[str] | None = None, has_columns: bool = True) -> ReadTable:
-    """Fixes as they were read, if their rows are still the same; else the program reads their rows as a frame. Only what was not
-    said before is said, and not what was taken."""
-    before = reading_of(fixes)
+def read_again(fixes: Fixes, options: Mapping[str, Any], folder: Path, program: str | os.PathLike[str] | None = None,
+               has_columns: bool = True) -> ReadTable:
+    """Fixes as they were read, if their rows are still the same and no option is named; else the program reads their rows as a
+    frame. Only what was not said before is said, and not what was taken."""
+    before, wishes = reading_of(fixes), {name: zone_text(value) for name, value in options.items() if value is not None}
+    words_of_options({**wishes, "crs": None})
     if not len(fixes):
         refuse("no fix is left", "empty")
-    if before.rows == checksum_of_rows(fixes):
+    if before.rows == checksum_of_rows(fixes) and not wishes:
         return ReadTable(fixes)
-    rows = rows_of_fixes(fixes)
-    known = {"zone": before.zone} if before.crs is None else {"crs": before.crs}
-    text = text_of_frame(rows.reset_index(drop=True), {"unit": before.unit, **known, "tz": clock_of(fixes)})
+    system: dict[str, Any] = {"zone": before.zone} if before.crs is None else {"crs": before.crs}
+    known = {"unit": before.unit, **({} if {"zone", "crs"} & {*wishes} else system), "tz": clock_of(fixes)}
+    text = text_of_frame(rows_of_fixes(fixes).reset_index(drop=True), {**known, **wishes})
     found = read_text(text._replace(labels=fixes.index), folder, find_split_program(program), has_columns)
     own = reading_of(found.fixes)
     new = [note for note in own.notes if note not in before.notes and not note.startswith(TAKEN)]
@@ -160,7 +165,11 @@ def split_text(text: Text, folder: Path, program: str, words: Sequence[str]) -> 
         try:
             write_text(text, folder / NAME)
             split_table(NAME, "tracks", [*words, *words_of_options(text.options)], program, str(folder))
-            return text
+            read = columns_read(text, read_record(folder / "tracks" / "split.txt"))
+            if not text.clock or any(in_own_words(column.title, text) in text.clock for column in read):
+                return text
+            text = without_clock(text)
+            shutil.rmtree(folder / "tracks")
         except FrameError as fault:
             text = with_time_named(text, str(fault)) or refuse_text(text, fault)
 

@@ -37,14 +37,15 @@ class Column(NamedTuple):
 
 class Text(NamedTuple):
     """A frame as it is written: its columns, the options by which the program reads it, the reference system of its coordinates
-    as far as it is known, what is to be said, the title that a column got, with its own, and whether its only moments are taken
-    as the time though nobody named them."""
+    as far as it is known, what is to be said, the columns whose zone is that of times, the title that a column got, with its own,
+    and whether its only moments are taken as the time though nobody named them."""
 
     columns: list[Column]
     labels: pandas.Index
     options: dict[str, Any]
     crs: Any
     notes: list[str]
+    clock: tuple[str, ...] = ()
     renamed: tuple[str, str] | None = None
     finds_time: bool = False
 
@@ -72,8 +73,8 @@ def text_of_frame(frame: pandas.DataFrame, options: Mapping[str, Any]) -> Text:
     elif crs is not None:
         crs = crs_named(crs)
     found.update(options_of(crs, found.get("zone")))
-    zone, said = zone_of_times(columns, found)
-    return Text(columns, frame.index, {**found, "tz": zone}, crs, [*notes, *said])
+    zone, said, clock = zone_of_times(columns, found)
+    return Text(columns, frame.index, {**found, "tz": zone}, crs, [*notes, *said], clock)
 
 
 def check_options(options: Mapping[str, Any]) -> None:
@@ -183,25 +184,25 @@ def zones_in(values: pandas.Series) -> set[str | None]:
     return {zone_name(zone)}
 
 
-def zone_of_times(columns: Sequence[Column], options: Mapping[str, Any]) -> tuple[Any, list[str]]:
+def zone_of_times(columns: Sequence[Column], options: Mapping[str, Any]) -> tuple[Any, list[str], tuple[str, ...]]:
     """The time zone for the program: the one that is named, or the only one that columns of date-times have, where no other
-    column may be the time; and what is to be said of it."""
+    column may be the time; what is to be said of it; and the columns that have it."""
     if options.get("tz") is not None:
-        return options["tz"], []
+        return options["tz"], [], ()
     times = {column.title: zones_in(column.values) for column in columns if has_times(column.values)}
     found = {zone for zones in times.values() for zone in zones}
     zones = sorted(zone for zone in found if zone is not None)
     if not zones or zones == ["UTC"]:
-        return None, []
+        return None, [], ()
     named = titles_named(options.get("time"))
     others = [column.title for column in columns if column.title not in times and not is_number(column.values)
               and (column.title in named or not named and plain(column.title) in TIMES)]
     if len(zones) > 1 or None in found or others or options.get("from_") is not None:
         more = " and of other clocks" if None in found or others else ""
-        return None, [f"days and hours are those of UTC, since times are of {', '.join(zones)}{more}"]
+        return None, [f"days and hours are those of UTC, since times are of {', '.join(zones)}{more}"], ()
     if not IANA.fullmatch(zones[0]):
-        return None, [f"days and hours are those of UTC, since the zone {zones[0]} of {[*times][0]} has no name"]
-    return zones[0], [f"days and hours are those of {zones[0]}, the zone of {[*times][0]}"]
+        return None, [f"days and hours are those of UTC, since the zone {zones[0]} of {[*times][0]} has no name"], ()
+    return zones[0], [f"days and hours are those of {zones[0]}, the zone of {[*times][0]}"], (*times,)
 
 
 def with_time_named(text: Text, refusal: str) -> Text | None:
@@ -217,6 +218,12 @@ def with_time_named(text: Text, refusal: str) -> Text | None:
     title = free_title("datetime", text.columns)
     columns = [column._replace(title=title) if column is odd else column for column in text.columns]
     return text._replace(columns=columns, options={**text.options, "time": title}, renamed=(title, odd.title))
+
+
+def without_clock(text: Text) -> Text:
+    """The text without the zone of columns, which the program did not read."""
+    notes = [note for note in text.notes if not note.startswith("days and hours are")]
+    return text._replace(options={**text.options, "tz": None}, notes=notes, clock=())
 
 
 def in_own_words(said: str, text: Text) -> str:
