@@ -24,7 +24,7 @@ test_that("numbers have the fewest digits that give them back, and no exponent b
   set.seed(1)
   numbers <- c(stats::runif(1000, -1e6, 1e6), 10^stats::runif(1000, -10, 15))
   expect_identical(as.numeric(cells(numbers)), numbers)
-  old <- options(OutDec = ",", scipen = -20, digits = 3)
+  old <- options(OutDec = ",", scipen = -9, digits = 3)
   on.exit(options(old))
   expect_identical(cells(c(1234.5, 1e5)), c("1234.5", "100000"))
 })
