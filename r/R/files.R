@@ -1,6 +1,6 @@
 # Files: which names they may have, how tracks and other lines are written, and checksums.
 
-lines_written <- 50000  # at once
+lines_written <- 16384  # at once
 # The bytes of 0000 to 9999.
 digits_of_four <- matrix(as.raw(48 + rep(0:9999, each = 4) %/% c(1000, 100, 10, 1) %% 10), 4)
 

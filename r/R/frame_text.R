@@ -4,7 +4,7 @@ name_of_frame <- "fixes.csv"  # of the text, in records
 signs_between_fields <- "[;\t]"  # of other tables than those with commas
 widest_kind <- 64  # bytes of a text among those whose cells are written as bytes
 widest_number <- 17  # bytes of a number among these
-bytes_at_once <- 4e6
+bytes_at_once <- 5e5  # which fit into a cache of the processor
 
 # The parts of columns, by their titles.
 parts_of_frame <- function(columns) {

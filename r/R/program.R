@@ -66,6 +66,7 @@ run_program <- function(program, files, animals, options) {
   output <- tempfile("report", folder)
   fault <- tempfile("fault", folder)
   on.exit(unlink(c(output, fault)))
+  local_utf8(basename(files))
   words <- shQuote(c(options, files))
   status <- suppressWarnings(system2(program, words, stdout = output, stderr = fault))
   if (status != 0) refuse_run(status, readLines(fault, warn = FALSE, encoding = "UTF-8"), `Encoding<-`(files, "UTF-8"), animals)

@@ -83,7 +83,7 @@ without_clock <- function(frame, into) {
 with_moments <- function(frame, refusal) {
   said <- sub("^column [0-9]+ ", "", refusal$text)
   refused <- Filter(function(title) startsWith(said, paste0("'", one_line(title), "' says ")), frame$moments)
-  is_unnamed <- startsWith(refusal$text, "no column has a usual title for the time") && is.null(frame$given$time)
+  is_unnamed <- grepl("no column has a usual title for the time", refusal$text, fixed = TRUE) && is.null(frame$given$time)
   if (is_unnamed && length(frame$moments) == 1) {
     frame$given$time <- frame$moments
   } else if (length(refused) && is.null(frame$renamed)) {

@@ -237,7 +237,7 @@ with_record <- function(ranges, record) {
 
 # Writes the report of home ranges, with the names that animals have in files, as the program would of those.
 write_report <- function(x, path) {
-  local_options()
+  local_options(x, path)
   check_ranges(x)
   check_path(path)
   if (anyNA(x$overlaps)) refuse("option", "x: these are ranges of several reports, whose overlaps are not known")

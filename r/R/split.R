@@ -22,6 +22,7 @@ run_split <- function(path, words, into) {
   program <- split_program()
   fault <- tempfile("fault", dirname(into))
   on.exit(unlink(fault))
+  local_utf8(character())
   call <- vapply(c("--machine", words, paste0("--into=", into), "--", path), function(word) shQuote(in_bytes(word)), "")
   status <- suppressWarnings(system2(program, call, stdout = FALSE, stderr = fault))
   if (status != 0) refusal_of_split(status, fault)

@@ -125,7 +125,7 @@ levels_of <- function(ranges) {
 
 # Refuses what are no levels whose polygons are known.
 check_levels <- function(ranges, levels) {
-  local_options()
+  local_options(levels)
   known <- sort(unique(c(ranges$percents$level, 100)))
   odd <- if (is.numeric(levels) && !is.object(levels)) setdiff(levels, known) else levels
   if (length(odd) || !length(levels)) {

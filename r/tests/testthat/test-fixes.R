@@ -119,6 +119,7 @@ test_that("moments are the time whatever their title says", {
       }
     }
   }
+  expect_identical(nrow(read_quietly(cbind(table, local = times), since = times[2])), 3L)
   text <- `names<-`(cbind(table, format(times)), c(names(table), "local time"))
   expect_error(read_quietly(text), class = "homerange_columns_error")
   expect_error(read_quietly(text, time = "local time"), "says local", class = "homerange_columns_error")

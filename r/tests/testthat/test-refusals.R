@@ -61,6 +61,7 @@ test_that("names are the same in a locale of ASCII alone", {
   Sys.setlocale("LC_CTYPE", "C")
   bare <- transform(fixes(), animal = "Sch\xc3\xa4fer/1")
   expect_identical(summary(quietly(home_range(bare)))$animal[1], "Sch\u00e4fer/1")
+  expect_identical(names(quietly(home_range(fixes()[-1], name = "Sch\u00e4fer"))), "Sch\u00e4fer")
 })
 
 test_that("coordinates of a grid of one's own come back where they were", {

@@ -8,7 +8,7 @@ test_that("options of the session change no number and no name", {
   skip_without_program()
   table <- transform(table_of_four(), animal = "Sch\u00e4fer", easting = easting + 0.5)
   wanted <- summary(quietly(home_range(table)))
-  old <- options(encoding = "latin1", scipen = -20, OutDec = ",", digits = 3)
+  old <- options(encoding = "latin1", scipen = -9, OutDec = ",", digits = 3)
   on.exit(options(old))
   expect_identical(summary(quietly(home_range(table))), wanted)
   # Arguments are those that the user's own options make.
