@@ -86,6 +86,7 @@ with_moments <- function(frame, refusal) {
   is_unnamed <- grepl("no column has a usual title for the time", refusal$text, fixed = TRUE) && is.null(frame$given$time)
   if (is_unnamed && length(frame$moments) == 1) {
     frame$given$time <- frame$moments
+    frame$finds_time <- TRUE
   } else if (length(refused) && is.null(frame$renamed)) {
     frame$renamed <- c(from = refused[[1]], to = free_title("datetime", names(frame$parts)))
     names(frame$parts)[names(frame$parts) == refused[[1]]] <- frame$renamed[["to"]]
@@ -136,13 +137,22 @@ check_cells <- function(frame, said) {
   odd <- odd[!vapply(names(odd), is_listed, NA, not_read)]
   if (length(odd)) refuse_cell(frame, "unread", odd)
   check_units(frame, said)
-  for (title in titles_of_animals(frame, said)) {
-    column <- as.list(frame$x)[[title]]
-    row <- if (is.double(column) && !is.object(column)) which(column != floor(column))[1]
-    if (length(row) && !is.na(row)) {
-      number <- cells_of_numbers(column[row])
-      refuse_row(frame$x, "name", row, paste0(title, " is ", number, ", a number that is not whole: make it text"))
-    }
+  has_animal <- !any(startsWith(said, "no column has a usual title for the animal"))
+  if (!has_animal && isTRUE(frame$finds_time) && is.null(frame$given$name)) {
+    refuse("columns", "no column has a usual title, neither for the animal nor for the time: name them, as by animal = .. and ",
+           "time = \"", frame$given$time, "\"")
+  }
+  if (has_animal) for (title in titles_of_animals(frame, said)) check_names(frame, title)
+}
+
+# Refuses times, and numbers that are not whole, as names.
+check_names <- function(frame, title) {
+  column <- as.list(frame$x)[[title]]
+  is_time <- inherits(column, c("Date", "POSIXt"))
+  row <- if (is_time) which(!is.na(column))[1] else if (is.double(column) && !is.object(column)) which(column != floor(column))[1]
+  if (length(row) && !is.na(row)) {
+    what <- if (is_time) c(format(column[row]), "a time") else c(cells_of_numbers(column[row]), "a number that is not whole")
+    refuse_row(frame$x, "name", row, paste0(title, " is ", what[1], ", ", what[2], ": make it text"))
   }
 }
 
@@ -160,7 +170,6 @@ check_units <- function(frame, said) {
 
 # The titles of the columns that were taken for the animal: those that were named, or the first of all that were taken.
 titles_of_animals <- function(frame, said) {
-  if (any(startsWith(said, "no column has a usual title for the animal"))) return(character())
   taken <- grep("^columns: ", said, value = TRUE)
   is_first <- function(title) startsWith(taken, paste0("columns: ", one_line(title), ","))
   c(frame$given$animal, Filter(is_first, names(frame$parts)))

@@ -95,6 +95,8 @@ test_that("columns of classes are read as meant, or refused by name", {
   expect_error(named(table), "row 1: sensor.type is of the class list, of which no cell is known", class = "homerange_unread_error")
   expect_error(named(cbind(frame(), id = c(1, 1.5)), animal = "id"), "row 2: id is 1.5, a number that is not whole: make it text", class = "homerange_name_error")
   expect_error(named(transform(frame(), animal = c(1, 1, 1 / 3))), "row 3: animal is 0.3333333333333333, a number that is not whole")
+  days <- rep(as.Date("2024-05-01") + 0:1, 3)
+  expect_error(named(transform(frame(), animal = days)), "row 1: animal is 2024-05-01, a time: make it text", class = "homerange_name_error")
   for (title in c(NA, "")) {
     fixes <- named(`names<-`(cbind(frame(), 1), c(names(frame()), title)))
     expect_identical(dim(fixes), c(4L, 10L))
@@ -125,6 +127,10 @@ test_that("moments are the time whatever their title says", {
   expect_error(read_quietly(text, time = "local time"), "says local", class = "homerange_columns_error")
   several <- cbind(table, released = times, caught = times)
   expect_error(read_quietly(several), "no column has a usual title for the time", class = "homerange_columns_error")
+  expect_error(
+    read_quietly(cbind(vogel = "a", table[-1], zeit = times)), class = "homerange_columns_error",
+    "neither for the animal nor for the time: name them, as by animal = .. and time = \"zeit\"$"
+  )
   expect_error(read_quietly(cbind(table, time_utc = c(times[1:3], NA)), tz = "Asia/Tokyo"), "row 4: there is no time_utc", class = "homerange_time_error")
 })
 
