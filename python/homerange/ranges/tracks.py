@@ -9,7 +9,7 @@ import os
 from collections import Counter
 from dataclasses import dataclass, field
 from operator import itemgetter
-from typing import Any, Iterable, Iterator
+from typing import Iterable, Iterator
 
 import numpy
 import pandas
