@@ -23,15 +23,14 @@ home_range <- function(x, levels = c(50, 95, 100), by = NULL, ..., progress = in
   ranges
 }
 
-# Fixes as they were read, or those of a table with the rows of a frame that they are.
+# The fixes of a table with the rows of a frame that they are; of fixes that were read there are no options.
 fixes_to_take <- function(x, options, quiet, folder, has_rows) {
-  is_read <- inherits(x, "homerange_fixes")
-  if (is_read && length(options)) {
+  if (inherits(x, "homerange_fixes") && length(options)) {
     name <- c(names(options), "")[1]
     what <- if (nzchar(name)) name else "an argument without a name"
     refuse("option", what, " says how a table is read, and these fixes were read already: give it to read_fixes")
   }
-  if (is_read && is_as_read(x)) list(fixes = x) else read_table(x, options, quiet, folder, has_rows)
+  read_table(x, options, quiet, folder, has_rows)
 }
 
 # The ranges of a report of fixes, with what is known of these.

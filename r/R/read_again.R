@@ -52,14 +52,16 @@ bytes_of_values <- function(column, title) {
   serialize(list(title, column), NULL, xdr = FALSE)
 }
 
-# The fixes of fixes that were changed, by options that go before those of their reading, with their further columns. What was left
-# out by the first reading, since and by the second stands together; said is what the first had not said.
+# Fixes as they were read, or the fixes of those that were changed, by options that go before those of their reading, with their
+# further columns. What was left out by the first reading, since and by the second stands together; said is what the first had not
+# said.
 read_again <- function(x, given, folder, has_rows) {
   facts <- facts_of(x)
   if (is.null(facts)) {
     refuse("option", "it is not known how these fixes were read, since they were joined to others: read them anew by read_fixes")
   }
   if (!nrow(x)) refuse("empty", "no fix is left")
+  if (!length(given) && is_as_read(x)) return(list(fixes = x))
   others <- setdiff(x$animal, names(facts$fixes))
   if (length(others) && nrow(x) > sum(facts$fixes)) {
     refuse("option", "'", others[1], "' is none of the animals that were read, and there are more fixes than were read: ",

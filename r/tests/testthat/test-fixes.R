@@ -270,6 +270,7 @@ test_that("fixes that were changed are read again, and only what is new is said"
   fixes <- named(frame()[c(3, 1, 2, 4:6), ], zone = "33N")  # in the order of time
   said_of <- function(fixes) sub("^homerange: (.*)\n$", "\\1", capture_messages(home_range(fixes, 100)))
   expect_identical(said_of(fixes), character())
+  expect_identical(read_quietly(fixes), fixes)
   expect_identical(said_of(fixes[order(fixes$easting), ]), "1 records of fox come before an earlier one: sorted by time")
   expect_identical(said_of(fixes[c(1, 1:4), ]), "1 records of fox have the second of the one before, and 1 its place: kept")
   expect_identical(said_of(`names<-`(fixes[c(1:5)], names(fixes)[1:5])), character())
