@@ -37,7 +37,7 @@ grouped_fixes <- function(whole, labels) {
 # The group of each fix. Where a frame was read, values are those of its rows.
 labels_of <- function(fixes, by, frame = NULL) {
   if (is.function(by)) return(labels_of(fixes, by(fixes)))
-  if (is_text(by) && by %in% names(periods)) return(labels_of_period(fixes, by))
+  if (is_period(by)) return(labels_of_period(fixes, by))
   if (is_text(by) && nrow(fixes) > 1) {
     if (!by %in% names(fixes)) {
       refuse("columns", "by: there is no column \"", by, "\", and it is none of ", paste0("\"", names(periods), "\"", collapse = ", "))
@@ -93,11 +93,17 @@ check_labels <- function(labels, rows) {
   labels
 }
 
-# The period of each fix, by the clock of the fixes.
-labels_of_period <- function(fixes, by) {
-  if (by %in% names(fixes)) {
+is_period <- function(by) is_text(by) && by %in% names(periods)
+
+# Refuses a period that is the title of a column too.
+check_period <- function(by, titles) {
+  if (by %in% titles) {
     refuse("option", "by = \"", by, "\" is a period of the calendar, and a column too: by = fixes$", by, " takes the column")
   }
+}
+
+# The period of each fix, by the clock of the fixes.
+labels_of_period <- function(fixes, by) {
   if (!"time" %in% names(fixes)) {
     refuse("option", "by = \"", by, "\": seconds have no calendar: make times of them, as by .POSIXct(x$second, \"UTC\")")
   }

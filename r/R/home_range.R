@@ -9,7 +9,8 @@ home_range <- function(x, levels = c(50, 95, 100), by = NULL, ..., progress = in
   check_truth(quiet, "quiet")
   program <- homerange_program()  # refuses now, and not after all has been read, where there is none
   ranges <- in_folder(function(folder) {
-    read <- fixes_to_take(x, list(...), quiet, folder, has_rows = !is.null(by))
+    if (is_period(by)) check_period(by, names(x))
+    read <- fixes_to_take(x, list(...), quiet, folder, has_rows = !is.null(by) && !is_period(by))
     whole <- whole_fixes(read$fixes)
     if (!is.null(by)) whole <- grouped_fixes(whole, labels_of(read$fixes, by, read$frame))
     if (!is.null(by) && !quiet) tell_note(whole$note, "guessed")
