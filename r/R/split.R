@@ -67,11 +67,11 @@ as_argument <- function(option) {
 # The tracks of a folder, one below the other in the order of the record: the place of the track, and seconds, eastings and
 # northings in whole units.
 read_tracks <- function(folder, record) {
-  tracks <- lapply(record$tracks$animal, function(animal) {
+  tracks <- Map(function(animal, records) {
     path <- in_bytes(file.path(folder, paste0(animal, ".csv")))
-    scan(path, list(NULL, second = 0, easting = 0, northing = 0), sep = ",", skip = 1, quote = "", quiet = TRUE)[-1]
-  })
-  numbers <- vapply(tracks, function(track) length(track$second), 0L)
+    scan(path, list(NULL, second = 0, easting = 0, northing = 0), records + 1, sep = ",", skip = 1, quote = "", quiet = TRUE)[-1]
+  }, record$tracks$animal, record$tracks$records)
+  numbers <- vapply(unname(tracks), function(track) length(track$second), 0L)
   if (!identical(as.numeric(numbers), record$tracks$records)) refuse("program", "the tracks are not those of their record")
   bound <- lapply(c(second = "second", easting = "easting", northing = "northing"), function(column) {
     unlist(lapply(tracks, `[[`, column), use.names = FALSE)
