@@ -185,6 +185,7 @@ def test_moments_are_the_time_whatever_their_title_says(splitter, title, tz):
         assert fixes[title].tolist() == frame[title].tolist() and "datetime" not in fixes
     with pytest.raises(FrameError, match=f"^row 3: there is no {title}$"):
         read_fixes(frame.assign(**{title: frame[title].where(frame.index < 3)}), tz=tz, time=title)
+    assert quietly(read_fixes, frame.rename(columns={title: "second"}), tz=tz)["time"].tolist() == frame[title].tolist()
     naive = frame.assign(**{title: frame[title].dt.tz_localize(None)})
     with pytest.raises(FrameError, match="no column has a usual title for the time"):
         read_fixes(naive, tz=tz)

@@ -54,8 +54,10 @@ def test_a_time_that_nobody_named_wants_a_column_of_the_animal():
         home_range(frame.rename(columns={"animal": "vogel"}))
 
 
-def test_times_are_no_names():
+def test_times_and_truths_are_no_names():
     frame = frame_of(a=SQUARE, b=SQUARE)
+    with pytest.raises(FrameError, match="^row 0: animal is true, a truth: make it text$"):
+        home_range(frame.assign(animal=frame["animal"] == "a"))
     days = frame["animal"].map({"a": pandas.Timestamp("2024-05-01"), "b": pandas.Timestamp("2024-05-02")})
     for column in (days, days.dt.date):
         with pytest.raises(FrameError, match="^row 0: animal is 2024-05-01.*, a time: make it text$"):

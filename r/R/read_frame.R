@@ -82,7 +82,9 @@ without_clock <- function(frame, into) {
 # these are moments the program cannot know. NULL where it refused something else.
 with_moments <- function(frame, refusal) {
   said <- sub("^column [0-9]+ ", "", refusal$text)
-  refused <- Filter(function(title) startsWith(said, paste0("'", one_line(title), "' says ")), frame$moments)
+  is_among_seconds <- grepl("which is a time among seconds", said, fixed = TRUE)
+  own <- if (is_among_seconds) paste0(frame$moments, " is ") else paste0("'", one_line(frame$moments), "' says ")
+  refused <- frame$moments[startsWith(rep(said, length(own)), own)]
   is_unnamed <- grepl("no column has a usual title for the time", refusal$text, fixed = TRUE) && is.null(frame$given$time)
   if (is_unnamed && length(frame$moments) == 1) {
     frame$given$time <- frame$moments
@@ -145,15 +147,22 @@ check_cells <- function(frame, said) {
   if (has_animal) for (title in titles_of_animals(frame, said)) check_names(frame, title)
 }
 
-# Refuses times, and numbers that are not whole, as names.
+# Refuses truths, times, quantities, and numbers that are not whole, as names.
 check_names <- function(frame, title) {
   column <- as.list(frame$x)[[title]]
-  is_time <- inherits(column, c("Date", "POSIXt"))
-  row <- if (is_time) which(!is.na(column))[1] else if (is.double(column) && !is.object(column)) which(column != floor(column))[1]
+  what <- what_no_name_is(column)
+  row <- if (!is.null(what)) which(!is.na(column))[1] else if (is.double(column) && !is.object(column)) which(column != floor(column))[1]
   if (length(row) && !is.na(row)) {
-    what <- if (is_time) c(format(column[row]), "a time") else c(cells_of_numbers(column[row]), "a number that is not whole")
-    refuse_row(frame$x, "name", row, paste0(title, " is ", what[1], ", ", what[2], ": make it text"))
+    shown <- cells_of_column(column[row], title)
+    refuse_row(frame$x, "name", row, paste0(title, " is ", shown, ", ", c(what, "a number that is not whole")[1], ": make it text"))
   }
+}
+
+# What a column is that has no names, whatever is in it.
+what_no_name_is <- function(column) {
+  if (is.logical(column)) return("a truth")
+  if (inherits(column, c("Date", "POSIXt"))) return("a time")
+  if (inherits(column, "units")) "a quantity"
 }
 
 # Refuses degrees that were taken as metres, and lengths that were taken as degrees.

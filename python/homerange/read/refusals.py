@@ -3,6 +3,7 @@ class that has no text, in columns that the program read."""
 
 from __future__ import annotations
 
+import datetime as clock
 import re
 from typing import Any, Iterable, Iterator, NamedTuple, NoReturn, Sequence
 
@@ -13,8 +14,8 @@ from ..errors import FrameError, one_line, refuse
 from ..record import Record
 from ..units import UNITS
 from .call import as_arguments
-from .cells import cell_of, odd_row, row_named
-from .text import NAME, Column, Text, has_times, in_own_words, titles_named
+from .cells import cell_of, is_missing, odd_row, row_named
+from .text import NAME, Column, Text, in_own_words, titles_named
 
 # What the program says of files, and what is said of frames in its place.
 OF_FILES = {re.compile("(?<=a number that has lost digits): .*"): ": read its column as text, as by dtype=str",
@@ -109,20 +110,25 @@ def columns_read(text: Text, record: Record) -> Iterator[Column]:
 
 
 def refuse_names(text: Text, column: Column) -> None:
-    """Refuses times, and numbers that are not whole, as names."""
+    """Refuses truths, times, and numbers that are not whole, as names."""
     values = column.values
-    if isinstance(values.dtype, numpy.dtype) and values.dtype.kind in "biu" or pandas.api.types.infer_dtype(values) == "string":
+    if isinstance(values.dtype, numpy.dtype) and values.dtype.kind in "iu" or pandas.api.types.infer_dtype(values) == "string":
         return
-    is_time = has_times(values) or pandas.api.types.infer_dtype(values) == "date"
-    at = next((at for at, value in enumerate(values.tolist()) if is_time or has_part(value)), None)
+    found = ((at, what_no_name_is(value)) for at, value in enumerate(values.tolist()))
+    at, what = next(((at, what) for at, what in found if what is not None), (None, None))
     if at is not None:
-        what = f"{column.title} is {cell_of(values.iloc[at])}, {'a time' if is_time else 'a number that is not whole'}: make it text"
-        refuse(f"{row_named(text.labels, at)}: {what}", "name", at + 1)
+        refuse(f"{row_named(text.labels, at)}: {column.title} is {cell_of(values.iloc[at])}, {what}: make it text", "name", at + 1)
 
 
-def has_part(value: Any) -> bool:
-    """Whether a value is a number that is not whole."""
-    return isinstance(value, (float, numpy.floating)) and bool(value % 1 > 0)
+def what_no_name_is(value: Any) -> str | None:
+    """What a value is that is no name; None of one that may be one."""
+    if is_missing(value):
+        return None
+    if isinstance(value, (bool, numpy.bool_)):
+        return "a truth"
+    if isinstance(value, (clock.date, pandas.Period)):
+        return "a time"
+    return "a number that is not whole" if isinstance(value, (float, numpy.floating)) and value % 1 > 0 else None
 
 
 def steps_said(text: Text, record: Record) -> list[str]:

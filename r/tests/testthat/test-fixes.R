@@ -97,6 +97,7 @@ test_that("columns of classes are read as meant, or refused by name", {
   expect_error(named(transform(frame(), animal = c(1, 1, 1 / 3))), "row 3: animal is 0.3333333333333333, a number that is not whole")
   days <- rep(as.Date("2024-05-01") + 0:1, 3)
   expect_error(named(transform(frame(), animal = days)), "row 1: animal is 2024-05-01, a time: make it text", class = "homerange_name_error")
+  expect_error(named(transform(frame(), animal = c(TRUE, FALSE))), "row 1: animal is true, a truth: make it text", class = "homerange_name_error")
   for (title in c(NA, "")) {
     fixes <- named(`names<-`(cbind(frame(), 1), c(names(frame()), title)))
     expect_identical(dim(fixes), c(4L, 10L))
@@ -122,6 +123,7 @@ test_that("moments are the time whatever their title says", {
     }
   }
   expect_identical(nrow(read_quietly(cbind(table, local = times), since = times[2])), 3L)
+  expect_identical(as.numeric(read_quietly(cbind(table, second = times))$time), as.numeric(times))
   text <- `names<-`(cbind(table, format(times)), c(names(table), "local time"))
   expect_error(read_quietly(text), class = "homerange_columns_error")
   expect_error(read_quietly(text, time = "local time"), "says local", class = "homerange_columns_error")
