@@ -20,7 +20,7 @@ SINGLE = ("export", "sha256", "unit", "zone", "shift", "crs")  # kinds of which 
 FORMS = {"export": re.compile("(?!\\.{1,2}\\Z)[^/]+"), "sha256": SUM, "unit": re.compile("d?m"),
          "zone": re.compile("none|([1-9]|[1-5][0-9]|60)[NS]")}
 REASONS = ("animal", "coordinates", "zero", "sensor", "outlier", "class", "no dop", "dop", "type", "before", "after",
-           "grid", "speed", "months", "hours", "every", "use")  # use is an argument that left rows of a frame out
+           "grid", "speed", "months", "hours", "every", "use", "chosen")  # use is an argument that left rows out, once
 
 
 class Made(NamedTuple):

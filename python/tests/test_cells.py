@@ -62,7 +62,7 @@ def test_times_of_a_zone_are_moments():
 
 
 def test_other_holders_of_values():
-    assert cells_of(pandas.Series(pandas.period_range("2024-05", periods=2, freq="M"))) == ["2024-05-01 00:00:00", "2024-06-01 00:00:00"]
+    assert cells_of(pandas.Series(pandas.period_range("2024-05", periods=2, freq="M"))) == ["2024-05-01", "2024-06-01"]
     assert cells_of(pandas.Series(pandas.arrays.SparseArray([1.0, numpy.nan]))) == ["1", ""]
     assert cells_of(pandas.Series(pandas.interval_range(0, 1))) == ["<Interval>"]
 

@@ -230,7 +230,7 @@ def test_fixes_are_read_again_with_what_they_have(splitter):
     again = read_fixes(fixes.iloc[1:])
     assert again.equals(fixes.iloc[1:]) and again["note"].tolist() == [*"xyz"]
     assert (again.reading.unit, again.reading.zone, again.reading.tz) == ("dm", "33N", "Asia/Tokyo")
-    assert again.left_out().values.tolist() == [["a", "use", 1]]
+    assert again.left_out().values.tolist() == [["a", "chosen", 1]]
     whole = quietly(read_fixes, fixes, unit="m", every="1h")
     assert whole["easting"].tolist() == [500_000, 500_200] and whole.reading.zone == "33N" and len(whole) == 2
     assert read_fixes(again).equals(again)

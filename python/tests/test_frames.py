@@ -31,10 +31,6 @@ def times_of(*times):
 ])
 def test_usual_titles_are_found(titles):
     frame = frame_of(vixen=PLACE).set_axis(titles, axis="columns")
-    if titles[1].strip() == "second":
-        with pytest.raises(FrameError, match="row 0: second is '2024-03-01T00:00:00Z', which is a time among seconds"):
-            home_range(frame)
-        frame = frame.assign(**{titles[1]: [0, 60, 120, 180]})
     assert home_range(frame, zone="33N").corners() == {"vixen": PLACE}
 
 
@@ -128,7 +124,7 @@ def test_rows_may_be_left_out(marks):
     fixes = read_fixes(frame.drop(columns="use"))
     chosen = home_range(fixes[[True, True, False, True]])
     assert chosen.corners() == found.corners() and chosen.summary()["left_out"].tolist() == [1, 1, 1]
-    assert chosen.left_out().values.tolist() == [["a", "use", 1]]
+    assert chosen.left_out().values.tolist() == [["a", "chosen", 1]]
 
 
 def test_movebanks_outliers_are_left_out():
@@ -158,7 +154,7 @@ def test_an_animal_without_a_fix_is_said():
         assert home_range(frame).animals == ["a"]
     fixes = read_fixes(frame_of(a=SQUARE, b=SQUARE))
     only = home_range(fixes[fixes["animal"] == "a"])
-    assert only.animals == ["a"] and only.left_out().values.tolist() == [["b", "use", 4]]
+    assert only.animals == ["a"] and only.left_out().values.tolist() == [["b", "chosen", 4]]
 
 
 @pytest.fixture
@@ -192,7 +188,7 @@ def test_months_and_hours_are_chosen_of_fixes(year):
     own = fixes["time"].dt
     for chosen, count in ((own.month == 2, 29 * 4), (own.month.isin([5, 6]), 61 * 4), (own.hour == 1, 91 + 65)):  # winter time alone
         found = home_range(fixes[chosen], 100)
-        assert found.summary()["fixes"].sum() == count and found.left_out().values.tolist() == [["a", "use", 1464 - count]]
+        assert found.summary()["fixes"].sum() == count and found.left_out().values.tolist() == [["a", "chosen", 1464 - count]]
 
 
 def test_half_an_hour_is_a_piece():
@@ -319,8 +315,9 @@ def test_fixes_keep_their_unit_zone_and_clock_when_they_are_read_again():
     assert (again.unit, again.crs, again.tz) == ("dm", "EPSG:32633", "Asia/Tokyo") and again.corners()["a"][0] == (500_000.3, 5_000_000)
     other = home_range(fixes.iloc[1:].assign(time=fixes["time"].iloc[1:].dt.tz_convert("Europe/Ljubljana")), by=list("bbcdde"))
     assert other.tz == "Europe/Ljubljana" and other.animals == ["a b", "a c", "b d", "b e"]
-    naive = home_range(fixes.assign(time=fixes["time"].dt.tz_localize(None)))
-    assert naive.summary().equals(found.summary())  # the clock of Tokyo is that of tz
+    for naive in (fixes["time"].dt.tz_localize(None), fixes["time"].dt.tz_convert(None)):  # by the clock of Tokyo, and of UTC
+        with pytest.raises(FrameError, match="have no zone any more: give them one, as by fixes.'time'..dt.tz_localize..Asia/Tokyo..$"):
+            home_range(fixes.assign(time=naive))
 
 
 def test_longitude_and_latitude_are_projected_or_refused_with_what_helps():

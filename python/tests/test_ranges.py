@@ -1,5 +1,6 @@
 """The numbers of home_range, compared with hulls, percent rules and overlaps that are computed here or by shapely."""
 import sys
+from datetime import timedelta, timezone
 
 import numpy
 import pandas
@@ -233,6 +234,29 @@ def test_marks_that_were_set_on_fixes_are_read(title, marks):
     assert home_range(fixes.assign(use=1), 100).hectares("a") == 4  # beside use no other mark is read
     with pytest.raises(FrameError, match=f"^row 2: {title} is 'perhaps' and"):
         home_range(fixes.assign(**{title: [1, 1, "perhaps", 1]}))
+
+
+def test_animals_that_were_named_otherwise_are_not_left_out():
+    fixes = read_fixes(frame_of(a=SQUARE, b=SQUARE))
+    named = home_range(fixes.assign(animal=fixes["animal"].replace("b", "c")))
+    assert named.animals == ["a", "c"] and named.left_out().empty
+    fewer = home_range(fixes.iloc[1:].assign(animal=fixes["animal"].iloc[1:].replace("b", "c")))
+    assert fewer.left_out().values.tolist() == [["", "chosen", 1]]
+
+
+@pytest.mark.parametrize("title", ["outlier", "Is.Outlier", "lc", "event_visible"])
+def test_columns_that_were_added_are_refused_as_in_any_table(title):
+    fixes = read_fixes(frame_of(a=SQUARE))
+    with pytest.raises(FrameError, match=f"^column [0-9] '{title}' may have"):
+        home_range(fixes.assign(**{title: [True, False] * 2}))
+
+
+def test_months_of_chosen_fixes_are_those_of_their_own_clock():
+    fixes = read_fixes(frame_of(a=SQUARE).assign(timestamp=pandas.date_range("2024-05-31 04:00", periods=4, freq="4h", tz="UTC")))
+    for zone in (timezone(timedelta(hours=10)), timezone(timedelta(hours=10), "EST"), "Australia/Brisbane"):
+        own = fixes.assign(time=fixes["time"].dt.tz_convert(zone))
+        found = home_range(own.iloc[1:], by="month")
+        assert {name: len(found.fixes(name)) for name in found.animals} == {"a 2024-05": 2, "a 2024-06": 1}
 
 
 def test_classes_of_fixes_may_change():

@@ -18,7 +18,7 @@ from .tracks import Tracks
 
 # Seasons are named by their months, since those of north and south have other names.
 SEASONS = ("Dec-Feb", "Mar-May", "Jun-Aug", "Sep-Nov")
-REMEDY = "leave fixes without a group out before, as by fixes[fixes['sex'].notna()]"
+REMEDY = "leave fixes without a group out before"
 
 
 class Group(NamedTuple):
@@ -95,12 +95,16 @@ def aligned(series: pandas.Series, frame: pandas.DataFrame) -> pandas.Series:
         return series
     if series.index.is_unique and frame.index.is_unique and not len(frame.index.difference(series.index)):
         return series.reindex(frame.index)
+    if not frame.index.is_unique:
+        refuse("by is a Series with another index than the frame, whose labels are there twice: make them unique before, as by "
+               "frame.reset_index(drop=True), and by of it")
     refuse("by is a Series with another index than the frame: take by.to_numpy() to go by position, or by.reindex(frame.index)")
 
 
 def given(values: pandas.Series, labels: pandas.Index) -> list[str]:
-    """The groups that values say, each of which has to be there."""
-    cells = cells_of(values)
+    """The groups that values say, each of which has to be there. Periods are those that pandas names."""
+    is_period = isinstance(values.dtype, pandas.PeriodDtype)
+    cells = cells_of(values.astype(str).where(values.notna(), "") if is_period else values)
     refuse_classes(values, labels)
     has_parts = pandas.api.types.is_float_dtype(values.dtype)
     odd = next((at for at, cell in enumerate(cells)

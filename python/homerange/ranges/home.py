@@ -37,6 +37,9 @@ if TYPE_CHECKING:
 Bounds = Tuple[float, float, float, float]  # the least easting and northing, and the greatest
 
 
+MOST_LEVELS = 8  # of a run
+
+
 class HomeRanges:
     """The home ranges of some animals: what the program reported, in hectares and metres.
 
@@ -353,6 +356,8 @@ def levels_of(levels: Any) -> list[int]:
     found = whole_numbers(levels, 1, 100, "levels")
     if len({*found}) < len(found):
         refuse(f"levels={found} has a level twice")
+    if len(found) > MOST_LEVELS:
+        refuse(f"levels={found} are {len(found)}, and at most {MOST_LEVELS} are taken")
     return found
 
 
@@ -520,6 +525,8 @@ def share_inside(ranges: HomeRanges, reserve: Any, level: int = 100) -> pandas.D
     reserve: a GeoDataFrame or a GeoSeries, whose shapes are taken together, in whatever reference system; or a shape of
         shapely in that of the ranges.
     """
+    if not isinstance(ranges, HomeRanges):
+        refuse(f"share_inside takes what home_range answers, and not a {type(ranges).__name__}")
     boundary = boundary_of(ranges, reserve)
     polygons = ranges.polygons(level)
     inside = [shape.intersection(boundary).area / 10_000 for shape in polygons.geometry]

@@ -55,11 +55,14 @@ def is_time(kind: Any) -> bool:
 
 
 def zone_name(zone: Any) -> str | None:
-    """The name of a time zone; of one without a name what it says of itself."""
+    """The name of a time zone; of one without a name, as those of an offset, what it says of itself, in brackets."""
     if zone is None:
         return None
-    name = str(getattr(zone, "key", None) or getattr(zone, "zone", None) or zone)
-    return "UTC" if name in ("utc", "tzutc()") else name
+    name = getattr(zone, "key", None) or getattr(zone, "zone", None)
+    if isinstance(name, str):
+        return name
+    own = str(zone)
+    return "UTC" if own in ("utc", "UTC", "tzutc()") and not zone.utcoffset(None) else f"({own})" if IANA.fullmatch(own) else own
 
 
 def times_of(series: pandas.Series) -> Cells:
@@ -71,11 +74,13 @@ def times_of(series: pandas.Series) -> Cells:
 
 
 def moments(times: NDArray[Any], has_zone: bool) -> Cells:
-    """The cells of date-times of numpy, with as many decimals as they all need."""
+    """The cells of date-times of numpy, with as many decimals as they all need; days alone, if none has a zone or a clock."""
     unit = numpy.datetime_data(times.dtype)[0]
     if unit not in PARTS:
         times, unit = times.astype("datetime64[s]"), "s"
     rest = numpy.where(numpy.isnat(times), 0, times.astype("int64"))
+    if not has_zone and rest.size and not (rest % (PARTS[unit] * SECONDS)).any():
+        return [day.replace("NaT", "") for day in numpy.datetime_as_string(times.astype("datetime64[D]")).tolist()]
     needed = next(name for name, parts in PARTS.items() if not (rest % max(PARTS[unit] // parts, 1)).any())
     if needed == "s":
         return whole_moments(times.astype("datetime64[s]"), "T" if has_zone else " ", "Z" if has_zone else "")

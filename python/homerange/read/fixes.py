@@ -20,6 +20,11 @@ if TYPE_CHECKING:
 
 PLACES = ("easting", "northing")
 SHOWN = 12  # lines of what is asked that are shown
+# Usual titles of what says which fixes count, or where they are, by which columns that were added to fixes are judged too.
+JUDGED = {
+    "lc", "class", "loc-class", "locationclass", "argos-loc-class", "argos-location-class", "argos-lc", "argos-class", "loc--quality",
+    "location-quality", "location-class", "outlier", "outliers", "is-outlier", "isoutlier", "valid", "is-valid", "isvalid",
+    "event-visible", "sensor-type", "sensor-type-id", "utm-zone"}
 MARKS = {"use", "visible", "manually-marked-outlier", "algorithm-marked-outlier", "import-marked-outlier", "manually-marked-valid"}
 
 
@@ -28,7 +33,7 @@ class Reading:
     """How fixes were read: the unit to which coordinates were rounded, their zone and reference system (None where it is not
     known), the zone of their times, how many metres the program added to coordinates, what was said, how many fixes were left
     out by animal and reason, how many fixes each animal had, the names that files have of animals, the record that the program
-    wrote, and the checksum of the rows that were read."""
+    wrote, the checksum of the rows that were read, and the titles of their table."""
 
     unit: str
     zone: str | None
@@ -43,6 +48,7 @@ class Reading:
     rows: str | None = None  # None where they were bound of several
     parts: tuple[Reading, ...] = ()  # of which they were bound
     is_again: bool = False  # whether it is of fixes that were read before, and changed
+    titles: frozenset[str] = frozenset()
 
     @property
     def system(self) -> Any:
@@ -66,7 +72,7 @@ def bound(readings: Iterable[Reading]) -> Reading:
     counts: Counter[str] = sum((Counter(part.counts) for part in parts), Counter())
     return replace(
         parts[0], notes=tuple(dict.fromkeys(note for part in parts for note in part.notes)), left=dict(left), counts=dict(counts),
-        record=None, rows=None, parts=tuple(parts))
+        record=None, rows=None, parts=tuple(parts), titles=frozenset(title for part in parts for title in part.titles))
 
 
 def check_alike(parts: Sequence[Reading]) -> None:
@@ -85,7 +91,7 @@ class Fixes(pandas.DataFrame):
     ``easting`` and ``northing`` in metres; and the other columns of the frame that was read.
 
     They are a data frame: choose rows, sort them and bind them by pandas, and hand them to ``home_range``. ``reading`` has how
-    they were read. Without one of their columns they become a plain data frame.
+    they were read. Without one of their columns nothing is known of them.
     """
 
     _metadata = ["reading"]
@@ -152,8 +158,11 @@ def title_of_time(fixes: pandas.DataFrame) -> str:
 
 
 def rows_of_fixes(fixes: Fixes) -> pandas.DataFrame:
-    """The rows of fixes as the program may read them again: animals, times, places, and marks that say which are used."""
-    marks = [at for at, title in enumerate(fixes.columns) if plain(str(title)) in MARKS]
+    """The rows of fixes as the program may read them again: animals, times, places, marks that say which are used, and what was
+    added since they were read that says which count, or where they are."""
+    titles = frozenset() if fixes.reading is None else fixes.reading.titles
+    marks = [at for at, title in enumerate(fixes.columns) if plain(str(title)) in MARKS
+             or str(title) not in titles and plain(str(title)) in JUDGED]
     own = [[*fixes.columns].index(title) for title in ("animal", title_of_time(fixes), *PLACES)]
     return pandas.DataFrame(fixes).iloc[:, [*own, *marks]]
 
@@ -166,6 +175,16 @@ def checksum_of_rows(fixes: Fixes) -> str:
     except TypeError:
         return ""
     return hashlib.sha256(repr([*rows.columns]).encode("utf-8", "surrogatepass") + hashes.to_numpy().tobytes()).hexdigest()
+
+
+def gone_since(fixes: Fixes) -> dict[str, int]:
+    """How many fixes of each animal were taken away since they were read. Of no animal are those of which it is not known, since
+    animals were named otherwise."""
+    read, there = reading_of(fixes).counts, Counter[str](fixes["animal"].tolist())
+    if all(name in read for name in there):
+        return {name: count - there[name] for name, count in read.items() if count > there[name]}
+    gone = sum(read.values()) - len(fixes)
+    return {"": gone} if gone > 0 else {}
 
 
 def is_known(fixes: Fixes) -> bool:

@@ -3,6 +3,7 @@
 from __future__ import annotations
 
 import os
+import re
 import shutil
 import tempfile
 import warnings
@@ -20,10 +21,11 @@ from ..program import find_split_program
 from ..record import Record, read_record
 from ..units import UNITS, zone_text
 from .call import as_arguments, split_table
-from .fixes import PLACES, Fixes, Reading, checksum_of_rows, clock_of, is_known, reading_of, rows_of_fixes
+from .fixes import PLACES, Fixes, Reading, checksum_of_rows, clock_of, gone_since, is_known, reading_of, rows_of_fixes
 from .refusals import COLUMNS, check_cells, columns_read, refuse_text, steps_said
 from .systems import crs_named, options_of, refuse_zone, scale_said
-from .text import NAME, Text, frame_given, in_own_words, text_of_frame, with_time_named, without_clock, write_text
+from .text import (
+    NAME, Text, frame_given, has_times, in_own_words, text_of_frame, with_time_named, without_clock, write_text, zones_in)
 from .tracks import NAMED, Whole, left_out, own_names, read_tracks, rows_of
 from .words import words_of_options
 
@@ -31,6 +33,11 @@ SINCE_1970 = (10 ** 8, 9_223_372_036)  # seconds that have a calendar: from 1973
 # How lines begin that say what was taken, and nothing that was left out or changed.
 TAKEN = ("columns: ", "UTM coordinates are", "coordinates are those", "longitude and latitude are", "days and hours are",
          "ranges are by group", "not read: ", "times are read as ", "points of ")
+
+
+# Options that want columns of fixes beside their own.
+OF_COLUMNS = {"argos", "argos_class", "dop", "max_dop", "fix", "fix_type", "sensor"}
+RECORDS = re.compile(r"(?<=: )records ([0-9]+(?:, [0-9]+)*)(?=,? ?[.:]|$)")  # in what is said
 
 
 class ReadTable(NamedTuple):
@@ -98,24 +105,29 @@ def read_again(fixes: Fixes, options: Mapping[str, Any], folder: Path, program: 
     words_of_options({**wishes, "crs": None})
     if not len(fixes):
         refuse("no fix is left", "empty")
+    if "time" in fixes and has_times(fixes["time"]) and None in zones_in(fixes["time"]):
+        refuse(f"the times of fixes have no zone any more: give them one, as by fixes['time'].dt.tz_localize({before.tz!r})", "time")
     if before.rows == checksum_of_rows(fixes) and not wishes:
         return ReadTable(fixes)
     system: dict[str, Any] = {"zone": before.zone} if before.crs is None else {"crs": before.crs}
     known = {"unit": before.unit, **({} if {"zone", "crs"} & {*wishes} else system), "tz": clock_of(fixes)}
-    text = text_of_frame(rows_of_fixes(fixes).reset_index(drop=True), {**known, **wishes})
+    rows = pandas.DataFrame(fixes) if {*wishes} & OF_COLUMNS else rows_of_fixes(fixes)
+    text = text_of_frame(rows.reset_index(drop=True), {**known, **wishes})
     found = read_text(text._replace(labels=fixes.index), folder, find_split_program(program), has_columns)
     own = reading_of(found.fixes)
     new = [note for note in own.notes if note not in before.notes and not note.startswith(TAKEN)]
-    own = replace(own, notes=(*before.notes, *new), left=left_of_both(before, own, fixes), is_again=True)
+    own = replace(own, notes=(*before.notes, *new), left=left_of_both(before, own, fixes), is_again=True, titles=before.titles)
     table = found.fixes if found.rows is None else with_columns(found.fixes, fixes, found.rows)
+    zone = getattr(fixes["time"].dtype, "tz", None) if "time" in fixes else None
+    if zone is not None and "time" in table:
+        table["time"] = table["time"].dt.tz_convert(zone)
     table.reading = own
     return ReadTable(table, new, fixes, found.rows)
 
 
 def left_of_both(before: Reading, again: Reading, fixes: Fixes) -> dict[tuple[str, str], int]:
     """How many fixes were left out when they were read, were taken away since, and were left out when they were read again."""
-    there = fixes["animal"].value_counts()
-    gone = {(name, "use"): max(count - int(there.get(name, 0)), 0) for name, count in before.counts.items()}
+    gone = {(name, "chosen"): count for name, count in gone_since(fixes).items()}
     found = Counter(before.left)
     for left in (gone, again.left):
         found.update(left)
@@ -175,8 +187,15 @@ def split_text(text: Text, folder: Path, program: str, words: Sequence[str]) -> 
 
 
 def said_of(line: str, text: Text) -> str:
-    """A line that the program says of a text."""
-    return in_own_words(line, text) if line.startswith(COLUMNS) else line
+    """A line that the program says of a text, with rows by their labels."""
+    if line.startswith(COLUMNS):
+        return in_own_words(line, text)
+    return RECORDS.sub(lambda found: "rows " + ", ".join(label_of(text, int(record)) for record in found[1].split(", ")), line)
+
+
+def label_of(text: Text, record: int) -> str:
+    """The label of a row."""
+    return one_line(str(text.labels[record - 1]))
 
 
 def fixes_of(whole: Whole, record: Record, folder: Path, tz: str | None, crs: Any, notes: Iterable[str],

@@ -18,7 +18,10 @@ from .cells import cell_of, is_missing, odd_row, row_named
 from .text import NAME, Column, Text, in_own_words, titles_named
 
 # What the program says of files, and what is said of frames in its place.
-OF_FILES = {re.compile("(?<=a number that has lost digits): .*"): ": read its column as text, as by dtype=str",
+OF_FILES = {re.compile("(?<=may stand before thousands): export without it"): ": make numbers of its column, if they are decimals",
+            re.compile("say so by --lon 'point .*"):
+                "give the points the reference system that they have, as by frame.set_crs(4326, allow_override=True)",
+            re.compile("(?<=a number that has lost digits): .*"): ": read its column as text, as by dtype=str",
             re.compile(f"^{NAME} has (.*): is its separator another[?]$"): r"the data frame has \1"}
 DEGREE = 111_320  # metres of one at the equator
 COLUMNS, UNREAD, NO_ANIMAL = "columns: ", "not read: ", "no column has a usual title for the animal"  # how lines begin

@@ -213,7 +213,7 @@ def with_time_named(text: Text, refusal: str) -> Text | None:
     own = re.sub("^column [0-9]+ ", "", refusal)
     odd = next((column for column in moments if own.startswith(f"'{one_line(column.title)}' says ")), None)
     if "which is a time among seconds" in refusal:
-        odd = next((column for column in text.columns if has_times(column.values) and own.startswith(f"{column.title} is ")), None)
+        odd = next((column for column in text.columns if has_times(column.values) and own.startswith(f"{column.title.strip()} is ")), None)
     if odd is None or text.renamed is not None:
         is_only = "no column has a usual title for the time" in refusal and text.options.get("time") is None and len(moments) == 1
         return text._replace(options={**text.options, "time": moments[0].title}, finds_time=True) if is_only else None
