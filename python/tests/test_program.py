@@ -68,7 +68,7 @@ def test_a_program_that_is_ended_is_no_fault_of_files(stand_in, line, said):
 
 
 def test_the_programs_own_refusals():
-    with pytest.raises(homerange.OptionError, match="more than 8 levels"):
+    with pytest.raises(homerange.OptionError, match="^levels: more than 8 levels$"):
         home_range(frame_of(a=POINTS), range(1, 10))
 
 

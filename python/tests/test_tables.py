@@ -54,6 +54,15 @@ def test_a_time_that_nobody_named_wants_a_column_of_the_animal():
         home_range(frame.rename(columns={"animal": "vogel"}))
 
 
+def test_what_no_option_can_name_says_what_helps():
+    frame = frame_of(a=SQUARE)
+    with pytest.raises(FrameError, match="there is no column 'a'; .*: rename columns whose titles have a comma or |$"):
+        home_range(frame.rename(columns={"animal": "a,1"}), animal="a,1")
+    lengths = frame.assign(timestamp=pandas.to_timedelta([0, 30, 60, 90], unit="s")).rename(columns={"timestamp": "second"})
+    with pytest.raises(FrameError, match="^row 0: second is '00:00:00'.*: make seconds of its lengths of time, as by .dt.total_seconds"):
+        home_range(lengths)
+
+
 def test_times_and_truths_are_no_names():
     frame = frame_of(a=SQUARE, b=SQUARE)
     with pytest.raises(FrameError, match="^row 0: animal is true, a truth: make it text$"):

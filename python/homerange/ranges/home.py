@@ -37,9 +37,6 @@ if TYPE_CHECKING:
 Bounds = Tuple[float, float, float, float]  # the least easting and northing, and the greatest
 
 
-MOST_LEVELS = 8  # of a run
-
-
 class HomeRanges:
     """The home ranges of some animals: what the program reported, in hectares and metres.
 
@@ -265,7 +262,8 @@ class HomeRanges:
     def _table(self, animal: str) -> Table:
         """What the report has of an animal."""
         if not isinstance(animal, str) or animal not in self._report.tables:
-            refuse(f"there is no animal {animal!r}")
+            names = [*map(repr, self._report.tables)]
+            refuse(f"there is no animal {animal!r}: there are {', '.join(names[:5])}{', ..' if len(names) > 5 else ''}")
         return self._report.tables[animal]
 
     def hectares(self, animal: str, level: int = 100) -> float:
@@ -356,8 +354,6 @@ def levels_of(levels: Any) -> list[int]:
     found = whole_numbers(levels, 1, 100, "levels")
     if len({*found}) < len(found):
         refuse(f"levels={found} has a level twice")
-    if len(found) > MOST_LEVELS:
-        refuse(f"levels={found} are {len(found)}, and at most {MOST_LEVELS} are taken")
     return found
 
 

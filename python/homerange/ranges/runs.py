@@ -33,7 +33,7 @@ def _call(program: str, levels: str, unit: str, folder: str, files: Mapping[str,
         return run.stdout
     said = run.stderr.decode("utf-8", errors="replace").strip() or f"{program} ended with status {run.returncode}"
     line = re.sub(r"[.]/(.*?)[.]csv\b", lambda found: files.get(found[1], found[1]), said.splitlines()[-1])
-    raise FAULTS.get(run.returncode, ProgramError)(one_line(line))
+    raise FAULTS.get(run.returncode, ProgramError)(one_line(line.replace("homerange: --percent: ", "levels: ")))
 
 
 def _write_tracks(folder: str, tracks: Mapping[str, Track]) -> None:

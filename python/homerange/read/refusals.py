@@ -34,9 +34,19 @@ def refuse_text(text: Text, fault: FrameError) -> NoReturn:
     odd = [own for own in odd_cells(text.columns if "<" in said else ()) if f"<{own.kind}>" in said]
     if odd:
         refuse_class(text, [own for own in odd if own.title in said] or odd, fault.kind)
-    line = in_own_words(as_arguments(of_frame(said), fault.kind), text)
+    line = in_own_words(as_arguments(with_remedy(of_frame(said), text), fault.kind), text)
     where = "" if fault.record is None else f"{row_named(text.labels, fault.record - 1)}: "
     raise FrameError(f"{where}{line}", fault.kind, fault.record)
+
+
+def with_remedy(said: str, text: Text) -> str:
+    """What the program says with what helps: for lengths of time, and for titles that no option can name."""
+    lengths = [column.title for column in text.columns if str(column.values.dtype).startswith("timedelta")]
+    if any(said.startswith(f"{title} is '") for title in lengths):
+        return re.sub(r": (if it is one|write|name)\b.*", ": make seconds of its lengths of time, as by .dt.total_seconds()", said)
+    if "there is no column" in said and any(sign in column.title for column in text.columns for sign in ",|"):
+        return f"{said}: rename columns whose titles have a comma or |"
+    return said
 
 
 def of_frame(said: str) -> str:
