@@ -186,7 +186,7 @@ class HomeRanges:
 
     def left_out(self) -> pandas.DataFrame:
         """How many fixes were left out of the table, a row for each ``animal`` and ``reason``, with ``fixes``. The reasons
-        are those of docs/TABLES.md, and use, of fixes that were read and are not among those that were handed in."""
+        are those of docs/TABLES.md, such as chosen, of fixes that were read and are not among those that were handed in."""
         rows = [(name, reason, count) for (name, reason), count in sorted(self.reasons().items()) if count]
         return pandas.DataFrame(rows, columns=["animal", "reason", "fixes"])
 

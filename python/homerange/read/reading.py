@@ -87,6 +87,7 @@ def read_table(
     x: Any, options: Mapping[str, Any], folder: Path, program: str | os.PathLike[str] | None = None, has_columns: bool = True,
 ) -> ReadTable:
     """The fixes of a file or a frame, of a frame with its own columns if they are wanted. The folder gets their tracks."""
+    refuse_part(x)
     own, options = frame_given(x), {**options, "tz": zone_text(options.get("tz"))}
     words_of_options({**options, "crs": None})  # what cannot be right is refused before anything is looked for
     if isinstance(own, (str, os.PathLike)):
@@ -95,6 +96,14 @@ def read_table(
         helps = ": make it one, as by to_pandas()" if hasattr(own, "to_pandas") else ""
         refuse(f"a {type(x).__name__} is neither a path nor a data frame with a row for each fix{helps}", "empty")
     return read_frame(own, options, folder, find_split_program(program), has_columns)
+
+
+def refuse_part(x: Any) -> None:
+    """Refuses fixes without one of their columns, of which nothing is known any more."""
+    if isinstance(x, Fixes) and x.reading is not None:
+        gone = next((title for title in ("animal", "time", *PLACES) if title not in x), "time")
+        refuse(f"these fixes have no column {gone!r} any more: give it back, as by reset_index() or rename(), or read "
+               "pandas.DataFrame(fixes) as a new table", "columns")
 
 
 def read_again(fixes: Fixes, options: Mapping[str, Any], folder: Path, program: str | os.PathLike[str] | None = None,
