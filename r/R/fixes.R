@@ -28,6 +28,8 @@ as.data.frame.homerange_fixes <- function(x, row.names = NULL, optional = FALSE,
   found
 }
 
+is_fixes <- function(x) inherits(x, "homerange_fixes") && has_columns(x)
+
 has_columns <- function(x) all(columns_of_fixes %in% names(x)) && any(c("time", "second") %in% names(x))
 
 # Fixes below others, which have to be alike in what one table says of all.
@@ -81,6 +83,8 @@ bound_facts <- function(facts) {
   if (length(facts) == 1) return(found)
   found$notes <- unlist(lapply(facts, `[[`, "notes"))
   found[c("record", "files", "checksum")] <- NULL  # there is none of all
+  found$titles <- Reduce(intersect, lapply(facts, `[[`, "titles"))
+  found$places <- do.call(Map, c(list(c), lapply(facts, `[[`, "places")))
   counts <- unlist(lapply(facts, `[[`, "fixes"))
   found$fixes <- vapply(split(counts, factor(names(counts), unique(names(counts)))), sum, 0)
   found$left_out <- summed_left(do.call(rbind, lapply(facts, `[[`, "left_out")))
@@ -95,13 +99,13 @@ summed_left <- function(left) {
   list2DF(list(animal = left$animal[first], reason = left$reason[first], fixes = unname(counts)))
 }
 
-# What was left out when the fixes were read, and since.
+# What was left out when the fixes were read, and since: of each animal, or of all where animals were renamed.
 left_since <- function(fixes) {
   facts <- facts_of(fixes)
-  now <- tabulate(match(as.character(fixes$animal), names(facts$fixes)), length(facts$fixes))
-  gone <- facts$fixes - now
+  place <- match(as.character(fixes$animal), names(facts$fixes))
+  gone <- if (anyNA(place)) `names<-`(sum(facts$fixes) - length(place), "") else facts$fixes - tabulate(place, length(facts$fixes))
   gone <- gone[gone > 0]
-  since <- list(animal = as.character(names(gone)), reason = rep("use", length(gone)), fixes = unname(gone))
+  since <- list(animal = as.character(names(gone)), reason = rep("chosen", length(gone)), fixes = unname(gone))
   rbind(facts$left_out, list2DF(since))
 }
 

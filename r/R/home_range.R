@@ -26,7 +26,7 @@ home_range <- function(x, levels = c(50, 95, 100), by = NULL, ..., progress = in
 
 # The fixes of a table with the rows of a frame that they are; of fixes that were read there are no options.
 fixes_to_take <- function(x, options, quiet, folder, has_rows) {
-  if (inherits(x, "homerange_fixes") && length(options)) {
+  if (is_fixes(x) && length(options)) {
     name <- c(names(options), "")[1]
     what <- if (nzchar(name)) name else "an argument without a name"
     refuse("option", what, " says how a table is read, and these fixes were read already: give it to read_fixes")
