@@ -15,7 +15,7 @@ homerange_evidence <- function(x, folder, ...) {
   if (is.null(x$fixes)) refuse("option", "evidence needs the fixes: read_report(file, files = ..)")
   check_definition(x)
   if (!is_text(folder) || !nzchar(folder)) refuse("option", argument_text("folder", folder), " is no path")
-  folder <- sub("(.)/+$", "\\1", folder)
+  folder <- sub("^-", "./-", path.expand(sub("(.)/+$", "\\1", folder)))  # which GDAL would take for an option
   if (is_there(folder)) refuse("text", folder, " is there already: name another folder")
   local_utf8(names_of_files(x))
   program <- identity_of(homerange_program())

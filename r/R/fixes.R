@@ -124,15 +124,16 @@ summary.homerange_fixes <- function(object, ...) {
 
 column_of_time <- function(fixes) if ("time" %in% names(fixes)) "time" else "second"
 
-# What was taken, and then the first rows.
-print.homerange_fixes <- function(x, ...) {
+# What was taken, and then the first rows, or so many.
+print.homerange_fixes <- function(x, ..., n = rows_printed) {
+  if (!is_number(n) || n < 0) refuse("option", argument_text("n", n), " is no number of rows")
   if (!has_columns(x)) {
     print(as.data.frame.homerange_fixes(x), ...)
     return(invisible(x))
   }
   writeLines(format(x))
-  print(utils::head(as.data.frame.homerange_fixes(x), rows_printed), ...)
-  more <- nrow(x) - rows_printed
+  print(utils::head(as.data.frame.homerange_fixes(x), n), ...)
+  more <- nrow(x) - floor(n)
   if (more > 0) writeLines(paste0("... and ", count_of(more, "more fix", "more fixes")))
   invisible(x)
 }
@@ -178,7 +179,8 @@ left_text <- function(left) {
 # The fixes as points of sf.
 st_as_sf.homerange_fixes <- function(x, ...) {
   check_dots(...)
-  facts <- facts_of(x)
-  sf::st_as_sf(as.data.frame.homerange_fixes(x), coords = c("easting", "northing"), remove = FALSE,
-               crs = if (is.null(facts$crs)) sf::NA_crs_ else facts$crs)
+  crs <- crs_or_none(facts_of(x))
+  table <- as.data.frame.homerange_fixes(x)
+  if (!nrow(x)) return(sf::st_sf(table, geometry = sf::st_sfc(crs = crs)))
+  sf::st_as_sf(table, coords = c("easting", "northing"), remove = FALSE, crs = crs)
 }

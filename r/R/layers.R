@@ -12,7 +12,7 @@ write_layers <- function(ranges, path) {
   for (level in unique(ranges$percents$level)) {
     flat <- polygons$animal[!has_area & polygons$level == level]
     if (length(flat)) {
-      message("homerange: not in ", basename(path), ", since they have no area at ", level, " %: ", paste(flat, collapse = ", "))
+      tell_note(paste0("not in ", basename(path), ", since they have no area at ", level, " %: ", paste(flat, collapse = ", ")), "left_out")
     }
   }
   before <- Sys.getenv("OGR_CURRENT_DATE", NA)

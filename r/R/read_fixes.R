@@ -22,7 +22,8 @@ read_table <- function(x, options, quiet, folder, has_rows = TRUE) {
   } else {
     read_frame(x, given, folder, has_rows)
   }
-  read$said <- c(lost, read$said)
+  session <- if (is_of_session(options)) paste0("days and hours are those of ", given$tz, ", the zone of the session")
+  read$said <- c(lost, session, read$said)
   if (!quiet) for (line in read$said) tell_note(line, kind_of_said(line))
   read
 }
@@ -36,6 +37,7 @@ line_of_lost <- function(x) {
 
 # The fixes of a file of text.
 read_file <- function(path, given, folder) {
+  if (grepl("[.]rds$", in_small(readable(path)))) refuse("text", path, " is a file of R: read what it has, as by read_fixes(readRDS(..))")
   places <- places_of_columns(NULL, given, TRUE)
   full <- if (path == "-") "./-" else text_for_program(path.expand(path), "x")  # the program takes - for standard input
   into <- file.path(folder, "tracks")

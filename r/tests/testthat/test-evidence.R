@@ -426,3 +426,17 @@ test_that("programs that lie or change are refused", {
   local_program("exit 0")
   expect_error(homerange_evidence(ranges, into), "is not homerange", class = "homerange_program_error")
 })
+
+test_that("a folder may begin with a hyphen or be of the user's home", {
+  skip_without_program()
+  ranges <- quietly(home_range(walk("fox", 20, 1), 100))
+  old <- setwd(local_folder())
+  on.exit(setwd(old))
+  expect_identical(quietly(homerange_evidence(ranges, "-x")), "./-x")
+  expect_true(file.exists("./-x/report.html"))
+  home <- Sys.getenv("HOME")
+  on.exit(Sys.setenv(HOME = home), add = TRUE)
+  Sys.setenv(HOME = getwd())
+  quietly(homerange_evidence(ranges, "~/y"))
+  expect_identical(names(read_report("~/y/report.txt", files = "~/y/tracks/fox.csv", record = "~/y/tracks/split.txt")), "fox")
+})

@@ -87,7 +87,7 @@ test_that("columns of classes are read as meant, or refused by name", {
   skip_without_split()
   expect_error(named(transform(frame(), x = complex(real = y))), "row 1: x is of the class complex, of which no cell is known: make text, numbers or times of it$",
                class = "homerange_number_error")
-  expect_error(named(transform(frame(), when = as.difftime(1:6, units = "mins"))), "row 1: when is of the class difftime", class = "homerange_time_error")
+  expect_error(named(transform(frame(), when = as.difftime(1:6, units = "days"))), "row 1: when is of the class difftime", class = "homerange_time_error")
   expect_identical(nrow(named(transform(frame(), note = complex(real = y)))), 4L)
   expect_error(named(transform(frame(), animal = complex(real = 1))), "row 1: animal is of the class complex", class = "homerange_unread_error")
   expect_identical(unique(named(transform(frame(), animal = "<complex>", note = complex(real = y)))$animal), "<complex>")
@@ -357,7 +357,7 @@ test_that("columns of fixes that got other classes are read as those of a frame"
     expect_identical(as.numeric(homerange_curve(changed("time", column))$time), as.numeric(fixes$time))
   }
   expect_identical(summary(changed("easting", factor(table$easting)))$hectares, 4)
-  expect_error(changed("time", table$time - start), "row 1: time is of the class difftime, of which no cell is known")
+  expect_error(changed("time", table$time - start), "row 1: time is '00:00:00' and not a time such as", class = "homerange_time_error")
   expect_error(changed("easting", as.list(table$easting)), "row 1: easting is of the class list, of which no cell is known")
   expect_output(print(fixes["animal"]), "animal")
 })
@@ -452,4 +452,10 @@ test_that("fixes that lost a column are read as the data frame that they are", {
   expect_message(ranges <- home_range(fixes, 100), "fixes without their column 'animal' are read as a data frame", class = "homerange_guessed_note")
   expect_identical(names(ranges), c("fox", "elk"))
   expect_identical(quietly(home_range(fixes, 100, zone = "33N"))$zone, "33N")
+})
+
+test_that("so many fixes are printed as are wanted", {
+  skip_without_split()
+  said <- utils::capture.output(print(quietly(read_fixes(square("fox"))), n = 3))
+  expect_identical(said[length(said)], "... and 1 more fix")
 })
