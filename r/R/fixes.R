@@ -1,7 +1,6 @@
 # Fixes that were read: a data frame with what is known of it, which rows that are taken away or bound keep.
 
 columns_of_fixes <- c("animal", "easting", "northing")  # and time, or second
-rows_printed <- 6L
 
 new_fixes <- function(table, facts) structure(table, class = c("homerange_fixes", "data.frame"), homerange = facts)
 
@@ -125,7 +124,7 @@ summary.homerange_fixes <- function(object, ...) {
 column_of_time <- function(fixes) if ("time" %in% names(fixes)) "time" else "second"
 
 # What was taken, and then the first rows, or so many.
-print.homerange_fixes <- function(x, ..., n = rows_printed) {
+print.homerange_fixes <- function(x, ..., n = 6) {
   if (!is_number(n) || n < 0) refuse("option", argument_text("n", n), " is no number of rows")
   if (!has_columns(x)) {
     print(as.data.frame.homerange_fixes(x), ...)
