@@ -83,18 +83,24 @@ check_own <- function(fixes) {
 
 # Which fixes are as they were read, but for their animals, of which each has one.
 were_read <- function(fixes, animals) {
-  known <- keys_of(facts_of(fixes)$places)
-  place <- match(keys_of(as.list(fixes)[own_columns(fixes)[-1]]), known)
-  now <- tabulate(place[!duplicated(paste(place, animals))], length(known))
-  then <- tabulate(match(known, known), length(known))
-  !is.na(place) & (now <= then)[place]
+  known <- facts_of(fixes)$places
+  own <- as.list(fixes)[own_columns(fixes)[-1]]
+  keys <- numbered(Map(function(one, other) c(plain_values(one), plain_values(other)), known, own))
+  is_known <- seq_along(keys) <= length(known[[1]])
+  now <- keys[!is_known]
+  first <- !duplicated(numbered(list(now, animals)))
+  (tabulate(now[first], max(keys)) <= tabulate(keys[is_known], max(keys)))[now]
 }
 
-# What tells one fix from others, of columns of times, eastings and northings.
-keys_of <- function(columns) {
-  do.call(paste, lapply(unname(columns), function(column) {
-    if (is.numeric(column) || inherits(column, "POSIXct")) as.numeric(column) else as.character(column)
-  }))
+plain_values <- function(column) if (is.numeric(column) || inherits(column, "POSIXct")) as.numeric(column) else as.character(column)
+
+# A number for each row of columns, the same for rows that are alike.
+numbered <- function(columns) {
+  Reduce(function(one, other) {
+    kinds <- unique(other)
+    keys <- length(kinds) * match(one, unique(one)) + match(other, kinds)
+    match(keys, unique(keys))
+  }, unname(columns))
 }
 
 # Fixes as they were read, or the fixes of those that were changed, by options that go before those of their reading, with their

@@ -39,7 +39,7 @@ line_of_lost <- function(x) {
 read_file <- function(path, given, folder) {
   if (grepl("[.]rds$", in_small(readable(path)))) refuse("text", path, " is a file of R: read what it has, as by read_fixes(readRDS(..))")
   places <- places_of_columns(NULL, given, TRUE)
-  full <- if (path == "-") "./-" else text_for_program(path.expand(path), "x")  # the program takes - for standard input
+  full <- if (path == "-") "./-" else text_for_program(expanded(path), "x")  # the program takes - for standard input
   into <- file.path(folder, "tracks")
   refusal <- run_split(full, c(words_of_options(given), places$words), into)
   if (!is.null(refusal)) {

@@ -155,9 +155,9 @@ read_report <- function(file, start = NULL, files = NULL, record = NULL) {
     refuse("option", argument_text("files", files), " are no paths")
   }
   if (!is.null(record) && !is_text(record)) refuse("option", argument_text("record", record), " is no path")
-  file <- path.expand(file)
-  files <- if (!is.null(files)) path.expand(files)
-  record <- if (!is.null(record)) path.expand(record)
+  file <- expanded(file)
+  files <- if (!is.null(files)) expanded(files)
+  record <- if (!is.null(record)) expanded(record)
   if (!file.exists(file) || dir.exists(file)) refuse("file", file, ": there is no such file")
   report <- parse_report(report_text(file), file)
   animals <- report$animals$animal
