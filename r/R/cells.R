@@ -23,9 +23,10 @@ parts_of_column <- function(column, title) {
     return(parts_of_text(kinds, places_of(column, kinds), title))
   }
   if (inherits(column, "integer64")) return(parts_of_cells(digits_of_integer64(column)))
+  clocks <- if (has_class_of_clocks(column)) seconds_of_clocks(column)
+  if (!is.null(clocks)) return(parts_of_clocks(clocks, class(column)[1]))
   if (inherits(column, "POSIXct")) return(parts_of_moments(as.numeric(column)))
   if (inherits(column, "Date")) return(list(part_of_days(floor(as.numeric(column)), "")))
-  if (inherits(column, c("ITime", "hms"))) return(parts_of_clocks(column))
   if (inherits(column, "units")) return(parts_of_units(column))
   if (has_own_class(column)) return(parts_of_class(column))
   if (is.logical(column)) return(list(part_of_kinds(c("false", "true"), column + 1L)))
@@ -245,11 +246,10 @@ decimals_of <- function(seconds) {
   texts
 }
 
-# Clocks of days, of data.table or hms; what is none is odd.
-parts_of_clocks <- function(column) {
-  seconds <- as.numeric(unclass(column))
+# Clocks of days, of seconds of a class; what is none is odd.
+parts_of_clocks <- function(seconds, class) {
   is_clock <- is.finite(seconds) & seconds >= 0 & seconds < 86400
-  word <- paste0("<", class(column)[1], ">")
+  word <- paste0("<", class, ">")
   cells <- ifelse(is.na(seconds), "", word)
   own <- seconds[is_clock]
   cells[is_clock] <- paste0(texts_of_part(part_of_clocks(floor(own), "")), decimals_of(own))

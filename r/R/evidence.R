@@ -15,9 +15,9 @@ homerange_evidence <- function(x, folder, ...) {
   if (is.null(x$fixes)) refuse("option", "evidence needs the fixes: read_report(file, files = ..)")
   check_definition(x)
   if (!is_text(folder) || !nzchar(folder)) refuse("option", argument_text("folder", folder), " is no path")
-  folder <- sub("(.)/+$", "\\1", folder)
-  if (is_there(folder)) refuse("text", folder, " is there already: name another folder")
+  folder <- sub("^-", "./-", expanded(sub("(.)/+$", "\\1", folder)))  # which GDAL would take for an option
   local_utf8(names_of_files(x))
+  if (is_there(folder)) refuse("text", folder, " is there already: name another folder")
   program <- identity_of(homerange_program())
   part <- paste0(folder, ".part")
   if (is_there(part)) refuse("text", part, " is there: another call is at work, or was killed and left it to be removed")
@@ -44,12 +44,18 @@ files_in <- function(folder, pattern) {
 
 # Has files named in UTF-8 until the function in this frame ends, which other locales cannot do.
 local_utf8 <- function(names, frame = parent.frame()) {
-  if (l10n_info()[["UTF-8"]]) return(invisible())
-  old <- Sys.getlocale("LC_CTYPE")
-  set <- suppressWarnings(Sys.setlocale("LC_CTYPE", "C.UTF-8"))
-  if (nzchar(set)) return(do.call(on.exit, list(bquote(Sys.setlocale("LC_CTYPE", .(old))), add = TRUE), envir = frame))
+  if (l10n_info()[["UTF-8"]] || nzchar(local_plain(frame))) return(invisible())
   odd <- names[grepl("[^ -~]", names, useBytes = TRUE)]
   if (length(odd)) refuse("name", odd[1], " can be the name of a file in a locale of UTF-8 alone, such as LC_ALL=C.UTF-8")
+}
+
+# Has letters be those of C, in UTF-8, until the function in this frame ends: in Turkish GDAL does not know its own options. Answers
+# the locale, or "" where there is none.
+local_plain <- function(frame = parent.frame()) {
+  old <- Sys.getlocale("LC_CTYPE")
+  set <- suppressWarnings(Sys.setlocale("LC_CTYPE", "C.UTF-8"))
+  if (nzchar(set)) do.call(on.exit, list(bquote(Sys.setlocale("LC_CTYPE", .(old))), add = TRUE), envir = frame)
+  set
 }
 
 fill_evidence <- function(x, folder, program, title = NULL, study = NULL, species = NULL, by = NULL, reserve = NULL,

@@ -27,6 +27,12 @@ write_lines <- function(path, lines) {
   writeLines(enc2utf8(lines), output, useBytes = TRUE)
 }
 
+# Paths with the home for ~; others as they are, since R would write their letters anew in a locale that has them not.
+expanded <- function(paths) {
+  is_of_home <- startsWith(paths, "~")
+  replace(paths, is_of_home, path.expand(paths[is_of_home]))
+}
+
 # Whether a path names something, if a link to nothing.
 is_there <- function(path) file.exists(path) || !is.na(Sys.readlink(path)) && nzchar(Sys.readlink(path))
 

@@ -1,7 +1,6 @@
 # Fixes that were read: a data frame with what is known of it, which rows that are taken away or bound keep.
 
 columns_of_fixes <- c("animal", "easting", "northing")  # and time, or second
-rows_printed <- 6L
 
 new_fixes <- function(table, facts) structure(table, class = c("homerange_fixes", "data.frame"), homerange = facts)
 
@@ -27,6 +26,8 @@ as.data.frame.homerange_fixes <- function(x, row.names = NULL, optional = FALSE,
   class(found) <- class(x)
   found
 }
+
+is_fixes <- function(x) inherits(x, "homerange_fixes") && has_columns(x)
 
 has_columns <- function(x) all(columns_of_fixes %in% names(x)) && any(c("time", "second") %in% names(x))
 
@@ -81,6 +82,8 @@ bound_facts <- function(facts) {
   if (length(facts) == 1) return(found)
   found$notes <- unlist(lapply(facts, `[[`, "notes"))
   found[c("record", "files", "checksum")] <- NULL  # there is none of all
+  found$titles <- Reduce(intersect, lapply(facts, `[[`, "titles"))
+  found$places <- do.call(Map, c(list(c), lapply(facts, `[[`, "places")))
   counts <- unlist(lapply(facts, `[[`, "fixes"))
   found$fixes <- vapply(split(counts, factor(names(counts), unique(names(counts)))), sum, 0)
   found$left_out <- summed_left(do.call(rbind, lapply(facts, `[[`, "left_out")))
@@ -95,13 +98,13 @@ summed_left <- function(left) {
   list2DF(list(animal = left$animal[first], reason = left$reason[first], fixes = unname(counts)))
 }
 
-# What was left out when the fixes were read, and since.
+# What was left out when the fixes were read, and since: of each animal, or of all where animals were renamed.
 left_since <- function(fixes) {
   facts <- facts_of(fixes)
-  now <- tabulate(match(as.character(fixes$animal), names(facts$fixes)), length(facts$fixes))
-  gone <- facts$fixes - now
+  place <- match(as.character(fixes$animal), names(facts$fixes))
+  gone <- if (anyNA(place)) `names<-`(sum(facts$fixes) - length(place), "") else facts$fixes - tabulate(place, length(facts$fixes))
   gone <- gone[gone > 0]
-  since <- list(animal = as.character(names(gone)), reason = rep("use", length(gone)), fixes = unname(gone))
+  since <- list(animal = as.character(names(gone)), reason = rep("chosen", length(gone)), fixes = unname(gone))
   rbind(facts$left_out, list2DF(since))
 }
 
@@ -120,15 +123,16 @@ summary.homerange_fixes <- function(object, ...) {
 
 column_of_time <- function(fixes) if ("time" %in% names(fixes)) "time" else "second"
 
-# What was taken, and then the first rows.
-print.homerange_fixes <- function(x, ...) {
+# What was taken, and then the first rows, or so many.
+print.homerange_fixes <- function(x, ..., n = 6) {
+  if (!is_number(n) || n < 0) refuse("option", argument_text("n", n), " is no number of rows")
   if (!has_columns(x)) {
     print(as.data.frame.homerange_fixes(x), ...)
     return(invisible(x))
   }
   writeLines(format(x))
-  print(utils::head(as.data.frame.homerange_fixes(x), rows_printed), ...)
-  more <- nrow(x) - rows_printed
+  print(utils::head(as.data.frame.homerange_fixes(x), n), ...)
+  more <- nrow(x) - floor(n)
   if (more > 0) writeLines(paste0("... and ", count_of(more, "more fix", "more fixes")))
   invisible(x)
 }
@@ -174,7 +178,8 @@ left_text <- function(left) {
 # The fixes as points of sf.
 st_as_sf.homerange_fixes <- function(x, ...) {
   check_dots(...)
-  facts <- facts_of(x)
-  sf::st_as_sf(as.data.frame.homerange_fixes(x), coords = c("easting", "northing"), remove = FALSE,
-               crs = if (is.null(facts$crs)) sf::NA_crs_ else facts$crs)
+  crs <- crs_or_none(facts_of(x))
+  table <- as.data.frame.homerange_fixes(x)
+  if (!nrow(x)) return(sf::st_sf(table, geometry = sf::st_sfc(crs = crs)))
+  sf::st_as_sf(table, coords = c("easting", "northing"), remove = FALSE, crs = crs)
 }

@@ -105,7 +105,7 @@ check_period <- function(by, titles) {
 # The period of each fix, by the clock of the fixes.
 labels_of_period <- function(fixes, by) {
   if (!"time" %in% names(fixes)) {
-    refuse("option", "by = \"", by, "\": seconds have no calendar: make times of them, as by .POSIXct(x$second, \"UTC\")")
+    refuse("option", "by = \"", by, "\": seconds have no calendar: read a table with a column of date-times in place of second")
   }
   clock <- clock_of_fixes(fixes)
   by_distinct(900 * (as.numeric(fixes$time) %/% 900), function(quarters) {  # in which no clock is moved

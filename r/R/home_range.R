@@ -26,7 +26,8 @@ home_range <- function(x, levels = c(50, 95, 100), by = NULL, ..., progress = in
 
 # The fixes of a table with the rows of a frame that they are; of fixes that were read there are no options.
 fixes_to_take <- function(x, options, quiet, folder, has_rows) {
-  if (inherits(x, "homerange_fixes") && length(options)) {
+  options <- Filter(Negate(is.null), options)
+  if (is_fixes(x) && length(options)) {
     name <- c(names(options), "")[1]
     what <- if (nzchar(name)) name else "an argument without a name"
     refuse("option", what, " says how a table is read, and these fixes were read already: give it to read_fixes")
@@ -63,7 +64,9 @@ checked_levels <- function(levels) {
     refuse("option", "levels: ", cells_of_numbers(odd[1]), " is not a whole number from 1 to 100", help)
   }
   if (anyDuplicated(levels)) refuse("option", "levels: ", levels[duplicated(levels)][1], " is there twice")
-  if (length(levels) > most_levels) refuse("option", "levels: ", length(levels), " are more than ", most_levels)
+  if (length(levels) > most_levels) {
+    refuse("option", "levels = c(", paste(levels, collapse = ", "), ") are ", length(levels), ", and at most ", most_levels, " are taken")
+  }
   paste(sprintf("%.0f", levels), collapse = ",")
 }
 

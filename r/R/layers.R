@@ -12,12 +12,13 @@ write_layers <- function(ranges, path) {
   for (level in unique(ranges$percents$level)) {
     flat <- polygons$animal[!has_area & polygons$level == level]
     if (length(flat)) {
-      message("homerange: not in ", basename(path), ", since they have no area at ", level, " %: ", paste(flat, collapse = ", "))
+      tell_note(paste0("not in ", basename(path), ", since they have no area at ", level, " %: ", paste(flat, collapse = ", ")), "left_out")
     }
   }
   before <- Sys.getenv("OGR_CURRENT_DATE", NA)
   Sys.setenv(OGR_CURRENT_DATE = no_date)
   on.exit(if (is.na(before)) Sys.unsetenv("OGR_CURRENT_DATE") else Sys.setenv(OGR_CURRENT_DATE = before))
+  local_plain()
   if (any(has_area)) write_layer(polygons[has_area, ], path, "ranges")
   write_fixes(ranges, path)
   sf::st_write(qgis_styles(c("ranges"[any(has_area)], "fixes")), path, "layer_styles", quiet = TRUE, append = TRUE,

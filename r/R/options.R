@@ -24,7 +24,7 @@ elsewhere <- c(
   mark = "fixes that are not used are left out and counted", to = "until is the last moment"
 )
 
-# The options that are given; NULL is no wish, and so is a zone of times that is empty.
+# The options that are given; NULL is no wish, and a zone of times that is empty is that of the session.
 options_given <- function(options) {
   odd <- setdiff(names(options), options_of_reading)
   if (length(odd) || length(options) > sum(nzchar(names(options)))) {
@@ -34,8 +34,14 @@ options_given <- function(options) {
   twice <- names(options)[duplicated(names(options))]
   if (length(twice)) refuse("option", twice[1], " is there twice")
   given <- options[!vapply(options, is.null, NA)]
-  given[!(names(given) == "tz" & vapply(given, identical, NA, ""))]
+  if (is_of_session(given)) given$tz <- zone_of_times(.POSIXct(0))
+  if (is_of_session(options) && !given$tz %in% OlsonNames()) {
+    refuse("option", "tz = \"\" is the zone of the session, ", given$tz, ", which has no name: name it, such as tz = \"Europe/Ljubljana\"")
+  }
+  given
 }
+
+is_of_session <- function(options) identical(as.vector(options[["tz"]]), "")
 
 # Options as words; the reference system is not one of them.
 words_of_options <- function(given) {
@@ -73,7 +79,12 @@ text_of_option <- function(option, value) {
 }
 
 text_of_text <- function(option, value) {
-  if (!is_text(value)) refuse("option", argument_text(option, value), " is no text")
+  if (is.factor(value)) value <- as.character(value)
+  if (option == "time_format" && is.character(value) && length(value) > 1) value <- paste(value, collapse = "|")
+  if (!is_text(value)) {
+    refuse("option", argument_text(option, value), " is no text", if (option == "zone") ": write such as zone = \"33N\"")
+  }
+  if (option == "name" && one_line(value) != value) refuse("option", argument_text(option, value), " has a control character")
   as.vector(value)
 }
 
@@ -128,7 +139,9 @@ text_of_speed <- function(value) {
   if (!inherits(value, "units") || length(value) != 1) return(text_of_number("max_speed", value))
   speed <- if (name_of_unit(value) == "m/s") as.vector(unclass(value)) else in_unit(value, "m/s")
   if (is.null(speed)) refuse("option", "max_speed is in ", name_of_unit(value), ", which is no speed, or wants the package units")
-  text_of_number("max_speed", round(speed, 6))
+  millionths <- speed * 1e6
+  is_whole <- abs(millionths - round(millionths)) < 1e-3
+  text_of_number("max_speed", (if (is_whole) round(millionths) else ceiling(millionths)) / 1e6)
 }
 
 # A text, a day, or another moment in UTC.

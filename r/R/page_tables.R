@@ -8,7 +8,7 @@ headings_of_reasons <- c(
   animal = "no animal", coordinates = "no place", zero = "at 0, 0", sensor = "other sensor", outlier = "marked outlier",
   class = "Argos class", "no dop" = "no DOP", dop = "DOP too great", type = "type of fix", before = "before period",
   after = "after period", grid = "off the grid", speed = "too fast", months = "other months", hours = "other hours",
-  every = "interval", use = "not in use"
+  every = "interval", use = "not in use", chosen = "not chosen"
 )
 
 # The facts of each animal, in whole numbers.

@@ -8,7 +8,7 @@ phrases_of_reasons <- c(
   "no dop" = "without a dilution of precision (DOP)", dop = "with a DOP above the limit", type = "of other types of fixes",
   before = "before the period", after = "after the period", grid = "marked as outliers and off the grid",
   speed = "faster than the limit", months = "in other months", hours = "at other hours", every = "not the first in their interval",
-  use = "not in use, as the data said"
+  use = "not in use, as the data said", chosen = "not chosen"
 )
 
 # The reference system of ranges whose middles are given: how it is written, and by how much areas on its grid differ.

@@ -61,6 +61,7 @@ drawn_animals <- function(ranges, animals, col) {
   number <- which(known %in% if (is.null(animals)) known else animals)
   drawn <- data.frame(number = number, name = known[number], colour = animal_colours[(number - 1) %% length(animal_colours) + 1])
   if (is.null(col)) return(drawn)
+  if (is.factor(col)) col <- `names<-`(as.character(col), names(col))
   is_colour <- vapply(col, function(own) !is.na(own) && !inherits(try(col2rgb(own), silent = TRUE), "try-error"), NA)
   odd <- if (length(col)) unlist(col)[!is_colour] else list(col)
   if (length(odd)) refuse("option", "col: ", what_it_is(odd[[1]]), " is no colour")
@@ -83,7 +84,10 @@ drawn_levels <- function(ranges, levels) {
 check_over <- function(ranges, over) {
   if (is.null(over)) return(NULL)
   if (!inherits(over, c("sf", "sfc"))) refuse("option", "over: an sf geometry is wanted")
-  if (is.null(ranges$crs) || sf::st_crs(over) != ranges$crs) {
+  if (!length(sf::st_geometry(over)) || all(sf::st_is_empty(over))) refuse("option", "over has no shape")
+  if (is.null(ranges$crs)) refuse("option", "over: the CRS of the fixes is not known: name it, as by home_range(x, crs = 32633)")
+  if (is.na(sf::st_crs(over))) refuse("option", "over has no CRS: name its own, as by sf::st_set_crs(over, 32633)")
+  if (sf::st_crs(over) != ranges$crs) {
     refuse("option", "over: this is not in the CRS of the fixes: sf::st_transform(over, sf::st_crs(sf::st_as_sf(x)))")
   }
   sf::st_geometry(over)

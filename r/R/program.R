@@ -6,7 +6,9 @@ homerange_program <- function() normalizePath(found_program(getNamespaceInfo("ho
 # The program that is named, that of the installed package in this folder, that of the clone that it stands in, or the one on
 # PATH.
 found_program <- function(here) {
-  named <- c("options(homerange.program)" = getOption("homerange.program", ""), "HOMERANGE" = Sys.getenv("HOMERANGE"))
+  option <- getOption("homerange.program", "")
+  if (!is_text(option)) refuse("program", "options(", argument_text("homerange.program", option), ") names no program")
+  named <- c("options(homerange.program)" = option, "HOMERANGE" = Sys.getenv("HOMERANGE"))
   for (by in names(named)[nzchar(named)]) {
     path <- Sys.which(path.expand(named[[by]]))[[1]]
     if (!nzchar(path)) refuse("program", "there is no program ", named[[by]], ", which ", by, " names")

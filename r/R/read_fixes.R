@@ -4,14 +4,17 @@
 read_fixes <- function(x, ..., quiet = FALSE) {
   local_options(x, ..., quiet)
   check_truth(quiet, "quiet")
-  with_checksum(in_folder(function(folder) read_table(x, list(...), quiet, folder))$fixes)
+  fixes <- in_folder(function(folder) read_table(x, list(...), quiet, folder))$fixes
+  as_read(fixes, union(facts_of(x)$titles, names(x)))
 }
 
 # The fixes, and beside them what was said and the tracks that the program made in a folder. Of a frame they have its further
 # columns, and it is known which of how many rows each is, unless that is not wanted.
 read_table <- function(x, options, quiet, folder, has_rows = TRUE) {
   given <- options_given(options)
-  read <- if (inherits(x, "homerange_fixes")) {
+  lost <- line_of_lost(x)
+  if (!is.null(lost)) x <- as.data.frame(x)
+  read <- if (is_fixes(x)) {
     read_again(x, given, folder, has_rows)
   } else if (is_text(x)) {
     if (!nzchar(x)) refuse("option", argument_text("x", x), " is no path")
@@ -19,14 +22,24 @@ read_table <- function(x, options, quiet, folder, has_rows = TRUE) {
   } else {
     read_frame(x, given, folder, has_rows)
   }
+  session <- if (is_of_session(options)) paste0("days and hours are those of ", given$tz, ", the zone of the session")
+  read$said <- c(lost, session, read$said)
   if (!quiet) for (line in read$said) tell_note(line, kind_of_said(line))
   read
 }
 
+# What is said of fixes that have lost one of their columns, or have it by another name.
+line_of_lost <- function(x) {
+  if (!inherits(x, "homerange_fixes") || is_fixes(x)) return(NULL)
+  lost <- c(setdiff(columns_of_fixes, names(x)), "time")[1]
+  paste0("fixes without their column '", lost, "' are read as a data frame, whose zone is not known unless it is named")
+}
+
 # The fixes of a file of text.
 read_file <- function(path, given, folder) {
+  if (grepl("[.]rds$", in_small(readable(path)))) refuse("text", path, " is a file of R: read what it has, as by read_fixes(readRDS(..))")
   places <- places_of_columns(NULL, given, TRUE)
-  full <- if (path == "-") "./-" else text_for_program(path.expand(path), "x")  # the program takes - for standard input
+  full <- if (path == "-") "./-" else text_for_program(expanded(path), "x")  # the program takes - for standard input
   into <- file.path(folder, "tracks")
   refusal <- run_split(full, c(words_of_options(given), places$words), into)
   if (!is.null(refusal)) {

@@ -1,8 +1,12 @@
 # Reads a data frame, which is written as text for the program: what it is asked, and what is refused, by the rows of the frame.
 
-# What the program says of a name such as 1e+05, and what R made it of.
-remedy_of_files <- "write its column as text, before a spreadsheet opens it"
-remedy_of_frames <- "its column is text that was made of numbers: keep them as numbers, or make text by format(x, scientific = FALSE)"
+# What the program says is to be done with a file, and what with a frame in place of it.
+remedies_of_frames <- c(
+  "write its column as text, before a spreadsheet opens it" =
+    "its column is text that was made of numbers: keep them as numbers, or make text by format(x, scientific = FALSE)",
+  "may stand before thousands: export without it" = "may stand before thousands: make numbers of its column, if they are decimals",
+  "say so by lon = \"point [^;]*" = "give the points the reference system that they have, as by sf::st_set_crs(x, 4326)"
+)
 
 # The fixes of a data frame.
 read_frame <- function(x, given, folder, has_rows) {
@@ -15,7 +19,7 @@ read_frame <- function(x, given, folder, has_rows) {
   said[is_of_columns] <- with_own_title(said[is_of_columns], frame)
   check_cells(frame, said)
   rows <- NULL
-  said <- c(groups_of_dplyr(x), frame$places$line, frame$clock$line, said)
+  said <- c(groups_of_dplyr(x), frame$places$line, frame$clock$line, of_frame(said, x))
   read <- fixes_of_tracks(into, c(given$tz, frame$clock$tz, "UTC")[1], frame$places$crs, said, function(record, fixes) {
     if (has_rows) rows <<- records_of_fixes(into, record, fixes)
     if (has_rows) rows_of_columns(columns_of(x), rows, nrow(x))
@@ -29,6 +33,7 @@ check_frame <- function(x, given) {
       if (inherits(x, "ltraj")) ": adehabitatLT::ld(x) makes one of it"
     refuse("empty", "a ", class(x)[1], " is neither a path nor a data frame with a row for each fix", help)
   }
+  if (is.null(names(x))) refuse("columns", "the data frame has no titles: names(x) <- c(\"animal\", \"time\", ..) gives them")
   if (!nrow(x) || !ncol(x)) refuse("empty", "the data frame has no row of a fix")
   odd <- intersect(options_of_files, names(given))
   if (length(odd)) refuse("option", odd[1], " is for files, and not for a data frame: leave it out")
@@ -45,9 +50,9 @@ with_columns_of <- function(x, given) {
 # What the program gets of a frame: the parts of its columns and of its points, and what it is asked.
 frame_to_split <- function(x, given) {
   places <- places_of_frame(x, given)
-  parts <- with_rows(x, parts_of_frame(columns_of(x)))
+  parts <- with_rows(x, parts_of_frame(with_days(columns_of(x), given)))
   list(x = x, given = given, places = places, parts = c(parts, places$parts), clock = clock_of_frame(x, given),
-       moments = readable(names(x))[vapply(as.list(x), inherits, NA, "POSIXt")])
+       moments = readable(names(x))[vapply(as.list(x), is_of_moments, NA)])
 }
 
 # Has the program split a frame into tracks, as often as something is known better for it; answers how it was asked at last.
@@ -187,8 +192,20 @@ titles_of_animals <- function(frame, said) {
 # Refuses the first of odd cells.
 refuse_cell <- function(frame, kind, odd) {
   first <- which.min(vapply(odd, `[[`, 0L, "row"))
-  refuse_row(frame$x, kind, odd[[first]]$row, paste0(names(odd)[first], " is of the class ", odd[[first]]$class,
-                                                      ", of which no cell is known: make text, numbers or times of it"))
+  title <- names(odd)[first]
+  class <- odd[[first]]$class
+  refuse_row(frame$x, kind, odd[[first]]$row, paste0(title, " is of the class ", class, ", of which no cell is known: ",
+                                                      remedy_of_class(as.list(frame$x)[[title]], class)))
+}
+
+# What to do with a column of a class: numbers alone may be other ones than they seem.
+remedy_of_class <- function(column, class) {
+  if (inherits(column, "units")) {
+    unit <- if (is.null(in_unit(column, "degrees"))) "m" else "degrees"
+    return(paste0("units::set_units(x, \"", unit, "\") makes ", if (unit == "m") "metres" else unit, " of it"))
+  }
+  switch(class, difftime = "as.numeric(x, units = \"secs\") makes seconds of it", haven_labelled = ,
+         haven_labelled_spss = "haven::as_factor(x) makes text of it", "make text, numbers or times of it")
 }
 
 # Refuses what the program refused of a frame. An odd cell is named by its class.
@@ -197,9 +214,24 @@ refuse_frame <- function(frame, refusal, folder) {
   odd <- Filter(function(cell) grepl(paste0("<", cell$class, ">"), refusal$text, fixed = TRUE), odd)
   named <- vapply(names(odd), grepl, NA, refusal$text, fixed = TRUE)
   if (length(odd)) refuse_cell(frame, refusal$kind, if (any(named)) odd[named] else odd)
+  shapes <- names(frame$x)[vapply(as.list(frame$x), inherits, NA, "sfc")]
+  if (length(shapes) && !inherits(frame$x, "sf") && startsWith(refusal$text, "there are no columns of usual titles for easting")) {
+    refuse("columns", "the column '", shapes[1], "' has shapes, and the table is none of sf: sf::st_as_sf(x) makes one of it")
+  }
   text <- with_own_title(sub(file.path(folder, name_of_frame), "the table", refusal$text, fixed = TRUE), frame)
-  text <- sub(remedy_of_files, remedy_of_frames, text, fixed = TRUE)
-  refuse_row(frame$x, refusal$kind, refusal$record, text)
+  refuse_row(frame$x, refusal$kind, refusal$record, of_frame(text, frame$x))
+}
+
+# What the program says, with what is to be done with a frame, and with the labels of rows for the numbers of records.
+of_frame <- function(texts, x) {
+  for (form in names(remedies_of_frames)) texts <- sub(form, remedies_of_frames[[form]], texts)
+  places <- regexpr("(?<=: )records [0-9]+(, [0-9]+)*", texts, perl = TRUE)
+  if (all(places < 0)) return(texts)
+  labels <- row.names(x)
+  regmatches(texts, places) <- vapply(strsplit(sub("records ", "", regmatches(texts, places)), ", "), function(rows) {
+    paste("rows", paste(labels[as.numeric(rows)], collapse = ", "))
+  }, "")
+  texts
 }
 
 # Makes a call; a record of what it refuses is a row of the frame.
@@ -219,7 +251,7 @@ refuse_row <- function(x, kind, record, text) {
 # The zone by whose clock days and hours of a frame are counted: that of its only column with one, where none is named.
 clock_of_frame <- function(x, given) {
   if (!is.null(given$tz)) return(NULL)
-  is_time <- vapply(as.list(x), inherits, NA, "POSIXt")
+  is_time <- vapply(as.list(x), is_of_moments, NA)
   zones <- vapply(as.list(x)[is_time], zone_of_times, "")
   if (length(unique(zones)) > 1) {
     return(list(line = paste0("days and hours are those of UTC, since times are of ", paste(sort(unique(zones)), collapse = ", "))))

@@ -4,7 +4,7 @@
 kinds_of_lines <- c("export", "sha256", "unit", "zone", "shift", "crs", "option", "said", "left", "track", "tool")
 single_lines <- kinds_of_lines[1:6]
 reasons_of_all <- c("animal", "coordinates", "zero", "sensor", "outlier", "class", "no dop", "dop", "type", "before", "after",
-                    "grid", "speed", "months", "hours", "every", "use")  # use is an argument that left rows out
+                    "grid", "speed", "months", "hours", "every", "use", "chosen")  # use is of old records
 
 # Texts as they were before signs of control and separators of lines were escaped.
 unescaped <- function(texts, form = "\\\\(x(?:[0189][0-9a-f]|7f)|u202[89])") {

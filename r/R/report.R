@@ -155,6 +155,9 @@ read_report <- function(file, start = NULL, files = NULL, record = NULL) {
     refuse("option", argument_text("files", files), " are no paths")
   }
   if (!is.null(record) && !is_text(record)) refuse("option", argument_text("record", record), " is no path")
+  file <- expanded(file)
+  files <- if (!is.null(files)) expanded(files)
+  record <- if (!is.null(record)) expanded(record)
   if (!file.exists(file) || dir.exists(file)) refuse("file", file, ": there is no such file")
   report <- parse_report(report_text(file), file)
   animals <- report$animals$animal
@@ -187,8 +190,14 @@ with_files <- function(ranges, files) {
 
 # A file of fixes: its animal, its fixes, and which of them are used.
 read_track <- function(path) {
-  if (!file.exists(path) || dir.exists(path)) refuse("file", path, ": there is no such file")
-  table <- utils::read.csv(path, colClasses = "character", na.strings = character(), check.names = FALSE, encoding = "UTF-8")
+  if (dir.exists(path)) {
+    refuse("file", path, " is a folder: name its files, as by list.files(\"", path, "\", \"[.]csv$\", full.names = TRUE)")
+  }
+  if (!file.exists(path)) refuse("file", path, ": there is no such file")
+  table <- tryCatch(
+    suppressWarnings(utils::read.csv(path, colClasses = "character", na.strings = character(), check.names = FALSE, encoding = "UTF-8")),
+    error = function(fault) data.frame(none = character())
+  )
   names(table)[1] <- sub("^\ufeff", "", enc2utf8(names(table)[1]))
   titles <- c("second", "easting", "northing")
   if (!all(c("animal", titles) %in% names(table)) || !nrow(table)) {

@@ -29,6 +29,26 @@ names.home_range <- function(x) x$animals$animal
   refuse("option", "ranges have the names of their animals: rename these in the table, and make the ranges again")
 }
 
+`[<-.home_range` <- function(x, i, value) {
+  check_slots(i)
+  NextMethod()
+}
+
+`[[<-.home_range` <- function(x, i, value) {
+  check_slots(i)
+  NextMethod()
+}
+
+slots_of_ranges <- c(tables_of_animals, "unit", "overlaps", "crs", "shift", "zone", "notes", "tz", "cache", "read", "files", "record",
+                     "record_file", "checksum", "is_part", "program", "call")
+
+# Refuses to change what is not one of the tables and facts that ranges are made of.
+check_slots <- function(i) {
+  if (!is.character(i) || !all(i %in% slots_of_ranges)) {
+    refuse("option", "ranges of animals are not changed one by one: take some by x[..], and bind ranges by c")
+  }
+}
+
 `[[.home_range` <- function(x, i) {
   if (length(i) != 1) refuse("option", "the name or the place of one animal is wanted")
   x[i]

@@ -196,12 +196,14 @@ format.home_range <- function(x, ...) {
   times <- if (is.object(times)) c(format(times[1]), format(times[2])) else paste("second", in_digits(times))
   left_out <- if (!is.null(x$left_out)) paste0(", ", in_digits(sum(x$left_out$fixes)), " left out")
   shown <- seq_len(min(number, 6))
-  c(paste0("Home ranges of ", count_of(number, "animal"), " (minimum convex polygons)"),
+  of_groups <- if (!is.null(x$groups)) paste0(" in ", count_of(number, "group"))
+  animals <- if (is.null(x$groups)) number else length(unique(x$groups$of))
+  c(paste0("Home ranges of ", count_of(animals, "animal"), of_groups, " (minimum convex polygons)"),
     paste0(count_of(sum(x$animals$fixes), "fix", "fixes"), " in whole ", units_known[[x$unit]]$name, left_out, ", ", times[1],
            " to ", times[2]),
     "Areas in hectares by percent level, and what the last quarter of the fixes added:",
     aligned_lines(area_table(x)[shown, , drop = FALSE]),
-    if (number > length(shown)) paste0("... and ", count_of(number - length(shown), "more animal")))
+    if (number > length(shown)) paste0("... and ", count_of(number - length(shown), if (is.null(x$groups)) "more animal" else "more range")))
 }
 
 # The lines of a table of texts, below its titles.
@@ -216,7 +218,7 @@ area_table <- function(ranges) {
     hectares <- hectares_of(ranges, percents_of(ranges, level)$area2)
     format(hectares, digits = 4, big.mark = ",", decimal.mark = ".", scientific = FALSE)
   })
-  list2DF(c(list(animal = ranges$animals$animal, fixes = in_digits(ranges$animals$fixes)), areas,
+  list2DF(c(list(animal = one_line(ranges$animals$animal), fixes = in_digits(ranges$animals$fixes)), areas,
             list("last quarter" = quarter_text(homerange_growth(ranges)$last_quarter))))
 }
 

@@ -5,6 +5,8 @@
 \alias{as.list.home_range}
 \alias{length.home_range}
 \alias{names.home_range}
+\alias{[<-.home_range}
+\alias{[[<-.home_range}
 \alias{names<-.home_range}
 \alias{subset.home_range}
 \alias{filter.home_range}
@@ -17,6 +19,10 @@
 \method{[}{home_range}(x, i)
 
 \method{[[}{home_range}(x, i)
+
+\method{[}{home_range}(x, i) <- value
+
+\method{[[}{home_range}(x, i) <- value
 
 \method{c}{home_range}(...)
 
@@ -46,7 +52,7 @@
 \item{deparse.level}{not used.}
 \item{subset}{which animals are taken, by columns of a table with a row for each range: \code{animal}, \code{group} where ranges are
   by groups, \code{fixes}, \code{first}, \code{last}, \code{left_out}, and \code{hectares_95} and the like for each level.}
-\item{value}{names, which are refused: ranges have those of their animals.}
+\item{value}{names, which are refused: ranges have those of their animals; and ranges of some animals, which are refused too.}
 }
 \details{
 Overlaps of animals of different parts are counted from the fixes, as the program counts them; where a part is a report without

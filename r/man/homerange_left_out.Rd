@@ -12,7 +12,7 @@ homerange_left_out(x)
 A data frame with a row for each animal and reason:
 \item{animal}{the animal's name, empty where a row has none.}
 \item{reason}{why: a word of those that docs/TABLES.md of homerange's repository has, such as \code{coordinates} of fixes that
-  failed, \code{outlier}, \code{speed}, or \code{use} of fixes that were taken away after they were read.}
+  failed, \code{outlier}, \code{speed}, or \code{chosen} of fixes that were taken away after they were read.}
 \item{fixes}{how many.}
 }
 \examples{

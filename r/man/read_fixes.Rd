@@ -21,7 +21,7 @@ read_fixes(x, ..., quiet = FALSE)
   \item{\code{name}}{the name of the one animal, where no column has it.}
   \item{\code{time_format}, \code{tz}}{the form of times, such as \code{"\%d.\%m.\%Y \%H:\%M:\%S"}, and their zone, such as
     \code{"Europe/Ljubljana"}, by whose clock days are counted and times are shown. Without \code{tz} it is that of the
-    \code{POSIXct} column, which is said, and else UTC.}
+    \code{POSIXct} column, which is said, and else UTC; \code{tz = ""} is the zone of the session, which is said.}
   \item{\code{zone}}{the UTM zone of the coordinates, such as \code{"33N"}; longitude and latitude are projected into it,
     and without it into that of most fixes.}
   \item{\code{crs}}{the reference system of columns in metres, of a data frame or a file, as \code{sf::st_crs} takes it, such as
@@ -49,7 +49,9 @@ usual titles of columns, times and coordinates, marks of outliers, sensors and f
 rounded, and what is refused. A data frame is written as text, which the program reads as that of a file. So text in it is
 read as in a file, and other classes are written as they mean: moments of \code{POSIXct} in UTC, with as many decimals as they
 have; \code{Date} as a day; factors by their labels; numbers by the fewest digits that give them back; lengths of the package
-units in metres. A class of which nothing is known, also labelled values of haven, is refused where that column is read. Moments
+units in metres. Clocks of \code{ITime}, hms and chron, lengths of time below a day, and \code{POSIXct} of 1899-12-30 or 1899-12-31, as
+readxl has them, are clocks; a \code{POSIXct} that is midnight of UTC in all rows is a day beside them, so that
+\code{time = c("day", "clock")} joins both. A class of which nothing is known, also labelled values of haven, is refused where that column is read. Moments
 are moments whatever their title says, and the time where no title is a usual one and one column alone has some. A \code{move2} table says itself which
 columns have the animal and the time, and an amt track its reference system.
 

@@ -108,7 +108,7 @@ test_that("a class of which nothing is known is written by its name", {
   expect_identical(cells(complex(real = 1:2)), rep("<complex>", 2))
   expect_identical(cells(as.raw(1)), "<raw>")
   expect_identical(cells(list(1, "a")), rep("<list>", 2))
-  expect_identical(cells(as.difftime(1:2, units = "mins")), rep("<difftime>", 2))
+  expect_identical(cells(as.difftime(1:2, units = "days")), rep("<difftime>", 2))
   expect_identical(cells(structure(c(1, 2), class = "chron")), rep("<chron>", 2))
   expect_identical(cells(matrix(1:4, 2)), rep("<matrix>", 2))
   expect_identical(cells(data.frame(a = 1:2)), rep("<data.frame>", 2))
@@ -149,4 +149,23 @@ test_that("cells that are written as bytes are those that are written as texts",
   table$long <- strrep("x", seq_len(number))
   lines <- paste(lines, table$long, sep = ",")
   expect_identical(text_of(table), paste0(paste(c(names(table)), collapse = ","), "\n", paste0(lines, "\n", collapse = "")))
+})
+
+test_that("clocks of each class are clocks, and moments that are days beside them are days", {
+  clock <- c(37800, NA, 45296)
+  cells <- c("10:30:00", "", "12:34:56")
+  for (column in list(.POSIXct(-25569 * 86400 + clock, "UTC"), .POSIXct(-25568 * 86400 + clock, "UTC"), as.difftime(clock / 60, units = "mins"))) {
+    expect_identical(cells_of_column(column, "t"), cells)
+  }
+  expect_match(cells_of_column(as.difftime(c(1, 2), units = "days"), "t"), "<difftime>", fixed = TRUE)
+  skip_if_not_installed("chron")
+  expect_identical(cells_of_column(chron::times(clock / 86400), "t"), cells)
+  skip_without_split()
+  table <- data.frame(animal = "a", date = as.POSIXct("2024-05-01", tz = "UTC") + 86400 * 0:2, easting = 1e5 + 1:3, northing = 1e6)
+  for (own in list(chron::times(c(0.25, 0.5, 0.75)), .POSIXct(-25568 * 86400 + c(6, 12, 18) * 3600, "UTC"), c("06:00", "12:00", "18:00"))) {
+    table$clock <- own
+    expect_error(quietly(read_fixes(table)), "'clock' has hours, which the days of the time have not: join them", class = "homerange_columns_error")
+    joined <- suppressMessages(read_fixes(table, time = c("date", "clock")))
+    expect_identical(format(joined$time, "%d %H:%M"), c("01 06:00", "02 12:00", "03 18:00"))
+  }
 })

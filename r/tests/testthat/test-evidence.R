@@ -426,3 +426,32 @@ test_that("programs that lie or change are refused", {
   local_program("exit 0")
   expect_error(homerange_evidence(ranges, into), "is not homerange", class = "homerange_program_error")
 })
+
+test_that("a folder may begin with a hyphen or be of the user's home", {
+  skip_without_program()
+  ranges <- quietly(home_range(walk("fox", 20, 1), 100))
+  old <- setwd(local_folder())
+  on.exit(setwd(old))
+  expect_identical(quietly(homerange_evidence(ranges, "-x")), "./-x")
+  expect_true(file.exists("./-x/report.html"))
+  home <- Sys.getenv("HOME")
+  on.exit(Sys.setenv(HOME = home), add = TRUE)
+  Sys.setenv(HOME = getwd())
+  quietly(homerange_evidence(ranges, "~/y"))
+  expect_identical(names(read_report("~/y/report.txt", files = "~/y/tracks/fox.csv", record = "~/y/tracks/split.txt")), "fox")
+})
+
+test_that("layers are written without a warning in each locale", {
+  skip_without_program()
+  skip_if_not_installed("sf")
+  old <- Sys.getlocale("LC_CTYPE")
+  on.exit(Sys.setlocale("LC_CTYPE", old))
+  ranges <- quietly(home_range(walk("fox", 20, 1), 100))
+  folder <- local_folder()
+  locales <- Filter(function(name) nzchar(suppressWarnings(Sys.setlocale("LC_CTYPE", name))), c("tr_TR.UTF-8", "C"))
+  for (name in locales) {
+    Sys.setlocale("LC_CTYPE", name)
+    expect_no_warning(quietly(homerange_evidence(ranges, file.path(folder, paste0("m\u00e4ppe", name)))))
+    expect_identical(Sys.getlocale("LC_CTYPE"), name)
+  }
+})

@@ -87,7 +87,7 @@ test_that("columns of classes are read as meant, or refused by name", {
   skip_without_split()
   expect_error(named(transform(frame(), x = complex(real = y))), "row 1: x is of the class complex, of which no cell is known: make text, numbers or times of it$",
                class = "homerange_number_error")
-  expect_error(named(transform(frame(), when = as.difftime(1:6, units = "mins"))), "row 1: when is of the class difftime", class = "homerange_time_error")
+  expect_error(named(transform(frame(), when = as.difftime(1:6, units = "days"))), "row 1: when is of the class difftime", class = "homerange_time_error")
   expect_identical(nrow(named(transform(frame(), note = complex(real = y)))), 4L)
   expect_error(named(transform(frame(), animal = complex(real = 1))), "row 1: animal is of the class complex", class = "homerange_unread_error")
   expect_identical(unique(named(transform(frame(), animal = "<complex>", note = complex(real = y)))$animal), "<complex>")
@@ -208,15 +208,15 @@ test_that("rows that are taken away keep what is known, and columns that are nee
   expect_identical(class(as.data.frame(fixes)), "data.frame")
 })
 
-test_that("what was taken away since is left out for use", {
+test_that("what was taken away since is left out as not chosen", {
   skip_without_split()
   fixes <- named()
   left <- left_since(fixes[-1, ])
-  expect_identical(left$reason, c("outlier", "coordinates", "use"))
+  expect_identical(left$reason, c("outlier", "coordinates", "chosen"))
   expect_identical(left$fixes, c(1, 1, 1))
   ranges <- quietly(home_range(fixes[fixes$animal == "fox", ][-1, ], 100))
   expect_identical(as.list(homerange_left_out(ranges)), list(
-    animal = c("fox", "fox", "hare/1", "hare/1"), reason = c("outlier", "use", "coordinates", "use"), fixes = c(1, 1, 1, 1)))
+    animal = c("fox", "fox", "hare/1", "hare/1"), reason = c("chosen", "outlier", "chosen", "coordinates"), fixes = c(1, 1, 1, 1)))
 })
 
 test_that("fixes that are alike are bound", {
@@ -283,7 +283,7 @@ test_that("fixes that were changed are read again, and only what is new is said"
   swapped <- transform_fixes(transform_fixes(fixes, "easting", fixes$northing), "northing", fixes$easting)
   expect_error(quietly(home_range(swapped)), class = "homerange_scale_error")
   refused <- function(fixes, text, kind) expect_error(quietly(home_range(fixes)), text, class = paste0("homerange_", kind, "_error"))
-  timeless <- quietly(home_range(transform_fixes(fixes, "time", NULL), 100))
+  timeless <- quietly(home_range(transform_fixes(fixes, "time", NULL)[c("animal", "easting", "northing")], 100))
   expect_identical(homerange_curve(timeless)$time, c(0, 1, 2, 3))
   refused(transform_fixes(fixes, "animal", NA), "row 1: there is no animal", "animal")
   refused(transform_fixes(named(), "easting", c(0, 1e8, 0, 0)), "grid", "grid")
@@ -298,7 +298,7 @@ test_that("what a second reading leaves out is left out beside what was before",
   fixes$easting[3] <- NA
   ranges <- quietly(home_range(fixes[fixes$animal == "fox", ], 100))
   expect_identical(as.list(homerange_left_out(ranges)), list(
-    animal = c("fox", "fox", "hare/1", "hare/1"), reason = c("coordinates", "outlier", "coordinates", "use"), fixes = c(1, 2, 1, 1)))
+    animal = c("fox", "fox", "hare/1", "hare/1"), reason = c("coordinates", "outlier", "chosen", "coordinates"), fixes = c(1, 2, 1, 1)))
   again <- quietly(read_fixes(fixes, unit = "dm"))
   expect_identical(again[["note"]], c("c", "b"))
   expect_identical(facts_of(again)$unit, "dm")
@@ -357,7 +357,7 @@ test_that("columns of fixes that got other classes are read as those of a frame"
     expect_identical(as.numeric(homerange_curve(changed("time", column))$time), as.numeric(fixes$time))
   }
   expect_identical(summary(changed("easting", factor(table$easting)))$hectares, 4)
-  expect_error(changed("time", table$time - start), "row 1: time is of the class difftime, of which no cell is known")
+  expect_error(changed("time", table$time - start), "row 1: time is '00:00:00' and not a time such as", class = "homerange_time_error")
   expect_error(changed("easting", as.list(table$easting)), "row 1: easting is of the class list, of which no cell is known")
   expect_output(print(fixes["animal"]), "animal")
 })
@@ -403,4 +403,59 @@ test_that("several zones of times are said", {
   start <- as.POSIXct("2024-03-30 20:00", tz = "Europe/Paris")
   table <- data.frame(animal = "a", time = start + 3600 * 0:3, easting = 1:4, northing = 1:4, created = as.POSIXct("2024-05-01", tz = "UTC"))
   expect_message(read_fixes(table), "days and hours are those of UTC, since times are of Europe/Paris, UTC")
+})
+
+test_that("fixes of renamed animals are counted as one, and fixes of other readings are refused", {
+  skip_without_program()
+  skip_without_split()
+  table <- rbind(square("fox"), transform(square("elk"), easting = easting + 1000))
+  fixes <- quietly(read_fixes(table, zone = "33N"))
+  renamed <- transform_fixes(fixes, "animal", paste(fixes$animal, rep(1:2, 4)))
+  expect_identical(names(home_range(renamed, 100)), c("fox 1", "fox 2", "elk 1", "elk 2"))
+  expect_identical(as.list(left_since(renamed[-(1:3), ])), list(animal = "", reason = "chosen", fixes = 3))
+  expect_identical(nrow(left_since(renamed)), 0L)
+  expect_identical(names(home_range(transform_fixes(fixes, "animal", "fox"), 100)), "fox")  # of two that are one
+  others <- list("'lynx' is none of the animals that were read: bind fixes by rbind; .* zone = \"33N\"" = "lynx",
+                 "'fox' has more fixes than were read of it: bind fixes by rbind" = "fox")
+  for (said in names(others)) {
+    other <- quietly(read_fixes(transform(square(others[[said]]), easting = easting + 500), zone = "34N"))
+    mixed <- structure(rbind(as.data.frame(fixes[1:4, ]), as.data.frame(other)), class = class(fixes), homerange = facts_of(fixes))
+    expect_error(home_range(mixed), said, class = "homerange_option_error")
+  }
+})
+
+test_that("columns that were added and may say which fixes count are read or refused", {
+  skip_without_program()
+  skip_without_split()
+  table <- transform(square("fox"), use = 1, outlier = 0)
+  expect_identical(summary(home_range(quietly(read_fixes(table))[-1, ], 100))$fixes, 3)
+  fixes <- quietly(read_fixes(square("fox")))
+  for (title in c("outlier", "LC", "event.visible", "utm-zone")) {
+    expect_error(home_range(transform_fixes(fixes, title, "1"), 100), title, fixed = TRUE, class = "homerange_columns_error")
+  }
+  fixes[["other"]] <- 1
+  expect_silent(home_range(fixes, 100))
+})
+
+test_that("options that look at further columns of fixes find them", {
+  skip_without_split()
+  fixes <- quietly(read_fixes(transform(square("fox"), hdop = c(1, 9, 1, 1), x = 0, y = 0), easting = "easting", northing = "northing"))
+  expect_identical(nrow(quietly(read_fixes(fixes, dop = "hdop", max_dop = 5))), 3L)
+})
+
+test_that("fixes that lost a column are read as the data frame that they are", {
+  skip_without_program()
+  skip_without_split()
+  table <- rbind(square("fox"), transform(square("elk"), easting = easting + 1000))
+  fixes <- quietly(read_fixes(table, zone = "33N"))
+  names(fixes)[1] <- "id"
+  expect_message(ranges <- home_range(fixes, 100), "fixes without their column 'animal' are read as a data frame", class = "homerange_guessed_note")
+  expect_identical(names(ranges), c("fox", "elk"))
+  expect_identical(quietly(home_range(fixes, 100, zone = "33N"))$zone, "33N")
+})
+
+test_that("so many fixes are printed as are wanted", {
+  skip_without_split()
+  said <- utils::capture.output(print(quietly(read_fixes(square("fox"))), n = 3))
+  expect_identical(said[length(said)], "... and 1 more fix")
 })

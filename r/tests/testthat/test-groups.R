@@ -92,7 +92,7 @@ test_that("what is no group is refused", {
   refused(as.list(1:80), "by = list is none of \"year\", \"month\", \"season\", no column of the fixes, no value for each of them")
   refused(replace(rep("a", 80), 5, NA), "row 5: by has no group: leave fixes without a group out")
   seconds <- walk("a", 9, 1)
-  expect_error(quietly(home_range(seconds, by = "month")), "by = \"month\": seconds have no calendar: make times of them",
+  expect_error(quietly(home_range(seconds, by = "month")), "by = \"month\": seconds have no calendar: read a table with a column of date-times in place of second",
                class = "homerange_option_error")
   both <- rbind(walk("a", 6, 1), walk("a 1", 6, 2))
   expect_error(quietly(home_range(both, by = rep(c("1 2", "2"), each = 6))), "'a' and 'a 1' both have a range named 'a 1 2': rename one",
@@ -129,4 +129,11 @@ test_that("evidence and pages are of whole ranges", {
                class = "homerange_option_error")
   expect_error(write_page(ranges, file.path(folder, "b")), "a page is of whole ranges", class = "homerange_option_error")
   expect_length(list.files(folder), 0)
+})
+
+test_that("the print of ranges by groups counts animals and groups", {
+  skip_without_program()
+  table <- rbind(walk("a", 4, 1), walk("b", 4, 2))
+  ranges <- quietly(home_range(table, 100, by = rep(1:2, 4)))
+  expect_identical(format(ranges)[1], "Home ranges of 2 animals in 4 groups (minimum convex polygons)")
 })

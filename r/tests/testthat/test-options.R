@@ -26,7 +26,7 @@ test_that("arguments become options", {
     expect_true(startsWith(into, "/") && !dir.exists(dirname(into)))
   }
   expect_words(character())
-  expect_words(character(), zone = NULL, skip_unnamed = FALSE, tz = "")
+  expect_words(character(), zone = NULL, skip_unnamed = FALSE)
   expect_words("--skip-unnamed", skip_unnamed = TRUE)
   expect_words(c("--from=lotek", "--unit=dm", "--zone=33N"), from = "lotek", unit = "dm", zone = "33N")
   expect_words(c("--animal=A,B", "--time=Day,Hour of it"), animal = "A,B", time = c("Day", "Hour of it"))
@@ -38,6 +38,7 @@ test_that("arguments become options", {
                until = as.POSIXct("2024-05-31 14:00", tz = "Europe/Berlin"))
   expect_words(c("--since=2024-05-01 10:00", "--every=90min"), since = "2024-05-01 10:00", every = "90min")
   expect_words("--every=7200s", every = 2)
+  expect_words(c("--zone=33N", "--time-format=%d.%m.%Y|%Y"), zone = factor("33N"), time_format = c("%d.%m.%Y", "%Y"))
   expect_words("--every=1200s", every = 1 / 3)
   expect_words("--every=1800s", every = as.difftime(30, units = "mins"))
   expect_words(c("--skip-lines=100000", "--header=Acquisition"), skip_lines = 1e5, header = "Acquisition")
@@ -77,7 +78,8 @@ test_that("what no option can say is refused", {
   refused("there is no option without a name", "33N")
   refused("zone is there twice", zone = "33N", zone = "33N")
   refused("from = 2 values is no text", from = c("lotek", "argos"))
-  refused("zone = 33 is no text", zone = 33)
+  refused("name = \"a\\x0ab\" has a control character", name = "a\nb")
+  refused("zone = 33 is no text: write such as zone = \"33N\"", zone = 33)
   refused("skip_lines is NA and not a number from 0", skip_lines = NA)
   refused("skip_unnamed = \"yes\" is neither TRUE nor FALSE", skip_unnamed = "yes")
   refused("sensor = NA is no name: a text, or several, is wanted", sensor = NA)
@@ -167,4 +169,22 @@ test_that("each line that is said has its kind", {
     "no fix of a is used, which homerange refuses" = "limit", "animal 'a/b?' is named a_b_" = "renamed"
   )
   expect_identical(vapply(names(of), kind_of_said, ""), of)
+})
+
+test_that("an empty zone of times is that of the session, and it is said", {
+  skip_without_split()
+  old <- Sys.getenv("TZ", NA)
+  on.exit(if (is.na(old)) Sys.unsetenv("TZ") else Sys.setenv(TZ = old))
+  Sys.setenv(TZ = "Europe/Berlin")
+  table <- data.frame(animal = "a", time = c("2024-05-01 00:00", "2024-05-01 01:00"), easting = 1e5 + 1:2, northing = 1e6)
+  expect_message(fixes <- read_fixes(table, tz = ""), "days and hours are those of Europe/Berlin, the zone of the session",
+                 class = "homerange_guessed_note")
+  expect_identical(as.numeric(fixes$time[1]), as.numeric(as.POSIXct("2024-04-30 22:00", tz = "UTC")))
+  Sys.setenv(TZ = "CET-1CEST")
+  expect_error(read_fixes(table, tz = ""), "which has no name: name it", class = "homerange_option_error")
+})
+
+test_that("a speed in units is rounded up, so that none is cut", {
+  skip_if_not_installed("units")
+  expect_identical(text_of_speed(units::set_units(1.2, "km/h")), "0.333334")
 })

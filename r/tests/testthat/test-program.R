@@ -193,3 +193,9 @@ test_that("a file that the program refuses is told by its animal", {
   expect_error(quietly(home_range(many)), "^homerange: the hare: more than 1048576 records after the header$",
                class = "homerange_file_error")
 })
+
+test_that("an option that is no text names no program", {
+  old <- options(homerange.program = NA)
+  on.exit(options(old))
+  expect_error(found_program(""), "options(homerange.program = NA) names no program", fixed = TRUE, class = "homerange_program_error")
+})

@@ -20,7 +20,7 @@ test_that("levels are plain whole numbers from 1 to 100, and others are refused 
   wrong("levels: 101 is not a whole number from 1 to 100", 101)
   wrong("levels: 0 is not a whole number from 1 to 100", 0)
   wrong("levels: 50 is there twice", c(50, 95, 50))
-  wrong("levels: 9 are more than 8", 1:9)
+  wrong("levels = c(1, 2, 3, 4, 5, 6, 7, 8, 9) are 9, and at most 8 are taken", 1:9)
   wrong("and not factor", factor(95))
   wrong("and not units", structure(95, class = "units"))
   wrong("and not integer64", structure(95, class = "integer64"))
@@ -70,4 +70,33 @@ test_that("coordinates of a grid of one's own come back where they were", {
   said <- capture_messages(ranges <- home_range(table))
   expect_true("homerange: coordinates are shifted by 1000000 m east and -20000000 m north\n" %in% said)
   expect_equal(homerange_corners(ranges)$a, as.matrix(table[1:2, c("easting", "northing")]), ignore_attr = TRUE)
+})
+
+test_that("what is said of a frame has its rows and what is to be done with it", {
+  skip_without_split()
+  table <- data.frame(animal = "a", time = c("2024-10-27 01:30", "2024-10-27 02:10", "2024-10-27 02:30"), easting = 1e5 + 1:3, northing = 1e6,
+                      row.names = c("r", "s", "t"))
+  expect_message(read_fixes(table, tz = "Europe/Berlin"), "comes twice in Europe/Berlin: rows s, t", class = "homerange_guessed_note")
+  table$easting <- c("123.456", "124.456", "125.456")
+  table$northing <- c("223.456", "224.456", "225.457")
+  expect_error(suppressMessages(read_fixes(table)), "may stand before thousands: make numbers of its column, if they are decimals")
+  expect_identical(of_frame("lie within 180 by 90: say so by lon = \"point easting\", lat = \"point northing\"; or, if", table),
+                   "lie within 180 by 90: give the points the reference system that they have, as by sf::st_set_crs(x, 4326); or, if")
+})
+
+test_that("what has another remedy than numbers is told it", {
+  skip_without_split()
+  table <- data.frame(animal = "a", time = as.POSIXct("2024-05-01", tz = "UTC") + 0:2, easting = 1e5 + 1:3, northing = 1e6)
+  refusal <- function(...) conditionMessage(expect_error(quietly(read_fixes(transform(table, ...))), class = "homerange_error"))
+  expect_match(refusal(time = as.difftime(2:4, units = "days")), "as.numeric(x, units = \"secs\") makes seconds of it", fixed = TRUE)
+  expect_match(refusal(animal = structure(c(1, 1, 1), class = c("haven_labelled", "vctrs_vctr", "double"))), "haven::as_factor(x)", fixed = TRUE)
+  expect_error(quietly(home_range(unname(table))), "the data frame has no titles: names(x) <- ", fixed = TRUE, class = "homerange_columns_error")
+  expect_error(read_fixes("a.RDS"), "a.RDS is a file of R: read what it has", class = "homerange_text_error")
+  skip_if_not_installed("units")
+  expect_match(refusal(easting = units::set_units(c(1, 2, 3), "rad")), "units::set_units(x, \"degrees\") makes degrees of it", fixed = TRUE)
+  skip_if_not_installed("sf")
+  shapes <- table[c("animal", "time")]
+  shapes$geometry <- sf::st_as_sf(table, coords = c("easting", "northing"))$geometry
+  expect_error(quietly(read_fixes(shapes)), "the column 'geometry' has shapes, and the table is none of sf: sf::st_as_sf(x) makes one of it",
+               fixed = TRUE, class = "homerange_columns_error")
 })

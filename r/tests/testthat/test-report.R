@@ -98,3 +98,10 @@ test_that("a report of the program reads as its run", {
   expect_identical(homerange_overlap(report), homerange_overlap(ranges))
   expect_identical(homerange_corners(report), homerange_corners(ranges))
 })
+
+test_that("files that are no tracks are refused in one line", {
+  folder <- local_folder()
+  writeLines(c("unit,m", "zone,none", "track,a,1,1", "left,a,1,every,2,3"), file.path(folder, "split.txt"))
+  expect_error(read_track(file.path(folder, "split.txt")), "has no fix with animal, second, easting and northing", class = "homerange_text_error")
+  expect_error(read_track(folder), "is a folder: name its files, as by list.files", class = "homerange_file_error")
+})

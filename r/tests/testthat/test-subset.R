@@ -93,3 +93,10 @@ test_that("functions of R speak of animals", {
   expect_identical(vapply(report, function(one) one$animals$fixes, 0), `names<-`(report$animals$fixes, animals))
   expect_identical(names(rbind(report["otter"], report["fox"])), c("otter", "fox"))
 })
+
+test_that("the ranges of an animal are not put or taken away by its name", {
+  skip_without_program()
+  ranges <- quietly(home_range(herd_of_three(), 100))
+  expect_error(ranges["fox"] <- ranges["fox"], "are not changed one by one", class = "homerange_option_error")
+  expect_error(ranges[["fox"]] <- NULL, "take some by x[..], and bind ranges by c", fixed = TRUE, class = "homerange_option_error")
+})
