@@ -128,7 +128,7 @@ def refuse_classes(values: pandas.Series, labels: pandas.Index) -> None:
 def periods(fixes: Fixes, by: str) -> list[str]:
     """The period of each fix, by the clock of the fixes."""
     if "time" not in fixes:
-        refuse(f"by={by!r}: seconds have no calendar: make times of them, as by pandas.to_datetime(frame['second'], unit='s')")
+        refuse(f"by={by!r}: seconds have no calendar: read a table with a column of date-times in place of second")
     own = fixes["time"].dt
     months, at = numpy.unique(own.year.to_numpy() * 12 + own.month.to_numpy() - 1, return_inverse=True)
     names = [PERIODS[by](int(month) // 12, int(month) % 12 + 1) for month in months]

@@ -10,7 +10,7 @@ from decimal import Decimal
 from numbers import Integral, Real
 from typing import Any, Callable, Iterable, Mapping
 
-from ..errors import refuse, truth_of
+from ..errors import one_line, refuse, truth_of
 
 LONGEST_WORD = 2 ** 16  # bytes of a word; the system takes some more
 LENGTHS = {"h": 3600, "min": 60, "s": 1}
@@ -27,8 +27,12 @@ ELSEWHERE = {
 
 
 def text_of(value: Any, option: str) -> str:
-    """A text."""
-    return value if isinstance(value, str) else refuse(f"{option}={value!r} is no text")
+    """A text, of one line where it is a name."""
+    if not isinstance(value, str):
+        refuse(f"{option}={value!r} is no text" + (": write such as zone='33N'" if option == "zone" else ""))
+    if option == "name" and one_line(value) != value:
+        refuse(f"{option}={value!r} has a control character")
+    return value
 
 
 def number_of(value: Any, option: str) -> str:
