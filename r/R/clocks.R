@@ -6,7 +6,7 @@ seconds_of_day <- 86400
 # The seconds of the day that a column of clocks has; NULL of another column.
 seconds_of_clocks <- function(column) {
   if (inherits(column, c("ITime", "hms"))) return(as.numeric(unclass(column)))
-  first <- as.numeric(column[!is.na(column)][1])
+  first <- as.numeric(first_value(column))
   if (is.na(first)) return(NULL)
   if (inherits(column, "times") && !inherits(column, "dates")) return(round(as.numeric(unclass(column)) * seconds_of_day, 3))
   if (inherits(column, "POSIXct") && (first %/% seconds_of_day) %in% days_without_date) {
@@ -17,6 +17,9 @@ seconds_of_clocks <- function(column) {
   seconds <- as.numeric(column, units = "secs")
   if (all(seconds >= 0 & seconds < seconds_of_day, na.rm = TRUE)) seconds
 }
+
+# The first value that is not missing; NA where there is none.
+first_value <- function(column) column[c(which.max(!is.na(column)), 1)[1]]
 
 has_class_of_clocks <- function(column) inherits(column, c("ITime", "hms", "times", "difftime", "POSIXct"))
 
@@ -33,7 +36,7 @@ with_days <- function(columns, given) {
 # Whether a column has clocks, by its class or by the first of its texts.
 has_clocks <- function(column) {
   if (is.factor(column)) column <- levels(column)
-  if (is.character(column)) return(grepl("^ *[0-9]{1,2}:[0-9]{2}", c(column[!is.na(column)], "")[1], useBytes = TRUE))
+  if (is.character(column)) return(grepl("^ *[0-9]{1,2}:[0-9]{2}", first_value(column), useBytes = TRUE))
   has_class_of_clocks(column) && !is.null(seconds_of_clocks(column))
 }
 

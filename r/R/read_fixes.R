@@ -13,7 +13,10 @@ read_fixes <- function(x, ..., quiet = FALSE) {
 read_table <- function(x, options, quiet, folder, has_rows = TRUE) {
   given <- options_given(options)
   lost <- line_of_lost(x)
-  if (!is.null(lost)) x <- as.data.frame(x)
+  if (!is.null(lost)) {
+    if (!quiet) tell_note(lost, "guessed")  # also where it is refused then
+    x <- as.data.frame(x)
+  }
   read <- if (is_fixes(x)) {
     read_again(x, given, folder, has_rows)
   } else if (is_text(x)) {
@@ -23,7 +26,7 @@ read_table <- function(x, options, quiet, folder, has_rows = TRUE) {
     read_frame(x, given, folder, has_rows)
   }
   session <- if (is_of_session(options)) paste0("days and hours are those of ", given$tz, ", the zone of the session")
-  read$said <- c(lost, session, read$said)
+  read$said <- c(session, read$said)
   if (!quiet) for (line in read$said) tell_note(line, kind_of_said(line))
   read
 }

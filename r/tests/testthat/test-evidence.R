@@ -232,7 +232,7 @@ test_that("layers have the polygons with an area", {
   skip_if_not_installed("sf")
   ranges <- ranges_by_hand()
   expect_message(homerange_evidence(ranges, folder <- file.path(local_folder(), "hand-in")),
-                 "not in ranges.gpkg, since they have no area at 75 %: one, vixen", fixed = TRUE)
+                 "not in ranges.gpkg, since they have no area at 75 %: one, vixen", fixed = TRUE, class = "homerange_left_out_note")
   path <- file.path(folder, "ranges.gpkg")
   expect_identical(sf::st_layers(path)$name, c("ranges", "fixes", "layer_styles"))
   layer <- sf::st_read(path, "ranges", quiet = TRUE)

@@ -264,6 +264,7 @@ test_that("ranges of fixes are those of their table, and options are not told tw
   expect_setequal(quietly(home_range(mixed))$animals$animal, c("Asta", "Bruno", "Cilla"))
   expect_identical(homerange_curve(quietly(home_range(mixed)))$hectares[mixed$animal == "none"], numeric())
   expect_error(home_range(fixes, zone = "33N"), "zone says how a table is read, and these fixes were read already: give it to read_fixes", class = "homerange_option_error")
+  expect_silent(home_range(fixes, every = NULL))
   expect_error(home_range(fixes, 95, NULL, "33N"), "an argument without a name says how a table is read", class = "homerange_option_error")
 })
 

@@ -190,3 +190,14 @@ test_that("what cannot be drawn is refused", {
   expect_error(plot(report(), pch = 3), "there is no argument pch", class = "homerange_option_error")
   expect_error(drawn(function() plot(report(), levels = 95)), "below 100 per cent need the fixes", class = "homerange_option_error")
 })
+
+test_that("what is drawn over ranges has a shape and a reference system, and colours may be a factor", {
+  skip_without_program()
+  skip_if_not_installed("sf")
+  ranges <- quietly(home_range(walk("fox", 20, 1), 100, zone = "33N"))
+  refused <- function(over, text) expect_error(check_over(ranges, over), text, fixed = TRUE, class = "homerange_option_error")
+  refused(sf::st_sfc(crs = 32633), "over has no shape")
+  refused(sf::st_sfc(sf::st_polygon(), crs = 32633), "over has no shape")
+  refused(sf::st_sfc(sf::st_point(c(562000, 5134000))), "over has no CRS: name its own, as by sf::st_set_crs(over, 32633)")
+  expect_identical(drawn_animals(ranges, NULL, factor("red"))$colour, "red")
+})

@@ -33,3 +33,9 @@ test_that("of many animals the first are printed", {
   expect_length(lines, 11)
   expect_identical(lines[11], "... and 6 more animals")
 })
+
+test_that("names are printed in one line", {
+  skip_without_program()
+  said <- format(quietly(home_range(transform(walk("fox", 20, 1), animal = "a\tb"), 100)))
+  expect_match(said[length(said)], "a\\x09b", fixed = TRUE)
+})

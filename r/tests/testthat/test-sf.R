@@ -191,3 +191,11 @@ test_that("fixes are points of sf, where they were", {
   expect_identical(points$easting, table$easting)
   expect_identical(sf::st_crs(sf::st_as_sf(read_fixes(deer, quiet = TRUE))), sf::st_crs(32633))
 })
+
+test_that("no fixes are no points", {
+  skip_without_split()
+  skip_if_not_installed("sf")
+  fixes <- quietly(read_fixes(walk("fox", 20, 1), zone = "33N"))
+  expect_silent(points <- sf::st_as_sf(fixes[0, ]))
+  expect_identical(c(nrow(points), sf::st_crs(points)$epsg), c(0L, 32633L))
+})
