@@ -240,6 +240,8 @@ def test_animals_that_were_named_otherwise_are_not_left_out():
     fixes = read_fixes(frame_of(a=SQUARE, b=SQUARE))
     named = home_range(fixes.assign(animal=fixes["animal"].replace("b", "c")))
     assert named.animals == ["a", "c"] and named.left_out().empty
+    with pytest.warns(HomeRangeNote):  # that they are sorted
+        assert home_range(fixes.assign(animal="a")).left_out().empty
     fewer = home_range(fixes.iloc[1:].assign(animal=fixes["animal"].iloc[1:].replace("b", "c")))
     assert fewer.left_out().values.tolist() == [["", "chosen", 1]]
 

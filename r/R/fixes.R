@@ -102,7 +102,8 @@ summed_left <- function(left) {
 left_since <- function(fixes) {
   facts <- facts_of(fixes)
   place <- match(as.character(fixes$animal), names(facts$fixes))
-  gone <- if (anyNA(place)) `names<-`(sum(facts$fixes) - length(place), "") else facts$fixes - tabulate(place, length(facts$fixes))
+  gone <- facts$fixes - tabulate(place, length(facts$fixes))
+  if (anyNA(place) || any(gone < 0)) gone <- `names<-`(sum(facts$fixes) - length(place), "")  # animals were named otherwise
   gone <- gone[gone > 0]
   since <- list(animal = as.character(names(gone)), reason = rep("chosen", length(gone)), fixes = unname(gone))
   rbind(facts$left_out, list2DF(since))

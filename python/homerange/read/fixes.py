@@ -181,7 +181,7 @@ def gone_since(fixes: Fixes) -> dict[str, int]:
     """How many fixes of each animal were taken away since they were read. Of no animal are those of which it is not known, since
     animals were named otherwise."""
     read, there = reading_of(fixes).counts, Counter[str](fixes["animal"].tolist())
-    if all(name in read for name in there):
+    if all(there[name] <= read.get(name, 0) for name in there):
         return {name: count - there[name] for name, count in read.items() if count > there[name]}
     gone = sum(read.values()) - len(fixes)
     return {"": gone} if gone > 0 else {}
