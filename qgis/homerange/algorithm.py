@@ -61,10 +61,10 @@ class Watch:
             raise Cancelled
         self.feedback.setProgress(begin + (end - begin) * share)
 
-    def say(self, ranges, features):
+    def say(self, ranges):
         """Says what was taken and what was left out of features, and which ranges have no polygon."""
         for line in ranges.notes:
-            self.feedback.pushInfo(said_of(line, features))
+            self.feedback.pushInfo(said_of(line))
         for name, row in rows_of(ranges):
             if row.corners < 3:
                 self.feedback.pushInfo(f"{name} has no area at {row.level} %, and so no polygon")
@@ -212,7 +212,7 @@ class RangesAlgorithm(QgsProcessingAlgorithm):
         ranges = asked.package.home_range(
             fixes, asked.levels, by=groups_of(fixes, labels, asked.period), program=program(),
             progress=lambda done, of: watch.at(done / of, READ, MADE))
-        watch.say(ranges, [*frame.index])
+        watch.say(ranges)
         shares = shares_of(asked.package, ranges, boundary)
         made = self.write_layers(parameters, context, ranges, asked.source.sourceCrs(), shares)
         watch.at(1, MADE, 100)

@@ -12,7 +12,7 @@ PLAIN = "|".join(name for name in LABELS if "_" in name or name == "tz")
 ARGUMENT = re.compile(
     rf"'[^']*'|\b({ALL})=({VALUE})|^({ALL})(?=: | is | are | has | leaves )|\b({PLAIN})\b|\b(name)(?= is for| out)")
 ROW = re.compile(r"^row (\S+)(?: \(frame\.iloc\[\d+\]\))?: ")
-RECORDS = re.compile(r": records (\d+(?:, \d+)*)")
+ROWS = re.compile(r": rows (?=\d)")
 COLUMN = re.compile(r"\bcolumn \d+ (?=')")
 
 
@@ -35,12 +35,9 @@ def in_dialog(text):
     return where + COLUMN.sub("field ", ARGUMENT.sub(label, rest))
 
 
-def said_of(note, features):
-    """What was said of fixes, whose records are features."""
-    def named(found):
-        return ": features " + ", ".join(str(features[int(number) - 1]) for number in found[1].split(", "))
-
-    return in_dialog(RECORDS.sub(named, note))
+def said_of(note):
+    """What was said of fixes, whose rows are features."""
+    return in_dialog(ROWS.sub(": features ", note))
 
 
 def numbers_of(text, parameter):
