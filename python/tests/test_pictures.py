@@ -164,6 +164,10 @@ def test_colours_of_ones_own():
     found = herd(3)
     assert {line.get_color() for line in lines(plot_curve(found, colours="red"))} == {"red"}
     assert [line.get_color() for line in lines(plot_curve(found, colours=["red", "blue"]))] == ["red", "blue", "red"]
+    assert {line.get_color() for line in lines(plot_curve(found, colours=[(1, 0, 0)]))} == {"#ff0000"}
+    for odd, text in (({"wolf": "red"}, "there is no animal 'wolf'"), ([], "there is none")):
+        with pytest.raises(FrameError, match=f"^colours: {text}$"):
+            plot_curve(found, colours=odd)
     named = [line.get_color() for line in lines(plot_ranges(found, colours={"deer 2": "red"}))]
     assert named == [COLOURS[0], "red", COLOURS[2]]
 

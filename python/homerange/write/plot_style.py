@@ -43,6 +43,10 @@ def drawn_animals(ranges: HomeRanges, animals: Iterable[str] | str | None, colou
         refuse(f"there is no animal {missing[0]!r}" if wanted else "animals: there is none")
     chosen = [Drawn(number, name, COLOURS[(number - 1) % len(COLOURS)])
               for number, name in enumerate(ranges.animals, 1) if name in wanted]
+    named = [*colours] if isinstance(colours, Mapping) else []
+    odd = next((name for name in named if name not in ranges.animals), None)
+    if odd is not None or isinstance(colours, (list, tuple)) and not colours:
+        refuse("colours: there is none" if odd is None else f"colours: there is no animal {odd!r}")
     return [own._replace(colour=colour_of(own, place, colours)) for place, own in enumerate(chosen)]
 
 
@@ -50,13 +54,15 @@ def colour_of(animal: Drawn, place: int, colours: Any) -> str:
     """The colour of an animal: of colours by name its own, of several in turn the next, else the one for all."""
     if colours is None:
         return animal.colour
-    from matplotlib.colors import is_color_like
+    from matplotlib.colors import is_color_like, to_hex
 
     several = colours if isinstance(colours, (Mapping, list, tuple)) else [colours]
     if not isinstance(several, Mapping):
         several = {animal.name: several[place % len(several)]} if several else {}
     own = several.get(animal.name, animal.colour)
-    return str(own) if isinstance(own, str) and is_color_like(own) else refuse(f"colours: {own!r} is no colour")
+    if not isinstance(own, (str, list, tuple)) or not is_color_like(own):
+        refuse(f"colours: {own!r} is no colour")
+    return own if isinstance(own, str) else str(to_hex(own))
 
 
 def label(name: str) -> str:
