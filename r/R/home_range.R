@@ -7,6 +7,10 @@ home_range <- function(x, levels = c(50, 95, 100), by = NULL, ..., progress = in
   local_options(x, levels, by, ..., progress, quiet)
   levels <- checked_levels(levels)
   check_truth(quiet, "quiet")
+  if (is_text(x) && !is.null(by) && !is_text(by) && !is.function(by)) {
+    refuse("option", "by goes by rows, and fixes of a file stand in another order: read it before by read_fixes, and take a value for ",
+           "each of the fixes")
+  }
   program <- homerange_program()  # refuses now, and not after all has been read, where there is none
   ranges <- in_folder(function(folder) {
     if (is_period(by)) check_period(by, names(x))

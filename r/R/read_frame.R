@@ -204,7 +204,7 @@ remedy_of_class <- function(column, class) {
     unit <- if (is.null(in_unit(column, "degrees"))) "m" else "degrees"
     return(paste0("units::set_units(x, \"", unit, "\") makes ", if (unit == "m") "metres" else unit, " of it"))
   }
-  switch(class, difftime = "as.numeric(x, units = \"secs\") makes seconds of it", haven_labelled = ,
+  switch(class, difftime = "if it is a time, as.numeric(x, units = \"secs\") makes seconds of it", haven_labelled = ,
          haven_labelled_spss = "haven::as_factor(x) makes text of it", "make text, numbers or times of it")
 }
 

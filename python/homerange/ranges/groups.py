@@ -48,8 +48,11 @@ def season_of(year: int, month: int) -> str:
 PERIODS: dict[str, Callable[[int, int], str]] = {"year": year_of, "month": month_of, "season": season_of}
 
 
-def check_by(by: Any) -> None:
-    """Refuses what says no groups, before a table is looked at."""
+def check_by(by: Any, is_file: bool = False) -> None:
+    """Refuses what says no groups, before a table is looked at, and values for the records of a file."""
+    if is_file and not isinstance(by, str) and not callable(by):
+        refuse("by goes by rows, and fixes of a file stand in another order: read it before by read_fixes, and take a value for each "
+               "of the fixes")
     is_list = pandas.api.types.is_list_like(by) and hasattr(by, "__len__")
     if not isinstance(by, str) and not callable(by) and (not is_list or isinstance(by, (dict, set, frozenset, pandas.DataFrame))):
         refuse(f"by={by!r} is none of {', '.join(map(repr, PERIODS))}, no column of the fixes, no value for each of them, and no "

@@ -385,7 +385,7 @@ def home_range(
     """
     wanted = levels_of(levels)
     if by is not None:
-        check_by(by)
+        check_by(by, isinstance(x, (str, os.PathLike)))
     if jobs is not None:
         jobs = whole_numbers([jobs], 1, 1024, "jobs")[0]
     shown, found = progress_of(progress), program_of(find_program(program))

@@ -137,3 +137,12 @@ test_that("the print of ranges by groups counts animals and groups", {
   ranges <- quietly(home_range(table, 100, by = rep(1:2, 4)))
   expect_identical(format(ranges)[1], "Home ranges of 2 animals in 4 groups (minimum convex polygons)")
 })
+
+test_that("values for the records of a file are refused", {
+  skip_without_program()
+  path <- tempfile(fileext = ".csv")
+  writeLines(c("animal,second,easting,northing", "a,60,1,2", "b,0,3,4", "a,0,5,6"), path)
+  expect_error(home_range(path, by = c(1, 2, 1), quiet = TRUE), "by goes by rows, and fixes of a file stand in another order",
+               class = "homerange_option_error")
+  expect_s3_class(home_range(path, by = function(fixes) fixes$easting > 2, quiet = TRUE), "homerange")
+})
