@@ -45,15 +45,6 @@ def areas(ranges):
 
 @pytest.mark.parametrize("by, label", [
     ("season", season), ("year", lambda when: f"{when.year}"), ("month", lambda when: f"{when:%Y-%m}")])
-def test_values_for_the_records_of_a_file_are_refused(tmp_path):
-    path = tmp_path / "fixes.csv"
-    path.write_text("animal,second,easting,northing\na,60,1,2\nb,0,3,4\na,0,5,6\n", "utf-8")
-    for by in ([1, 2, 1], pandas.Series(list("xyx"))):
-        with pytest.raises(FrameError, match="^by goes by rows, and fixes of a file stand in another order: read it before by read_fixes"):
-            home_range(path, by=by)
-    assert home_range(path, by=lambda fixes: fixes["easting"] > 2).groups
-
-
 def test_ranges_by_the_calendar(frame, by, label):
     first_rows = frame.drop_duplicates("animal")["animal"].tolist()
     wanted = hectares_of(frame, frame["timestamp"].map(label))
@@ -242,3 +233,12 @@ def test_groups_without_a_text_are_refused(frame, values, kind):
 
 def test_a_group_that_looks_like_a_class_is_a_text(frame):
     assert home_range(frame, 100, by=["<tuple>"] * len(frame)).summary()["group"].tolist() == ["<tuple>"] * 2
+
+
+def test_values_for_the_records_of_a_file_are_refused(tmp_path):
+    path = tmp_path / "fixes.csv"
+    path.write_text("animal,second,easting,northing\na,0,1,2\nb,0,3,4\na,60,5,6\n", "utf-8")
+    for by in ([1, 2, 1], pandas.Series(list("xyx"))):
+        with pytest.raises(FrameError, match="^by goes by rows, and fixes of a file stand in another order: read it before by read_fixes"):
+            home_range(path, by=by)
+    assert home_range(path, by=lambda fixes: fixes["easting"] > 2).groups

@@ -15,6 +15,7 @@ HERD = {
     "vixen": cloud(1, 120), "old boar": cloud(2, 75, 300, 562500), "Jäger": cloud(3, 9, 5), "NA": cloud(4, 41, 2000)}
 LEVELS = [1, 50, 95, 99, 100]
 SQUARE = [(0, 0), (200, 0), (200, 200), (0, 200)]
+MIDDLE = [(500_000 + east, 5_000_000 + north) for east, north in SQUARE]  # of a zone
 
 
 @pytest.fixture(scope="module")
@@ -251,6 +252,30 @@ def test_columns_that_were_added_are_refused_as_in_any_table(title):
     fixes = read_fixes(frame_of(a=SQUARE))
     with pytest.raises(FrameError, match=f"^column [0-9] '{title}' may have"):
         home_range(fixes.assign(**{title: [True, False] * 2}))
+
+
+def test_columns_that_were_there_are_not_judged_again():
+    fixes = read_fixes(frame_of(a=SQUARE).assign(**{"argos-lc": [*"3213"], "zone": "33N"}), argos_class="3,2,1")
+    assert len(home_range(fixes.iloc[1:]).fixes("a")) == 3
+    with pytest.raises(FrameError, match="^column [0-9] 'epsg' has several values"):
+        home_range(fixes.assign(epsg=[32633, 32634] * 2))
+
+
+def test_fixes_that_are_read_again_by_another_clock_or_system():
+    frame = frame_of(a=MIDDLE).assign(timestamp=pandas.date_range("2024-05-31", periods=4, freq="8h", tz="UTC"))
+    fixes = read_fixes(frame, zone="33N")
+    assert home_range(read_fixes(fixes, tz="Asia/Tokyo"), by="month").animals == ["a 2024-05", "a 2024-06"]
+    for odd in ({"zone": "34N"}, {"crs": "EPSG:3035"}):
+        with pytest.raises(FrameError, match="^the coordinates of these fixes are of 33N, which another (zone|crs) does not change: read"):
+            read_fixes(fixes, **odd)
+
+
+def test_points_of_fixes_are_their_own():
+    pytest.importorskip("geopandas")
+    fixes = read_fixes(frame_of(a=MIDDLE), zone="33N")
+    points = fixes.points()
+    points["easting"] = 0.0
+    assert "geometry" not in fixes and fixes["easting"].max() == 500_200
 
 
 def test_months_of_chosen_fixes_are_those_of_their_own_clock():

@@ -7,7 +7,8 @@ titles_of_marks <- c("use", "visible", "manually-marked-outlier", "algorithm-mar
 titles_of_doubt <- c(
   "lc", "class", "loc-class", "locationclass", "argos-loc-class", "argos-location-class", "argos-lc", "argos-class", "loc--quality",
   "location-quality", "location-class", "outlier", "outliers", "is-outlier", "isoutlier", "valid", "is-valid", "isvalid",
-  "event-visible", "sensor-type", "sensor-type-id", "utm-zone"
+  "event-visible", "sensor-type", "sensor-type-id", "utm-zone", "zone", "utmzone", "utm-zone-number", "zone-number",
+  "zonenumber", "zone-letter", "zoneletter", "grid-zone", "epsg", "epsg-code", "srid", "crs"
 )
 options_of_columns <- c("argos", "argos_class", "dop", "max_dop", "fix", "fix_type", "sensor")  # which look at further columns
 # Lines that only say what was taken.

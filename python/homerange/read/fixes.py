@@ -24,7 +24,8 @@ SHOWN = 12  # lines of what is asked that are shown
 JUDGED = {
     "lc", "class", "loc-class", "locationclass", "argos-loc-class", "argos-location-class", "argos-lc", "argos-class", "loc--quality",
     "location-quality", "location-class", "outlier", "outliers", "is-outlier", "isoutlier", "valid", "is-valid", "isvalid",
-    "event-visible", "sensor-type", "sensor-type-id", "utm-zone"}
+    "event-visible", "sensor-type", "sensor-type-id", "utm-zone", "zone", "utmzone", "utm-zone-number", "zone-number", "zonenumber",
+    "zone-letter", "zoneletter", "grid-zone", "epsg", "epsg-code", "srid", "crs"}
 MARKS = {"use", "visible", "manually-marked-outlier", "algorithm-marked-outlier", "import-marked-outlier", "manually-marked-valid"}
 
 
@@ -134,7 +135,7 @@ class Fixes(pandas.DataFrame):
         except ImportError:
             refuse("points want geopandas, which is not installed (python3-geopandas)")
         places = geopandas.points_from_xy(self["easting"], self["northing"])
-        return geopandas.GeoDataFrame(pandas.DataFrame(self), geometry=places, crs=reading_of(self).system)
+        return geopandas.GeoDataFrame(pandas.DataFrame(self, copy=True), geometry=places, crs=reading_of(self).system)
 
     def __repr__(self) -> str:
         table = str(super().__repr__())

@@ -20,6 +20,7 @@ from ..errors import FrameError, HomeRangeInfo, HomeRangeNote, one_line, path_of
 from ..program import find_split_program
 from ..record import Record, read_record
 from ..units import UNITS, zone_text
+from ..zones import crs_of, text_of_crs
 from .call import as_arguments, split_table
 from .fixes import PLACES, Fixes, Reading, checksum_of_rows, clock_of, gone_since, is_known, reading_of, rows_of_fixes
 from .refusals import COLUMNS, check_cells, columns_read, refuse_text, steps_said
@@ -36,7 +37,7 @@ TAKEN = ("columns: ", "UTM coordinates are", "coordinates are those", "longitude
 
 
 # Options that want columns of fixes beside their own.
-OF_COLUMNS = {"argos", "argos_class", "dop", "max_dop", "fix", "fix_type", "sensor"}
+OF_COLUMNS = {"animal", "time", "easting", "northing", "lon", "lat", "argos", "argos_class", "dop", "max_dop", "fix", "fix_type", "sensor"}
 RECORDS = re.compile(r"(?<=: )records ([0-9]+(?:, [0-9]+)*)(?=,? ?[.:]|$)")  # in what is said
 
 
@@ -118,6 +119,7 @@ def read_again(fixes: Fixes, options: Mapping[str, Any], folder: Path, program: 
         refuse(f"the times of fixes have no zone any more: give them one, as by fixes['time'].dt.tz_localize({before.tz!r})", "time")
     if before.rows == checksum_of_rows(fixes) and not wishes:
         return ReadTable(fixes)
+    refuse_system(before, wishes)
     system: dict[str, Any] = {"zone": before.zone} if before.crs is None else {"crs": before.crs}
     known = {"unit": before.unit, **({} if {"zone", "crs"} & {*wishes} else system), "tz": clock_of(fixes)}
     rows = pandas.DataFrame(fixes) if {*wishes} & OF_COLUMNS else rows_of_fixes(fixes)
@@ -127,11 +129,22 @@ def read_again(fixes: Fixes, options: Mapping[str, Any], folder: Path, program: 
     new = [note for note in own.notes if note not in before.notes and not note.startswith(TAKEN)]
     own = replace(own, notes=(*before.notes, *new), left=left_of_both(before, own, fixes), is_again=True, titles=before.titles)
     table = found.fixes if found.rows is None else with_columns(found.fixes, fixes, found.rows)
-    zone = getattr(fixes["time"].dtype, "tz", None) if "time" in fixes else None
+    zone = getattr(fixes["time"].dtype, "tz", None) if "time" in fixes and "tz" not in wishes else None
     if zone is not None and "time" in table:
         table["time"] = table["time"].dt.tz_convert(zone)
     table.reading = own
     return ReadTable(table, new, fixes, found.rows)
+
+
+def refuse_system(before: Reading, wishes: Mapping[str, Any]) -> None:
+    """Refuses another zone or reference system for coordinates that have one."""
+    name = next((name for name in ("zone", "crs") if name in wishes), None)
+    if name is None or before.system_text is None:
+        return
+    wanted = crs_of(wishes[name].upper().replace(" ", "")) if name == "zone" else crs_named(wishes[name])
+    if text_of_crs(wanted) != before.system_text:
+        refuse(f"the coordinates of these fixes are of {before.zone or before.system_text}, which another {name} does not change: read "
+               "the table anew by read_fixes", name)
 
 
 def left_of_both(before: Reading, again: Reading, fixes: Fixes) -> dict[tuple[str, str], int]:
@@ -177,6 +190,7 @@ def read_text(text: Text, folder: Path, program: str, has_rows: bool) -> ReadTab
     check_cells(text, record)
     notes = [*text.notes, *steps_said(text, record)]
     fixes = fixes_of(whole, record, folder, text.options.get("tz"), text.crs, notes, lambda line: said_of(line, text))
+    fixes.reading = replace(reading_of(fixes), titles=frozenset(column.title for column in text.columns))
     return ReadTable(fixes, reading_of(fixes).notes, None, rows_of(folder / "tracks", whole) if has_rows else None)
 
 

@@ -146,8 +146,9 @@ def what_no_name_is(value: Any) -> str | None:
 
 def steps_said(text: Text, record: Record) -> list[str]:
     """What is said of numbers of 32 or 16 bits that lie farther from each other than the unit."""
-    unit = 1 / UNITS[record.unit].per_metre
-    return [line for column in columns_read(text, record) for line in [step_said(column, unit)] if line is not None]
+    unit, taken = 1 / UNITS[record.unit].per_metre, next((line for line in record.said if line.startswith(COLUMNS)), "").split(";")[0]
+    own = [column for column in text.columns if f", {one_line(column.title)}," in f"{taken},"]
+    return [line for column in own for line in [step_said(column, unit)] if line is not None]
 
 
 def step_said(column: Column, unit: float) -> str | None:
@@ -158,6 +159,6 @@ def step_said(column: Column, unit: float) -> str | None:
     most = column.values.astype("float64").abs().max()
     step = float(numpy.spacing(kind.type(most)))
     metres = step * DEGREE if most <= 360 else step
-    if not unit < metres < most:
+    if metres <= unit:
         return None
     return f"numbers of {column.title} have {8 * kind.itemsize} bits, and may be {metres:.2g} m from the places that were measured"

@@ -144,5 +144,5 @@ test_that("values for the records of a file are refused", {
   writeLines(c("animal,second,easting,northing", "a,60,1,2", "b,0,3,4", "a,0,5,6"), path)
   expect_error(home_range(path, by = c(1, 2, 1), quiet = TRUE), "by goes by rows, and fixes of a file stand in another order",
                class = "homerange_option_error")
-  expect_s3_class(home_range(path, by = function(fixes) fixes$easting > 2, quiet = TRUE), "homerange")
+  expect_s3_class(home_range(path, by = function(fixes) fixes$easting > 2, quiet = TRUE), "home_range")
 })
