@@ -1,7 +1,5 @@
 # The package's first function, and the class of what it answers.
 
-most_levels <- 8
-
 # The home ranges of the animals of fixes, or of a table of fixes, which is read first.
 home_range <- function(x, levels = c(50, 95, 100), by = NULL, ..., progress = interactive(), quiet = FALSE) {
   local_options(x, levels, by, ..., progress, quiet)
@@ -68,9 +66,6 @@ checked_levels <- function(levels) {
     refuse("option", "levels: ", cells_of_numbers(odd[1]), " is not a whole number from 1 to 100", help)
   }
   if (anyDuplicated(levels)) refuse("option", "levels: ", levels[duplicated(levels)][1], " is there twice")
-  if (length(levels) > most_levels) {
-    refuse("option", "levels = c(", paste(levels, collapse = ", "), ") are ", length(levels), ", and at most ", most_levels, " are taken")
-  }
   paste(sprintf("%.0f", levels), collapse = ",")
 }
 

@@ -83,7 +83,7 @@ refuse_run <- function(status, lines, files, animals) {
   line <- if (length(lines)) lines[1] else "it says no more"
   if (kind == "program" || !length(lines)) line <- paste0("the program ended with status ", status, ": ", line)
   for (place in order(-nchar(files))) line <- gsub(files[place], animals[place], line, fixed = TRUE)
-  refuse(kind, line)
+  refuse(kind, sub("^homerange: --percent: ", "levels: ", line))
 }
 
 # Values as a factor, whose levels stand in the order of the values.

@@ -20,7 +20,7 @@ test_that("levels are plain whole numbers from 1 to 100, and others are refused 
   wrong("levels: 101 is not a whole number from 1 to 100", 101)
   wrong("levels: 0 is not a whole number from 1 to 100", 0)
   wrong("levels: 50 is there twice", c(50, 95, 50))
-  wrong("levels = c(1, 2, 3, 4, 5, 6, 7, 8, 9) are 9, and at most 8 are taken", 1:9)
+  wrong("levels: more than 8 levels", 1:9)
   wrong("and not factor", factor(95))
   wrong("and not units", structure(95, class = "units"))
   wrong("and not integer64", structure(95, class = "integer64"))
