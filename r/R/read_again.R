@@ -104,6 +104,18 @@ numbered <- function(columns) {
   }, unname(columns))
 }
 
+# Refuses another zone or reference system for coordinates that have one.
+refuse_system <- function(facts, given) {
+  name <- c(intersect(c("zone", "crs"), names(given)), NA)[1]
+  own <- if (!is.null(facts$zone)) text_of_zone(facts$zone) else if (!is.null(facts$crs)) text_of_crs(facts$crs)
+  if (is.na(name) || is.null(own)) return(invisible())
+  wanted <- if (name == "crs") text_of_crs(named_crs(given$crs)) else text_of_zone(sub("^0", "", toupper(sub(" ", "", given$zone))))
+  if (wanted != own) {
+    refuse(name, "the coordinates of these fixes are of ", if (is.null(facts$zone)) own else facts$zone, ", which another ", name,
+           " does not change: read the table anew by read_fixes")
+  }
+}
+
 # Fixes as they were read, or the fixes of those that were changed, by options that go before those of their reading, with their
 # further columns. What was left out by the first reading, since and by the second stands together; said is what the first had not
 # said.
@@ -115,6 +127,7 @@ read_again <- function(x, given, folder, has_rows) {
   if (!nrow(x)) refuse("empty", "no fix is left")
   if (!length(given) && is_as_read(x)) return(list(fixes = x))
   check_own(x)
+  refuse_system(facts, given)
   has_filter <- any(options_of_columns %in% names(given))
   own <- list(unit = facts$unit, zone = facts$zone, crs = if (is.null(facts$zone)) facts$crs, tz = clock_of_fixes(x))
   if (has_filter) own[c("animal", "time", "easting", "northing")] <- own_columns(x)

@@ -277,6 +277,9 @@ test_that("fixes that were changed are read again, and only what is new is said"
   expect_identical(said_of(fixes[order(fixes$easting), ]), "1 records of fox come before an earlier one: sorted by time")
   expect_identical(said_of(fixes[c(1, 1:4), ]), "1 records of fox have the second of the one before, and 1 its place: kept")
   expect_identical(said_of(`names<-`(fixes[c(1:5)], names(fixes)[1:5])), character())
+  expect_identical(read_quietly(fixes, zone = "33n")$easting, fixes$easting)
+  expect_error(read_quietly(fixes, zone = "34N"), "^the coordinates of these fixes are of 33N, which another zone does not change: read",
+               class = "homerange_zone_error")
   half <- transform_fixes(fixes, "easting", fixes$easting + 0.25)
   expect_identical(said_of(half), "coordinates are rounded to whole metres, which moves a fix by at most 0.25 m")
   away <- quietly(home_range(transform_fixes(named(), "easting", named()$easting - 1e6), 100))
