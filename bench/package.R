@@ -1,7 +1,7 @@
 # package.R: what home_range() of the installed package for R takes for tables of walks: seconds of processors, of R and of the
 # program, and the greatest memory that R had for its objects.
 #
-#     Rscript bench/package.R
+#     Rscript bench/package.R [JOB ..]
 suppressMessages(library(homerange))
 
 # A table of walks of so many animals, whose first fixes lie 400 m apart.
@@ -21,7 +21,11 @@ seconds_of <- function(call) {
   c(R = sum(time[c("user.self", "sys.self")]), program = sum(time[c("user.child", "sys.child")]))
 }
 
-for (size in list(c(1, 1e6), c(200, 5e3), c(960, 1e2))) {
+sizes <- list(one = c(1, 1e6), some = c(200, 5e3), many = c(960, 1e2))
+jobs <- commandArgs(trailingOnly = TRUE)
+if (!length(jobs)) jobs <- c(names(sizes), "evidence")
+
+for (size in sizes[intersect(jobs, names(sizes))]) {
   table <- walks(size[1], size[2])
   invisible(gc(reset = TRUE))
   time <- seconds_of(ranges <- home_range(table, quiet = TRUE, progress = FALSE))
@@ -32,8 +36,10 @@ for (size in list(c(1, 1e6), c(200, 5e3), c(960, 1e2))) {
               size[1], size[2], time[["R"]], time[["program"]], peak, polygons[["R"]], overlaps[["R"]]))
 }
 
-folder <- tempfile("evidence")
-ranges <- home_range(walks(64, 1e4), quiet = TRUE, progress = FALSE)
-time <- seconds_of(suppressMessages(homerange_evidence(ranges, folder)))
-cat(sprintf("evidence of 64 animals of 10000 fixes: R %.1f s, program %.1f s\n", time[["R"]], time[["program"]]))
-unlink(folder, recursive = TRUE)
+if ("evidence" %in% jobs) {
+  folder <- tempfile("evidence")
+  ranges <- home_range(walks(64, 1e4), quiet = TRUE, progress = FALSE)
+  time <- seconds_of(suppressMessages(homerange_evidence(ranges, folder)))
+  cat(sprintf("evidence of 64 animals of 10000 fixes: R %.1f s, program %.1f s\n", time[["R"]], time[["program"]]))
+  unlink(folder, recursive = TRUE)
+}

@@ -10,7 +10,7 @@ top=$(cd "$(dirname "$0")/.." && pwd)
 # shellcheck source=tools/answers.sh
 . "$top/tools/answers.sh"
 answer_words "$@"
-packages='chromium fonts-dejavu-core fuse3 gcc iproute2 libc6-dev gnuplot-nox man-db munge mypy openssh-client openssl pandoc
+packages='chromium fonts-dejavu-core fuse3 gcc iproute2 libc6-dev gnuplot-nox make man-db munge mypy openssh-client openssl pandoc
 poppler-utils python3 python3-build python3-fusepy python3-geopandas python3-matplotlib python3-pandas python3-pyproj
 python3-pytest python3-scipy python3-setuptools python3-shapely python3-venv python3-wheel r-base-core r-cran-bit64
 r-cran-dplyr r-cran-generics r-cran-ggplot2 r-cran-knitr r-cran-lubridate r-cran-rmarkdown r-cran-sf r-cran-sp r-cran-testthat

@@ -69,6 +69,8 @@ def test_what_no_option_can_say_is_refused(stub, options, said):
     ({"zone": "33N", "tz": "Europe/Ljubljana"}, ["--zone=33N", "--tz=Europe/Ljubljana"]),
     ({"animal": "A,B", "time": ["Day", "Hour of it"]}, ["--animal=A,B", "--time=Day,Hour of it"]),
     ({"na": ["-9999", ""], "sensor": "gps,none"}, ["--na=-9999,", "--sensor=gps,none"]),
+    ({"na": -9999}, ["--na=-9999,-9999.0"]), ({"na": [999.125, "x"]}, ["--na=999.125,999.1250,x"]),
+    ({"na": numpy.float32(99.9)}, ["--na=99.9,99.90"]), ({"na": numpy.int64(0)}, ["--na=0,0.0"]),
     ({"argos_class": (3, 2.0, "B"), "fix_type": ["3D"]}, ["--argos-class=3,2,B", "--fix-type=3D"]),
     ({"max_dop": 5, "max_speed": 0.1}, ["--max-dop=5", "--max-speed=0.1"]),
     ({"max_dop": "5.0", "max_speed": 1e-7}, ["--max-dop=5.0", "--max-speed=0.0000001"]),

@@ -8,7 +8,7 @@ import pandas
 import pytest
 from frames import START, frame_of, noted, told
 
-from homerange import FrameError, HomeRangeInfo, HomeRangeNote
+from homerange import FrameError, HomeRangeInfo, HomeRangeNote, home_range
 from homerange.read.fixes import Fixes
 from homerange.read.reading import read_fixes
 
@@ -217,8 +217,22 @@ def test_fixes_are_chosen_and_sorted_as_in_any_frame(fixes):
                    fixes.sample(3, random_state=1), fixes.groupby("animal").head(1), fixes.merge(pandas.DataFrame({"sex": ["f"], "k": 1})),
                    pickle.loads(pickle.dumps(fixes))):
         assert type(chosen) is Fixes and chosen.reading == fixes.reading
-    for plain in (fixes[["animal", "easting"]], fixes.drop(columns="time"), fixes.describe()):
-        assert type(plain) is pandas.DataFrame
+    for part in (fixes[["animal", "easting"]], fixes.drop(columns="time"), fixes.set_index("animal").head(2),
+                 fixes.set_index("time").between_time("00:00", "12:00")):
+        assert repr(part) == repr(pandas.DataFrame(part))
+        with pytest.raises(FrameError, match="^these fixes have no column '[a-z]+' any more: give it back, as by reset_index"):
+            home_range(part)
+    for title in ("animal", "time", "easting"):
+        twice = pandas.concat([fixes, fixes[[title]]], axis="columns")
+        for frame in (twice, twice.iloc[::-1], pandas.DataFrame(twice)):
+            with pytest.raises(FrameError, match=f"^column [0-9] '{title}' and column [0-9]+ '{title}' both fit [a-z ]+: rename one$") as fault:
+                home_range(frame)
+            assert fault.value.kind == "ambiguous"
+    noted = pandas.concat([fixes, fixes[["sex"]]], axis="columns")
+    with pytest.raises(FrameError, match="^by: there are two columns 'sex': rename one$"):
+        home_range(noted, by="sex")
+    with told("^not in the fixes, since their titles are there twice: sex$"):
+        assert "sex" not in read_fixes(noted.iloc[::-1])
     renamed = fixes.rename(columns={"easting": "x"})
     assert repr(renamed) == repr(pandas.DataFrame(renamed))
     assert type(fixes["easting"]) is pandas.Series
@@ -231,8 +245,12 @@ def test_fixes_are_read_again_with_what_they_have(splitter):
     assert again.equals(fixes.iloc[1:]) and again["note"].tolist() == [*"xyz"]
     assert (again.reading.unit, again.reading.zone, again.reading.tz) == ("dm", "33N", "Asia/Tokyo")
     assert again.left_out().values.tolist() == [["a", "chosen", 1]]
-    whole = quietly(read_fixes, fixes, unit="m", every="1h")
-    assert whole["easting"].tolist() == [500_000, 500_200] and whole.reading.zone == "33N" and len(whole) == 2
+    with pytest.raises(FrameError, match="^these fixes are in whole decimetres, which another unit does not change: read the table anew"):
+        read_fixes(fixes, unit="m")
+    with pytest.raises(FrameError, match="^unit: km is neither m nor dm$"):
+        read_fixes(fixes, unit="km")
+    whole = quietly(read_fixes, fixes, unit="dm", every="1h")
+    assert whole["easting"].tolist() == [500_000.3, 500_200.3] and whole.reading.zone == "33N" and len(whole) == 2
     assert read_fixes(again).equals(again)
 
 
@@ -254,6 +272,21 @@ def test_fixes_are_bound_if_they_are_alike(fixes, splitter):
         mixed.left_out()
     beside = pandas.concat([fixes, pandas.DataFrame({"k": range(8)})], axis="columns")
     assert beside.reading == fixes.reading
+
+
+def test_animals_that_no_column_names_are_not_made_one(splitter):
+    halves = [frame_of(a=[(east + away, north) for east, north in SQUARE]).drop(columns="animal") for away in (0, 1000)]
+    both = [quietly(read_fixes, half) for half in halves]
+    words = "^animal animal is in two of them, .*: name each, as by name='Fox' of read_fixes, or keep the column of the animal$"
+    known = pandas.concat([both[0], both[1].assign(animal="elk")])
+    other = quietly(read_fixes, halves[0].assign(northing=halves[0]["northing"] + 1))
+    for parts in (both, [both[0].iloc[:2], quietly(read_fixes, halves[1].assign(animal="animal"))], [known, other]):
+        with pytest.raises(FrameError, match=words):
+            pandas.concat(parts)
+    assert len(pandas.concat([both[0].iloc[:2], both[0].iloc[2:]]).reading.counts) == 1
+    assert pandas.concat([known, known.iloc[:1]]).reading.counts == {"animal": 8}
+    named = [quietly(read_fixes, half, name=name) for half, name in zip(halves, ("fox", "elk"))]
+    assert pandas.concat(named).reading.counts == {"fox": 4, "elk": 4}
 
 
 def test_printing_says_what_was_taken(splitter):
@@ -280,7 +313,7 @@ def test_fixes_are_points(splitter):
     points = geopandas.GeoDataFrame({"animal": "a", "t": pandas.date_range("2024-05-01", periods=4, freq="h", tz="UTC")},
                                     geometry=geopandas.points_from_xy(*zip(*place)), crs="EPSG:32633").set_index("t")
     fixes = read_fixes(points)
-    assert [*fixes.columns] == ["animal", "time", "easting", "northing"]
+    assert [*fixes.columns] == ["animal", "time", "easting", "northing", "t"]
     again = fixes.points()
     assert again.crs == points.crs and again.geometry.tolist() == points.geometry.tolist()
     degrees = quietly(read_fixes, points.to_crs(4326))

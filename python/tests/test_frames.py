@@ -82,8 +82,12 @@ def test_categories_are_names():
 def test_times_are_whole_seconds_of_utc(time):
     wanted = pandas.Timestamp("2024-05-01 00:30:04", tz="UTC")
     frame = times_of(time)
+    cut = ["1 times have parts of a second: taken by whole seconds, also by filters"] if "." in str(time) else []
     for column in (frame["timestamp"], frame["timestamp"].astype(object)):
-        assert home_range(frame.assign(timestamp=column)).curve()["time"].tolist() == [wanted]
+        with warnings.catch_warnings(record=True) as notes:
+            warnings.simplefilter("always", HomeRangeNote)
+            assert home_range(frame.assign(timestamp=column)).curve()["time"].tolist() == [wanted]
+        assert [str(note.message) for note in notes if note.category is HomeRangeNote] == cut
 
 
 def test_a_day_is_its_midnight():

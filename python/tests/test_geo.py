@@ -3,7 +3,7 @@ import pytest
 from exact import cloud, hull
 from frames import frame_of, told
 
-from homerange import FrameError, HomeRangeNote, home_range
+from homerange import FrameError, HomeRangeNote, home_range, read_fixes
 
 geopandas = pytest.importorskip("geopandas")
 POINTS = cloud(5, 30)
@@ -99,3 +99,25 @@ def test_points_in_decimetres_come_back_in_metres():
     points = [(500010.2, 20.0), (500030.0, 20.1), (500030.0, 40.3)]
     found = home_range(geo(points=points), unit="dm")
     assert [*found.polygons().geometry[0].exterior.coords][:-1] == points
+
+
+WKT = """PROJCS["own",GEOGCS["WGS 84",DATUM["WGS_1984",SPHEROID["WGS 84",6378137,298.257223563]],PRIMEM["Greenwich",0],
+UNIT["degree",0.0174532925199433]],PROJECTION["Transverse_Mercator"],PARAMETER["latitude_of_origin",0],PARAMETER["central_meridian",15],
+PARAMETER["scale_factor",0.9996],PARAMETER["false_easting",500000],PARAMETER["false_northing",0],UNIT["Meter",1]]"""
+
+
+@pytest.mark.parametrize("crs, said", [
+    ("+proj=tmerc +lon_0=15 +k=0.9996 +x_0=500000 +axis=wsu +datum=WGS84",
+     "the CRS unknown has no way to longitude and latitude that pyproj knows: name another one, such as by its code$"),
+    (WKT.replace('"Meter",1', '"Meter",0.3048'), "the CRS own is in Meter of 0.3048 m and not in metres: "),
+    (WKT.replace('"Meter",1', '"foot",1'), "the CRS own is in foot and not in metres: "),
+    (WKT, None), (WKT.replace('"Meter"', '"METRES"'), None), ('LOCAL_CS["own",UNIT["Meter",1]]', None)])
+def test_a_crs_is_of_metres_that_have_a_way_to_degrees(splitter, crs, said):
+    table = frame_of(a=POINTS)
+    points = geopandas.GeoDataFrame(table[["animal", "timestamp"]], geometry=geopandas.points_from_xy(table["easting"], table["northing"]), crs=crs)
+    for call in (lambda: read_fixes(table, crs=crs), lambda: read_fixes(points)):
+        if said is None:
+            assert call()["easting"].tolist() == table["easting"].tolist()
+        else:
+            with pytest.raises(FrameError, match=f"^{said}"):
+                call()

@@ -232,7 +232,9 @@ def test_marks_that_were_set_on_fixes_are_read(title, marks):
     with pytest.warns(HomeRangeNote, match="^1 outliers: left out$"):
         found = home_range(fixes)
     assert found.left_out().values.tolist() == [["a", "outlier", 1]] and found.hectares("a") == 2
-    assert home_range(fixes.assign(use=1), 100).hectares("a") == 4  # beside use no other mark is read
+    if title != "use":  # beside which no other mark is read
+        with pytest.raises(FrameError, match=f"^'{title}' was added to the fixes, and is not read, since 'use' goes before it"):
+            home_range(fixes.assign(use=1))
     with pytest.raises(FrameError, match=f"^row 2: {title} is 'perhaps' and"):
         home_range(fixes.assign(**{title: [1, 1, "perhaps", 1]}))
 

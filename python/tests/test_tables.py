@@ -8,9 +8,9 @@ import numpy
 import pandas
 import pytest
 from exact import cloud
-from frames import START, frame_of, noted
+from frames import START, frame_of, noted, told
 
-from homerange import FrameError, HomeRangeInfo, HomeRangeNote, home_range
+from homerange import FrameError, HomeRangeInfo, HomeRangeNote, home_range, read_fixes
 
 SUITE = Path(__file__).parents[2] / "tools" / "tests" / "tables"
 SQUARE = [(562_000, 5_134_000), (562_200, 5_134_000), (562_200, 5_134_200), (562_000, 5_134_200)]
@@ -58,9 +58,106 @@ def test_what_no_option_can_name_says_what_helps():
     frame = frame_of(a=SQUARE)
     with pytest.raises(FrameError, match="there is no column 'a'; .*: rename columns whose titles have a comma or |$"):
         home_range(frame.rename(columns={"animal": "a,1"}), animal="a,1")
-    lengths = frame.assign(timestamp=pandas.to_timedelta([0, 30, 60, 90], unit="s")).rename(columns={"timestamp": "second"})
-    with pytest.raises(FrameError, match="^row 0: second is '00:00:00'.*: make seconds of its lengths of time, as by .dt.total_seconds"):
-        home_range(lengths)
+
+
+@pytest.mark.parametrize("lengths", [
+    pandas.to_timedelta([0, 30, 60, 90], unit="s"), pandas.to_timedelta([2, 3, 4, 5], unit="D"),
+    pandas.Series([timedelta(days=day) for day in range(4)], dtype=object)])
+def test_lengths_of_time_become_seconds(lengths):
+    frame = frame_of(a=SQUARE).drop(columns="timestamp")
+    said = (r"^row 0: time .*: make seconds of its lengths of time, as by pandas.to_timedelta\(frame.pop\('time'\)\).dt.total_seconds\(\), in a "
+            "column 'second' in its place")
+    own = frame.assign(time=lengths)
+    for words, end in (({}, "$"), ({"time": "time"}, ", which time names$")):
+        with pytest.raises(FrameError, match=said + end):
+            home_range(own, **words)
+    with pytest.raises(FrameError, match=r"make a column of this level of the index first, as by frame.reset_index\(\)$"):
+        home_range(own.set_index("time"))
+    own["second"] = pandas.to_timedelta(own.pop("time")).dt.total_seconds()
+    assert home_range(own, 100).hectares("a") == home_range(own, 100, time="second").hectares("a") == 4
+
+
+def test_lengths_of_time_beside_days_become_moments(splitter):
+    frame = frame_of(a=SQUARE).drop(columns="timestamp").assign(date=pandas.Timestamp("2024-05-01").date(), clock=pandas.to_timedelta([0, 1, 30, 31], unit="h"))
+    said = (r"^row 2: clock is of the class .*: make moments of both, as by pandas.to_datetime\(frame\['date'\]\) \+ "
+            r"pandas.to_timedelta\(frame\['clock'\]\), in a column that time names alone$")
+    with pytest.raises(FrameError, match=said):
+        read_fixes(frame, time=["date", "clock"])
+    frame["moment"] = pandas.to_datetime(frame["date"]) + pandas.to_timedelta(frame["clock"])
+    assert read_fixes(frame, time="moment")["time"].tolist()[2] == pandas.Timestamp("2024-05-02 06:00", tz="UTC")
+
+
+@pytest.mark.parametrize("title, words", [
+    ("timestamp", {}), ("timestamp", {"time": "timestamp"}), ("when", {"time": "when"}), ("local_time", {"time": ["local_time"]}), ("when", {})])
+def test_a_form_of_times_is_for_texts(splitter, title, words):
+    frame = frame_of(a=SQUARE).rename(columns={"timestamp": title})
+    utc, text = frame[title], frame[title].dt.strftime("%d.%m.%Y %H:%M")
+    for moments in (utc, utc.dt.tz_convert("Asia/Tokyo"), utc.dt.tz_localize(None), utc.astype(object), utc.dt.tz_localize(None).dt.to_period("min")):
+        for form in ("%d.%m.%Y", "%Y-%m-%d %H:%M:%S"):
+            if title in ("timestamp", *words.values()) or getattr(moments.dtype, "tz", None) is not None:
+                with pytest.raises(FrameError, match=f"^time_format is for texts, and '{title}' has moments: leave it out$") as fault:
+                    read_fixes(frame.assign(**{title: moments}), time_format=form, **words)
+                assert fault.value.kind == "option"
+    if title == "timestamp":
+        assert len(read_fixes(frame.assign(timestamp=text, deployed=utc), time_format="%d.%m.%Y %H:%M", **words)) == 4
+        both = frame.assign(day=utc.dt.normalize(), clock=utc.dt.time)
+        with pytest.raises(FrameError, match="^row 0: day clock is .*: day has moments: make days of it, as by .dt.date$"):
+            read_fixes(both, time="day,clock", time_format="%Y-%m-%d %H:%M:%S")
+        both["day"] = both["day"].dt.date
+        assert read_fixes(both, time="day,clock", time_format="%Y-%m-%d %H:%M:%S")["time"].tolist() == utc.tolist()
+
+
+def test_days_and_times_that_are_joined():
+    frame = frame_of(a=SQUARE)
+    moment, rest = frame["timestamp"], frame.drop(columns="timestamp")
+    parts = {"day": moment.dt.date, "midnight": moment.dt.normalize(), "naive": moment.dt.normalize().dt.tz_localize(None), "clock": moment.dt.time}
+    both = "both fit the time: name one, as by time='date', or both, as by time='date,time'$"
+    for date, hour, said, words in (
+            ("day", "clock", both, {"time": "date,time"}), ("naive", "clock", both, {"time": "date,time"}),
+            ("midnight", "clock", "both fit the time: date has moments: make days of it, as by .dt.date$", None),
+            ("day", "moment", "both fit the time: time has moments: name it alone, as by time='time'$", {"time": "time"}),
+            ("day", "day", "both fit the time: name one, as by time='date'$", None)):
+        table = rest.assign(date=parts[date], time=parts.get(hour, moment))
+        with pytest.raises(FrameError, match=said):
+            home_range(table)
+        if words is not None:
+            assert home_range(table, **words).curve()["time"].tolist() == moment.tolist()
+    with pytest.raises(FrameError, match="both fit the time: datetime has moments: name it alone, as by time='datetime'$"):
+        home_range(rest.assign(date=parts["day"], datetime=moment))
+    for date, hour, said in (("midnight", "clock", "date has moments: make days of it, as by .dt.date$"),
+                             ("day", "moment", "time has moments: name it alone, as by time='time'$")):
+        with pytest.raises(FrameError, match=f"and not a time such as 2024-05-01 00:30:04: {said}"):
+            home_range(rest.assign(date=parts[date], time=parts.get(hour, moment)), time="date,time")
+
+
+def test_titles_of_several_levels_are_made_one():
+    frame = frame_of(a=SQUARE)
+    frame.columns = pandas.MultiIndex.from_tuples([(title, "") for title in frame.columns])
+    with pytest.raises(FrameError, match=r"^the titles of columns have 2 levels: make one of them, as by frame.columns = \[' '.join\(map\(str, title"):
+        home_range(frame)
+    frame.columns = [" ".join(map(str, title)) for title in frame.columns]
+    assert home_range(frame, 100).hectares("a") == 4
+
+
+def test_shapes_of_a_plain_frame_are_no_points_yet():
+    geopandas = pytest.importorskip("geopandas")
+    frame = frame_of(a=SQUARE)
+    places = geopandas.points_from_xy(frame["easting"], frame["northing"])
+    for column in (pandas.Series([*places], dtype=object), places):
+        shapes = pandas.DataFrame(frame[["animal", "timestamp"]].assign(place=column))
+        with pytest.raises(FrameError, match=r"^there are no columns of usual titles for coordinates, and place has shapes: make points of a "
+                                             r"GeoDataFrame of them, as by geopandas.GeoDataFrame\(frame, geometry='place', crs=..\)$"):
+            home_range(shapes)
+        assert home_range(geopandas.GeoDataFrame(shapes, geometry="place"), 100).hectares("a") == 4
+
+
+def test_planes_in_feet_say_what_helps():
+    pytest.importorskip("pyproj")
+    axes = 'CS[Cartesian,2],AXIS["easting",east],AXIS["northing",north],LENGTHUNIT["foot",0.3048]'
+    with pytest.raises(FrameError, match="^the CRS local is in foot and not in metres: make metres of its coordinates, which need no CRS$"):
+        home_range(frame_of(a=SQUARE), crs=f'ENGCRS["local",EDATUM["x"],{axes}]')
+    with pytest.raises(FrameError, match="and not in metres: make points of its columns and project these first, as by geopandas.points_"):
+        home_range(frame_of(a=SQUARE), crs="EPSG:2263")
 
 
 def test_times_and_truths_are_no_names():
@@ -80,6 +177,11 @@ def test_numbers_of_32_bits_say_how_far_they_are_apart():
         home_range(narrow, unit="dm")
     assert noted(warned) == ["numbers of northing have 32 bits, and may be 0.5 m from the places that were measured"]
     assert home_range(narrow).animals == home_range(frame, unit="dm").animals == ["a"]  # which says nothing
+    sparse = pandas.arrays.SparseArray(narrow["northing"])
+    scalars = pandas.Series([numpy.float32(north) for north in frame["northing"]], dtype=object)
+    for column in (sparse, scalars, narrow["northing"].astype("Float32"), narrow["northing"].where(frame.index > 0)):
+        with told("^numbers of northing have 32 bits, and may be 0.5 m from the places"):
+            home_range(frame.assign(northing=column), unit="dm")
 
 
 def test_animal_and_time_in_the_index():

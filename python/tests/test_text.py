@@ -86,10 +86,10 @@ def test_the_zone_of_times_is_told(tmp_path):
     naive = pandas.Series(pandas.to_datetime(["2024-03-01", "2024-03-02"]))
     for other in ({"seen": naive}, {"seen": frame["timestamp"].dt.tz_convert("Asia/Tokyo")}, {"date": "2024-03-01"}):
         _, options, text = written(local.assign(**other), tmp_path)
-        assert options == {} and text.notes[0].startswith("days and hours are those of UTC, since times are of ")
+        assert options == {} and text.clock[0].startswith("days and hours are those of UTC, since times are of ")
     fixed = frame.assign(timestamp=pandas.to_datetime(["2024-03-01T02:00+02:00", "2024-03-01T02:30+02:00"]))
     _, options, text = written(fixed, tmp_path)
-    assert options == {} and text.notes[0].startswith("days and hours are those of UTC, since the zone ")
+    assert options == {} and text.clock[0].startswith("days and hours are those of UTC, since the zone ")
 
 
 @pytest.mark.parametrize("change, kind, said", [

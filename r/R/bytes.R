@@ -1,6 +1,6 @@
 # What the bytes of a file are: a text, and whole numbers by where they stand in it, all at once.
 
-fields_at_once <- 32768L
+fields_at_once <- 8192L
 powers_of_ten <- 10^(0:22)
 most_exact_digits <- 15  # of a whole number that is divided by a power of ten without an error
 
@@ -20,14 +20,14 @@ field_wholes <- function(bytes, starts, widths) {
 # The numbers of which the digits, from the last on, stand before these places. Their codes are added up.
 digits_before <- function(bytes, ends, widths) {
   wholes <- numeric(length(ends))
-  widths <- pmin(widths, most_exact_digits)
   least <- min(widths)
-  for (place in seq_len(max(widths))) {
+  widest <- min(max(widths), most_exact_digits)
+  for (place in seq_len(widest)) {
     codes <- as.integer(bytes[ends - place])
     if (place > least) codes <- codes * (widths >= place)
     wholes <- wholes + powers_of_ten[place] * codes
   }
-  wholes - 48 * cumsum(powers_of_ten)[widths]
+  wholes - 48 * cumsum(powers_of_ten)[if (least < widest) pmin(widths, widest) else widest]
 }
 
 # The text of a file of so many bytes in UTF-8, marked as such unless it is ASCII, whose lines end in LF; what is no text is refused.

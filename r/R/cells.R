@@ -8,6 +8,8 @@ most_exact <- 2^53
 most_short <- 1e15  # below which a number has no more digits than a double holds
 most_places <- 9  # decimals of numbers that are written without a look at each
 most_days <- 4e6  # from 1970: the calendar of R is slow beyond
+most_counted <- 1e6  # whole numbers from the least to the greatest that are told apart by counting
+some_numbers <- 1000  # that are looked at before all
 thousand <- 1000
 metres_of_units <- c(m = 1, metre = 1, meter = 1, km = 1000)
 degrees_of_units <- c("\u00b0", "degree", "arc_degree", "degrees")
@@ -26,7 +28,7 @@ parts_of_column <- function(column, title) {
   clocks <- if (has_class_of_clocks(column)) seconds_of_clocks(column)
   if (!is.null(clocks)) return(parts_of_clocks(clocks, class(column)[1]))
   if (inherits(column, "POSIXct")) return(parts_of_moments(as.numeric(column)))
-  if (inherits(column, "Date")) return(list(part_of_days(floor(as.numeric(column)), "")))
+  if (inherits(column, "Date")) return(parts_of_days(as.numeric(column)))
   if (inherits(column, "units")) return(parts_of_units(column))
   if (has_own_class(column)) return(parts_of_class(column))
   if (is.logical(column)) return(list(part_of_kinds(c("false", "true"), column + 1L)))
@@ -129,11 +131,12 @@ with_zero <- function(cells, zero) if (zero) sub("([.].*)", "\\10", cells) else 
 
 # How many decimals all of some numbers have; NA where one has too many, or has no end.
 places_of_decimals <- function(numbers) {
-  numbers <- numbers[!is.na(numbers)]
-  size <- max(abs(numbers), 0)
+  if (anyNA(numbers)) numbers <- numbers[!is.na(numbers)]
+  size <- max(numbers, -min(numbers, 0))
+  has_places <- function(numbers, places) all(round(numbers * 10^places) / 10^places == numbers)
   for (places in 0:most_places) {
     if (size * 10^places >= most_short) return(NA)
-    if (all(round(numbers * 10^places) / 10^places == numbers)) return(places)
+    if (has_places(utils::head(numbers, some_numbers), places) && has_places(numbers, places)) return(places)
   }
   NA
 }
@@ -142,14 +145,18 @@ places_of_decimals <- function(numbers) {
 cells_of_numbers <- function(numbers) {
   numbers <- numbers + 0  # of -0 too, which is 0
   size <- abs(numbers)
-  is_plain <- is.finite(numbers) & size < 1e15 & (size >= 1e-4 | size == 0)
-  cells <- sprintf("%.15g", numbers)
-  is_plain[is_plain] <- as.numeric(cells[is_plain]) == numbers[is_plain]
+  is_plain <- is.finite(numbers) & size < most_short & (size >= 1e-4 | size == 0)
+  cells <- character(length(numbers))
+  left <- which(is_plain)
+  for (digits in 15:17) {
+    cells[left] <- sprintf("%.*g", digits, numbers[left])
+    left <- left[as.numeric(cells[left]) != numbers[left]]
+  }
   cells[!is_plain] <- vapply(numbers[!is_plain], odd_number, "")
   cells
 }
 
-# The text of a number that has more than 15 digits, an exponent, or no end.
+# The text of a number that has an exponent, or no end.
 odd_number <- function(number) {
   if (is.na(number)) return("")
   if (is.infinite(number)) return(if (number > 0) "inf" else "-inf")
@@ -187,17 +194,23 @@ digits_of_integer64 <- function(column) {
   ifelse(is_missing, "", paste0(ifelse(is_negative, "-", ""), digits))
 }
 
+# Days since 1970; those with parts of a day have a clock, to the millisecond that they may be exact to, which is of no zone.
+parts_of_days <- function(days) {
+  if (all(days == floor(days), na.rm = TRUE)) return(list(part_of_days(days, "")))
+  parts_of_moments(round(days * seconds_of_day, 3), " ", "")
+}
+
 # Moments of UTC, from seconds since 1970: the day, the clock, and decimals where there are some.
-parts_of_moments <- function(seconds) {
+parts_of_moments <- function(seconds, between = "T", zone = "Z") {
   whole <- floor(seconds)
   day <- whole %/% 86400
   is_far <- !is.finite(seconds) | abs(day) > most_days
   clock <- whole - 86400 * day
   clock[is_far] <- NA
   has_part <- isTRUE(any(seconds > whole))
-  parts <- list(part_of_days(day, "T"), part_of_clocks(clock, if (has_part) "" else "Z"))
+  parts <- list(part_of_days(day, between), part_of_clocks(clock, if (has_part) "" else zone))
   if (!has_part) return(parts)
-  c(parts, parts_of_cells(ifelse(is_far, "", paste0(decimals_of(seconds), "Z"))))
+  c(parts, parts_of_cells(ifelse(is_far, "", paste0(decimals_of(seconds), zone))))
 }
 
 # The different values of a vector, whose values are often all the same.
@@ -214,20 +227,34 @@ by_distinct <- function(values, action) {
   action(kinds)[places_of(values, kinds)]
 }
 
+# The different values of whole numbers and the place of each among them. Those that lie near each other are told apart by counting.
+kinds_of_wholes <- function(numbers) {
+  ends <- suppressWarnings(c(min(numbers, na.rm = TRUE), max(numbers, na.rm = TRUE)))
+  if (!all(is.finite(ends)) || diff(ends) >= most_counted) {
+    kinds <- distinct(numbers)
+    return(list(kinds = kinds, place = places_of(numbers, kinds)))
+  }
+  at <- as.integer(numbers - ends[1]) + 1L
+  is_there <- tabulate(at, diff(ends) + 1) > 0
+  list(kinds = ends[1] + which(is_there) - 1, place = cumsum(is_there)[at])
+}
+
 # Days since 1970 as dates, with what stands behind them. Those that are too far are no time to the program either.
 part_of_days <- function(days, behind) {
-  kinds <- distinct(days)
+  found <- kinds_of_wholes(days)
+  kinds <- found$kinds
   is_near <- is.finite(kinds) & abs(kinds) <= most_days
   texts <- ifelse(is.na(kinds), "", ifelse(kinds > 0, "inf", "-inf"))
   texts[is_near] <- paste0(format(.Date(kinds[is_near])), behind)
-  part_of_kinds(texts, places_of(days, kinds))
+  part_of_kinds(texts, found$place)
 }
 
 # Whole seconds of a day as its clock has them, with what stands behind them.
 part_of_clocks <- function(seconds, behind) {
-  kinds <- distinct(seconds)
+  found <- kinds_of_wholes(seconds)
+  kinds <- found$kinds
   texts <- sprintf("%02.0f:%02.0f:%02.0f", kinds %/% 3600, kinds %/% 60 %% 60, kinds %% 60)
-  part_of_kinds(ifelse(is.na(kinds), "", paste0(texts, behind)), places_of(seconds, kinds))
+  part_of_kinds(ifelse(is.na(kinds), "", paste0(texts, behind)), found$place)
 }
 
 # The decimals of seconds behind their point, as few as give them back and nine at most.

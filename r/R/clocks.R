@@ -1,6 +1,6 @@
 # Columns of clocks alone, and of days alone, whose classes have both: docs/TABLES.md, Data frames.
 
-days_without_date <- c(-25569, -25568)  # 1899-12-30 and 1899-12-31, on which spreadsheets have clocks
+days_without_date <- .Date(c(-25569, -25568))  # 1899-12-30 and 1899-12-31, on which spreadsheets have clocks
 seconds_of_day <- 86400
 
 # The seconds of the day that a column of clocks has; NULL of another column.
@@ -9,17 +9,28 @@ seconds_of_clocks <- function(column) {
   first <- as.numeric(first_value(column))
   if (is.na(first)) return(NULL)
   if (inherits(column, "times") && !inherits(column, "dates")) return(round(as.numeric(unclass(column)) * seconds_of_day, 3))
-  if (inherits(column, "POSIXct") && (first %/% seconds_of_day) %in% days_without_date) {
-    seconds <- as.numeric(column)
-    return(if (all((seconds %/% seconds_of_day) %in% c(days_without_date, NA))) round(seconds %% seconds_of_day, 3))
-  }
+  if (inherits(column, "POSIXct")) return(if (has_no_date(first_value(column))) seconds_without_date(column))
   if (!inherits(column, "difftime")) return(NULL)
   seconds <- as.numeric(column, units = "secs")
   if (all(seconds >= 0 & seconds < seconds_of_day, na.rm = TRUE)) seconds
 }
 
+# Whether moments are all of days on which spreadsheets have clocks, in their own zone.
+has_no_date <- function(times) {
+  abs(as.numeric(times[1]) / seconds_of_day - as.numeric(days_without_date[1])) < 3 &&
+    all(as.Date(times, tz = zone_of_times(times)) %in% c(days_without_date, NA))
+}
+
+# The seconds of the day of such moments; NULL where not all are some.
+seconds_without_date <- function(column) {
+  known <- column[!is.na(column)]
+  if (!all(has_no_date(known))) return(NULL)
+  local <- as.POSIXlt(column, tz = zone_of_times(column))
+  round(3600 * local$hour + 60 * local$min + local$sec, 3)
+}
+
 # The first value that is not missing; NA where there is none.
-first_value <- function(column) column[c(which.max(!is.na(column)), 1)[1]]
+first_value <- function(column) if (isFALSE(is.na(column[1]))) column[1] else column[c(which.max(!is.na(column)), 1)[1]]
 
 has_class_of_clocks <- function(column) inherits(column, c("ITime", "hms", "times", "difftime", "POSIXct"))
 
@@ -28,9 +39,10 @@ is_of_moments <- function(column) inherits(column, "POSIXt") && is.null(seconds_
 
 # Columns, of which those of moments that are all days are days, if clocks stand in another or the time is joined of several.
 with_days <- function(columns, given) {
-  is_joined <- grepl(",", paste(given$time, collapse = ","), fixed = TRUE)
+  columns <- lapply(columns, function(column) if (inherits(column, "POSIXlt")) as.POSIXct(column) else column)
+  is_joined <- grepl(",", paste(given[["time"]], collapse = ","), fixed = TRUE)
   if (!is_joined && !any(vapply(columns, has_clocks, NA))) return(columns)
-  lapply(columns, function(column) if (is_of_days(column)) .Date(as.numeric(column) / seconds_of_day) else column)
+  lapply(columns, function(column) if (is_of_days(column, given$tz)) as.Date(column, tz = zone_of_times(column)) else column)
 }
 
 # Whether a column has clocks, by its class or by the first of its texts.
@@ -40,7 +52,14 @@ has_clocks <- function(column) {
   has_class_of_clocks(column) && !is.null(seconds_of_clocks(column))
 }
 
-is_of_days <- function(column) {
-  inherits(column, "POSIXct") && zone_of_times(column) == "UTC" && is.null(seconds_of_clocks(column)) &&
-    all(as.numeric(column) %% seconds_of_day == 0, na.rm = TRUE)
+# Whether moments are all midnights, of UTC or of the zone by whose clock times are read.
+is_of_days <- function(column, tz = NULL) {
+  if (!inherits(column, "POSIXct") || !is.null(seconds_of_clocks(column))) return(FALSE)
+  is_read <- zone_of_times(column) %in% c("UTC", if (is.null(tz)) OlsonNames() else tz)
+  is_read && are_midnights(first_value(column)) && are_midnights(column)
+}
+
+# Whether moments are all midnights of their own zone.
+are_midnights <- function(times) {
+  all(unlist(unclass(as.POSIXlt(times, tz = zone_of_times(times)))[c("hour", "min", "sec")]) == 0, na.rm = TRUE)
 }

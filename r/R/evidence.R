@@ -17,6 +17,7 @@ homerange_evidence <- function(x, folder, ...) {
   if (!is_text(folder) || !nzchar(folder)) refuse("option", argument_text("folder", folder), " is no path")
   folder <- sub("^-", "./-", expanded(sub("(.)/+$", "\\1", folder)))  # which GDAL would take for an option
   local_utf8(names_of_files(x))
+  if (!validUTF8(folder)) refuse("option", "folder can have this name in a locale of UTF-8 alone, such as LC_ALL=C.UTF-8")
   if (is_there(folder)) refuse("text", folder, " is there already: name another folder")
   program <- identity_of(homerange_program())
   part <- paste0(folder, ".part")
@@ -67,9 +68,9 @@ fill_evidence <- function(x, folder, program, title = NULL, study = NULL, specie
                 boundary = if (!is.null(rings)) if (is_given(reserve_name)) reserve_name else "boundary")
   names <- if (is.null(x$files)) put_frame(x, folder) else put_files(x, file.path(folder, "tracks"))
   record <- record_in(file.path(folder, "tracks"))
-  if (!is.null(record)) check_record(record, file.path(folder, "tracks"))
   now <- Sys.time()
-  found <- report_of_folder(x, folder, names, program, record, c(words, clock = zone), now)
+  read <- report_of_folder(x, folder, names, program, record, c(words, clock = zone), now)
+  found <- read$ranges
   for (line in renames_of(x$animals$animal, names)) tell_note(line, "renamed")
   write_summary(found, file.path(folder, "summary.csv"))
   write_animals(found, file.path(folder, "animals.csv"))
@@ -78,7 +79,7 @@ fill_evidence <- function(x, folder, program, title = NULL, study = NULL, specie
   if (!is.null(rings)) write_lines(file.path(folder, "boundary.csv"), lines_of_rings(rings))
   day <- as.POSIXlt(if (is.null(made)) as.POSIXlt(now, tz = zone) else made)
   put_page(found, file.path(folder, "report.html"), words, rings, zone, day, program)
-  sums <- checksums_of(folder)
+  sums <- c(read$sums, checksums_of(folder, but = c("tracks/*", "report.txt")))
   sums <- sums[order(names(sums), method = "radix")]
   write_lines(file.path(folder, "SHA256SUMS"), paste0(sums, "  ", names(sums)))
 }
@@ -90,12 +91,14 @@ lines_of_rings <- function(rings) {
   })))
 }
 
-# Has the program report of the tracks in a folder, and writes the record of the run; answers the ranges of the report.
+# Has the program report of the tracks in a folder, and writes the record of the run; answers the ranges of the report, and the
+# checksums of the files that were there when it was read.
 report_of_folder <- function(x, folder, names, program, record, words, now) {
+  before <- checksums_of(folder)
+  if (!is.null(record)) check_record(record, file.path(folder, "tracks"), before)
   if (!is.null(record) && record$unit != x$unit) {
     refuse("option", "the tracks are in ", record$unit, ", by split.txt beside them, and the ranges in ", x$unit)
   }
-  before <- checksums_of(folder)
   files <- used_tracks(folder)
   call <- c("--percent", paste(unique(x$percents$level), collapse = ","), "--unit", x$unit)
   write_report_of(program$path, call, files, folder)
@@ -107,7 +110,7 @@ report_of_folder <- function(x, folder, names, program, record, words, now) {
   log <- file.path(dirname(program$path), "build.log")
   if (file.exists(log)) file.copy(log, folder)
   write_lines(file.path(folder, "evidence.txt"), about_lines(x, program, c(call, "--", files), record, words, now))
-  made
+  list(ranges = made, sums = after)
 }
 
 # Puts the fixes of ranges into the folder's tracks, a file for each animal, with the program's record of how they were made.
@@ -174,7 +177,7 @@ write_report_of <- function(program, words, files, folder) {
     parts_of_report(report_text(path))
   })
   is_pair <- vapply(plan, `[[`, NA, "is_pair")
-  tables <- sub("(?<=\n)unit,dm\n", "", paste(vapply(parts[!is_pair], `[[`, "", "tables"), collapse = ""), perl = TRUE)
+  tables <- gsub("(?<=\n)unit,dm\n", "", paste(vapply(parts[!is_pair], `[[`, "", "tables"), collapse = ""), perl = TRUE)
   lines <- unlist(lapply(parts, `[[`, "overlaps"))
   names <- unlist(lapply(parts[!is_pair], `[[`, "animals"))
   wanted <- paste(rep(names, each = length(names)), names, sep = ",")[c(!diag(length(names)))]
@@ -212,14 +215,15 @@ ranges_of_report <- function(x, folder, clean, record) {
   at <- match(made$animals$animal, clean)
   if (anyNA(at) || length(at) != length(clean)) refuse("check", "the report has other animals than the tracks")
   for (table in c("animals", "rows", "corners", "percents")) {
-    own <- known[[table]][order(match(match(known[[table]]$animal, x$animals$animal), at)), ]
-    numbers <- setdiff(names(own), c("animal", "time"))
-    if (!identical(unname(as.list(own[numbers])), unname(as.list(unclass(made)[[table]][numbers])))) refuse_other_numbers()
+    order <- order(match(match(known[[table]]$animal, x$animals$animal), at))
+    numbers <- setdiff(names(known[[table]]), c("animal", "time"))
+    own <- lapply(as.list(known[[table]])[numbers], `[`, order)
+    if (!identical(unname(own), unname(as.list(unclass(made)[[table]][numbers])))) refuse_other_numbers()
   }
   if (made$unit != x$unit || any(x$overlaps[at, at, drop = FALSE] != made$overlaps)) refuse_other_numbers()
-  made$fixes <- x$fixes
-  made$fixes$animal <- clean[match(x$fixes$animal, x$animals$animal)]
-  made$fixes <- made$fixes[order(match(made$fixes$animal, made$animals$animal)), ]
+  animal <- match(x$fixes$animal, x$animals$animal)
+  fixes <- replace(as.list(x$fixes), "animal", list(clean[animal]))
+  made$fixes <- list2DF(lapply(fixes, `[`, order(match(animal, at))))
   for (slot in c("crs", "shift", "zone", "notes", "tz", "left_out")) made[[slot]] <- known[[slot]]
   if (is.null(record)) made else with_record(made, record)
 }

@@ -1,12 +1,11 @@
 # Files: which names they may have, how tracks and other lines are written, and checksums.
 
 lines_written <- 16384  # at once
-# The bytes of 0000 to 9999.
-digits_of_four <- matrix(as.raw(48 + rep(0:9999, each = 4) %/% c(1000, 100, 10, 1) %% 10), 4)
 
 # Refuses what cannot be the name of a file that is to be written.
 check_path <- function(path) {
   if (!is_text(path) || !nzchar(path)) refuse("option", argument_text("path", path), " is no path")
+  path <- expanded(path)
   if (dir.exists(path)) refuse("file", path, " is a folder")
   if (!dir.exists(dirname(path))) refuse("file", path, ": there is no such folder")
 }
@@ -18,7 +17,7 @@ open_file <- function(path) {
     said <<- sub("^.*: ", "", conditionMessage(warning))
     invokeRestart("muffleWarning")
   }
-  tryCatch(withCallingHandlers(file(path, "wb"), warning = hear), error = function(fault) refuse("file", path, ": ", said))
+  tryCatch(withCallingHandlers(file(expanded(path), "wb"), warning = hear), error = function(fault) refuse("file", path, ": ", said))
 }
 
 write_lines <- function(path, lines) {
@@ -27,10 +26,26 @@ write_lines <- function(path, lines) {
   writeLines(enc2utf8(lines), output, useBytes = TRUE)
 }
 
-# Paths with the home for ~; others as they are, since R would write their letters anew in a locale that has them not.
+# Paths with the home for ~, as their bytes: in the letters of the locale, and in UTF-8 where it has them not.
 expanded <- function(paths) {
   is_of_home <- startsWith(paths, "~")
-  replace(paths, is_of_home, path.expand(paths[is_of_home]))
+  paths <- replace(paths, is_of_home, path.expand(paths[is_of_home]))
+  is_marked <- Encoding(paths) %in% c("UTF-8", "latin1")
+  own <- in_utf8(paths[is_marked])
+  found <- iconv(own, "UTF-8", "")
+  has_none <- is.na(found)
+  replace(paths, is_marked, `Encoding<-`(replace(found, has_none, own[has_none]), "unknown"))
+}
+
+# The path of a file for the program, which takes UTF-8: where the system has it in other letters, that of a link in a folder.
+path_for_program <- function(path, folder) {
+  if (path == "-") return("./-")  # the program takes - for standard input
+  own <- expanded(path)
+  found <- text_for_program(own, "x")
+  if (file.exists(in_bytes(found)) || !file.exists(own)) return(found)
+  link <- file.path(folder, sub(".*/", "", found))
+  if (!file.symlink(normalizePath(own), in_bytes(link))) refuse("text", path, ": its name is not in UTF-8: rename it")
+  link
 }
 
 # Whether a path names something, if a link to nothing.
@@ -45,58 +60,30 @@ make_folder <- function(path) {
   if (!dir.exists(path)) refuse("text", path, ": ", if (is.null(fault)) "it cannot be made" else fault)
 }
 
-# Writes the file of an animal by its name, in pieces: these rows of records.
-write_track <- function(path, records, name, rows) {
+# Writes the file of an animal, whose name is at a place of a stock, in pieces: these rows of records.
+write_track <- function(path, records, stock, name, rows) {
   output <- file(path, "wb")
   on.exit(close(output))
   writeLines("animal,second,easting,northing", output)
   for (start in seq(1, length(rows), lines_written)) {
     piece <- rows[start:min(start + lines_written - 1, length(rows))]
-    writeBin(track_bytes(records, name, piece), output)
+    fields <- lapply(records[c("second", "easting", "northing")], function(column) {
+      c(sign_at[["comma"]], stocked_wholes(as.numeric(column[piece])))
+    })
+    writeBin(bytes_of_lines(stock, c(name, unlist(fields, recursive = FALSE), sign_at[["end"]])), output)
   }
 }
 
-# The lines of a track as bytes, of which a matrix has each line in a column: this takes a tenth of the time of sprintf.
-track_bytes <- function(records, name, rows) {
-  fields <- lapply(c("second", "easting", "northing"), function(column) {
-    list(as.raw(44), digits_of_wholes(as.numeric(records[[column]][rows])))
-  })
-  bytes_of_lines(c(as.list(charToRaw(name)), unlist(fields, recursive = FALSE)))
+# The checksum of a file: by R itself from 4.5 on, which hands a command no name that is of no letters of the locale.
+checksum_of <- function(path) {
+  own <- get0("sha256sum", asNamespace("tools"))
+  if (is.null(own)) substr(system2("sha256sum", c("--", shQuote(path)), stdout = TRUE), 1, 64) else unname(own(path))
 }
 
-# Lines of matrices of bytes, one below the other, of which each line has a column; what is 0 is no byte.
-bytes_of_lines <- function(bytes) {
-  lines <- do.call(rbind, c(bytes, list(as.raw(10))))
-  has_blanks <- length(grepRaw(as.raw(0), lines, fixed = TRUE)) > 0
-  if (has_blanks) lines[lines != as.raw(0)] else as.vector(lines)
-}
-
-# The digits of whole numbers from 0 as bytes, each number in a column, with 0 where it has none.
-digits_of_wholes <- function(numbers) {
-  width <- nchar(sprintf("%.0f", max(numbers)))
-  bytes <- digits_of_width(numbers, width)
-  for (place in seq_len(width - nchar(sprintf("%.0f", min(numbers))))) {
-    bytes[place, numbers < powers_of_ten[width - place + 1]] <- as.raw(0)
-  }
-  bytes
-}
-
-# So many digits of whole numbers, zeros before them included: four at once, from the last on.
-digits_of_width <- function(numbers, width) {
-  blocks <- list()
-  for (known in c(rep(4, (width - 1) %/% 4), (width - 1) %% 4 + 1)) {
-    above <- floor(numbers / 10000)
-    blocks <- c(list(digits_of_four[(5 - known):4, numbers - 10000 * above + 1, drop = FALSE]), blocks)
-    numbers <- above
-  }
-  do.call(rbind, blocks)
-}
-
-checksum_of <- function(path) substr(system2("sha256sum", c("--", shQuote(path)), stdout = TRUE), 1, 64)
-
-# The checksums of the files in a folder, by their names within it.
-checksums_of <- function(folder) {
-  lines <- system(paste("cd", shQuote(folder), "&& find . -type f -exec sha256sum -- {} +"), intern = TRUE)
+# The checksums of the files in a folder but for some, by their names within it.
+checksums_of <- function(folder, but = character()) {
+  unwanted <- paste(sprintf("! -path %s", shQuote(file.path(".", but))), collapse = " ")
+  lines <- system(paste("cd", shQuote(folder), "&& find . -type f", unwanted, "-exec sha256sum -- {} +"), intern = TRUE)
   Encoding(lines) <- "UTF-8"
   names(lines) <- substring(lines, 69)
   substr(lines, 1, 64)

@@ -1,8 +1,18 @@
 # Fixes that were read: a data frame with what is known of it, which rows that are taken away or bound keep.
 
 columns_of_fixes <- c("animal", "easting", "northing")  # and time, or second
+titles_of_fixes <- c(columns_of_fixes, "time", "second")
+said_of_no_animal <- "no column has a usual title for the animal: all fixes are of one, named animal"
 
 new_fixes <- function(table, facts) structure(table, class = c("homerange_fixes", "data.frame"), homerange = facts)
+
+# A table that was made of fixes, with what is known of these where it still has their columns.
+with_reading <- function(table, fixes) {
+  is_known <- is.data.frame(table) && has_columns(table)
+  attr(table, "homerange") <- if (is_known) facts_of(fixes)
+  class(table) <- c(if (is_known) "homerange_fixes", setdiff(class(table), "homerange_fixes"))
+  table
+}
 
 # Columns as a data frame; one of several itself is one column.
 frame_of <- function(columns) structure(columns, class = "data.frame", row.names = .set_row_names(NROW(columns[[1]])))
@@ -11,8 +21,8 @@ facts_of <- function(fixes) attr(fixes, "homerange", exact = TRUE)
 
 # The fixes as a data frame alone.
 as.data.frame.homerange_fixes <- function(x, row.names = NULL, optional = FALSE, ...) {
-  attr(x, "homerange") <- NULL
-  class(x) <- setdiff(class(x), "homerange_fixes")
+  attributes(x)[c("homerange", "groups")] <- NULL
+  class(x) <- "data.frame"
   if (!is.null(row.names)) row.names(x) <- row.names
   x
 }
@@ -20,33 +30,83 @@ as.data.frame.homerange_fixes <- function(x, row.names = NULL, optional = FALSE,
 # Rows keep what is known; without a column that fixes need it is a data frame alone.
 `[.homerange_fixes` <- function(x, ...) {
   found <- NextMethod()
-  if (!is.data.frame(found)) return(found)
-  if (!has_columns(found)) return(as.data.frame.homerange_fixes(found))
-  attr(found, "homerange") <- facts_of(x)
-  class(found) <- class(x)
-  found
+  if (is.data.frame(found)) with_reading(found, x) else found
 }
 
-is_fixes <- function(x) inherits(x, "homerange_fixes") && has_columns(x)
+# Whether a table is of fixes of which is known how they were read. Other packages may have taken the class away, and not this.
+is_fixes <- function(x) is_made_of_fixes(x) && has_columns(x) && !inherits(x, "sf")
+
+is_made_of_fixes <- function(x) inherits(x, "homerange_fixes") || !is.null(facts_of(x))
+
+# A table of fixes, of whatever class it is by now, as fixes; so are points that still lie where they are.
+as_fixes <- function(x) {
+  is_at_points <- inherits(x, "sf") && is_made_of_fixes(x) && has_columns(x) && has_own_points(x)
+  if (!is_fixes(x) && !is_at_points) return(x)
+  columns <- with_zone(columns_of(x), facts_of(x)$tz)
+  new_fixes(structure(columns, class = "data.frame", row.names = attr(x, "row.names")), facts_of(x))
+}
+
+# The columns of fixes whose times have a zone: that by which they were read, where it was taken away.
+with_zone <- function(columns, tz) {
+  if (inherits(columns[["time"]], "POSIXlt")) columns[["time"]] <- as.POSIXct(columns[["time"]])
+  if (inherits(columns[["time"]], "POSIXct") && !has_zone(columns[["time"]])) attr(columns[["time"]], "tzone") <- tz
+  columns
+}
+
+# Whether the points of a table of sf are the eastings and northings of its fixes.
+has_own_points <- function(x) {
+  if (!has_sf() || !all(sf::st_geometry_type(x) == "POINT") || any(sf::st_is_empty(x))) return(FALSE)
+  own <- cbind(x$easting, x$northing)
+  isTRUE(all(sf::st_coordinates(x)[, 1:2] == own)) && is_same_fact(sf::st_crs(x), crs_or_none(facts_of(x)))
+}
 
 has_columns <- function(x) all(columns_of_fixes %in% names(x)) && any(c("time", "second") %in% names(x))
 
 # Fixes below others, which have to be alike in what one table says of all.
 rbind.homerange_fixes <- function(..., deparse.level = 1) {
-  all <- Filter(Negate(is.null), list(...))
-  for (one in all) check_bound(one, all[[1]])
-  columns <- lapply(names(all[[1]]), function(title) joined_columns(lapply(all, `[[`, title)))
-  new_fixes(frame_of(`names<-`(columns, names(all[[1]]))), bound_facts(lapply(all, facts_of)))
+  all <- lapply(Filter(Negate(is.null), list(...)), as_fixes)
+  titles <- names(all[[1]])
+  for (one in all) {
+    check_bound(one, all[[1]])
+    odd <- c(setdiff(names(one), titles), setdiff(titles, names(one)))
+    if (length(odd)) refuse("option", "fixes are not bound, since some have no column '", odd[1], "'")
+    twice <- c(titles_twice(one), titles_twice(all[[1]]))
+    if (length(twice)) refuse("ambiguous", "fixes are not bound, since some have two columns '", twice[1], "': rename one")
+  }
+  check_unnamed(all)
+  columns <- lapply(titles, function(title) joined_columns(lapply(all, `[[`, title)))
+  new_fixes(frame_of(`names<-`(columns, titles)), bound_facts(lapply(all, facts_of)))
 }
 
-# Columns one below the other. Factors have all levels.
+# Refuses to make one animal of those of several readings, of which one is named so because its table has no column of the animal.
+check_unnamed <- function(all) {
+  readings <- lapply(Filter(function(one) "animal" %in% one$animal, all), function(one) {
+    Filter(function(facts) "animal" %in% names(facts$fixes), readings_of(facts_of(one)))
+  })
+  every <- unlist(readings, recursive = FALSE)
+  refuse_unnamed(every, length(unique(lapply(every, `[[`, "checksum"))) > max(lengths(readings), 1))
+}
+
+refuse_unnamed <- function(readings, are_several) {
+  if (are_several && any(vapply(readings, function(facts) said_of_no_animal %in% facts$notes, NA))) {
+    refuse("option", "animal animal is in two of them, whose tables do not say which animal it is: name each, as by name = \"Fox\" of ",
+           "read_fixes, or keep the column of the animal")
+  }
+}
+
+# What is known of each reading whose fixes were bound, or of the only one.
+readings_of <- function(facts) if (is.null(facts$parts)) list(facts) else facts$parts
+
+# Columns one below the other. Factors have all levels, and are text below text.
 joined_columns <- function(columns) {
+  is_factor <- vapply(columns, is.factor, NA)
+  if (!all(is_factor)) columns[is_factor] <- lapply(columns[is_factor], as.character)
   if (length(dim(columns[[1]])) == 2) do.call(rbind, columns) else do.call(c, columns)
 }
 
 # Refuses fixes that cannot be bound to others.
 check_bound <- function(one, first) {
-  if (!inherits(one, "homerange_fixes")) {
+  if (!is_fixes(one)) {
     refuse("option", "fixes are bound to fixes that read_fixes has read, and not to ", what_it_is(one))
   }
   own <- facts_of(one)
@@ -58,8 +118,6 @@ check_bound <- function(one, first) {
              " are not bound: read them alike")
     }
   }
-  odd <- c(setdiff(names(one), names(first)), setdiff(names(first), names(one)))
-  if (length(odd)) refuse("option", "fixes are not bound, since some have no column '", odd[1], "'")
 }
 
 # By which of their facts the reference systems of two are compared: without the package sf the zone alone is known.
@@ -75,19 +133,29 @@ is_same_fact <- function(one, other) {
 
 fact_text <- function(fact) if (is.null(fact)) "not known" else if (inherits(fact, "crs")) text_of_crs(fact) else fact
 
-# What is known of fixes that are bound. Those of one reading are what they were.
+# What is known of fixes that are bound, which may be bound themselves. Those of one reading are what they were.
 bound_facts <- function(facts) {
+  facts <- unlist(lapply(facts, readings_of), recursive = FALSE)
   facts <- facts[!duplicated(facts)]
   found <- facts[[1]]
   if (length(facts) == 1) return(found)
+  found$parts <- facts
   found$notes <- unlist(lapply(facts, `[[`, "notes"))
   found[c("record", "files", "checksum")] <- NULL  # there is none of all
   found$titles <- Reduce(intersect, lapply(facts, `[[`, "titles"))
-  found$places <- do.call(Map, c(list(c), lapply(facts, `[[`, "places")))
+  found$seen <- bound_seen(lapply(facts, `[[`, "seen"))
   counts <- unlist(lapply(facts, `[[`, "fixes"))
   found$fixes <- vapply(split(counts, factor(names(counts), unique(names(counts)))), sum, 0)
   found$left_out <- summed_left(do.call(rbind, lapply(facts, `[[`, "left_out")))
   found
+}
+
+# Fixes as they were read, of several readings, with the columns that all were read from.
+bound_seen <- function(seen) {
+  columns <- lapply(seen, `[[`, "columns")
+  titles <- Reduce(intersect, lapply(columns, names))
+  joined <- lapply(titles, function(title) joined_columns(lapply(columns, `[[`, title)))
+  list(own = do.call(Map, c(list(c), lapply(seen, `[[`, "own"))), columns = `names<-`(joined, titles))
 }
 
 # How many fixes were left out, once for each animal and reason.
@@ -98,24 +166,26 @@ summed_left <- function(left) {
   list2DF(list(animal = left$animal[first], reason = left$reason[first], fixes = unname(counts)))
 }
 
-# What was left out when the fixes were read, and since: of each animal, or of all where animals were renamed.
+# What was left out when the fixes were read, and since: by the animals that they had then, and of none where that is not known.
 left_since <- function(fixes) {
   facts <- facts_of(fixes)
-  place <- match(as.character(fixes$animal), names(facts$fixes))
-  gone <- facts$fixes - tabulate(place, length(facts$fixes))
-  if (anyNA(place) || any(gone < 0)) gone <- `names<-`(sum(facts$fixes) - length(place), "")  # animals were named otherwise
-  gone <- gone[gone > 0]
-  since <- list(animal = as.character(names(gone)), reason = rep("chosen", length(gone)), fixes = unname(gone))
-  rbind(facts$left_out, list2DF(since))
+  if (is.null(facts$seen) || identical(unname(as.list(fixes)[own_columns(fixes)]), facts$seen$own)) return(facts$left_out)
+  since <- gone_since(fixes)
+  gone <- since$fixes[since$fixes > 0]
+  chosen <- list(animal = as.character(names(gone)), reason = rep("chosen", length(gone)), fixes = unname(gone))
+  left <- rbind(facts$left_out, list2DF(chosen))
+  left$animal[left$animal %in% since$unsure] <- ""
+  summed_left(left)
 }
 
 # A row for each animal: how many fixes, from when to when, and how many were left out.
 summary.homerange_fixes <- function(object, ...) {
   check_dots(...)
+  object <- as_fixes(object)
   animals <- unique(as.character(object$animal))
   rows <- split(seq_len(nrow(object)), factor(object$animal, animals))
   times <- object[[column_of_time(object)]]
-  at <- function(pick) vapply(rows, function(own) own[pick(as.numeric(times[own]))], 1L)
+  at <- function(pick) vapply(rows, function(own) own[c(pick(xtfrm(times[own])), NA)[1]], 1L)
   left <- left_since(object)
   counts <- vapply(animals, function(animal) sum(left$fixes[left$animal == animal]), 0)
   list2DF(list(animal = animals, fixes = unname(lengths(rows)), first = times[at(which.min)], last = times[at(which.max)],
@@ -132,7 +202,7 @@ print.homerange_fixes <- function(x, ..., n = 6) {
     return(invisible(x))
   }
   writeLines(format(x))
-  print(utils::head(as.data.frame.homerange_fixes(x), n), ...)
+  print(utils::head(as.data.frame.homerange_fixes(as_fixes(x)), n), ...)
   more <- nrow(x) - floor(n)
   if (more > 0) writeLines(paste0("... and ", count_of(more, "more fix", "more fixes")))
   invisible(x)
@@ -141,6 +211,7 @@ print.homerange_fixes <- function(x, ..., n = 6) {
 # The lines that are printed above the rows.
 format.homerange_fixes <- function(x, ...) {
   local_options()
+  x <- as_fixes(x)
   facts <- facts_of(x)
   asked <- grepl("[?]$", facts$notes)
   read <- unique(grep("^(columns: |not read: )", facts$notes, value = TRUE))
@@ -154,7 +225,7 @@ span_text <- function(x) {
   if (!nrow(x)) return("")
   times <- range(x[[column_of_time(x)]])
   if (is.numeric(times)) paste0(", second ", paste(in_digits(times), collapse = " to ")) else
-    paste0(", ", paste(format(times), collapse = " to "), " ", facts_of(x)$tz)
+    paste0(", ", paste(format(times), collapse = " to "), " ", clock_of_fixes(x))
 }
 
 # How far they lie from each other.
@@ -181,6 +252,7 @@ st_as_sf.homerange_fixes <- function(x, ...) {
   check_dots(...)
   crs <- crs_or_none(facts_of(x))
   table <- as.data.frame.homerange_fixes(x)
-  if (!nrow(x)) return(sf::st_sf(table, geometry = sf::st_sfc(crs = crs)))
-  sf::st_as_sf(table, coords = c("easting", "northing"), remove = FALSE, crs = crs)
+  points <- if (nrow(x)) sf::st_as_sf(table, coords = c("easting", "northing"), remove = FALSE, crs = crs) else
+    sf::st_sf(table, geometry = sf::st_sfc(crs = crs))
+  structure(points, homerange = facts_of(x))
 }

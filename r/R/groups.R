@@ -36,17 +36,27 @@ grouped_fixes <- function(whole, labels) {
 
 # The group of each fix. Where a frame was read, values are those of its rows.
 labels_of <- function(fixes, by, frame = NULL) {
-  if (is.function(by)) return(labels_of(fixes, by(fixes)))
   if (is_period(by)) return(labels_of_period(fixes, by))
-  if (is_text(by) && nrow(fixes) > 1) {
-    if (!by %in% names(fixes)) {
-      refuse("columns", "by: there is no column \"", by, "\", and it is none of ", paste0("\"", names(periods), "\"", collapse = ", "))
-    }
+  if (is_text(by) && by %in% titles_twice(fixes)) refuse("ambiguous", "by: there are two columns '", by, "': rename one")
+  if (is_text(by) && by %in% names(fixes)) {
     by <- fixes[[by]]
-  } else if (!is.null(frame)) {
-    return(check_labels(text_of_groups(values_of(by, frame$number, "rows"))[frame$rows], frame$rows))
+  } else if (is.function(by)) {
+    by <- by(fixes)
+  } else {
+    check_titles(by, fixes)
+    if (!is.null(frame)) return(check_labels(text_of_groups(values_of(by, frame$number, "rows"))[frame$rows], frame$rows))
   }
   check_labels(text_of_groups(values_of(by, nrow(fixes), "fixes")), seq_len(nrow(fixes)))
+}
+
+# Refuses a text that is the title of no column, and titles of several.
+check_titles <- function(by, fixes) {
+  if (is_text(by) && nrow(fixes) > 1) {
+    refuse("columns", "by: there is no column \"", by, "\", and it is none of ", paste0("\"", names(periods), "\"", collapse = ", "))
+  }
+  if (is.character(by) && length(by) > 1 && !anyDuplicated(by) && all(by %in% names(fixes))) {
+    refuse("option", "by names ", length(by), " columns: join them, as by paste(", paste0("fixes$", by, collapse = ", "), ")")
+  }
 }
 
 # A value for each of so many rows or fixes.

@@ -29,7 +29,7 @@ home_range <- function(x, levels = c(50, 95, 100), by = NULL, ..., progress = in
 # The fixes of a table with the rows of a frame that they are; of fixes that were read there are no options.
 fixes_to_take <- function(x, options, quiet, folder, has_rows) {
   options <- Filter(Negate(is.null), options)
-  if (is_fixes(x) && length(options)) {
+  if (is_fixes(as_fixes(x)) && length(options)) {
     name <- c(names(options), "")[1]
     what <- if (nzchar(name)) name else "an argument without a name"
     refuse("option", what, " says how a table is read, and these fixes were read already: give it to read_fixes")
@@ -96,5 +96,7 @@ new_home_range <- function(report, time, fixes = NULL, left_out = NULL, crs = NU
 
 # Eastings and northings of the program in metres where they were.
 in_metres <- function(ranges, places) {
-  sweep(as.matrix(places[, c("easting", "northing"), drop = FALSE]) / units_known[[ranges$unit]]$scale, 2, ranges$shift)
+  scale <- units_known[[ranges$unit]]$scale
+  cbind(easting = as.vector(places[, "easting"]) / scale - ranges$shift[1],
+        northing = as.vector(places[, "northing"]) / scale - ranges$shift[2])
 }

@@ -64,7 +64,7 @@ write_fixes <- function(ranges, path) {
 
 # The columns of that text.
 columns_of_layer <- function(ranges) {
-  metres <- in_metres(ranges, ranges$fixes[c("easting", "northing")])
+  metres <- in_metres(ranges, ranges$fixes)
   list(animal = as.character(ranges$fixes$animal), n = sequence(ranges$animals$fixes), time = layer_time(ranges$fixes$moment),
        x = metres[, 1], y = metres[, 2])
 }

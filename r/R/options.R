@@ -6,8 +6,9 @@ text_options <- c("argos", "dop", "easting", "encoding", "fix", "from", "header"
                   "tz", "unit", "zone")
 word_options <- c("argos_class", "fix_type", "na", "sensor")  # which may be several words between commas
 bound_options <- c("since", "until")
-other_options <- c("crs", "every", "max_dop", "max_speed", "skip_lines", "skip_unnamed")
-options_of_reading <- c(column_options, text_options, word_options, bound_options, other_options)
+number_options <- c("max_dop", "max_speed", "skip_lines")
+other_options <- c("crs", "every", "skip_unnamed")
+options_of_reading <- c(column_options, text_options, word_options, bound_options, number_options, other_options)
 options_of_files <- c("encoding", "header", "skip_lines")  # which a frame has not
 longest_word <- 65536  # bytes of a word of a command line; the system takes some more
 longest_length <- 2^40  # seconds
@@ -99,12 +100,18 @@ text_of_titles <- function(option, value) {
 # One word, several between commas, or several words and numbers.
 text_of_words <- function(option, value) {
   if (is.factor(value)) value <- as.character(value)
-  if (is.numeric(value) && !is.object(value)) value <- cells_of_numbers(value)
+  if (is.numeric(value) && !is.object(value)) value <- if (option == "na") ways_of_numbers(value) else cells_of_numbers(value)
   if (!length(value)) refuse("option", option, ": there is no word")
   if (!is.character(value) || anyNA(value)) {
     refuse("option", argument_text(option, value), " is no name: a text, or several, is wanted")
   }
   if (length(value) == 1) as.vector(value) else with_commas(option, as.vector(value))
+}
+
+# The ways in which tables write numbers: their fewest digits, and the same with a 0 behind their point.
+ways_of_numbers <- function(numbers) {
+  cells <- cells_of_numbers(numbers)
+  c(rbind(cells, paste0(cells, ifelse(grepl(".", cells, fixed = TRUE), "0", ".0"))))
 }
 
 with_commas <- function(option, words) {

@@ -103,7 +103,9 @@ write_tracks <- function(fixes, folder, names = NULL) {
   records <- c(list(second = fixes$moment), fixes[c("easting", "northing")])
   rows <- split(seq_along(fixes$animal), as_groups(fixes$animal))
   tracks <- tracks_named(folder, if (is.null(names)) as.character(seq_along(rows)) else names, names(rows))
-  for (at in seq_along(rows)) write_track(tracks$file[at], records, tracks$name[at], rows[[at]])
+  stock <- stock_with(tracks$name)
+  behind <- length(stock$widths) - length(rows)
+  for (at in seq_along(rows)) write_track(tracks$file[at], records, stock, behind + at, rows[[at]])
   tracks
 }
 

@@ -7,29 +7,42 @@ titles_of_marks <- c("use", "visible", "manually-marked-outlier", "algorithm-mar
 titles_of_doubt <- c(
   "lc", "class", "loc-class", "locationclass", "argos-loc-class", "argos-location-class", "argos-lc", "argos-class", "loc--quality",
   "location-quality", "location-class", "outlier", "outliers", "is-outlier", "isoutlier", "valid", "is-valid", "isvalid",
-  "event-visible", "sensor-type", "sensor-type-id", "utm-zone", "zone", "utmzone", "utm-zone-number", "zone-number",
-  "zonenumber", "zone-letter", "zoneletter", "grid-zone", "epsg", "epsg-code", "srid", "crs"
+  "event-visible", "sensor-type", "sensor-type-id", "utm-zone", "zone", "zona", "huso", "fuso", "fuseau", "utmz", "utmzone",
+  "utm-zone-number", "zone-number", "zonenumber", "zone-letter", "zoneletter", "grid-zone", "epsg", "epsg-code", "srid", "crs"
 )
-options_of_columns <- c("argos", "argos_class", "dop", "max_dop", "fix", "fix_type", "sensor")  # which look at further columns
+options_of_columns <- c("animal", "time", "easting", "northing", "lon", "lat", "argos", "argos_class", "dop", "max_dop", "fix",
+                        "fix_type", "sensor")  # which look at further columns
 # Lines that only say what was taken.
 form_of_taken <- "^(columns: |not read: |coordinates are those of |times are read as )"
 
-# The columns of fixes that are read again: their own, marks, and those of doubt that were added.
+# A title as the program compares it.
+plain_title <- function(titles) gsub("[ .:_]", "-", in_small(trimws(readable(titles))))
+
+# Whether columns of these titles say which fixes count, and not where they are, which the program tells by its cells.
+say_which_count <- function(titles) {
+  titles <- plain_title(titles)
+  titles %in% c(titles_of_marks, titles_of_doubt) & !grepl("zone|epsg|srid|crs", titles)
+}
+
+# The columns of fixes that are read again: their own, marks, also those that no table may have without use, and those of doubt that
+# were added.
 columns_to_read <- function(fixes) {
-  titles <- gsub("[ .:_]", "-", in_small(trimws(readable(names(fixes)))))
+  titles <- plain_title(names(fixes))
   is_added <- !names(fixes) %in% facts_of(fixes)$titles
-  counts <- titles %in% titles_of_marks | is_added & titles %in% titles_of_doubt
-  as.list(fixes)[unique(c(match(own_columns(fixes), names(fixes)), which(counts)))]
+  counts <- titles %in% titles_of_marks | titles %in% titles_of_doubt & (is_added | grepl("outlier|valid|visible", titles))
+  places <- match(names(fixes), own_columns(fixes))  # of columns that may be there twice
+  as.list(fixes)[c(order(places, na.last = NA), which(is.na(places) & counts))]
 }
 
 own_columns <- function(fixes) c("animal", column_of_time(fixes), "easting", "northing")
 
 # Fixes that were read, or read again, with what tells whether they are still the same: their checksum, the titles of their table,
-# and when and where they were.
+# and as they were seen, what they have of their own and the columns that they were read from, or that say which of them count.
 as_read <- function(fixes, titles) {
   facts <- facts_of(fixes)
   facts$titles <- union(titles, names(fixes))
-  facts$places <- unname(as.list(fixes)[own_columns(fixes)[-1]])
+  seen <- setdiff(names(fixes)[names(fixes) %in% facts$sources | say_which_count(names(fixes))], titles_of_fixes)
+  facts$seen <- list(own = unname(as.list(fixes)[own_columns(fixes)]), columns = as.list(fixes)[seen])
   facts$checksum <- checksum_of_fixes(new_fixes(fixes, facts))
   new_fixes(fixes, facts)
 }
@@ -66,6 +79,16 @@ bytes_of_values <- function(column, title) {
   serialize(list(title, column), NULL, xdr = FALSE)
 }
 
+# Refuses times of fixes that have no zone any more, as text or days.
+check_times <- function(fixes) {
+  times <- fixes[["time"]]
+  if (!is.character(times) && !is.factor(times) && !inherits(times, "Date")) return(invisible())
+  cells <- cells_of_column(times, "time")
+  if (all(cells == "" | grepl("[0-9]:[0-9.:]+(Z|[+-][0-9]{2}:?([0-9]{2})?)$", cells))) return(invisible())
+  refuse("time", "the times of fixes have no zone any more: give them one, as by as.POSIXct(",
+         if (inherits(times, "Date")) "format(fixes$time)" else "fixes$time", ", tz = \"", facts_of(fixes)$tz, "\")")
+}
+
 # Refuses fixes of other readings, or of none, among these: of an animal more than were read of it, of which some were not read.
 # So fixes that were read may have another name, or be there twice.
 check_own <- function(fixes) {
@@ -74,38 +97,153 @@ check_own <- function(fixes) {
   kinds <- setdiff(animals, NA)
   read <- facts$fixes[match(kinds, names(facts$fixes))]
   more <- kinds[is.na(read) | tabulate(match(animals, kinds), length(kinds)) > read]
-  odd <- if (length(more)) animals[animals %in% more & !were_read(fixes, animals)]
+  odd <- if (length(more)) which(animals %in% more & !were_read(fixes, animals))
   if (!length(odd)) return(invisible())
-  is_new <- !odd[1] %in% names(facts$fixes)
+  is_new <- !animals[odd[1]] %in% names(facts$fixes)
+  keys <- keys_of(fixes)
+  is_read <- are_of_reading(fixes)
+  is_copy <- is_new && keys[!is_read][odd[1]] %in% keys[is_read]
   zone <- if (!is.null(facts$zone)) paste0(", zone = \"", facts$zone, "\"") else if (!is.null(facts$crs)) ", crs = .."
-  refuse("option", "'", odd[1], if (is_new) "' is none of the animals that were read" else "' has more fixes than were read of it",
-         ": bind fixes by rbind; if it is a new name, or all are alike, read them anew by read_fixes(as.data.frame(fixes)", zone, ")")
+  named <- if (length(setdiff(facts$sources, titles_of_fixes))) paste0(", ", text_of_own(own_columns(fixes)))
+  refuse("option", "'", animals[odd[1]], if (is_new) "' is none of the animals that were read" else "' has more fixes than were read of it",
+         if (is_copy) ", and its fixes are there by another name too: " else
+           ": bind fixes of several tables by rbind; if it is a new name, or all are alike, ",
+         "read them anew by read_fixes(as.data.frame(fixes)", zone, named, ")")
+}
+
+# Refuses one animal of several readings, as rbind does, of fixes that vctrs bound, which asks for what is known without the rows.
+check_unnamed_rows <- function(fixes) {
+  parts <- readings_of(facts_of(fixes))
+  if (length(parts) < 2) return(invisible())
+  is_read <- are_of_reading(fixes)
+  keys <- keys_of(fixes)
+  part <- rep(seq_along(parts), vapply(parts, function(facts) length(facts$seen$own[[1]]), 0L))
+  own <- unique(part[match(keys[!is_read][fixes$animal %in% "animal"], keys[is_read], nomatch = 0)])
+  refuse_unnamed(parts[own], length(own) > 1)
 }
 
 # Which fixes are as they were read, but for their animals, of which each has one.
 were_read <- function(fixes, animals) {
-  known <- facts_of(fixes)$places
-  own <- as.list(fixes)[own_columns(fixes)[-1]]
-  keys <- numbered(Map(function(one, other) c(plain_values(one), plain_values(other)), known, own))
-  is_known <- seq_along(keys) <= length(known[[1]])
+  keys <- keys_of(fixes)
+  is_known <- are_of_reading(fixes)
   now <- keys[!is_known]
   first <- !duplicated(numbered(list(now, animals)))
   (tabulate(now[first], max(keys)) <= tabulate(keys[is_known], max(keys)))[now]
+}
+
+# A number for each fix as it was read, and behind these for each that there is, the same where second, easting and northing are.
+keys_of <- function(fixes) {
+  own <- as.list(fixes)[own_columns(fixes)[-1]]
+  numbered(Map(function(one, other) c(plain_values(one), plain_values(other)), facts_of(fixes)$seen$own[-1], own))
+}
+
+# Which of these numbers are of the reading.
+are_of_reading <- function(fixes) {
+  number <- length(facts_of(fixes)$seen$own[[1]])
+  rep(c(TRUE, FALSE), c(number, nrow(fixes)))
+}
+
+# How many fixes were taken away since they were read, by the animals that they had then: those of which no row has the second and
+# the place, but for as many as there are rows that were changed. And the animals of which it is not known: one of whose fixes has
+# another name now, or that have more than were read of them, with those that were taken away.
+gone_since <- function(fixes) {
+  is_read <- are_of_reading(fixes)
+  keys <- keys_of(fixes)
+  animals <- c(as.character(facts_of(fixes)$seen$own[[1]]), as.character(fixes$animal))
+  is_own <- have_partner(numbered(list(keys, animals)), is_read)
+  rest <- which(!is_own)
+  is_there <- replace(is_own, rest, have_partner(keys[rest], is_read[rest]))
+  kinds <- unique(animals)
+  count <- function(which) tabulate(match(animals[which], kinds), length(kinds))
+  gone <- count(is_read & !is_there) - count(!is_read & !is_there & !keys %in% keys[is_read])
+  is_unsure <- count(is_read & !is_own & keys %in% keys[!is_read & !is_own]) > 0
+  if (any(gone < 0)) {
+    is_unsure <- is_unsure | gone > 0
+    gone <- c(0 * gone, max(sum(gone), 0))
+  }
+  is_unsure <- is_unsure | count(!is_read) + gone[seq_along(kinds)] > count(is_read)
+  list(fixes = `names<-`(as.numeric(gone), c(kinds, if (length(gone) > length(kinds)) "")), unsure = kinds[is_unsure])
+}
+
+# Which of some numbers, of those that were read and of the others, have an equal one on the other side, each of its own.
+have_partner <- function(numbers, is_read) {
+  turn <- integer(length(numbers))
+  for (side in list(which(is_read), which(!is_read))) turn[side] <- turns_of(numbers[side])
+  own <- numbered(list(numbers, turn))
+  own %in% intersect(own[is_read], own[!is_read])
+}
+
+# How often each number stood there so far.
+turns_of <- function(numbers) {
+  place <- order(numbers, method = "radix")
+  sorted <- numbers[place]
+  replace(integer(length(numbers)), place, seq_along(place) - match(sorted, sorted) + 1L)
+}
+
+# Refuses a column that was added to fixes and says which count, if it is not among those that the program read.
+check_unread <- function(fixes, read) {
+  odd <- setdiff(names(fixes)[say_which_count(names(fixes))], c(facts_of(fixes)$titles, read))
+  if (length(odd)) refuse("columns", "'", odd[1], "' was added to the fixes, and is not read", goes_before(odd[1], read))
+}
+
+# What goes before a column that is not read, and what helps.
+goes_before <- function(title, read) {
+  usual <- if (startsWith(plain_title(title), "sensor-")) "sensor-type" else "use"
+  first <- read[order(match(plain_title(read), c(plain_title(title), usual)), na.last = NA)][1]
+  if (is.na(first)) ": drop it" else paste0(", since '", first, "' goes before it: change that, or drop '", title, "'")
+}
+
+# Refuses fixes that are as they were read, where a column was changed that they were read from, or that says which of them count, but
+# for those that were read again.
+check_sources <- function(fixes, read = character()) {
+  facts <- facts_of(fixes)
+  known <- facts$seen$columns
+  is_other <- function(title) !identical(fixes[[title]], known[[title]])
+  for (title in Filter(is_other, setdiff(intersect(names(known), names(fixes)), read))) {
+    odd <- first_changed(fixes, known[[title]], fixes[[title]], title, title %in% facts$sources)
+    if (!is.na(odd)) {
+      why <- if (title %in% facts$sources) " from it: change what fixes have of it, such as easting and northing, and drop it" else
+        paste0(", and is not read", goes_before(title, intersect(names(fixes), c(facts$sources, read))))
+      refuse_row(fixes, "columns", odd, paste0("'", title, "' was changed since this fix was read", why))
+    }
+  }
+}
+
+# The first fix of which the second and the place were read, and with them another value of a column; of a column that was not read
+# also one that was not read itself, if its value is one that no fix had.
+first_changed <- function(fixes, known, now, title, is_source) {
+  keys <- keys_of(fixes)
+  is_read <- are_of_reading(fixes)
+  values <- c(cells_of_column(known, title), cells_of_column(now, title))
+  cells <- numbered(list(keys, values))
+  is_known <- keys[!is_read] %in% keys[is_read]
+  is_new <- if (is_source) FALSE else !is_known & !values[!is_read] %in% values[is_read]
+  which(is_known & !cells[!is_read] %in% cells[is_read] | is_new)[1]
 }
 
 plain_values <- function(column) if (is.numeric(column) || inherits(column, "POSIXct")) as.numeric(column) else as.character(column)
 
 # A number for each row of columns, the same for rows that are alike.
 numbered <- function(columns) {
-  Reduce(function(one, other) {
-    kinds <- unique(other)
-    keys <- length(kinds) * match(one, unique(one)) + match(other, kinds)
-    match(keys, unique(keys))
-  }, unname(columns))
+  columns <- lapply(unname(columns), function(column) if (is.numeric(column)) column else places_of(column, distinct(column)))
+  place <- do.call(order, c(columns, method = "radix"))
+  is_new <- Reduce(`|`, lapply(columns, function(column) differs_from_last(column[place])))
+  replace(integer(length(place)), place, cumsum(is_new))
 }
 
-# Refuses another zone or reference system for coordinates that have one.
+# Whether each value is another than the one before.
+differs_from_last <- function(values) {
+  is_missing <- is.na(values)
+  last <- values[-length(values)]
+  c(TRUE, (values[-1] != last | is_missing[-1] != is_missing[-length(values)]) %in% TRUE)[seq_along(values)]
+}
+
+# Refuses another unit, and another zone or reference system for coordinates that have one.
 refuse_system <- function(facts, given) {
+  if (isTRUE(given$unit %in% setdiff(names(units_known), facts$unit))) {
+    refuse("option", "these fixes are in whole ", units_known[[facts$unit]]$name, ", which another unit does not change: read the table ",
+           "anew by read_fixes")
+  }
   name <- c(intersect(c("zone", "crs"), names(given)), NA)[1]
   own <- if (!is.null(facts$zone)) text_of_zone(facts$zone) else if (!is.null(facts$crs)) text_of_crs(facts$crs)
   if (is.na(name) || is.null(own)) return(invisible())
@@ -121,25 +259,37 @@ refuse_system <- function(facts, given) {
 # said.
 read_again <- function(x, given, folder, has_rows) {
   facts <- facts_of(x)
-  if (is.null(facts)) {
+  if (is.null(facts$seen)) {
     refuse("option", "it is not known how these fixes were read, since they were joined to others: read them anew by read_fixes")
   }
   if (!nrow(x)) refuse("empty", "no fix is left")
-  if (!length(given) && is_as_read(x)) return(list(fixes = x))
+  if (!length(given) && is_as_read(x)) {
+    check_sources(x)
+    return(list(fixes = x))
+  }
+  check_times(x)
   check_own(x)
+  check_unnamed_rows(x)
   refuse_system(facts, given)
   has_filter <- any(options_of_columns %in% names(given))
+  is_own <- c(TRUE, TRUE, rep(!any(c("lon", "lat") %in% names(given)), 2))
   own <- list(unit = facts$unit, zone = facts$zone, crs = if (is.null(facts$zone)) facts$crs, tz = clock_of_fixes(x))
-  if (has_filter) own[c("animal", "time", "easting", "northing")] <- own_columns(x)
+  if (has_filter) own[c("animal", "time", "easting", "northing")[is_own]] <- own_columns(x)[is_own]
   given <- c(given, Filter(Negate(is.null), own[setdiff(names(own), names(given))]))
-  columns <- if (has_filter) as.list(x) else columns_to_read(x)
+  is_twice <- any(own_columns(x) %in% titles_twice(x))  # which the program refuses, with the places that columns have
+  columns <- if (has_filter || is_twice) as.list(x) else columns_to_read(x)
   read <- read_frame(`row.names<-`(frame_of(columns), row.names(x)), given, folder, has_rows)
-  read$said <- grep(form_of_taken, setdiff(read$said, facts$notes), value = TRUE, invert = TRUE)
+  check_unread(x, facts_of(read$fixes)$sources)
+  check_sources(x, facts_of(read$fixes)$sources)
+  further <- as.list(x)[!names(x) %in% c(titles_of_fixes, names(read$fixes))]
+  lost <- if (has_rows) lost_columns(further, facts$sources)
+  read$said <- grep(form_of_taken, setdiff(c(read$said, lost), facts$notes), value = TRUE, invert = TRUE)
   now <- facts_of(read$fixes)
   now$notes <- c(facts$notes, read$said)
   now$left_out <- summed_left(rbind(left_since(x), now$left_out))
   now$is_again <- TRUE
-  more <- if (has_rows) rows_of_columns(as.list(x)[setdiff(names(x), names(read$fixes))], read$frame$rows, nrow(x))
+  now$sources <- facts$sources
+  more <- if (has_rows) rows_of_columns(further_columns(further), read$frame$rows, nrow(x))
   read$fixes <- new_fixes(frame_of(c(as.list(read$fixes), more)), now)
   read
 }

@@ -12,10 +12,12 @@ read_fixes <- function(x, ..., quiet = FALSE) {
 # columns, and it is known which of how many rows each is, unless that is not wanted.
 read_table <- function(x, options, quiet, folder, has_rows = TRUE) {
   given <- options_given(options)
+  groups <- if (is_fixes(x)) groups_of_dplyr(x, "animal")
+  x <- as_fixes(x)
   lost <- line_of_lost(x)
   if (!is.null(lost)) {
     if (!quiet) tell_note(lost, "guessed")  # also where it is refused then
-    x <- as.data.frame(x)
+    attr(x, "homerange") <- NULL
   }
   read <- if (is_fixes(x)) {
     read_again(x, given, folder, has_rows)
@@ -26,14 +28,14 @@ read_table <- function(x, options, quiet, folder, has_rows = TRUE) {
     read_frame(x, given, folder, has_rows)
   }
   session <- if (is_of_session(options)) paste0("days and hours are those of ", given$tz, ", the zone of the session")
-  read$said <- c(session, read$said)
+  read$said <- c(session, groups, read$said)
   if (!quiet) for (line in read$said) tell_note(line, kind_of_said(line))
   read
 }
 
 # What is said of fixes that have lost one of their columns, or have it by another name.
 line_of_lost <- function(x) {
-  if (!inherits(x, "homerange_fixes") || is_fixes(x)) return(NULL)
+  if (!is_made_of_fixes(x) || has_columns(x)) return(NULL)
   lost <- c(setdiff(columns_of_fixes, names(x)), "time")[1]
   paste0("fixes without their column '", lost, "' are read as a data frame, whose zone is not known unless it is named")
 }
@@ -42,13 +44,14 @@ line_of_lost <- function(x) {
 read_file <- function(path, given, folder) {
   if (grepl("[.]rds$", in_small(readable(path)))) refuse("text", path, " is a file of R: read what it has, as by read_fixes(readRDS(..))")
   places <- places_of_columns(NULL, given, TRUE)
-  full <- if (path == "-") "./-" else text_for_program(expanded(path), "x")  # the program takes - for standard input
+  full <- path_for_program(path, folder)
   into <- file.path(folder, "tracks")
   refusal <- run_split(full, c(words_of_options(given), places$words), into)
   if (!is.null(refusal)) {
-    file <- if (refusal$kind %in% kinds_of_tables && !startsWith(refusal$text, full)) paste0(path, ": ")
+    text <- sub(full, readable(path), refusal$text, fixed = TRUE)
+    file <- if (refusal$kind %in% kinds_of_tables && !startsWith(text, readable(path))) paste0(readable(path), ": ")
     record <- if (!is.null(refusal$record)) sprintf("record %.0f: ", refusal$record)
-    refuse(refusal$kind, file, record, refusal$text, record = refusal$record)
+    refuse(refusal$kind, file, record, text, record = refusal$record)
   }
   fixes_of_tracks(into, if (is.null(given$tz)) "UTC" else given$tz, places$crs, read_record(file.path(into, "split.txt"))$said)
 }
@@ -74,14 +77,14 @@ table_of_fixes <- function(fixes, record, tz, more) {
   time <- if (is_calendar) list(time = .POSIXct(fixes$second, tz = tz)) else list(second = fixes$second)
   own <- c(list(animal = unname(own_names(record)[record$tracks$animal])[fixes$track]), time,
            list(easting = fixes$easting / scale - record$shift[1], northing = fixes$northing / scale - record$shift[2]))
-  frame_of(c(own, more[!names(more) %in% names(own)]))
+  frame_of(c(own, more))
 }
 
 # What goes with fixes: of their record and what else is known.
 facts_of_record <- function(record, path, tz, crs, notes) {
   names <- own_names(record)
   left <- record$left
-  left$animal <- ifelse(left$animal == "", "", names[left$animal])
+  left$animal <- as.character(ifelse(left$animal == "", "", names[left$animal]))
   if (is.null(crs) && !is.null(record$zone) && has_sf()) crs <- sf::st_crs(code_of_zone(record$zone))
   list(unit = record$unit, zone = record$zone, crs = crs, tz = tz, shift = record$shift, notes = notes, left_out = left,
        fixes = `names<-`(record$tracks$used, names[record$tracks$animal]), files = files_of(record),

@@ -19,12 +19,41 @@ read_frame <- function(x, given, folder, has_rows) {
   said[is_of_columns] <- with_own_title(said[is_of_columns], frame)
   check_cells(frame, said)
   rows <- NULL
-  said <- c(groups_of_dplyr(x), frame$places$line, frame$clock$line, of_frame(said, x))
+  sources <- titles_read(frame$x, said)
+  check_text_form(frame, sources)
+  said <- c(groups_of_dplyr(x, titles_of_animals(frame, said)), frame$places$line, frame$clock$line, of_frame(said, x))
   read <- fixes_of_tracks(into, c(given$tz, frame$clock$tz, "UTC")[1], frame$places$crs, said, function(record, fixes) {
     if (has_rows) rows <<- records_of_fixes(into, record, fixes)
-    if (has_rows) rows_of_columns(columns_of(x), rows, nrow(x))
+    if (has_rows) rows_of_columns(further_columns(x), rows, nrow(x))
   })
-  c(read, list(frame = list(rows = rows, number = nrow(x))))
+  lost <- if (has_rows) lost_columns(x, sources)
+  facts <- facts_of(read$fixes)
+  facts[c("sources", "notes")] <- list(sources, c(facts$notes, lost))
+  list(fixes = new_fixes(read$fixes, facts), said = c(read$said, lost), tracks = read$tracks, frame = list(rows = rows, number = nrow(x)))
+}
+
+# The columns of a frame that its fixes have too: all but those with the titles of what fixes have of their own, and those whose
+# title is there twice.
+further_columns <- function(x) {
+  columns <- columns_of(x)
+  columns[!names(columns) %in% c(titles_of_fixes, titles_twice(columns))]
+}
+
+titles_twice <- function(columns) setdiff(unique(names(columns)[duplicated(names(columns))]), c(NA, ""))
+
+# What is said of columns that the fixes of a frame have not, and that were not read.
+lost_columns <- function(x, sources) {
+  columns <- columns_of(x)
+  lost <- list("which have columns of these titles" = intersect(names(columns), titles_of_fixes),
+               "since their titles are there twice" = setdiff(titles_twice(columns), titles_of_fixes))
+  lost <- Filter(length, lapply(lost, setdiff, sources))
+  sprintf("not in the fixes, %s: %s", names(lost), vapply(lost, function(titles) paste(one_line(readable(titles)), collapse = ", "), ""))
+}
+
+# The titles of the columns of a frame that were read, by what was said.
+titles_read <- function(x, said) {
+  not_read <- grep("^not read: ", said, value = TRUE)
+  Filter(function(title) !is_listed(title, not_read), unique(readable(names(columns_of(x)))))
 }
 
 check_frame <- function(x, given) {
@@ -40,11 +69,11 @@ check_frame <- function(x, given) {
   if (identical(given$from, "gpx")) refuse("option", "from = \"gpx\" is for files of GPX, and not for a data frame: leave it out")
 }
 
-# The options of a table of move2, which says itself which columns have the animal and the time.
+# The options of a table that says itself which columns have the animal and the time: of move2, or points of fixes that were moved.
 with_columns_of <- function(x, given) {
-  if (is.null(given[["animal"]])) given[["animal"]] <- attr(x, "track_id_column", exact = TRUE)
-  if (is.null(given[["time"]])) given[["time"]] <- attr(x, "time_column", exact = TRUE)
-  given
+  own <- list(animal = attr(x, "track_id_column", exact = TRUE), time = attr(x, "time_column", exact = TRUE))
+  if (!is.null(facts_of(x))) own <- list(animal = "animal", time = column_of_time(x), unit = facts_of(x)$unit)
+  c(given, Filter(Negate(is.null), own[setdiff(names(own), names(given))]))
 }
 
 # What the program gets of a frame: the parts of its columns and of its points, and what it is asked.
@@ -63,8 +92,9 @@ split_frame <- function(frame, folder, into, has_rows) {
     words <- c(if (has_rows) "--records", words_of_options(frame$given), frame$places$words,
                if (!is.null(frame$clock$tz)) paste0("--tz=", frame$clock$tz))
     refusal <- run_split(path, words, into)
-    better <- if (is.null(refusal)) without_clock(frame, into) else with_moments(frame, refusal)
+    better <- if (is.null(refusal)) with_clock_read(frame, into) else with_moments(frame, refusal)
     if (is.null(better)) break
+    if (is.null(refusal) && identical(better$clock$tz, frame$clock$tz)) return(better)
     unlink(into, recursive = TRUE)
     if (!identical(names(better$parts), names(frame$parts))) write_parts(better$parts, path)
     frame <- better
@@ -73,13 +103,11 @@ split_frame <- function(frame, folder, into, has_rows) {
   frame
 }
 
-# A frame without the clock of a column that was not read, since its times may be of another zone than those that were; NULL
-# where that is not so.
-without_clock <- function(frame, into) {
-  if (is.null(frame$clock$tz)) return(NULL)
-  title <- c(frame$renamed["to"], frame$clock$column)
-  if (any(vapply(title, is_taken, NA, read_record(file.path(into, "split.txt"))$said))) return(NULL)
-  frame["clock"] <- list(NULL)
+# A frame with the clock of the columns that were read, where none was named.
+with_clock_read <- function(frame, into) {
+  if (!is.null(frame$given$tz)) return(NULL)
+  own <- titles_read(frame$x, read_record(file.path(into, "split.txt"))$said)
+  frame["clock"] <- list(clock_of_frame(frame$x, frame$given, c(own, frame$renamed["from"])))
   frame
 }
 
@@ -90,14 +118,14 @@ with_moments <- function(frame, refusal) {
   is_among_seconds <- grepl("which is a time among seconds", said, fixed = TRUE)
   own <- if (is_among_seconds) paste0(frame$moments, " is ") else paste0("'", one_line(frame$moments), "' says ")
   refused <- frame$moments[startsWith(rep(said, length(own)), own)]
-  is_unnamed <- grepl("no column has a usual title for the time", refusal$text, fixed = TRUE) && is.null(frame$given$time)
+  is_unnamed <- grepl("no column has a usual title for the time", refusal$text, fixed = TRUE) && is.null(frame$given[["time"]])
   if (is_unnamed && length(frame$moments) == 1) {
-    frame$given$time <- frame$moments
+    frame$given[["time"]] <- frame$moments
     frame$finds_time <- TRUE
   } else if (length(refused) && is.null(frame$renamed)) {
     frame$renamed <- c(from = refused[[1]], to = free_title("datetime", names(frame$parts)))
     names(frame$parts)[names(frame$parts) == refused[[1]]] <- frame$renamed[["to"]]
-    frame$given$time <- frame$renamed[["to"]]
+    frame$given[["time"]] <- frame$renamed[["to"]]
   } else {
     return(NULL)
   }
@@ -130,10 +158,10 @@ rows_of_columns <- function(columns, rows, number) {
   lapply(columns, function(column) if (length(dim(column)) == 2) column[rows, , drop = FALSE] else column[rows])
 }
 
-# What is said of a table of dplyr that is by groups.
-groups_of_dplyr <- function(x) {
+# What is said of a table of dplyr that is by other groups than its animals.
+groups_of_dplyr <- function(x, animals) {
   by <- setdiff(names(attr(x, "groups", exact = TRUE)), ".rows")
-  if (length(by) < 2) return(NULL)
+  if (all(by %in% animals)) return(NULL)
   paste0("groups of the table are not looked at (", paste(by, collapse = ", "), "): by makes ranges of groups")
 }
 
@@ -147,7 +175,7 @@ check_cells <- function(frame, said) {
   has_animal <- !any(startsWith(said, "no column has a usual title for the animal"))
   if (!has_animal && isTRUE(frame$finds_time) && is.null(frame$given$name)) {
     refuse("columns", "no column has a usual title, neither for the animal nor for the time: name them, as by animal = .. and ",
-           "time = \"", frame$given$time, "\"")
+           "time = \"", frame$given[["time"]], "\"")
   }
   if (has_animal) for (title in titles_of_animals(frame, said)) check_names(frame, title)
 }
@@ -194,33 +222,49 @@ refuse_cell <- function(frame, kind, odd) {
   first <- which.min(vapply(odd, `[[`, 0L, "row"))
   title <- names(odd)[first]
   class <- odd[[first]]$class
+  days <- if (kind == "time") setdiff(titles_of_time(frame), title)
   refuse_row(frame$x, kind, odd[[first]]$row, paste0(title, " is of the class ", class, ", of which no cell is known: ",
-                                                      remedy_of_class(as.list(frame$x)[[title]], class)))
+                                                      remedy_of_class(as.list(frame$x)[[title]], class, days, title)))
 }
 
-# What to do with a column of a class: numbers alone may be other ones than they seem.
-remedy_of_class <- function(column, class) {
-  if (inherits(column, "units")) {
-    unit <- if (is.null(in_unit(column, "degrees"))) "m" else "degrees"
-    return(paste0("units::set_units(x, \"", unit, "\") makes ", if (unit == "m") "metres" else unit, " of it"))
-  }
-  switch(class, difftime = "if it is a time, as.numeric(x, units = \"secs\") makes seconds of it", haven_labelled = ,
-         haven_labelled_spss = "haven::as_factor(x) makes text of it", "make text, numbers or times of it")
+# The titles of columns that were named as the time.
+titles_of_time <- function(frame) unlist(strsplit(paste(frame$given[["time"]], collapse = ","), ","))
+
+# Refuses a form of times for columns of moments, which have one form, unless several columns are joined.
+check_text_form <- function(frame, titles) {
+  own <- intersect(titles, frame$moments)
+  if (is.null(frame$given$time_format) || !length(own) || length(titles_of_time(frame)) > 1) return(invisible())
+  refuse("option", "time_format is for texts, and '", one_line(own[1]), "' has moments: leave it out")
 }
+
+# Which titles a refusal of a cell begins with.
+titles_at_start <- function(titles, text) titles[startsWith(rep(text, length(titles)), paste0(one_line(titles), " is '"))]
 
 # Refuses what the program refused of a frame. An odd cell is named by its class.
 refuse_frame <- function(frame, refusal, folder) {
+  text <- with_own_title(sub(file.path(folder, name_of_frame), "the table", refusal$text, fixed = TRUE), frame)
+  if (refusal$kind == "time") check_text_form(frame, titles_at_start(frame$moments, text))
   odd <- Filter(Negate(is.null), lapply(frame$parts, odd_cell))
   odd <- Filter(function(cell) grepl(paste0("<", cell$class, ">"), refusal$text, fixed = TRUE), odd)
   named <- vapply(names(odd), grepl, NA, refusal$text, fixed = TRUE)
   if (length(odd)) refuse_cell(frame, refusal$kind, if (any(named)) odd[named] else odd)
-  shapes <- names(frame$x)[vapply(as.list(frame$x), inherits, NA, "sfc")]
-  if (length(shapes) && !inherits(frame$x, "sf") && startsWith(refusal$text, "there are no columns of usual titles for easting")) {
-    refuse("columns", "the column '", shapes[1], "' has shapes, and the table is none of sf: sf::st_as_sf(x) makes one of it")
-  }
-  text <- with_own_title(sub(file.path(folder, name_of_frame), "the table", refusal$text, fixed = TRUE), frame)
-  refuse_row(frame$x, refusal$kind, refusal$record, of_frame(text, frame$x))
+  if (startsWith(refusal$text, "there are no columns of usual titles for easting")) check_columns_within(frame$x)
+  if (refusal$kind == "time") text <- with_remedy_of_clocks(text, frame$x)
+  if (grepl("both fit the time: |and not a time ", text)) text <- with_remedy_of_moments(text, frame)
+  refuse_row(frame$x, refusal$kind, refusal$record, paste0(of_frame(text, frame$x), remedy_of_fixes(frame$x, refusal)))
 }
+
+# What helps where the columns that fixes have stand beside those that they were read from.
+remedy_of_fixes <- function(x, refusal) {
+  own <- c("animal", column_of_time(x), "easting", "northing")
+  is_own <- vapply(paste0("'", own, "'"), grepl, NA, refusal$text, fixed = TRUE)
+  place <- which(names(x) %in% own)
+  if (refusal$kind != "ambiguous" || !any(is_own) || !identical(names(x)[place], own) || any(diff(place) != 1)) return(NULL)
+  paste0("; of fixes that were read it is ", text_of_own(own))
+}
+
+# The columns that fixes have, as arguments.
+text_of_own <- function(own) paste0(sub("second", "time", own), " = \"", own, "\"", collapse = ", ")
 
 # What the program says, with what is to be done with a frame, and with the labels of rows for the numbers of records.
 of_frame <- function(texts, x) {
@@ -248,10 +292,10 @@ refuse_row <- function(x, kind, record, text) {
   refuse(kind, where, text, record = record)
 }
 
-# The zone by whose clock days and hours of a frame are counted: that of its only column with one, where none is named.
-clock_of_frame <- function(x, given) {
+# The zone by whose clock days and hours of a frame are counted: the only one that these of its columns have, where none is named.
+clock_of_frame <- function(x, given, titles = readable(names(x))) {
   if (!is.null(given$tz)) return(NULL)
-  is_time <- vapply(as.list(x), is_of_moments, NA)
+  is_time <- vapply(as.list(x), is_of_moments, NA) & readable(names(x)) %in% titles
   zones <- vapply(as.list(x)[is_time], zone_of_times, "")
   if (length(unique(zones)) > 1) {
     return(list(line = paste0("days and hours are those of UTC, since times are of ", paste(sort(unique(zones)), collapse = ", "))))
@@ -261,16 +305,16 @@ clock_of_frame <- function(x, given) {
   if (!zones[[1]] %in% OlsonNames()) {
     return(list(line = paste0("days and hours are those of UTC, since the zone ", zones[[1]], " of ", column, " has no name")))
   }
-  list(tz = zones[[1]], column = column, line = paste0("days and hours are those of ", zones[[1]], ", the zone of ", column))
+  list(tz = zones[[1]], line = paste0("days and hours are those of ", zones[[1]], ", the zone of ", column))
 }
 
 # The zone of date-times. What R has without one is by the clock of the session.
 zone_of_times <- function(times) {
-  zone <- c(attr(times, "tzone"), "")[1]
-  if (zone == "") zone <- zone_of_session()
-  zone <- sub("^:", "", zone)
+  zone <- sub("^:", "", if (has_zone(times)) attr(times, "tzone")[1] else zone_of_session())
   if (zone %in% c("GMT", "Etc/UTC", "Etc/GMT")) "UTC" else zone
 }
+
+has_zone <- function(times) c(attr(times, "tzone"), "")[1] != ""
 
 # The zone of the session: that of TZ, or of the system, of whose files one has it. Sys.timezone would call other programs.
 zone_of_session <- function() {

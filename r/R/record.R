@@ -89,8 +89,8 @@ code_of_record <- function(record) {
 # What the fixes were in.
 source_of <- function(record) if (is.null(record$export)) "data" else "export"
 
-# Refuses tracks in a folder that are not those of their record.
-check_record <- function(record, folder) {
+# Refuses tracks in a folder that are not those of their record, by the checksums of files in the folder above.
+check_record <- function(record, folder, sums) {
   files <- files_in(folder, "[.]csv$")
   made <- paste0(record$tracks$animal, ".csv")
   again <- ", by split.txt beside them: split the export again"
@@ -99,6 +99,6 @@ check_record <- function(record, folder) {
   if (!all(nzchar(record$tracks$checksum))) {
     refuse("text", "split.txt has no checksums of the tracks, as older versions wrote it: split the export again")
   }
-  changed <- made[checksums_of(folder)[made] != record$tracks$checksum]
+  changed <- made[sums[paste0("tracks/", made)] != record$tracks$checksum]
   if (length(changed)) refuse("text", changed[1], " was changed since it was split: split the export again")
 }

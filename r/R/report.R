@@ -7,6 +7,8 @@ report_form <- paste0(
 )
 end_form <- "(?:^|\n)end,([0-9]+)\n?$"
 longest_end <- 40  # bytes of the last line
+# A row, and those behind it of the same animal, corners and area: its captures are the animal, what stays, and both numbers.
+run_form <- "(?m)^row,([^,\n]++),[0-9]++,[0-9]++(,([0-9]++),([0-9]++)\n)(?:row,\\1,[0-9]++,[0-9]++\\2)*+"
 most_bytes <- 2^31 - 1  # that R has as one text
 
 # The fields of each kind of line, and how many of them are texts, which stand before the numbers.
@@ -27,12 +29,14 @@ report_text <- function(path) {
 
 # The tables of a report's text, which is refused where it is not a whole report.
 parse_report <- function(text, name = "the report") {
-  end <- check_form(text, name)
-  lines <- lines_of_report(text)
+  runs <- runs_of_rows(text)
+  rest <- text_without(text, runs)
+  end <- check_form(rest, name, text)
+  lines <- lines_of_report(rest)
   animals <- texts_at(lines, "animal", 1)
   report <- list(
     unit = if (startsWith(text, "unit,dm\n")) "dm" else "m", animals = cbind(animal = animals, numbers_at(lines, "animal")),
-    rows = table_of_animals(lines, "row", animals), corners = table_of_animals(lines, "corner", animals),
+    rows = rows_of_runs(charToRaw(text), runs), corners = table_of_animals(lines, "corner", animals),
     percents = table_of_animals(lines, "percent", animals), overlaps = overlaps_at(lines)
   )
   check_report(report, count_lines(lines, "box", animals), end, name)
@@ -41,27 +45,79 @@ parse_report <- function(text, name = "the report") {
 
 # The overlaps alone of a report's text.
 parse_overlaps <- function(text, name = "the report") {
-  check_form(text, name)
-  first <- regexpr("\noverlap,", text, fixed = TRUE, useBytes = TRUE)
-  list(overlaps = overlaps_at(lines_of_report(rawToChar(charToRaw(text)[-seq_len(max(first, 0))]))))
+  rest <- text_without(text, runs_of_rows(text))
+  check_form(rest, name, text)
+  list(overlaps = overlaps_at(lines_of_report(rest)))
 }
 
-# Refuses a text that has not the form of a report; the number of animals that its last line says.
-check_form <- function(text, name) {
+# The rows of a text by runs of lines that are alike but for number and second: where a run, what stays in it and its numbers begin,
+# and where they end. A run is the first of a block where it does not go on with the animal of the one before.
+runs_of_rows <- function(text) {
+  found <- gregexpr(run_form, text, perl = TRUE, useBytes = TRUE)[[1]]
+  is_there <- found > 0  # where there is no run, one is at -1
+  start <- found[is_there]
+  end <- start + attr(found, "match.length")[is_there] - 1L
+  begins <- attr(found, "capture.start")[is_there, , drop = FALSE]
+  ends <- begins + attr(found, "capture.length")[is_there, , drop = FALSE] - 1L
+  animal <- texts_between(text, begins[, 1], ends[, 1])
+  before <- seq_along(start)[-length(start)]
+  goes_on <- start[-1] == end[before] + 1L & animal[-1] == animal[before]
+  list(animal = animal, start = start, end = end, begins = begins, ends = ends, is_first = c(TRUE, !goes_on)[seq_along(start)])
+}
+
+# Texts by where they begin and end in a text of many bytes.
+texts_between <- function(text, starts, ends) {
+  if (!length(starts)) return(character())
+  if (Encoding(text) != "unknown") Encoding(text) <- "bytes"
+  `Encoding<-`(substring(text, starts, ends), "UTF-8")
+}
+
+# A report's text without rows but the first of each block: it has a report's form where the whole has it.
+text_without <- function(text, runs) {
+  first <- which(runs$is_first)
+  last <- c(first[-1] - 1L, length(runs$start))[seq_along(first)]
+  kept <- texts_between(text, c(1L, runs$end[last] + 1L), c(runs$ends[first, 2], nchar(text, "bytes")))
+  `Encoding<-`(paste(kept, collapse = ""), Encoding(text))
+}
+
+# Refuses a text that has not the form of a report, of which these lines are the whole or have it where the whole has it; the number
+# of animals that its last line says.
+check_form <- function(text, name, whole = text) {
   size <- nchar(text, "bytes")
-  last <- rawToChar(charToRaw(text)[seq.int(max(size - longest_end, 0) + 1, length.out = min(size, longest_end))])
+  last <- texts_between(text, max(size - longest_end, 0) + 1, size)
   end <- regmatches(last, regexec(end_form, last, useBytes = TRUE))[[1]]
   if (!length(end)) refuse("report", name, " is cut off: its last line is not 'end,' with the number of animals")
-  fits <- attr(regexpr(report_form, text, perl = TRUE, useBytes = TRUE), "match.length")
-  if (fits + nchar(sub("^\n", "", end[1]), "bytes") != size) refuse_line(text, fits, name)
+  if (bytes_of_form(text) + nchar(sub("^\n", "", end[1]), "bytes") != size) refuse_line(whole, name)
   as.numeric(end[2])
 }
 
-# Refuses the line of a text that stands behind these first bytes, which are whole lines that are right.
-refuse_line <- function(text, bytes, name) {
-  number <- sum(charToRaw(text)[seq_len(bytes)] == as.raw(10)) + 1
+# How many bytes of a text have a report's form up to its last line.
+bytes_of_form <- function(text) attr(regexpr(report_form, text, perl = TRUE, useBytes = TRUE), "match.length")
+
+# Refuses the first line of a text that is none of a report there.
+refuse_line <- function(text, name) {
+  number <- sum(charToRaw(text)[seq_len(bytes_of_form(text))] == as.raw(10)) + 1
   line <- lines_of_text(text)[number]
   refuse("report", name, ": line ", number, " is none of a report there: ", substr(line, 1, 60))
+}
+
+# The table of the rows of runs, without numbers and seconds where the numbers are not those from 1 on for each block.
+rows_of_runs <- function(bytes, runs) {
+  ends <- grepRaw(as.raw(10), bytes, fixed = TRUE, all = TRUE)
+  before <- findInterval(runs$start, ends)
+  counts <- findInterval(runs$end, ends) - before
+  line <- sequence(counts, before)  # before each row
+  n <- sequence(rowsum(counts, cumsum(runs$is_first))[, 1])
+  start <- ends[line] + rep(runs$ends[, 1] - runs$start + 3L, counts)  # of the number, two behind the animal
+  comma <- start + findInterval(n, powers_of_ten)  # behind it
+  rest <- ends[line + 1L] - rep(runs$ends[, 2] - runs$begins[, 2], counts)  # what stays in the run
+  is_counted <- all(comma < rest & bytes[comma] == as.raw(44)) && all(field_wholes(bytes, start, comma - start) == n)
+  second <- if (is_counted) field_wholes(bytes, comma + 1L, rest - comma - 1L) else rep(NA_real_, length(n))
+  of_runs <- function(at) rep(field_wholes(bytes, runs$begins[, at], runs$ends[, at] - runs$begins[, at] + 1L), counts)
+  list2DF(list(
+    animal = rep(runs$animal, counts), n = if (is_counted) as.numeric(n) else second, second = second, corners = of_runs(3),
+    area2 = of_runs(4)
+  ))
 }
 
 # The lines of a text that has a report's form, by its bytes: where each ends, the places of those of each kind, where commas

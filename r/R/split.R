@@ -54,29 +54,48 @@ as_arguments <- function(text) {
                  "takes|was|has)\\b)('[^']*'|[^ ;:?()]*[^ ,;:?().]))?")
   places <- gregexpr(form, text, perl = TRUE)
   regmatches(text, places) <- lapply(regmatches(text, places), function(found) vapply(found, as_argument, ""))
-  gsub("\" ([a-z_]+ = \")", "\", \\1", text)  # several stand one behind the other
+  gsub("( = (\"[^\"]*\"|[0-9.]+)) (?=[a-z_]+ = )", "\\1, ", text, perl = TRUE)  # several stand one behind the other
 }
 
 # An option of the command line, with its value where it has one, as an argument.
 as_argument <- function(option) {
   name <- gsub("-", "_", sub("^--([a-z-]+).*", "\\1", option), fixed = TRUE)
   value <- gsub("^'|'$", "", sub("^--[a-z-]+[= ]?", "", option))
-  if (name == "skip_unnamed") "skip_unnamed = TRUE" else if (nzchar(value)) paste0(name, " = \"", value, "\"") else name
+  if (name == "skip_unnamed") return("skip_unnamed = TRUE")
+  if (!nzchar(value)) return(name)
+  paste0(name, " = ", if (name %in% number_options) value else paste0("\"", gsub("([\"\\\\])", "\\\\\\1", value), "\""))
 }
 
 # The tracks of a folder, one below the other in the order of the record: the place of the track, and seconds, eastings and
 # northings in whole units.
 read_tracks <- function(folder, record) {
-  tracks <- Map(function(animal, records) {
-    path <- in_bytes(file.path(folder, paste0(animal, ".csv")))
-    scan(path, list(NULL, second = 0, easting = 0, northing = 0), records + 1, sep = ",", skip = 1, quote = "", quiet = TRUE)[-1]
-  }, record$tracks$animal, record$tracks$records)
-  numbers <- vapply(unname(tracks), function(track) length(track$second), 0L)
-  if (!identical(as.numeric(numbers), record$tracks$records)) refuse("program", "the tracks are not those of their record")
-  bound <- lapply(c(second = "second", easting = "easting", northing = "northing"), function(column) {
-    unlist(lapply(tracks, `[[`, column), use.names = FALSE)
+  paths <- in_bytes(file.path(folder, paste0(record$tracks$animal, ".csv")))
+  tracks <- unname(Map(numbers_of_track, paths, record$tracks$records))
+  bound <- lapply(c(second = 1, easting = 2, northing = 3), function(column) unlist(lapply(tracks, `[[`, column)))
+  c(list(track = rep(seq_along(tracks), record$tracks$records)), bound)
+}
+
+# The numbers of a track of so many records: behind its titles each line has the animal, and then three numbers.
+numbers_of_track <- function(path, records) {
+  bytes <- readBin(path, "raw", file.size(path))
+  first <- grepRaw("\n", bytes, fixed = TRUE)
+  line <- bytes[(first + 1):grepRaw("\n", bytes, first + 1, fixed = TRUE)]
+  places <- lapply(c(grepRaw(",", line, fixed = TRUE, all = TRUE), length(line)), function(place) {
+    seq.int(first + place, by = length(line), length.out = records)
   })
-  c(list(track = rep(seq_along(tracks), numbers)), bound)
+  is_alike <- length(places) == 4 && first + length(line) * records == length(bytes) &&
+    all(unlist(Map(function(sign, at) all(bytes[at] == as.raw(sign)), c(44, 44, 44, 10), places)))
+  if (!is_alike) places <- signs_of_track(bytes, records)
+  lapply(1:3, function(field) field_wholes(bytes, places[[field]] + 1L, places[[field + 1]] - places[[field]] - 1L))
+}
+
+# Where the signs behind the fields of a track's lines are.
+signs_of_track <- function(bytes, records) {
+  ends <- grepRaw("\n", bytes, fixed = TRUE, all = TRUE)
+  commas <- grepRaw(",", bytes, fixed = TRUE, all = TRUE)
+  if (length(ends) != records + 1 || length(commas) != 3 * length(ends)) refuse("program", "the tracks are not those of their record")
+  commas <- matrix(commas, 3)[, -1, drop = FALSE]
+  list(commas[1, ], commas[2, ], commas[3, ], ends[-1])
 }
 
 # Which record of the table each fix of the tracks is: those of a track stand by time, and of one time by their order.

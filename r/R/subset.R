@@ -3,7 +3,8 @@
 tables_of_animals <- c("animals", "rows", "corners", "percents", "fixes", "left_out", "groups")
 
 # The home ranges of these animals, by their names, their places or truths, in this order.
-`[.home_range` <- function(x, i) {
+`[.home_range` <- function(x, i, ...) {
+  if (nargs() > 2) refuse("option", "ranges are no table: animals are chosen by one vector, as by x[c(\"fox\", \"elk\")]")
   if (missing(i)) return(x)
   known <- x$animals$animal
   if (is.list(i)) refuse("option", "the names or the places of animals are wanted, and not ", what_it_is(i))
@@ -29,13 +30,13 @@ names.home_range <- function(x) x$animals$animal
   refuse("option", "ranges have the names of their animals: rename these in the table, and make the ranges again")
 }
 
-`[<-.home_range` <- function(x, i, value) {
-  check_slots(i)
+`[<-.home_range` <- function(x, i, ..., value) {
+  check_slots(if (!missing(i) && !...length()) i)
   NextMethod()
 }
 
-`[[<-.home_range` <- function(x, i, value) {
-  check_slots(i)
+`[[<-.home_range` <- function(x, i, ..., value) {
+  check_slots(if (!missing(i) && !...length()) i)
   NextMethod()
 }
 
@@ -49,9 +50,20 @@ check_slots <- function(i) {
   }
 }
 
-`[[.home_range` <- function(x, i) {
-  if (length(i) != 1) refuse("option", "the name or the place of one animal is wanted")
+`[[.home_range` <- function(x, i, ..., exact = TRUE) {
+  if (...length() || missing(i) || length(i) != 1) refuse("option", "the name or the place of one animal is wanted")
   x[i]
+}
+
+# An animal by its name, as names(x) has them, and else a table or a fact of all. The package itself knows these alone.
+`$.home_range` <- function(x, name) {
+  is_own <- identical(topenv(parent.frame()), topenv())
+  if (is_own || !name %in% names(x) && name %in% names(unclass(x))) .subset2(x, name) else x[[name]]
+}
+
+`$<-.home_range` <- function(x, name, value) {
+  check_slots(name)
+  NextMethod()
 }
 
 as.list.home_range <- function(x, ...) `names<-`(lapply(seq_along(x), function(at) x[at]), names(x))

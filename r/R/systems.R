@@ -15,7 +15,8 @@ is_without_place <- function(crs, name) {
   if (!grepl(system_of_a_site, crs$wkt)) return(FALSE)
   found <- regmatches(crs$wkt, regexec(unit_of_a_site, crs$wkt))[[1]]
   if (length(found) && !as.numeric(found[3]) %in% c(0, 1)) {
-    refuse("crs", name, ": the unit of the coordinates is not the metre but ", found[2], ": turn them into metres first")
+    refuse("crs", name, ": the unit of the coordinates is not the metre but ", found[2], ": turn them into metres first, ",
+           if (name == "crs") "and leave crs out" else paste0("as by sf::st_set_geometry(x, sf::st_geometry(x) * ", found[3], ")"))
   }
   TRUE
 }
@@ -29,9 +30,9 @@ is_in_degrees <- function(crs, name, coordinates) {
   if (isTRUE(sf::st_is_longlat(crs))) return(TRUE)
   has_way <- isTRUE(nzchar(crs$proj4string)) && !grepl("+proj=geocent", crs$proj4string, fixed = TRUE)
   if (!has_way) refuse("crs", "the CRS ", one_line(crs$Name), " is not a plane one in metres: project the points first")
-  unit <- crs$units_gdal
+  unit <- unit_of_plane(crs)
   kind <- "crs"
-  why <- if (!isTRUE(unit %in% c("metre", "meter", "Metre", "Meter", "m"))) {
+  why <- if (!is.null(unit)) {
     paste0("the CRS ", one_line(crs$Name), " is in ", unit, " and not in metres")
   } else if (grepl("Pseudo.Mercator", crs$wkt)) {
     kind <- "scale"
@@ -39,6 +40,15 @@ is_in_degrees <- function(crs, name, coordinates) {
   }
   if (!is.null(why)) refuse(kind, why, ": sf::st_transform(", name, ", ", utm_code_of(coordinates(), crs), ")")
   FALSE
+}
+
+# The unit of a plane, if it is not the metre, by its name and its factor.
+unit_of_plane <- function(crs) {
+  unit <- crs$units_gdal
+  if (!isTRUE(in_small(unit) %in% c("metre", "meter", "metres", "meters", "m"))) return(unit)
+  axes <- sub(".*CS\\[", "", crs$wkt)
+  factor <- as.numeric(regmatches(axes, regexec("LENGTHUNIT\\[\"[^\"]*\",([-+.0-9eE]+)", axes))[[1]][2])
+  if (!is.na(factor) && factor != 1) paste(unit, "of", format(factor), "m")
 }
 
 # The EPSG code of the UTM zone of most points; the word EPSG where none has a place.

@@ -2,11 +2,13 @@
 \alias{c.home_range}
 \alias{[.home_range}
 \alias{[[.home_range}
+\alias{$.home_range}
 \alias{as.list.home_range}
 \alias{length.home_range}
 \alias{names.home_range}
 \alias{[<-.home_range}
 \alias{[[<-.home_range}
+\alias{$<-.home_range}
 \alias{names<-.home_range}
 \alias{subset.home_range}
 \alias{filter.home_range}
@@ -16,13 +18,17 @@
 \title{Some Animals, and Animals of Several Tables}
 \description{Takes some of the animals of home ranges, and puts those of several home ranges together.}
 \usage{
-\method{[}{home_range}(x, i)
+\method{[}{home_range}(x, i, ...)
 
-\method{[[}{home_range}(x, i)
+\method{[[}{home_range}(x, i, ..., exact = TRUE)
 
-\method{[}{home_range}(x, i) <- value
+\method{$}{home_range}(x, name)
 
-\method{[[}{home_range}(x, i) <- value
+\method{[}{home_range}(x, i, ...) <- value
+
+\method{[[}{home_range}(x, i, ...) <- value
+
+\method{$}{home_range}(x, name) <- value
 
 \method{c}{home_range}(...)
 
@@ -47,6 +53,8 @@
 \arguments{
 \item{x, .data, target, current}{a home range, from \code{\link{home_range}} or \code{\link{read_report}}.}
 \item{i}{the animals, by their names, their places or truths, in the wanted order; of \code{[[} one of them.}
+\item{name}{the name of an animal, or of a fact of all, such as \code{program}, where no animal is named so.}
+\item{exact}{not used.}
 \item{...}{of \code{c} and \code{rbind} home ranges of different animals, which have the same unit, levels, reference system, shift,
   zone of times and program; of \code{filter} what \code{subset} takes, and of \code{all.equal} its other arguments; else none.}
 \item{deparse.level}{not used.}

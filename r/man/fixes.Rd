@@ -5,6 +5,10 @@
 \alias{summary.homerange_fixes}
 \alias{[.homerange_fixes}
 \alias{rbind.homerange_fixes}
+\alias{cbind.homerange_fixes}
+\alias{merge.homerange_fixes}
+\alias{names<-.homerange_fixes}
+\alias{transform.homerange_fixes}
 \alias{as.data.frame.homerange_fixes}
 \alias{st_as_sf.homerange_fixes}
 \alias{st_geometry.homerange_fixes}
@@ -24,6 +28,14 @@
 
 \method{rbind}{homerange_fixes}(..., deparse.level = 1)
 
+\method{cbind}{homerange_fixes}(..., deparse.level = 1)
+
+\method{merge}{homerange_fixes}(x, y, ...)
+
+\method{names}{homerange_fixes}(x) <- value
+
+\method{transform}{homerange_fixes}(`_data`, ...)
+
 \method{as.data.frame}{homerange_fixes}(x, row.names = NULL, optional = FALSE, ...)
 
 \method{st_as_sf}{homerange_fixes}(x, ...)
@@ -37,27 +49,33 @@
 \method{st_write}{homerange_fixes}(obj, dsn, ...)
 }
 \arguments{
-\item{x, object, obj}{fixes, from \code{\link{read_fixes}}.}
+\item{x, object, obj, _data}{fixes, from \code{\link{read_fixes}}.}
 \item{...}{of \code{[} rows and columns, as of a data frame; of \code{rbind} fixes, which have the same unit, reference system,
   zone of times and columns; of \code{print} arguments of the print of a data frame; of
   \code{st_write} those of \code{sf::st_write}; else none.}
+\item{value}{titles.}
+\item{y}{another table, as of \code{merge}.}
 \item{n}{how many rows are printed.}
 \item{dsn}{the file that is written, such as \code{"fixes.gpkg"}.}
 \item{row.names}{names for the rows.}
 \item{deparse.level, optional}{not used.}
 }
 \details{
-Rows that are taken by \code{[}, \code{subset}, \code{head} or the verbs of dplyr stay fixes, with what is known of them. Those that
-were taken away are counted by \code{\link{homerange_left_out}} as \code{chosen}: by animal, or in one number of no animal where
-animals were renamed. Without a column that fixes have it is a data frame alone; where the class stays, as after
-\code{dplyr::rename(fixes, id = animal)}, it is read as one, which is said. An animal may have fixes in several tables that are bound.
+Rows that are taken by \code{[}, \code{subset} or \code{head}, and what \code{merge}, \code{transform}, \code{within}, \code{cbind},
+the verbs of dplyr and tidyr, groups, tibbles and data tables make of them, stay fixes, with what is known of them, as long as they have
+the columns of fixes; so do points of sf that were not moved. Of others, as those of \code{data.frame(fixes)}, of \code{aggregate} or
+of a merge of data tables, nothing is known: they are read as any table, whose zone is not known. Fixes that were taken away are counted
+by \code{\link{homerange_left_out}} as \code{chosen}, by the animal that they had when they were read: a fix is there as long as a row
+has its second and its place, whatever the animal is called now. Where the class stays without a column, as after
+\code{dplyr::rename(fixes, id = animal)}, they are read as a data frame, which is said.
 
-Fixes of several readings are bound by \code{rbind}, which compares their units and reference systems; \code{dplyr::bind_rows} does
-not. So an animal that was not read, and one with more fixes than were read of it, is refused, unless its fixes are among those that
+Fixes of several readings are bound by \code{rbind}. Of such as have another unit, reference system or zone of times it is refused, by
+\code{dplyr::bind_rows} too; but that knows the first reading alone. It is refused too where tables without a column of the animal
+both have the animal \code{animal}: name each by \code{name} of \code{\link{read_fixes}}. So an animal that was not read, and one with more fixes than were read of it, is refused, unless its fixes are among those that
 were read: these may be renamed or be there twice.
 
 Fixes whose rows are no longer those that were read, in their order, are read again by the program where ranges are made of them:
-with the unit, the reference system and the zone of their reading, and with marks such as \code{use} or \code{visible}, and columns
+with the unit, the reference system and the zone of their reading, which is that of times whose own was taken away, and with marks such as \code{use} or \code{visible}, and columns
 that were added since and may say which fixes count, such as \code{outlier} or \code{lc}, which are read or refused. Only what is new is said then. \code{read_fixes(fixes, every = "2h")} reads them again by further options; those of
 dilutions of precision, types of fixes, sensors and Argos look at all columns.
 

@@ -10,7 +10,7 @@ read_fixes(x, ..., quiet = FALSE)
 }
 \arguments{
 \item{x}{a data frame with a row for each fix, an \code{sf} table of points, the name of a file of text or GPX, or fixes that were
-  read, whose unit, reference system and zone of times stay where others are not named.}
+  read, whose unit and reference system stay, and the zone of their times where no other is named.}
 \item{...}{options, of which each is left out where it is \code{NULL}:
   \describe{
   \item{\code{unit}}{to what coordinates are rounded: \code{"m"} for whole metres, \code{"dm"} for whole decimetres. The

@@ -261,7 +261,7 @@ forgery.sealed("tracks of the record change places", "split again the export com
 forgery.sealed("a coding that is no character set", "split: encoding: punycode is none of utf-8, ascii, ",
                file="tracks/split.txt", old="^zone,33N", new="zone,33N\noption,encoding,punycode")
 forgery.sealed("a text in an option", "not known: whether what was typed in is right: the option na and the name of the export",
-               "another record than split.txt|another track", file="tracks/split.txt", old="^zone,33N", new="zone,33N\noption,na,false")
+               "the export cannot be split as split.txt says", file="tracks/split.txt", old="^zone,33N", new="zone,33N\noption,na,33N")
 forgery.sealed("lines of the export are skipped", "not known: what the first lines of the export say [(]1[)]: they were skipped",
                "the export cannot be split as split.txt says", file="tracks/split.txt", old="^zone,33N",
                new="zone,33N\noption,skip-lines,1")

@@ -115,6 +115,47 @@ awk -F, '{ e[NR] = $4; n[NR] = $5 }
     END { for (i = 1; i <= NR; i++) { j = i % NR + 1; area += e[i] * n[j] - e[j] * n[i] } print NR "," area }' written >wanted
 holds "the guide's corners" grep -qx "percent,fox,95,1140,$(cat wanted)" report.txt
 
+# What is done to the fox, and to draws of equal numbers. The table has what the snippet writes, and that is by definition.
+if is_split_here "the guide's traps"; then
+    sed -n '/^| `[a-z0-9/]*` |\( [^|]* |\)\{6\}$/s/[|`]//gp' "$top/docs/GUIDE.md" |
+        awk '{ print $1, $(NF - 4), $(NF - 3), $(NF - 2), $(NF - 1), $NF }' >shown
+    holds "the guide's tracks with traps" [ "$(wc -l <shown)" -eq 7 ]
+    writes sh 'mkdir trials' <shown
+    while read -r track _; do
+        "$tools/tests/by_definition.py" "$track.csv" | python3 -c '
+import sys
+lines = [line.split(",") for line in sys.stdin]
+areas = [int(line[5]) for line in lines if line[0] == "row"]
+percents = [int(line[5]) / 20000 for line in lines if line[0] == "percent"]
+last = 100 * (areas[-1] - areas[len(areas) * 3 // 4 - 1]) / areas[-1]
+print(sys.argv[1], len(areas), *(f"{number:.1f}" for number in [*percents, last]))' "$track"
+    done <shown >made
+    holds 'areas of tracks with traps' cmp made shown
+    for hours in 6 24; do
+        awk -v each=$((2 * hours)) 'NR == 1 || (NR - 2) % each == 0' examples/fox.csv >wanted
+        holds "a fix each $hours hours" cmp wanted trials/$hours/fox.csv
+    done
+    "$splitter" --every 30min --into even trials/burst.csv 2>said
+    holds 'no burst with a fix each half hour' cmp examples/fox.csv even/fox.csv
+    "$splitter" --max-speed 2 --into slow trials/centres.csv 2>said
+    holds 'five fixes are too fast' grep -qx 'split: 5 fixes are faster than 2 m/s: left out' said
+    holds 'it is asked whose the others are' grep -q '^split: 595 .* fox lie 19 km .*: are they hers?$' said
+fi
+"$tools/tests/by_definition.py" examples/fox.csv examples/badger.csv | sed -n 's/^overlap,.*,\([0-9]*\),[0-9]*$/\1/p' >counts
+holds "the guide's overlaps" grep -q "has $(sed -n 1p counts) of 1,200 fixes of the fox .* and $(sed -n 2p counts) of 800 of" \
+    "$top/docs/GUIDE.md"
+if $is_pandas; then
+    {
+        echo 'import pandas, homerange'
+        echo 'names = ("fox", "badger", "otter")'
+        echo 'fixes = homerange.read_fixes(pandas.concat(pandas.read_csv(f"examples/{name}.csv") for name in names))'
+        sed -n 's/^| Python | `\(drawn = .*\)` |$/\1/p' "$top/docs/GUIDE.md"
+        echo 'print(*homerange.home_range(drawn).overview()["used"])'
+    } >draws.py
+    PYTHONPATH=$top/python PYTHONDONTWRITEBYTECODE=1 python3 -W ignore draws.py >written 2>errors
+    holds "the guide's draws of equal numbers" [ "$(cat written)" = '300 300 300' ]
+fi
+
 # One curve for each animal. The pictures are looked at by people.
 "$HOMERANGE" examples/fox.csv examples/badger.csv >report.txt
 if is_here Rscript "the guide's picture in R"; then

@@ -1,5 +1,5 @@
 # Builds the package for R in a folder of its own, and checks it as CRAN does, with its tests and its vignette.
-# shellcheck shell=sh disable=SC2154
+# shellcheck shell=sh disable=SC2154,SC2016
 
 # Whether what the check wants is there; where it is not, says what is skipped.
 is_r_ready() {
@@ -44,6 +44,13 @@ stopifnot(ranges$program$path == system.file("bin", "homerange", package = "home
 stopifnot(homerange:::split_program() == system.file("bin", "homerange-split", package = "homerange"))
 END
     holds 'which it runs' env -u HOMERANGE R_LIBS="$PWD/installed" Rscript own.R
+    {
+        echo 'library(homerange)'
+        echo 'fixes <- read_fixes(deer, quiet = TRUE)'
+        sed -n 's/^| R | `\(drawn <- .*\)` |$/\1/p' "$top/docs/GUIDE.md"
+        echo 'stopifnot(summary(home_range(drawn, quiet = TRUE))$fixes == 300)'
+    } >draws.R
+    holds "the guide's draws of equal numbers" env -u HOMERANGE R_LIBS="$PWD/installed" Rscript draws.R
     echo >>installed/homerange/bin/homerange-split
     holds 'and not another homerange-split that was put there' is_refused env -u HOMERANGE R_LIBS="$PWD/installed" \
         Rscript -e 'homerange:::split_program()'

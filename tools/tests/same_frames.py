@@ -53,12 +53,17 @@ def calls_of(told, small):
     fixes, seconds = read_fixes(told, zone="33N"), read_fixes(small, unit="dm")
     ranges = home_range(fixes, 50)
     moments = told[["animal", "easting", "northing"]].assign(local_time=pandas.to_datetime(told["timestamp"], utc=True))
+    when = pandas.to_datetime(told["timestamp"])
+    clocks = told.assign(timestamp=when.dt.tz_localize("Asia/Tokyo"), released=when.dt.tz_localize("UTC"))
     swapped = fixes.assign(easting=fixes["northing"], northing=fixes["easting"])
     return {
         "all": lambda: read_fixes(told, zone="33N"), "decimals": lambda: read_fixes(small, unit="dm"), "fixes": lambda: home_range(fixes),
         "sorted": lambda: home_range(fixes.sort_values("easting", kind="stable")), "swapped": lambda: home_range(swapped),
         "moved": lambda: home_range(fixes.assign(easting=fixes["easting"] + 0.25)), "twice": lambda: home_range(pandas.concat([fixes, fixes])),
         "marked": lambda: home_range(fixes.assign(use=fixes["easting"] % 2)), "none": lambda: home_range(fixes.iloc[:0]),
+        "unread": lambda: home_range(fixes.assign(visible=0, use=1)),
+        "source": lambda: home_range(fixes.assign(timestamp=fixes["timestamp"].where(fixes.index != fixes.index[2], "2024-01-01"))),
+        "own": lambda: read_fixes(told.assign(tag="Fox"), animal="tag", zone="33N"), "clock": lambda: read_fixes(clocks, zone="33N"),
         "again": lambda: home_range(fixes, zone="33N"), "bound": lambda: pandas.concat([fixes, read_fixes(told, zone="33N", unit="dm")]),
         "list": lambda: read_fixes(told.assign(**{"sensor.type": told["animal"].map(list)})), "rows": lambda: read_fixes(told.head(0)),
         "part": lambda: read_fixes(told.assign(animal=1.5)), "moments": lambda: read_fixes(moments, zone="33N"),

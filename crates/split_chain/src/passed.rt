@@ -18,8 +18,8 @@ const DAY: i128 = 86_400;
 const UTC: &str = "UTC";
 
 // Titles of hours, of zones of time and of zones of a grid.
-const HOURS: [&[u8]; 9] = [
-    b"hour", b"hours", b"hora", b"heure", b"stunde", b"ora", b"hr", b"uhr", b"hh",
+const HOURS: [&[u8]; 10] = [
+    b"hour", b"hours", b"hora", b"heure", b"stunde", b"std", b"ora", b"hr", b"uhr", b"hh",
 ];
 
 const OFFSETS: [&[u8]; 8] = [
@@ -33,8 +33,13 @@ const OFFSETS: [&[u8]; 8] = [
     b"timezone-offset",
 ];
 
-const ZONES: [&[u8]; 12] = [
+const ZONES: [&[u8]; 17] = [
     b"zone",
+    b"zona",
+    b"huso",
+    b"fuso",
+    b"fuseau",
+    b"utmz",
     b"utmzone",
     b"utm-zone-number",
     b"zone-number",
@@ -57,8 +62,10 @@ enum Passed {
     Side,
     // The Argos class.
     Classes,
-    // The hour or the clock, of times that are days alone.
+    // The clock, of times that are days alone.
     Clock,
+    // The hour, of such times.
+    Hour,
     // Of which zone times are.
     Offset,
     // Of which zone coordinates are.
@@ -124,8 +131,10 @@ fn what_is_passed(known: Known, title: &[u8], texts: &Texts) -> Option<Passed> {
         Some(Passed::Side)
     } else if texts.are_of_argos() && !known.has_classes {
         Some(Passed::Classes)
-    } else if known.are_days && texts.are_several && says_clock(title, texts) {
+    } else if known.are_days && texts.are_several && texts.are_clocks {
         Some(Passed::Clock)
+    } else if known.are_days && texts.are_several && texts.are_hours && is_one_of(title, &HOURS) {
+        Some(Passed::Hour)
     } else if known.has_time && known.is_in_utc && !texts.are_utc && is_one_of(title, &OFFSETS) {
         Some(Passed::Offset)
     } else if known.has_own_metres && texts.are_several && is_one_of(title, &ZONES) {
@@ -135,17 +144,12 @@ fn what_is_passed(known: Known, title: &[u8], texts: &Texts) -> Option<Passed> {
     }
 }
 
-// Whether a column of this title has clocks, or hours.
-fn says_clock(title: &[u8], texts: &Texts) -> bool {
-    texts.are_clocks || texts.are_hours && is_one_of(title, &HOURS)
-}
-
 // Why a column may not be passed over, and the remedy.
 fn words_of(passed: Passed) -> &'static str {
     match passed {
         Passed::Half => {
-            "has halves of the day, and is not read: join it to the time, as by --time TIME,COLUMN with %p in --time-format, or \
-             remove it"
+            "has halves of the day, and is not read: write them AM and PM and join it to the time, as by --time TIME,COLUMN with %p \
+             in --time-format, or remove it"
         }
         Passed::Side => {
             "has S or W beside degrees above 0, and is not read: write those with a minus, and remove it"
@@ -155,6 +159,10 @@ fn words_of(passed: Passed) -> &'static str {
         }
         Passed::Clock => {
             "has hours, which the days of the time have not: join them, as by --time DAY,COLUMN, or remove it"
+        }
+        Passed::Hour => {
+            "has hours, which the days of the time have not: join them, as by --time DAY,COLUMN --time-format '%Y-%m-%d %H', or \
+             remove it"
         }
         Passed::Offset => {
             "says of which zone times are, and is not read: name the zone, as by --tz Europe/Ljubljana, or write the offset behind \

@@ -2,6 +2,7 @@
 
 use csv::ByteRecord;
 use range_plane::OutOfMemory;
+use split_filters::class_name;
 use split_reading::{Row, Told};
 use split_table::{TableFault, TableText};
 use std::alloc::Global;
@@ -130,8 +131,9 @@ impl Texts {
         } else {
             told_bytes(text)
         };
-        let is_number = matches!(text, [b'0' | b'1' | b'2' | b'3']);
-        let is_letter = matches!(text, [b'A' | b'B' | b'Z' | b'G']);
+        let class = class_name(text);
+        let is_number = matches!(class, [b'0' | b'1' | b'2' | b'3']);
+        let is_letter = matches!(class, [b'A' | b'B' | b'Z' | b'G']);
         Texts {
             are_there: true,
             are_several: self.are_several || first != told_bytes(text),

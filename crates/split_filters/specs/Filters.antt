@@ -1,14 +1,14 @@
 -- Which fixes are wanted, and why others are left out.
-use Rattle.std.specs.Prelude.{ℕ, ℤ, pos, Bool, true, false, ◌==◌, ◌||◌, nat_lt, int_lt, not, if◌then◌else◌, List, length, Option, Some, None}
+use Rattle.std.specs.Prelude.{ℕ, ℤ, pos, Bool, false, ◌==◌, ◌||◌, nat_lt, int_lt, not, if◌then◌else◌, List, length, Option, Some, None}
 use Rattle.std.specs.Borrow.{Bor}
-use Rattle.split_filters.specs.Words.{is_among}
+use Rattle.split_filters.specs.Words.{is_one_of}
 use Rattle.split_tracks.specs.declared.fate.Reason.{Reason}
 use Rattle.split_tracks.specs.declared.fate.Reason.TheVariants as reason
 use Rattle.split_filters.specs.declared.filters.Filters.{Filters}
 
--- whether a word is one of those that are wanted; all are where none is named
+-- whether a word comes to one of those that are wanted; all are where none is named
 abbrev pub is_wanted : List (Bor (List ℕ)) → List ℕ → Bool
-is_wanted words word = length words == 0 || is_among words word
+is_wanted words word = length words == 0 || is_one_of words word
 
 -- whether a fix of a sensor is wanted
 abbrev pub is_of_sensor : Filters → List ℕ → Bool

@@ -3,7 +3,7 @@
 ghost use Rattle.std.specs.Prelude.{◌≡◌};
 ghost use Rattle.split_filters.specs.Filters.{dop_reason, is_after, is_before, is_of_sensor, is_wanted, known_dop, left_for, time_reason};
 
-use crate::words::is_among;
+use crate::words::is_one_of;
 use split_tracks::Reason;
 
 /// Which fixes are wanted.
@@ -27,7 +27,7 @@ pub struct Filters<'a> {
 fn is_wanted(words: &[&[u8]], word: &[u8]) -> bool
     ensures { result ≡ is_wanted words.now word.now }
 {
-    words.is_empty() || is_among(words, word)
+    words.is_empty() || is_one_of(words, word)
 }
 
 /// Whether a fix of a sensor is wanted.

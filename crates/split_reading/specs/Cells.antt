@@ -1,5 +1,5 @@
 -- What one cell of a record says.
-use Rattle.std.specs.Prelude.{ℕ, ℤ, Bool, true, false, ◌==◌, ◌&&◌, ◌||◌, not, if◌then◌else◌, List, [], length, codes, Option, Some, None, Result, Ok, Err}
+use Rattle.std.specs.Prelude.{ℕ, ℤ, Bool, true, false, ◌==◌, ◌&&◌, ◌||◌, not, if◌then◌else◌, List, [], length, codes, Option, Some, None, is_some, Result, Ok, Err}
 use Rattle.std.specs.List.{list_all}
 use Rattle.std.specs.Option.{unwrap_or}
 use Rattle.std.specs.Str.{bytes_eq}
@@ -74,6 +74,11 @@ abbrev pub found_truth : ℕ → Option Bool → Result (Option Bool) CellFault
 found_truth column (Some truth) = Ok (Some truth)
 found_truth column None = Err (NotTruth column)
 
--- the truth of a mark, or none where it is missing
-abbrev pub truth_in : ℕ → List ℕ → Result (Option Bool) CellFault
-truth_in column text = if is_missing text then Ok None else found_truth column (truth_of text)
+-- the text of a mark: a truth is one even if it is a word for what is missing
+abbrev pub mark_text : Rules → ℕ → Record → List ℕ
+mark_text rules column fields = if is_some (truth_of (field fields column)) then field fields column else cell rules fields column
+
+-- the truth of a mark of a record, or none where it is missing
+abbrev pub truth_in : Rules → ℕ → Record → Result (Option Bool) CellFault
+truth_in rules column fields =
+    if is_missing (mark_text rules column fields) then Ok None else found_truth column (truth_of (mark_text rules column fields))

@@ -3,7 +3,7 @@ use Rattle.std.specs.Prelude.{ℕ, Bool, true, false, ◌&&◌, ◌||◌, not, O
 use Rattle.split_reading.specs.declared.fault.CellFault.{CellFault}
 use Rattle.split_reading.specs.declared.fault.CellFault.TheVariants.{NoTruth}
 use Rattle.split_reading.specs.declared.rules.Rules.{Rules}
-use Rattle.split_reading.specs.Cells.{◌>>=◌, Record, cell, truth_in}
+use Rattle.split_reading.specs.Cells.{◌>>=◌, Record, truth_in}
 
 -- whether a mark is there and says this
 abbrev pub says : Bool → Option Bool → Bool
@@ -14,7 +14,7 @@ says false (Some mark) = not mark
 -- the truth of a mark, or none where the table does not have it or it is missing
 abbrev pub mark_in : Rules → Option ℕ → Record → Result (Option Bool) CellFault
 mark_in rules None fields = Ok None
-mark_in rules (Some column) fields = truth_in column (cell rules fields column)
+mark_in rules (Some column) fields = truth_in rules column fields
 
 -- a truth that has to be there
 abbrev pub needed_truth : ℕ → Option Bool → Result Bool CellFault
@@ -24,7 +24,7 @@ needed_truth column None = Err (NoTruth column)
 -- whether a fix is used, by a column that has to say so
 abbrev pub usage_in : Rules → ℕ → Record → Result Bool CellFault
 usage_in rules column fields = do
-  found ← truth_in column (cell rules fields column)
+  found ← truth_in rules column fields
   needed_truth column found
 
 -- whether a fix is used: it is seen, its owner did not mark it as an outlier, and neither the algorithm nor the import did,

@@ -1,7 +1,7 @@
 -- What a record says: its fix, or why it is left out, or its first fault.
 use Rattle.std.specs.Prelude.{⊤, [], ◌∷◌, ℕ, ℤ, Bool, ◌==◌, ◌&&◌, not, if◌then◌else◌, List, length, Option, Some, None, is_some, Result, Ok, Err}
 use Rattle.split_filters.specs.Filters.{is_of_sensor, left_for}
-use Rattle.split_filters.specs.Words.{sensor_name}
+use Rattle.split_filters.specs.Words.{class_name, is_known_class, sensor_name}
 use Rattle.split_clock.specs.declared.twice.ClockMoment.{ClockMoment}
 use Rattle.split_times.specs.declared.moment.Moment.{Moment}
 use Rattle.split_tracks.specs.declared.fate.Reason.{Reason}
@@ -16,7 +16,7 @@ use Rattle.split_reading.specs.declared.told.Told.{Told}
 use Rattle.split_reading.specs.declared.told.Told.TheVariants.{Fix, LeftOut}
 use Rattle.split_reading.specs.declared.told.ToldFix.{ToldFix}
 use Rattle.split_reading.specs.declared.zone.Zone.{Zone}
-use Rattle.split_reading.specs.Cells.{◌>>=◌, Record, cell, trillionths_in, word_in}
+use Rattle.split_reading.specs.Cells.{◌>>=◌, Record, cell, field, trillionths_in, word_in}
 use Rattle.split_reading.specs.Marks.{is_used_in}
 use Rattle.split_reading.specs.Moments.{IsTimelyMoment, moment_in}
 use Rattle.split_reading.specs.Places.{place_in}
@@ -40,6 +40,12 @@ name_in rules columns fields = if length columns == 0 then Some rules.name.now e
 abbrev pub sensor_in : Rules → Record → List ℕ
 sensor_in rules fields = sensor_name (word_in rules rules.sensor fields)
 
+-- the class of Argos of a record, which is one even if it is a word for what is missing; empty where it names none
+abbrev pub class_in : Rules → Option ℕ → Record → List ℕ
+class_in rules None fields = []
+class_in rules (Some column) fields =
+    if is_known_class (field fields column) then class_name (field fields column) else class_name (word_in rules (Some column) fields)
+
 -- the dilution of precision of a record in this column, in trillionths
 abbrev pub dop_in : Rules → Option ℕ → Record → Result (Option ℤ) CellFault
 dop_in rules None fields = Ok None
@@ -49,7 +55,7 @@ dop_in rules (Some column) fields = trillionths_in rules column (cell rules fiel
 abbrev pub reason_in : Rules → ℕ → Record → Result (Option Reason) CellFault
 reason_in rules second fields = do
   dop ← dop_in rules rules.dop fields
-  Ok (left_for rules.filters (word_in rules rules.class fields) dop (word_in rules rules.fix_type fields) second)
+  Ok (left_for rules.filters (class_in rules rules.class fields) dop (word_in rules rules.fix_type fields) second)
 
 -- the fix of a record at a position, of which these things are known
 abbrev pub fix_at : Rules → Position → Bool → ClockMoment → Option Zone → Option Reason → Record → ToldFix
@@ -61,7 +67,7 @@ fix_at rules position is_used time zone left_for fields = record {
   zone = zone_or_at zone position.degrees;
   is_used = is_used;
   is_of_sensor = is_of_sensor rules.filters (sensor_in rules fields);
-  has_class = not (length (word_in rules rules.class fields) == 0);
+  has_class = not (length (class_in rules rules.class fields) == 0);
   left_for = left_for;
 }
 

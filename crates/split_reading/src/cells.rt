@@ -2,7 +2,7 @@
 
 ghost use Rattle.std.specs.Prelude.{◌≡◌};
 ghost use Rattle.csv.specs.Records.{fields_of};
-ghost use Rattle.split_reading.specs.Cells.{cell, is_missing, is_zero, number_in, trillionths_in, truth_in, truth_of, word_in};
+ghost use Rattle.split_reading.specs.Cells.{cell, is_missing, is_zero, mark_text, number_in, trillionths_in, truth_in, truth_of, word_in};
 
 use crate::fault::CellFault;
 use crate::rules::Rules;
@@ -97,10 +97,27 @@ fn truth_of(text: &[u8]) -> Option<bool>
     }
 }
 
-// The truth of a mark, or none where it is missing.
-pub(crate) fn truth_in(text: &[u8], column: usize) -> Result<Option<bool>, CellFault>
-    ensures { result ≡ truth_in column text.now }
+// The text of a mark: a truth is one even if it is a word for what is missing.
+fn mark_text<'a>(fields: &'a ByteRecord, column: usize, rules: &Rules<'_, '_>) -> &'a [u8]
+    ensures { result.now ≡ mark_text rules.now column (fields_of «fields».entry.now) }
 {
+    let text = fields.get(column).unwrap_or(b"");
+    if truth_of(text).is_some() {
+        text
+    } else {
+        cell(fields, column, rules)
+    }
+}
+
+// The truth of a mark of a record, or none where it is missing.
+pub(crate) fn truth_in(
+    fields: &ByteRecord,
+    column: usize,
+    rules: &Rules<'_, '_>,
+) -> Result<Option<bool>, CellFault>
+    ensures { result ≡ truth_in rules.now column (fields_of «fields».now) }
+{
+    let text = mark_text(fields, column, rules);
     if is_missing(text) {
         return Ok(None);
     }

@@ -4,7 +4,7 @@ ghost use Rattle.std.specs.Prelude.{◌≡◌};
 ghost use Rattle.csv.specs.Records.{fields_of};
 ghost use Rattle.split_reading.specs.Marks.{is_used_by, is_used_in, mark_in, usage_in};
 
-use crate::cells::{cell, truth_in};
+use crate::cells::truth_in;
 use crate::fault::CellFault;
 use crate::rules::Rules;
 use csv::ByteRecord;
@@ -18,7 +18,7 @@ fn mark_in(
     ensures { result ≡ mark_in rules.now column (fields_of «fields».now) }
 {
     match column {
-        Some(column) => truth_in(cell(fields, column, rules), column),
+        Some(column) => truth_in(fields, column, rules),
         None => Ok(None),
     }
 }
@@ -27,7 +27,7 @@ fn mark_in(
 fn usage_in(fields: &ByteRecord, column: usize, rules: &Rules<'_, '_>) -> Result<bool, CellFault>
     ensures { result ≡ usage_in rules.now column (fields_of «fields».now) }
 {
-    match truth_in(cell(fields, column, rules), column)? {
+    match truth_in(fields, column, rules)? {
         Some(truth) => Ok(truth),
         None => Err(CellFault::NoTruth { column }),
     }

@@ -3,7 +3,7 @@
 ghost use Rattle.std.specs.Prelude.{◌≡◌, ◌<◌, IfOk, option_map};
 ghost use Rattle.csv.specs.Records.{fields_of};
 ghost use Rattle.split_reading.specs.Moments.{time_text};
-ghost use Rattle.split_reading.specs.Told.{IsTimely, dop_in, first_filled, fix_at, fix_in, is_taken, name_in, named_fix_in, reason_in, sensor_in, told_at, told_in};
+ghost use Rattle.split_reading.specs.Told.{IsTimely, class_in, dop_in, first_filled, fix_at, fix_in, is_taken, name_in, named_fix_in, reason_in, sensor_in, told_at, told_in};
 
 use crate::cells::{cell, trillionths_in, word_in};
 use crate::fault::CellFault;
@@ -14,7 +14,7 @@ use crate::rules::Rules;
 use crate::zone::{Zone, zone_in, zone_or_at};
 use csv::ByteRecord;
 use split_clock::ClockMoment;
-use split_filters::{is_of_sensor, left_for, sensor_name};
+use split_filters::{class_name, is_known_class, is_of_sensor, left_for, sensor_name};
 use split_times::Moment;
 use split_tracks::Reason;
 
@@ -89,6 +89,21 @@ pub(crate) fn sensor_in<'a>(fields: &'a ByteRecord, rules: &Rules<'_, '_>) -> &'
     sensor_name(word_in(fields, rules.sensor, rules))
 }
 
+// The class of Argos of a record, which is one even if it is a word for what is missing; empty where it names none.
+fn class_in<'a>(fields: &'a ByteRecord, rules: &Rules<'_, '_>) -> &'a [u8]
+    ensures { result.now ≡ class_in rules.now rules.now.class (fields_of «fields».entry.now) }
+{
+    let Some(column) = rules.class else {
+        return b"";
+    };
+    let text = fields.get(column).unwrap_or(b"");
+    if is_known_class(text) {
+        class_name(text)
+    } else {
+        class_name(word_in(fields, rules.class, rules))
+    }
+}
+
 // The dilution of precision of a record, in trillionths.
 fn dop_in(fields: &ByteRecord, rules: &Rules<'_, '_>) -> Result<Option<i64>, CellFault>
     ensures { result ≡ dop_in rules.now rules.now.dop (fields_of «fields».now) }
@@ -108,7 +123,7 @@ fn reason_in(
     ensures { result ≡ reason_in rules.now second (fields_of «fields».now) }
 {
     let dop = dop_in(fields, rules)?;
-    let class = word_in(fields, rules.class, rules);
+    let class = class_in(fields, rules);
     let fix_type = word_in(fields, rules.fix_type, rules);
     Ok(left_for(&rules.filters, class, dop, fix_type, second))
 }
@@ -133,7 +148,7 @@ fn fix_at(
         zone: zone_or_at(zone, at.degrees),
         is_used,
         is_of_sensor: is_of_sensor(&rules.filters, sensor_in(fields, rules)),
-        has_class: !word_in(fields, rules.class, rules).is_empty(),
+        has_class: !class_in(fields, rules).is_empty(),
         left_for,
     }
 }

@@ -6,13 +6,13 @@ ghost use Rattle.split_refusal.specs.Refused.{IsOfNoFix};
 use crate::animals::check_animals;
 use crate::clocks::tell_clock;
 use crate::exports::tell_exports;
-use crate::left::{LeftCounts, tell_filters};
+use crate::left::{LeftCounts, none_left_text, tell_filters};
 use crate::rows::taken_fix;
 use crate::said::Said;
 use crate::seconds::check_seconds;
 use crate::sensors::{check_classes, check_sensors};
 use crate::sheet::Sheet;
-use crate::stop::{Stop, nothing_left, refusal_of, refused};
+use crate::stop::{Stop, refusal_of, refused};
 use crate::words::push;
 use range_plane::OutOfMemory;
 use split_reading::{Ledger, Row, Told};
@@ -106,7 +106,7 @@ fn check(alloc: Global, said: &mut Said, sheet: &Sheet<'_>, ledger: &Ledger) -> 
     check_classes(alloc, said, sheet, ledger, &left)?;
     tell_filters(alloc, said, sheet, &left)?;
     if ledger.rows.iter().all(|row| taken_fix(row).is_none()) {
-        return Err(nothing_left(alloc));
+        return Err(refused(alloc, Kind::Empty, None, none_left_text(alloc, &left)));
     }
     Ok(())
 }

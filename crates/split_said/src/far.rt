@@ -15,7 +15,7 @@ use std::alloc::{AllocError, Global};
 const IN_KILOMETRES: u64 = 10_000;
 
 // Appends a distance: in metres, and a great one in whole kilometres, the nearest.
-fn push_distance(text: &mut Vec<u8>, metres: u64) -> Result<(), AllocError> {
+pub(crate) fn push_distance(text: &mut Vec<u8>, metres: u64) -> Result<(), AllocError> {
     if metres < IN_KILOMETRES {
         push_grouped(text, metres)?;
         return push(text, " m");

@@ -4,6 +4,7 @@
 
 mod alike;
 mod animals;
+mod apart;
 mod check;
 mod clocks;
 mod degrees;

@@ -38,51 +38,79 @@ const MOST_LATITUDE: u64 = 90_000_000_000_000;
 // How many trillionths a degree has.
 const TRILLION: u64 = 1_000_000_000_000;
 
+// Whether a longitude is none, even once round.
+fn is_no_longitude(longitude: i64) -> bool {
+    MOST_LONGITUDE < longitude.unsigned_abs()
+}
+
+// Whether a latitude is none.
+fn is_no_latitude(latitude: i64) -> bool {
+    MOST_LATITUDE < latitude.unsigned_abs()
+}
+
 // The longitude and latitude of a fix that is kept and that are those of no place.
 fn no_place(row: &Row, keeps_marks: bool) -> Option<(i64, i64)> {
     let (longitude, latitude) = kept_fix(row, keeps_marks)?.degrees?;
-    let is_place = longitude.unsigned_abs() <= MOST_LONGITUDE
-        && latitude.unsigned_abs() <= MOST_LATITUDE;
-    if is_place {
-        None
-    } else {
+    if is_no_longitude(longitude) || is_no_latitude(latitude) {
         Some((longitude, latitude))
+    } else {
+        None
     }
 }
+
+// From how many trillionths of a degree on the number of them is that of all that are more.
+const MANY: u64 = 1_000_000_000_000_000_000;
 
 // Appends degrees.
 fn push_degrees(text: &mut Vec<u8>, degrees: i64) -> Result<(), AllocError> {
     if degrees < 0 {
         push(text, "-")?;
     }
-    push_decimal(text, degrees.unsigned_abs(), TRILLION)
+    push_decimal(text, degrees.unsigned_abs(), TRILLION)?;
+    if degrees.unsigned_abs() < MANY {
+        return Ok(());
+    }
+    push(text, " or more")
+}
+
+// Whether a longitude and a latitude may be each other.
+fn may_be_swapped(longitude: i64, latitude: i64) -> bool {
+    longitude.unsigned_abs() <= MOST_LATITUDE && latitude.unsigned_abs() <= MOST_LONGITUDE / 2
+}
+
+// Appends what to do about a longitude and a latitude of no place.
+fn push_remedy(text: &mut Vec<u8>, longitude: i64, latitude: i64) -> Result<(), AllocError> {
+    if may_be_swapped(longitude, latitude) {
+        let swapped = ": are their columns to be named the other way, by --lon and --lat?";
+        return push(text, swapped);
+    }
+    let are_two = longitude != latitude;
+    if are_two && is_no_longitude(longitude) && is_no_latitude(latitude) {
+        let metres =
+            ": coordinates in metres are named by --easting and --northing, and a word for what is missing by --na";
+        return push(text, metres);
+    }
+    push(text, ": a word for what is missing is named by --na")?;
+    let odd = if is_no_longitude(longitude) {
+        longitude
+    } else {
+        latitude
+    };
+    if MANY <= odd.unsigned_abs() {
+        return Ok(());
+    }
+    push(text, ", such as --na ")?;
+    push_degrees(text, odd)
 }
 
 // That a longitude and a latitude are those of no place.
-fn no_place_text(
-    alloc: Global,
-    longitude: i64,
-    latitude: i64,
-    is_swapped: bool,
-) -> Result<Vec<u8>, AllocError> {
+fn no_place_text(alloc: Global, longitude: i64, latitude: i64) -> Result<Vec<u8>, AllocError> {
     let mut text = Vec::new(alloc);
     push(&mut text, "there is no place of longitude ")?;
     push_degrees(&mut text, longitude)?;
     push(&mut text, " and latitude ")?;
     push_degrees(&mut text, latitude)?;
-    if is_swapped {
-        push(
-            &mut text,
-            ": are their columns to be named the other way, by --lon and --lat?",
-        )?;
-        return Ok(text);
-    }
-    push(
-        &mut text,
-        ": a word for what is missing is named by --na, such as --na ",
-    )?;
-    let is_far = MOST_LONGITUDE < longitude.unsigned_abs();
-    push_degrees(&mut text, if is_far { longitude } else { latitude })?;
+    push_remedy(&mut text, longitude, latitude)?;
     Ok(text)
 }
 
@@ -90,9 +118,7 @@ fn no_place_text(
 fn check_places(alloc: Global, sheet: &Sheet<'_>, rows: &[Row]) -> Result<(), Stop> {
     for (index, row) in rows.iter().enumerate() {
         if let Some((longitude, latitude)) = no_place(row, sheet.keeps_marks) {
-            let is_swapped = longitude.unsigned_abs() <= MOST_LATITUDE
-                && latitude.unsigned_abs() <= MOST_LONGITUDE / 2;
-            let text = no_place_text(alloc, longitude, latitude, is_swapped);
+            let text = no_place_text(alloc, longitude, latitude);
             return Err(refused(alloc, Kind::Number, Some(record_at(index)), text));
         }
     }

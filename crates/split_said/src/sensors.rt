@@ -10,6 +10,7 @@ use range_plane::OutOfMemory;
 use split_filters::ARGOS;
 use split_reading::{Ledger, Row, Told, ToldFix};
 use split_refusal::Kind;
+use split_titles::comes_to;
 use split_tracks::Reason;
 use std::alloc::{AllocError, Global};
 
@@ -111,7 +112,7 @@ fn has_sensor(ledger: &Ledger, counts: &[usize], sensor: &[u8]) -> bool {
         .sensors
         .iter()
         .zip(counts)
-        .any(|(own, count)| *count > 0 && own.as_slice() == sensor)
+        .any(|(own, count)| *count > 0 && comes_to(own, sensor))
 }
 
 // That no fix is of this sensor.

@@ -50,6 +50,23 @@ fn falls_of(alloc: Global, fates: &[Fate], animals: usize) -> Result<Vec<Falls>,
     Ok(all)
 }
 
+// How many entries of a track have parts of a second.
+fn with_parts(track: &[Entry]) -> usize {
+    track
+        .iter()
+        .filter(|entry| entry.moment.nanosecond > 0)
+        .count()
+}
+
+// How many times of all tracks do.
+fn times_with_parts(herd: &Herd<'_>) -> usize {
+    let mut count = 0usize;
+    for animal in herd.order {
+        count = count.saturating_add(with_parts(herd.track(*animal)));
+    }
+    count
+}
+
 // How many entries of a track have the second of the one before, and how many of these its place too.
 fn same_seconds(track: &[Entry]) -> (usize, usize) {
     let mut seconds = 0usize;
@@ -93,13 +110,19 @@ fn same_text(alloc: Global, name: &[u8], places: usize) -> Result<Vec<u8>, Alloc
     Ok(text)
 }
 
-// Says of each animal how many of its records were not in the order of time, and how many have the second of the one before.
+// Says of how many times parts of a second are cut off; and of each animal how many of its records were not in the order of time,
+// and how many have the second of the one before.
 pub(crate) fn tell_times(
     alloc: Global,
     said: &mut Said,
     herd: &Herd<'_>,
     fates: &[Fate],
 ) -> Result<(), OutOfMemory> {
+    said.say_counted(
+        alloc,
+        times_with_parts(herd),
+        b"times have parts of a second: taken by whole seconds, also by filters",
+    )?;
     let all = falls_of(alloc, fates, herd.tracks.len())?;
     for animal in herd.order {
         let name = herd.name(*animal);

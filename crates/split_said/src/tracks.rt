@@ -3,6 +3,7 @@
 ghost use Rattle.std.specs.Prelude.{IfErr};
 ghost use Rattle.split_refusal.specs.Refused.{IsOfNoFix};
 
+use crate::apart::ask_apart;
 use crate::extent::tell_columns;
 use crate::far::ask_far_fixes;
 use crate::figures::push_two_digits;
@@ -250,6 +251,7 @@ fn tell_last(
     }
     tell_unfit(alloc, said, herd)?;
     ask_far_fixes(alloc, said, herd, sheet)?;
+    ask_apart(alloc, said, herd, sheet.unit)?;
     if !grid.is_projected {
         check_metres(alloc, said, herd, sheet.unit)?;
     }

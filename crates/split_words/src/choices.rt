@@ -5,7 +5,7 @@ use crate::fault::WordFault;
 use crate::values::{full_list_of, refused_value};
 use clap::ArgMatches;
 use split_clock::Clock;
-use split_filters::Filters;
+use split_filters::{Filters, class_name, sensor_name};
 use split_numbers::trillionths;
 use split_pace::{Speed, length_of, speed_of};
 use std::alloc::Global;
@@ -85,6 +85,24 @@ fn list_with_none<'a>(
     Ok(words)
 }
 
+// Sensors, by their names.
+fn sensors_of<'a>(alloc: Global, value: Option<&'a str>) -> Result<Vec<&'a [u8]>, WordFault> {
+    let mut sensors = list_with_none(alloc, "sensor", value)?;
+    for sensor in sensors.iter_mut() {
+        *sensor = sensor_name(*sensor);
+    }
+    Ok(sensors)
+}
+
+// Classes of Argos, by their names.
+fn classes_of<'a>(alloc: Global, value: Option<&'a str>) -> Result<Vec<&'a [u8]>, WordFault> {
+    let mut classes = list_with_none(alloc, "argos-class", value)?;
+    for class in classes.iter_mut() {
+        *class = class_name(*class);
+    }
+    Ok(classes)
+}
+
 // The greatest dilution of precision.
 fn dop_of(alloc: Global, value: Option<&str>) -> Result<Option<i64>, WordFault> {
     let Some(text) = value else {
@@ -152,8 +170,8 @@ pub(crate) fn choices_of<'a>(
     matches: &ArgMatches<'a>,
 ) -> Result<Choices<'a>, WordFault> {
     Ok(Choices {
-        sensors: list_with_none(alloc, "sensor", matches.get_str("sensor"))?,
-        classes: list_with_none(alloc, "argos-class", matches.get_str("argos-class"))?,
+        sensors: sensors_of(alloc, matches.get_str("sensor"))?,
+        classes: classes_of(alloc, matches.get_str("argos-class"))?,
         class_words: matches.get_str("argos-class").unwrap_or(""),
         types: full_list_of(alloc, "fix-type", matches.get_str("fix-type"))?,
         type_words: matches.get_str("fix-type").unwrap_or(""),

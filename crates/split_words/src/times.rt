@@ -4,7 +4,7 @@ use crate::fault::{WordFault, refused};
 use split_clock::is_zone_name;
 use split_refusal::{Kind, Refusal};
 use split_times::{FORM_LIMIT, FormFault, Forms};
-use std::alloc::Global;
+use std::alloc::{AllocError, Global};
 
 // The first form of several that is none.
 fn wrong_form(forms: &str) -> &str {
@@ -38,14 +38,69 @@ fn refused_forms(alloc: Global, forms: &str, fault: FormFault) -> WordFault {
     }
 }
 
+// What a form has behind its last sign, and the blanks there.
+fn tail_of(form: &[u8]) -> &[u8] {
+    match form.rsplit(|byte| *byte == b'%').next() {
+        Some([_sign, tail @ ..]) => tail.trim_ascii(),
+        _ => b"",
+    }
+}
+
+// Whether a text is UTC, or no offset from it.
+fn is_utc(text: &[u8]) -> bool {
+    let names = [b"Z".as_slice(), b"UTC", b"GMT", b"+00:00", b"+0000", b"+00"];
+    names.iter().any(|name| *name == text)
+}
+
+// Whether a text may be a zone of time: three letters or more, all of them great, or an offset.
+fn may_be_zone(text: &[u8]) -> bool {
+    match text {
+        [b'+' | b'-', digits @ ..] => digits.iter().any(u8::is_ascii_digit),
+        _ => text.len() >= 3 && text.iter().all(u8::is_ascii_uppercase),
+    }
+}
+
+// Why a form has what times have of a zone: it says another one than times are read in, or none is named.
+fn zone_words(
+    alloc: Global,
+    form: &str,
+    zone_name: Option<&str>,
+) -> Result<Option<String>, AllocError> {
+    let tail = tail_of(form.as_bytes());
+    let words = match zone_name {
+        Some(name) if is_utc(tail) && name != "UTC" => format!(in alloc;
+            "time-format is '{form}', which ends with UTC, and tz is '{name}': leave one of them out"
+        )?,
+        None if may_be_zone(tail) && !is_utc(tail) => format!(in alloc;
+            "time-format is '{form}', which may end with a zone of time, and no form has one: name it, as by --tz Europe/Ljubljana"
+        )?,
+        _ => return Ok(None),
+    };
+    Ok(Some(words))
+}
+
+// Refuses forms that say another zone than times are read in, or one that is not named.
+fn refuse_zones(alloc: Global, forms: &str, zone_name: Option<&str>) -> Result<(), WordFault> {
+    for form in forms.split('|') {
+        match zone_words(alloc, form, zone_name) {
+            Ok(None) => {}
+            Ok(Some(words)) => return Err(refused(alloc, Kind::Option, words.as_str())),
+            Err(_) => return Err(WordFault::OutOfMemory),
+        }
+    }
+    Ok(())
+}
+
 // The forms of times, if they were named.
 pub(crate) fn forms_in<'a>(
     alloc: Global,
     value: Option<&'a str>,
+    zone_name: Option<&str>,
 ) -> Result<Option<Forms<'a>>, WordFault> {
     let Some(text) = value else {
         return Ok(None);
     };
+    refuse_zones(alloc, text, zone_name)?;
     match Forms::new(text.as_bytes()) {
         Ok(forms) => Ok(Some(forms)),
         Err(fault) => Err(refused_forms(alloc, text, fault)),

@@ -95,7 +95,7 @@ fn words_in<'a>(alloc: Global, matches: &ArgMatches<'a>) -> Result<Words<'a>, Wo
         text: text_words(alloc, matches)?,
         header: header_in(alloc, texts.header)?,
         columns: columns_of(alloc, matches, &texts)?,
-        forms: forms_in(alloc, texts.time_format)?,
+        forms: forms_in(alloc, texts.time_format, matches.get_str("tz"))?,
         form_words: texts.time_format.unwrap_or(""),
         zone_name: zone_name_in(alloc, matches.get_str("tz"))?,
         missing: missing_words(alloc, texts.na)?,

@@ -113,16 +113,18 @@ fn sensors_are_in_the_order_of_first_records(rt: HostRuntime) -> Result<(), Fail
             fox,2,1,2,NA\n\
             fox,3,1,2,\n\
             fox,4,1,2,gps\n\
-            fox,5,1,2, gps\n\
-            fox,6,1,2,radio-transmitter\n",
-        "[fox] | [gps][radio-transmitter][][ gps] \
+            fox,5,1,2, GPS\n\
+            fox,6,1,2,673\n\
+            fox,7,1,2,WiFi\n",
+        "[fox] | [gps][radio-transmitter][][WiFi] \
             | 0/0 0: 1 2\
             ; 0/1: no coordinates\
             ; 0/2 2: 1 2\
             ; 0/2 3: 1 2\
             ; 0/0 4: 1 2\
-            ; 0/3 5: 1 2\
-            ; 0/1 6: 1 2",
+            ; 0/0 5: 1 2\
+            ; 0/1 6: 1 2\
+            ; 0/3 7: 1 2",
     )
 }
 

@@ -11,6 +11,7 @@ import pandas
 
 from ..errors import UNPRINTABLE, refuse
 from ..read.cells import cells_of, odd_row, row_named
+from ..read.changes import with_named_levels
 from ..read.fixes import Fixes
 from ..read.reading import ReadTable
 from .outer import Track
@@ -68,13 +69,16 @@ def labels_of(table: ReadTable, by: Any) -> list[str]:
     """The group of each fix. Values that were given beside a frame go by its rows."""
     fixes, labels = table.fixes, table.fixes.index
     if is_period(by):
-        if by in (fixes if table.frame is None else table.frame):
+        if by in with_named_levels(fixes if table.frame is None else table.frame):
             refuse(f"by={by!r} is a period of the calendar, and a column too: by=fixes[{by!r}] takes the column")
         return periods(fixes, by)
     if isinstance(by, str):
-        if [*fixes.columns].count(by) != 1:
+        rows = with_named_levels(fixes)
+        if [*rows.columns].count(by) > 1:
+            refuse(f"by: there are two columns {by!r}: rename one", "ambiguous")
+        if by not in rows:
             refuse(f"by: there is no column {by!r}, and it is none of {', '.join(map(repr, PERIODS))}", "columns")
-        return given(fixes[by], labels)
+        return given(rows[by], labels)
     if callable(by) or table.frame is None or table.rows is None:
         return given(values_for(by(fixes) if callable(by) else by, fixes), labels)
     return given(values_for(by, table.frame).iloc[table.rows], labels)

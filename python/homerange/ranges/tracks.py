@@ -16,7 +16,8 @@ import pandas
 from numpy.typing import NDArray
 
 from ..errors import FrameError, ReportError
-from ..read.fixes import PLACES, Fixes, reading_of
+from ..read.changes import PLACES
+from ..read.fixes import Fixes, reading_of
 from ..report import Report, polygon_of
 from ..units import UNITS, Unit
 from .outer import Track, outer_fixes

@@ -2,7 +2,6 @@
 
 from __future__ import annotations
 
-import hashlib
 import html
 from collections import Counter
 from dataclasses import dataclass, field, replace
@@ -13,20 +12,14 @@ import pandas
 from ..errors import refuse
 from ..zones import crs_of, text_of_crs
 from .cells import IANA, zone_name
-from .text import plain
+from .changes import PLACES, Seen, left_since, own_titles, title_of_time
 
 if TYPE_CHECKING:
     import geopandas
 
-PLACES = ("easting", "northing")
 SHOWN = 12  # lines of what is asked that are shown
-# Usual titles of what says which fixes count, or where they are, by which columns that were added to fixes are judged too.
-JUDGED = {
-    "lc", "class", "loc-class", "locationclass", "argos-loc-class", "argos-location-class", "argos-lc", "argos-class", "loc--quality",
-    "location-quality", "location-class", "outlier", "outliers", "is-outlier", "isoutlier", "valid", "is-valid", "isvalid",
-    "event-visible", "sensor-type", "sensor-type-id", "utm-zone", "zone", "utmzone", "utm-zone-number", "zone-number", "zonenumber",
-    "zone-letter", "zoneletter", "grid-zone", "epsg", "epsg-code", "srid", "crs"}
-MARKS = {"use", "visible", "manually-marked-outlier", "algorithm-marked-outlier", "import-marked-outlier", "manually-marked-valid"}
+UNNAMED = "animal"  # the animal of a table that does not say which it is
+SAID_OF_NONE = f"no column has a usual title for the animal: all fixes are of one, named {UNNAMED}"
 
 
 @dataclass(frozen=True)
@@ -34,7 +27,8 @@ class Reading:
     """How fixes were read: the unit to which coordinates were rounded, their zone and reference system (None where it is not
     known), the zone of their times, how many metres the program added to coordinates, what was said, how many fixes were left
     out by animal and reason, how many fixes each animal had, the names that files have of animals, the record that the program
-    wrote, the checksum of the rows that were read, and the titles of their table."""
+    wrote, the checksum of the rows that were read, the titles of their table and of those of its columns that were read, and what
+    tells each fix."""
 
     unit: str
     zone: str | None
@@ -50,6 +44,8 @@ class Reading:
     parts: tuple[Reading, ...] = ()  # of which they were bound
     is_again: bool = False  # whether it is of fixes that were read before, and changed
     titles: frozenset[str] = frozenset()
+    sources: frozenset[str] = frozenset()
+    seen: Seen | None = field(default=None, compare=False, repr=False)
 
     @property
     def system(self) -> Any:
@@ -76,6 +72,30 @@ def bound(readings: Iterable[Reading]) -> Reading:
         record=None, rows=None, parts=tuple(parts), titles=frozenset(title for part in parts for title in part.titles))
 
 
+def reading_of_bound(own: Sequence[Fixes], rows: int) -> Reading | None:
+    """How fixes were read that were bound to so many rows; None where others are among them, or others beside them."""
+    known = [each.reading for each in own if each.reading is not None]
+    if not known or len(known) < len(own):
+        return None
+    if sum(map(len, own)) == rows:
+        refuse_unnamed(own)
+        return bound(known)
+    is_beside = all(len(each) == rows and each.reading == known[0] for each in own)
+    return known[0] if is_beside else None
+
+
+def refuse_unnamed(own: Iterable[Fixes]) -> None:
+    """Refuses to make one animal of those of several readings, of which one is named so because its table has no column of the
+    animal."""
+    several = [each.reading for each in own if is_of_fixes(each) and (each["animal"] == UNNAMED).any()]
+    readings = [[part for part in reading.parts or (reading,) if UNNAMED in part.counts] for reading in several if reading is not None]
+    every = [part for parts in readings for part in parts]
+    are_several = len({part.rows for part in every}) > max(map(len, readings), default=0)
+    if are_several and any(SAID_OF_NONE in part.notes for part in every):
+        refuse(f"animal {UNNAMED} is in two of them, whose tables do not say which animal it is: name each, as by name='Fox' of "
+               "read_fixes, or keep the column of the animal")
+
+
 def check_alike(parts: Sequence[Reading]) -> None:
     """Refuses fixes that cannot be bound to each other."""
     facts: dict[str, list[str | None]] = {
@@ -92,7 +112,7 @@ class Fixes(pandas.DataFrame):
     ``easting`` and ``northing`` in metres; and the other columns of the frame that was read.
 
     They are a data frame: choose rows, sort them and bind them by pandas, and hand them to ``home_range``. ``reading`` has how
-    they were read. Without one of their columns nothing is known of them.
+    they were read. What pandas makes of them keeps it, also without one of their columns, which ``home_range`` wants back.
     """
 
     _metadata = ["reading"]
@@ -103,11 +123,8 @@ class Fixes(pandas.DataFrame):
         return self._made
 
     def _made(self, *data: Any, **words: Any) -> pandas.DataFrame:
-        """A frame of this one's data, which is one of fixes as long as it has their columns."""
-        frame = pandas.DataFrame(*data, **words)
-        if not is_of_fixes(frame):
-            return frame
-        fixes = Fixes(frame)
+        """A frame of this one's data."""
+        fixes = Fixes(*data, **words)
         fixes.reading = self.reading
         return fixes
 
@@ -116,10 +133,7 @@ class Fixes(pandas.DataFrame):
         super().__finalize__(other, method=method, **words)
         if method == "concat":
             several: Any = getattr(other, "objs", None) or getattr(other, "input_objs", ())
-            own = [each for each in several if isinstance(each, Fixes)]
-            known = [each.reading for each in own if each.reading is not None]
-            is_whole = sum(map(len, own)) == len(self) or len(own) == 1 and len(own[0]) == len(self)
-            self.reading = bound(known) if known and is_whole and len(known) == len(own) else None
+            self.reading = reading_of_bound([each for each in several if isinstance(each, Fixes)], len(self))
         return self
 
     def left_out(self) -> pandas.DataFrame:
@@ -139,58 +153,32 @@ class Fixes(pandas.DataFrame):
 
     def __repr__(self) -> str:
         table = str(super().__repr__())
-        return f"{told(self)}\n\n{table}" if is_known(self) else table
+        return f"{told(self)}\n\n{table}" if is_of_classes(self) else table
 
     def _repr_html_(self) -> str | None:
         table = super()._repr_html_()
-        return f"<pre>{html.escape(told(self))}</pre>\n{table}" if is_known(self) else table
+        return f"<pre>{html.escape(told(self))}</pre>\n{table}" if is_of_classes(self) else table
 
 
 def is_of_fixes(frame: pandas.DataFrame) -> bool:
     """Whether a frame has each column of fixes once."""
     columns = [*frame.columns]
-    return all(columns.count(title) == 1 for title in ("animal", *PLACES)) and (
-        columns.count("time") + columns.count("second") >= 1)
-
-
-def title_of_time(fixes: pandas.DataFrame) -> str:
-    """The title of the times of fixes."""
-    return "time" if "time" in fixes else "second"
-
-
-def rows_of_fixes(fixes: Fixes) -> pandas.DataFrame:
-    """The rows of fixes as the program may read them again: animals, times, places, marks that say which are used, and what was
-    added since they were read that says which count, or where they are."""
-    titles = frozenset() if fixes.reading is None else fixes.reading.titles
-    marks = [at for at, title in enumerate(fixes.columns) if plain(str(title)) in MARKS
-             or str(title) not in titles and plain(str(title)) in JUDGED]
-    own = [[*fixes.columns].index(title) for title in ("animal", title_of_time(fixes), *PLACES)]
-    return pandas.DataFrame(fixes).iloc[:, [*own, *marks]]
-
-
-def checksum_of_rows(fixes: Fixes) -> str:
-    """A checksum of such rows, in their order; none of marks that are lists, which the program did not take."""
-    rows = rows_of_fixes(fixes)
-    try:
-        hashes = pandas.util.hash_pandas_object(rows, index=False)
-    except TypeError:
-        return ""
-    return hashlib.sha256(repr([*rows.columns]).encode("utf-8", "surrogatepass") + hashes.to_numpy().tobytes()).hexdigest()
-
-
-def gone_since(fixes: Fixes) -> dict[str, int]:
-    """How many fixes of each animal were taken away since they were read. Of no animal are those of which it is not known, since
-    animals were named otherwise."""
-    read, there = reading_of(fixes).counts, Counter[str](fixes["animal"].tolist())
-    if all(there[name] <= read.get(name, 0) for name in there):
-        return {name: count - there[name] for name, count in read.items() if count > there[name]}
-    gone = sum(read.values()) - len(fixes)
-    return {"": gone} if gone > 0 else {}
+    return all(columns.count(title) == 1 for title in own_titles(frame))
 
 
 def is_known(fixes: Fixes) -> bool:
     """Whether a frame has the columns of fixes, and it is known how they were read."""
     return fixes.reading is not None and is_of_fixes(fixes)
+
+
+def is_of_classes(fixes: Fixes) -> bool:
+    """Whether a frame has the columns of fixes with values such as they have, and it is known how they were read."""
+    if not is_known(fixes):
+        return False
+    types, numbers, when = pandas.api.types, [fixes[title].dtype for title in PLACES], fixes[title_of_time(fixes)].dtype
+    has_moments = isinstance(when, pandas.DatetimeTZDtype) if "time" in fixes else types.is_numeric_dtype(when)
+    are_numbers = all(types.is_numeric_dtype(kind) and not types.is_bool_dtype(kind) for kind in numbers)
+    return has_moments and are_numbers and types.infer_dtype(fixes["animal"], skipna=True) in ("string", "categorical", "empty")
 
 
 def reading_of(fixes: Fixes) -> Reading:
@@ -215,8 +203,8 @@ def told(fixes: Fixes) -> str:
         totals[reason] += count
     if totals:
         lines.append(f"left out: {', '.join(f'{count} {reason}' for reason, count in totals.items())}")
-    gone = sum(reading.counts.values()) - len(fixes)
-    if gone > 0:
+    gone = sum(left_since(fixes, reading).values()) - sum(reading.left.values())
+    if gone:
         lines.append(f"not chosen: {gone} of {sum(reading.counts.values())} fixes that were read")
     return "\n".join([*lines, *questions[:SHOWN]])
 

@@ -22,11 +22,13 @@ from ..record import Record, read_record
 from ..units import UNITS, zone_text
 from ..zones import crs_of, text_of_crs
 from .call import as_arguments, split_table
-from .fixes import PLACES, Fixes, Reading, checksum_of_rows, clock_of, gone_since, is_known, reading_of, rows_of_fixes
+from .cells import cells_of
+from .changes import PLACES, checksum_of_rows, judged_rows, left_since, own_titles, refuse_changed, refuse_unread, seen, with_named_levels
+from .fixes import Fixes, Reading, clock_of, is_known, reading_of
 from .refusals import COLUMNS, check_cells, columns_read, refuse_text, steps_said
-from .systems import crs_named, options_of, refuse_zone, scale_said
+from .systems import are_degrees, crs_named, options_of, refuse_zone, scale_said
 from .text import (
-    NAME, Text, frame_given, has_times, in_own_words, text_of_frame, with_time_named, without_clock, write_text, zones_in)
+    NAME, Text, frame_given, has_times, in_own_words, plain, text_of_frame, with_clock_of, with_time_named, write_text, zones_in)
 from .tracks import NAMED, Whole, left_out, own_names, read_tracks, rows_of
 from .words import words_of_options
 
@@ -38,6 +40,8 @@ TAKEN = ("columns: ", "UTM coordinates are", "coordinates are those", "longitude
 
 # Options that want columns of fixes beside their own.
 OF_COLUMNS = {"animal", "time", "easting", "northing", "lon", "lat", "argos", "argos_class", "dop", "max_dop", "fix", "fix_type", "sensor"}
+OWN = ("animal", "time", "second", *PLACES)  # titles that fixes have
+OFFSET = re.compile("(Z|[+-][0-9]{2}:?[0-9]{2})$")  # of a text of a time
 RECORDS = re.compile(r"(?<=: )records ([0-9]+(?:, [0-9]+)*)(?=,? ?[.:]|$)")  # in what is said
 
 
@@ -63,7 +67,7 @@ def read_fixes(x: Any, *, program: str | os.PathLike[str] | None = None, **optio
 
     x: a file, such as an export of Movebank or of a collar, text or GPX; or a data frame of pandas with a row for each fix; or
         a GeoDataFrame of points, or a trajectory or a collection of movingpandas; or fixes that were read before, which keep the
-        unit, the zone and the clock that they have unless these are named.
+        unit and the zone that they have, and the clock unless another is named.
     options: those of homerange-split, with _ for hyphens (``from_`` for from): unit, zone, crs, animal, name, time, time_format,
         tz, easting, northing, lon, lat, argos, dop, fix, skip_unnamed, sensor, argos_class, max_dop, fix_type, since, until,
         max_speed, every, na and from_; and of files encoding, skip_lines and header. docs/TABLES.md says what each does, and how
@@ -80,7 +84,8 @@ def read_fixes(x: Any, *, program: str | os.PathLike[str] | None = None, **optio
         is_read = isinstance(x, Fixes) and is_known(x)
         table = read_again(x, options, Path(folder), program) if is_read else read_table(x, options, Path(folder), program)
     tell(table.said)
-    table.fixes.reading = replace(reading_of(table.fixes), rows=checksum_of_rows(table.fixes))
+    own = reading_of(table.fixes)
+    table.fixes.reading = replace(own, rows=checksum_of_rows(table.fixes, own.titles), seen=seen(table.fixes, own.sources))
     return table.fixes
 
 
@@ -100,9 +105,10 @@ def read_table(
 
 
 def refuse_part(x: Any) -> None:
-    """Refuses fixes without one of their columns, of which nothing is known any more."""
-    if isinstance(x, Fixes) and x.reading is not None:
-        gone = next((title for title in ("animal", "time", *PLACES) if title not in x), "time")
+    """Refuses fixes without one of their columns, of which nothing is known any more. Columns that are there twice the program
+    refuses."""
+    if isinstance(x, Fixes) and x.reading is not None and not {*own_titles(x)} <= {*x.columns}:
+        gone = next(title for title in ("animal", "time", *PLACES) if title not in x)
         refuse(f"these fixes have no column {gone!r} any more: give it back, as by reset_index() or rename(), or read "
                "pandas.DataFrame(fixes) as a new table", "columns")
 
@@ -115,19 +121,21 @@ def read_again(fixes: Fixes, options: Mapping[str, Any], folder: Path, program: 
     words_of_options({**wishes, "crs": None})
     if not len(fixes):
         refuse("no fix is left", "empty")
-    if "time" in fixes and has_times(fixes["time"]) and None in zones_in(fixes["time"]):
-        refuse(f"the times of fixes have no zone any more: give them one, as by fixes['time'].dt.tz_localize({before.tz!r})", "time")
-    if before.rows == checksum_of_rows(fixes) and not wishes:
+    if "time" in fixes:
+        refuse_without_zone(fixes["time"], before.tz)
+    if before.rows == checksum_of_rows(fixes, before.titles) and not wishes:
+        refuse_changed(fixes, before)
         return ReadTable(fixes)
     refuse_system(before, wishes)
-    system: dict[str, Any] = {"zone": before.zone} if before.crs is None else {"crs": before.crs}
-    known = {"unit": before.unit, **({} if {"zone", "crs"} & {*wishes} else system), "tz": clock_of(fixes)}
-    rows = pandas.DataFrame(fixes) if {*wishes} & OF_COLUMNS else rows_of_fixes(fixes)
-    text = text_of_frame(rows.reset_index(drop=True), {**known, **wishes})
-    found = read_text(text._replace(labels=fixes.index), folder, find_split_program(program), has_columns)
+    found = read_text(text_again(fixes, before, wishes), folder, find_split_program(program), has_columns)
     own = reading_of(found.fixes)
-    new = [note for note in own.notes if note not in before.notes and not note.startswith(TAKEN)]
-    own = replace(own, notes=(*before.notes, *new), left=left_of_both(before, own, fixes), is_again=True, titles=before.titles)
+    refuse_unread(fixes, before, own.sources)
+    refuse_changed(fixes, before, own.sources)
+    further = fixes.loc[:, [title not in OWN for title in fixes.columns]]
+    lost = [] if found.rows is None else lost_said(further, before.sources)
+    new = [note for note in (*own.notes, *lost) if note not in before.notes and not note.startswith(TAKEN)]
+    own = replace(own, notes=(*before.notes, *new), left=left_since(fixes, before) + Counter(own.left), is_again=True, titles=before.titles,
+                  sources=before.sources)
     table = found.fixes if found.rows is None else with_columns(found.fixes, fixes, found.rows)
     zone = getattr(fixes["time"].dtype, "tz", None) if "time" in fixes and "tz" not in wishes else None
     if zone is not None and "time" in table:
@@ -136,8 +144,38 @@ def read_again(fixes: Fixes, options: Mapping[str, Any], folder: Path, program: 
     return ReadTable(table, new, fixes, found.rows)
 
 
+def refuse_without_zone(times: pandas.Series, zone: str) -> None:
+    """Refuses times of fixes that have no zone any more, as date-times, days or text."""
+    own = "fixes['time']"
+    if has_times(times):
+        has_none = None in zones_in(times)
+    else:
+        is_text = pandas.api.types.infer_dtype(times, skipna=True) in ("string", "date", "categorical")
+        has_none, own = is_text and any(cell and not OFFSET.search(cell) for cell in cells_of(times)), f"pandas.to_datetime({own})"
+    if has_none:
+        refuse(f"the times of fixes have no zone any more: give them one, as by {own}.dt.tz_localize({zone!r})", "time")
+
+
+def text_again(fixes: Fixes, before: Reading, wishes: Mapping[str, Any]) -> Text:
+    """The text of fixes that are read again: of what they are judged by, or where an option looks at further columns of all."""
+    system: dict[str, Any] = {"zone": before.zone} if before.crs is None else {"crs": before.crs}
+    known = {"unit": before.unit, **({} if {"zone", "crs"} & {*wishes} else system), "tz": clock_of(fixes)}
+    if not {*wishes} & OF_COLUMNS:
+        return text_of_frame(judged_rows(fixes, before.titles), {**known, **wishes})._replace(labels=fixes.index)
+    rows, own = with_named_levels(fixes), own_titles(fixes)
+    known.update(zip(("animal", "time"), own))
+    # Places within 180 by 90 that are named would be refused as degrees.
+    if not {"lon", "lat", "easting", "northing"} & {*wishes} and not are_degrees(*(fixes[title] for title in PLACES)):
+        known.update(zip(PLACES, PLACES))
+        rows = rows.drop(columns=[title for title in rows.columns if str(title) in before.sources and plain(str(title)) == "utm-zone"])
+    return text_of_frame(rows, {**known, **wishes})._replace(labels=fixes.index)
+
+
 def refuse_system(before: Reading, wishes: Mapping[str, Any]) -> None:
-    """Refuses another zone or reference system for coordinates that have one."""
+    """Refuses another unit, and another zone or reference system for coordinates that have one."""
+    if wishes.get("unit") in {*UNITS} - {before.unit}:
+        refuse(f"these fixes are in whole {UNITS[before.unit].name}, which another unit does not change: read the table anew by "
+               "read_fixes")
     name = next((name for name in ("zone", "crs") if name in wishes), None)
     if name is None or before.system_text is None:
         return
@@ -145,15 +183,6 @@ def refuse_system(before: Reading, wishes: Mapping[str, Any]) -> None:
     if text_of_crs(wanted) != before.system_text:
         refuse(f"the coordinates of these fixes are of {before.zone or before.system_text}, which another {name} does not change: read "
                "the table anew by read_fixes", name)
-
-
-def left_of_both(before: Reading, again: Reading, fixes: Fixes) -> dict[tuple[str, str], int]:
-    """How many fixes were left out when they were read, were taken away since, and were left out when they were read again."""
-    gone = {(name, "chosen"): count for name, count in gone_since(fixes).items()}
-    found = Counter(before.left)
-    for left in (gone, again.left):
-        found.update(left)
-    return {key: count for key, count in found.items() if count}
 
 
 def read_file(path: Path, options: Mapping[str, Any], folder: Path, program: str) -> ReadTable:
@@ -179,7 +208,21 @@ def read_frame(frame: pandas.DataFrame, options: Mapping[str, Any], folder: Path
     found = read_text(text_of_frame(frame, options), folder, program, has_columns)
     if found.rows is None:
         return found._replace(frame=frame)
-    return found._replace(fixes=with_columns(found.fixes, frame, found.rows), frame=frame)
+    lost = lost_said(frame, reading_of(found.fixes).sources)
+    fixes = with_columns(found.fixes, frame, found.rows)
+    fixes.reading = replace(reading_of(fixes), notes=(*reading_of(fixes).notes, *lost))
+    return found._replace(fixes=fixes, frame=frame, said=reading_of(fixes).notes)
+
+
+def lost_said(frame: pandas.DataFrame, sources: frozenset[str]) -> list[str]:
+    """What is said of columns of a frame that its fixes do not have, and that were not read."""
+    rows = with_named_levels(frame)
+    titles = [str(title) for at, title in enumerate(rows.columns) if str(rows.iloc[:, at].dtype) != "geometry"]
+    rest = [title for title in dict.fromkeys(titles) if title not in sources]
+    own = [one_line(title) for title in rest if title in OWN]
+    twice = [one_line(title) for title in rest if title not in OWN and titles.count(title) > 1]
+    return [f"not in the fixes, {why}: {', '.join(several)}" for why, several in (
+        ("which have columns of these titles", own), ("since their titles are there twice", twice)) if several]
 
 
 def read_text(text: Text, folder: Path, program: str, has_rows: bool) -> ReadTable:
@@ -188,9 +231,11 @@ def read_text(text: Text, folder: Path, program: str, has_rows: bool) -> ReadTab
     record = read_record(folder / "tracks" / "split.txt")
     whole = read_tracks(folder / "tracks", record)
     check_cells(text, record)
-    notes = [*text.notes, *steps_said(text, record)]
+    notes = [*text.notes, *(text.clock or ()), *steps_said(text, record)]
     fixes = fixes_of(whole, record, folder, text.options.get("tz"), text.crs, notes, lambda line: said_of(line, text))
-    fixes.reading = replace(reading_of(fixes), titles=frozenset(column.title for column in text.columns))
+    titles, sources = (frozenset(in_own_words(column.title, text) for column in several)
+                       for several in (text.columns, columns_read(text, record)))
+    fixes.reading = replace(reading_of(fixes), titles=titles, sources=sources)
     return ReadTable(fixes, reading_of(fixes).notes, None, rows_of(folder / "tracks", whole) if has_rows else None)
 
 
@@ -200,10 +245,10 @@ def split_text(text: Text, folder: Path, program: str, words: Sequence[str]) -> 
         try:
             write_text(text, folder / NAME)
             split_table(NAME, "tracks", [*words, *words_of_options(text.options)], program, str(folder))
-            read = columns_read(text, read_record(folder / "tracks" / "split.txt"))
-            if not text.clock or any(in_own_words(column.title, text) in text.clock for column in read):
-                return text
-            text = without_clock(text)
+            own = with_clock_of(text, [*columns_read(text, read_record(folder / "tracks" / "split.txt"))])
+            if own.options == text.options:
+                return own
+            text = own
             shutil.rmtree(folder / "tracks")
         except FrameError as fault:
             text = with_time_named(text, str(fault)) or refuse_text(text, fault)
@@ -270,11 +315,12 @@ def dates_of(times: pandas.Series) -> pandas.Series:
 
 
 def with_columns(fixes: Fixes, frame: pandas.DataFrame, rows: NDArray[numpy.int64]) -> Fixes:
-    """The fixes with the other columns of their frame, and its labels where it has plain ones."""
-    titles = [*frame.columns]
-    at = [place for place, title in enumerate(titles) if str(frame.iloc[:, place].dtype) != "geometry"
-          and str(title) not in ("animal", "time", "second", *PLACES) and titles.count(title) == 1]
-    own = pandas.DataFrame(frame.iloc[rows, at]).reset_index(drop=True)
+    """The fixes with the other columns of their frame and the named levels of its index, and its labels where it has plain ones."""
+    columns = with_named_levels(frame)
+    titles = [*columns.columns]
+    at = [place for place, title in enumerate(titles) if str(columns.iloc[:, place].dtype) != "geometry"
+          and str(title) not in OWN and titles.count(title) == 1]
+    own = columns.iloc[rows, at].reset_index(drop=True)
     found = Fixes(pandas.concat([pandas.DataFrame(fixes), own], axis="columns"))
     if frame.index.nlevels == 1 and frame.index.name is None and not isinstance(frame.index, pandas.DatetimeIndex):
         found.index = frame.index.take(rows)

@@ -15,7 +15,7 @@ from ..record import Record
 from ..units import UNITS
 from .call import as_arguments
 from .cells import cell_of, is_missing, odd_row, row_named
-from .text import NAME, Column, Text, in_own_words, titles_named
+from .text import NAME, Column, Text, has_times, in_own_words, inner_type, titles_named, zones_in
 
 # What the program says of files, and what is said of frames in its place.
 OF_FILES = {re.compile("(?<=may stand before thousands): export without it"): ": make numbers of its column, if they are decimals",
@@ -31,6 +31,7 @@ def refuse_text(text: Text, fault: FrameError) -> NoReturn:
     """Refuses a text as the program did, with the row by its label, and with options as arguments. That of the program may name
     the text, which nobody knows, or the class of a cell."""
     said = str(fault).removeprefix(f"{NAME}: ")
+    refuse_form(text, [column for column in text.columns if said.startswith(f"{one_line(column.title)} is '")] if fault.kind == "time" else ())
     odd = [own for own in odd_cells(text.columns if "<" in said else ()) if f"<{own.kind}>" in said]
     if odd:
         refuse_class(text, [own for own in odd if own.title in said] or odd, fault.kind)
@@ -40,13 +41,66 @@ def refuse_text(text: Text, fault: FrameError) -> NoReturn:
 
 
 def with_remedy(said: str, text: Text) -> str:
-    """What the program says with what helps: for lengths of time, and for titles that no option can name."""
-    lengths = [column.title for column in text.columns if str(column.values.dtype).startswith("timedelta")]
-    if any(said.startswith(f"{title} is '") for title in lengths):
-        return re.sub(r": (if it is one|write|name)\b.*", ": make seconds of its lengths of time, as by .dt.total_seconds()", said)
+    """What the program says with what helps: for lengths of time, moments beside days, shapes, and titles that no option can name."""
+    length = next((column.title for column in text.columns if said.startswith(f"{column.title} is '") and has_lengths(column)), None)
+    if length is not None:
+        return re.sub(r": (if it is one|write|name)\b.*", f": {help_for_lengths(length, text)}", said)
+    if "both fit the time: " in said or "and not a time " in said:
+        return with_moments_alone(said, text)
+    if text.shapes is not None and said.startswith("there are no columns of usual titles"):
+        return (f"there are no columns of usual titles for coordinates, and {text.shapes} has shapes: make points of a GeoDataFrame "
+                f"of them, as by geopandas.GeoDataFrame(frame, geometry={text.shapes!r}, crs=..)")
     if "there is no column" in said and any(sign in column.title for column in text.columns for sign in ",|"):
         return f"{said}: rename columns whose titles have a comma or |"
     return said
+
+
+def has_lengths(column: Column) -> bool:
+    """Whether a column has lengths of time."""
+    return pandas.api.types.infer_dtype(column.values, skipna=True) in ("timedelta", "timedelta64")
+
+
+def help_for_lengths(title: str, text: Text) -> str:
+    """What helps where a column has lengths of time: alone they are seconds, and beside days parts of moments."""
+    if title in text.labels.names:
+        return "make a column of this level of the index first, as by frame.reset_index()"
+    named = titles_named(text.options.get("time"))
+    days = next((own for own in named if own != title), None)
+    if days is not None:
+        return (f"make moments of both, as by pandas.to_datetime(frame[{days!r}]) + pandas.to_timedelta(frame[{title!r}]), in a column "
+                "that time names alone")
+    return (f"make seconds of its lengths of time, as by pandas.to_timedelta(frame.pop({title!r})).dt.total_seconds(), in a column "
+            f"'second' in its place{', which time names' if named else ''}")
+
+
+def refuse_form(text: Text, columns: Iterable[Column]) -> None:
+    """Refuses a form of times for columns of moments, which have one form, unless several columns are joined."""
+    own = next((column for column in columns if has_times(column.values)), None)
+    if own is not None and text.options.get("time_format") is not None and len(titles_named(text.options.get("time"))) < 2:
+        refuse(f"time_format is for texts, and {in_own_words(one_line(own.title), text)!r} has moments: leave it out")
+
+
+def with_moments_alone(said: str, text: Text) -> str:
+    """What the program says of days and times that it joins, or would join, where they are more than days and clocks."""
+    both, named = re.search("'([^']*)' and column [0-9]+ '([^']*)' both fit the time: ", said), titles_named(text.options.get("time"))
+    titles = both.groups() if both else named if len(named) > 1 else ()
+    own = [column for column in text.columns if one_line(column.title) in titles]
+    moments = [column for column in own if has_times(column.values)]
+    whole = [column.title for column in moments if not are_midnights(column)]
+    days = [column.title for column in moments if None not in zones_in(column.values)]
+    if len(whole) == 1:
+        helps = f"{one_line(whole[0])} has moments: name it alone, as by --time {whole[0]!r}"
+    elif days and not whole:
+        helps = f"{one_line(days[0])} has moments: make days of it, as by .dt.date"
+    else:
+        are_full = len(whole) > 1 or all(pandas.api.types.infer_dtype(column.values, skipna=True) == "date" for column in own)
+        return said.split(", or both, as by ")[0] if are_full else said
+    return f"{re.sub(': (name one|if it is one|write|name) .*', '', said)}: {helps}"
+
+
+def are_midnights(column: Column) -> bool:
+    """Whether all moments of a column are midnights, of whatever zone."""
+    return all(time.time() == clock.time() for time in column.values.dropna().astype(object))
 
 
 def of_frame(said: str) -> str:
@@ -74,12 +128,15 @@ def refuse_class(text: Text, cells: Sequence[Odd], kind: str) -> NoReturn:
     """Refuses the first of cells that have no text."""
     first = min(cells, key=lambda own: own.at)
     what = f"{in_own_words(first.title, text)} is of the class {first.kind}, of which no cell is known"
-    refuse(f"{row_named(text.labels, first.at)}: {what}: make text, numbers or times of it", kind, first.at + 1)
+    is_length = kind == "time" and first.kind.lower().startswith("timedelta")
+    helps = help_for_lengths(first.title, text) if is_length else "make text, numbers or times of it"
+    refuse(f"{row_named(text.labels, first.at)}: {what}: {helps}", kind, first.at + 1)
 
 
 def check_cells(text: Text, record: Record) -> None:
     """Refuses what the program took as words of a column that it read: cells that have no text, and names with decimals."""
     columns = [*columns_read(text, record)]
+    refuse_form(text, columns)
     odd = odd_cells(columns)
     if odd:
         refuse_class(text, odd, "unread")
@@ -153,12 +210,20 @@ def steps_said(text: Text, record: Record) -> list[str]:
 
 def step_said(column: Column, unit: float) -> str | None:
     """The same of one column, which are degrees or metres by their size."""
-    kind = getattr(column.values.dtype, "numpy_dtype", column.values.dtype)
-    if kind not in ("float32", "float16"):
+    kind = narrowest(column.values)
+    if kind is None:
         return None
-    most = column.values.astype("float64").abs().max()
+    most = numpy.abs(numpy.asarray(column.values.dropna(), dtype="float64")).max(initial=0)
     step = float(numpy.spacing(kind.type(most)))
     metres = step * DEGREE if most <= 360 else step
     if metres <= unit:
         return None
     return f"numbers of {column.title} have {8 * kind.itemsize} bits, and may be {metres:.2g} m from the places that were measured"
+
+
+def narrowest(values: pandas.Series) -> numpy.dtype[Any] | None:
+    """The class of the narrowest numbers of floating point of a column, if it has some of less than 64 bits, whatever holds them."""
+    kind = inner_type(values.dtype)
+    own = getattr(kind, "numpy_dtype", getattr(kind, "subtype", kind))
+    kinds = {value.dtype for value in values if isinstance(value, numpy.floating)} if own == object else {own}
+    return next((narrow for narrow in map(numpy.dtype, ("float16", "float32")) if narrow in kinds), None)

@@ -5,7 +5,7 @@ from __future__ import annotations
 
 import re
 from math import isfinite
-from typing import TYPE_CHECKING, Any, Mapping
+from typing import TYPE_CHECKING, Any, Mapping, NoReturn
 
 import numpy
 import pandas
@@ -20,7 +20,9 @@ if TYPE_CHECKING:
 
 DEGREES = "EPSG:4326"  # longitude and latitude as the program takes them
 HELP = "project it first, as by frame.to_crs(frame.estimate_utm_crs())"
-METRE = {"metre", "meter"}
+HELP_NAMED = "make points of its columns and project these first, as by geopandas.points_from_xy(x, y, crs=..) and to_crs"
+HELP_LOCAL = "make metres of its coordinates, which need no CRS"
+METRE = {"metre", "meter", "metres", "meters", "m"}  # in small letters
 RADIUS = (6_350_000, 6_400_000)  # metres between which that of a body is one of the Earth
 TITLES = {"easting": "point easting", "northing": "point northing"}
 TITLES_OF_DEGREES = {"lon": "point longitude", "lat": "point latitude"}
@@ -43,7 +45,7 @@ def crs_named(crs: Any) -> Any:
     if found.is_geographic:
         refuse(f"the CRS {found.name} has longitude and latitude, which are no plane coordinates: name their columns by lon and "
                "lat, without crs", "crs")
-    check_plane(found)
+    check_plane(found, HELP_NAMED)
     return None if is_local(found) else found
 
 
@@ -58,16 +60,43 @@ def check_body(crs: Any) -> None:
         refuse(f"the CRS {crs.name} is of another body than the Earth", "crs")
 
 
-def check_plane(crs: Any) -> None:
-    """Refuses a reference system that is no plane in metres."""
+def check_plane(crs: Any, helps: str = HELP) -> None:
+    """Refuses a reference system that is no plane in metres, with what helps."""
     check_body(crs)
-    units = {axis.unit_name for axis in crs.axis_info[:2]}
+    odd = sorted({unit for axis in crs.axis_info[:2] for unit in other_unit(axis)})
     if not crs.is_projected and not crs.is_engineering:
-        refuse(f"the CRS {crs.name} is not a plane one in metres: {HELP}", "crs")
-    if units - METRE:
-        refuse(f"the CRS {crs.name} is in {', '.join(sorted(units))} and not in metres: {HELP}", "crs")
+        refuse(f"the CRS {crs.name} is not a plane one in metres: {helps}", "crs")
+    if odd:
+        helps = HELP_LOCAL if is_local(crs) else helps
+        refuse(f"the CRS {crs.name} is in {', '.join(odd)} and not in metres: {helps}", "crs")
     if crs.to_epsg() == 3857:
-        refuse(f"areas in the CRS {crs.name} grow away from the equator: {HELP}", "scale")
+        refuse(f"areas in the CRS {crs.name} grow away from the equator: {helps}", "scale")
+    if crs.is_projected and not has_way(crs):
+        refuse_way(crs)
+
+
+def other_unit(axis: Any) -> list[str]:
+    """The unit of an axis, if it is not the metre, by its name and its factor."""
+    if axis.unit_name.lower() not in METRE:
+        return [axis.unit_name]
+    return [] if axis.unit_conversion_factor == 1 else [f"{axis.unit_name} of {axis.unit_conversion_factor:g} m"]
+
+
+def has_way(crs: Any) -> bool:
+    """Whether places of a reference system can be turned into degrees."""
+    from pyproj import Transformer
+    from pyproj.exceptions import ProjError
+
+    try:
+        Transformer.from_crs(crs, DEGREES)
+        return scale_of_crs(crs) is not None
+    except ProjError:
+        return False
+
+
+def refuse_way(crs: Any) -> NoReturn:
+    """Refuses a reference system that has no way to degrees."""
+    refuse(f"the CRS {crs.name} has no way to longitude and latitude that pyproj knows: name another one, such as by its code", "crs")
 
 
 def options_of(crs: Any, zone: Any) -> dict[str, Any]:
@@ -111,6 +140,8 @@ def columns_of_points(points: geopandas.GeoSeries, labels: pandas.Index) -> tupl
             refuse("the points have no CRS, and lie as longitude and latitude do: frame.set_crs(4326) says so where they are",
                    "degrees")
         return sides, []
+    if not has_way(crs):
+        refuse_way(crs)
     is_of_program = crs.equals(type(crs).from_user_input(DEGREES), ignore_axis_order=True)
     said = [] if is_of_program else [f"points of {crs.name} are turned into longitude and latitude of WGS 84"]
     return dict(zip(TITLES_OF_DEGREES, sides_of(points, DEGREES))), said

@@ -37,17 +37,19 @@ class Column(NamedTuple):
 
 class Text(NamedTuple):
     """A frame as it is written: its columns, the options by which the program reads it, the reference system of its coordinates
-    as far as it is known, what is to be said, the columns whose zone is that of times, the title that a column got, with its own,
-    and whether its only moments are taken as the time though nobody named them."""
+    as far as it is known, what is to be said, what of its clock (None where that was named), the title that a column got, with its
+    own, whether its only moments are taken as the time though nobody named them, and the title of a column of shapes that are no
+    points of the frame."""
 
     columns: list[Column]
     labels: pandas.Index
     options: dict[str, Any]
     crs: Any
     notes: list[str]
-    clock: tuple[str, ...] = ()
+    clock: list[str] | None = None
     renamed: tuple[str, str] | None = None
     finds_time: bool = False
+    shapes: str | None = None
 
 
 def frame_given(frame: Any) -> Any:
@@ -59,6 +61,9 @@ def frame_given(frame: Any) -> Any:
 def text_of_frame(frame: pandas.DataFrame, options: Mapping[str, Any]) -> Text:
     """The text of a frame that is read with these options."""
     check_options(options)
+    if frame.columns.nlevels > 1:
+        refuse(f"the titles of columns have {frame.columns.nlevels} levels: make one of them, as by frame.columns = "
+               "[' '.join(map(str, title)) for title in frame.columns]", "columns")
     columns, found = columns_of(frame, options), dict(options)
     crs, notes = found.pop("crs", None), list[str]()
     points = None if any(found.get(name) is not None for name in COORDINATES) else points_of(frame)
@@ -73,8 +78,16 @@ def text_of_frame(frame: pandas.DataFrame, options: Mapping[str, Any]) -> Text:
     elif crs is not None:
         crs = crs_named(crs)
     found.update(options_of(crs, found.get("zone")))
-    zone, said, clock = zone_of_times(columns, found)
-    return Text(columns, frame.index, {**found, "tz": zone}, crs, [*notes, *said], clock)
+    shapes = title_of_shapes(frame) if points is None else None
+    text = Text(columns, frame.index, found, crs, notes, None if found.get("tz") is not None else [], shapes=shapes)
+    return with_clock_of(text, columns)
+
+
+def title_of_shapes(frame: pandas.DataFrame) -> str | None:
+    """The title of the first column of a frame that has shapes of shapely, if there is one."""
+    firsts = ((str(title), frame.iloc[:, at].dropna().head(1)) for at, title in enumerate(frame.columns)
+              if frame.iloc[:, at].dtype == object or str(frame.iloc[:, at].dtype) == "geometry")
+    return next((title for title, first in firsts if len(first) and hasattr(first.iloc[0], "geom_type")), None)
 
 
 def check_options(options: Mapping[str, Any]) -> None:
@@ -184,25 +197,31 @@ def zones_in(values: pandas.Series) -> set[str | None]:
     return {zone_name(zone)}
 
 
-def zone_of_times(columns: Sequence[Column], options: Mapping[str, Any]) -> tuple[Any, list[str], tuple[str, ...]]:
-    """The time zone for the program: the one that is named, or the only one that columns of date-times have, where no other
-    column may be the time; what is to be said of it; and the columns that have it."""
-    if options.get("tz") is not None:
-        return options["tz"], [], ()
+def with_clock_of(text: Text, columns: Sequence[Column]) -> Text:
+    """The text with the time zone of the date-times of some of its columns, if no zone was named."""
+    if text.clock is None:
+        return text
+    zone, said = zone_of_times(columns, text.options)
+    return text._replace(options={**text.options, "tz": zone}, clock=[in_own_words(line, text) for line in said])
+
+
+def zone_of_times(columns: Sequence[Column], options: Mapping[str, Any]) -> tuple[str | None, list[str]]:
+    """The only time zone that the date-times of columns have, where no other of them may be the time, and what is to be said of
+    it."""
     times = {column.title: zones_in(column.values) for column in columns if has_times(column.values)}
     found = {zone for zones in times.values() for zone in zones}
     zones = sorted(zone for zone in found if zone is not None)
     if not zones or zones == ["UTC"]:
-        return None, [], ()
+        return None, []
     named = titles_named(options.get("time"))
     others = [column.title for column in columns if column.title not in times and not is_number(column.values)
               and (column.title in named or not named and plain(column.title) in TIMES)]
     if len(zones) > 1 or None in found or others or options.get("from_") is not None:
         more = " and of other clocks" if None in found or others else ""
-        return None, [f"days and hours are those of UTC, since times are of {', '.join(zones)}{more}"], ()
+        return None, [f"days and hours are those of UTC, since times are of {', '.join(zones)}{more}"]
     if not IANA.fullmatch(zones[0]):
-        return None, [f"days and hours are those of UTC, since the zone {zones[0]} of {[*times][0]} has no name"], ()
-    return zones[0], [f"days and hours are those of {zones[0]}, the zone of {[*times][0]}"], (*times,)
+        return None, [f"days and hours are those of UTC, since the zone {zones[0]} of {[*times][0]} has no name"]
+    return zones[0], [f"days and hours are those of {zones[0]}, the zone of {[*times][0]}"]
 
 
 def with_time_named(text: Text, refusal: str) -> Text | None:
@@ -220,12 +239,6 @@ def with_time_named(text: Text, refusal: str) -> Text | None:
     title = free_title("datetime", text.columns)
     columns = [column._replace(title=title) if column is odd else column for column in text.columns]
     return text._replace(columns=columns, options={**text.options, "time": title}, renamed=(title, odd.title))
-
-
-def without_clock(text: Text) -> Text:
-    """The text without the zone of columns, which the program did not read."""
-    notes = [note for note in text.notes if not note.startswith("days and hours are")]
-    return text._replace(options={**text.options, "tz": None}, notes=notes, clock=())
 
 
 def in_own_words(said: str, text: Text) -> str:

@@ -110,12 +110,28 @@ def words_of(value: Any, option: str) -> str:
     return listed([word_of(word, option) for word in value], option)
 
 
+def missing_of(value: Any, option: str) -> str:
+    """Words for what is missing, of which each that is a number stands for the ways in which tables write it."""
+    if isinstance(value, str) or isinstance(value, (bytes, Mapping)) or not isinstance(value, (Real, Iterable)):
+        return words_of(value, option)
+    several = [value] if isinstance(value, Real) else [*value]
+    return listed([way for word in several for way in ways_of(word, option)], option)
+
+
+def ways_of(word: Any, option: str) -> list[str]:
+    """A word; of a number its fewest digits, and the same with a 0 behind its point."""
+    text = word_of(word, option)
+    return [text] if isinstance(word, str) else [text, f"{text}0" if "." in text else f"{text}.0"]
+
+
 def word_of(word: Any, option: str) -> str:
     if isinstance(word, str):
         return word
     if not isinstance(word, Real) or isinstance(word, bool) or not math.isfinite(word):
         refuse(f"{option}: {word!r} is no word: a text is wanted")
-    return str(int(word)) if isinstance(word, Integral) else digits_of(float(word))
+    if isinstance(word, Integral):
+        return str(int(word))
+    return digits_of(float(str(word)) if type(word).__module__ == "numpy" else float(word))  # of 32 bits by their own digits
 
 
 def columns_of(value: Any, option: str) -> str:
@@ -140,7 +156,7 @@ FORMS: dict[str, Callable[[Any, str], str]] = {
     **dict.fromkeys(("argos", "crs", "dop", "easting", "encoding", "fix", "from_", "header", "lat", "lon", "name", "northing",
                      "time_format", "tz", "unit", "zone"), text_of),
     **dict.fromkeys(("animal", "time"), columns_of),
-    **dict.fromkeys(("argos_class", "fix_type", "na", "sensor"), words_of),
+    **dict.fromkeys(("argos_class", "fix_type", "sensor"), words_of), "na": missing_of,
     **dict.fromkeys(("max_dop", "max_speed"), number_of),
     **dict.fromkeys(("since", "until"), bound_of),
     "every": length_of, "skip_lines": count_of,

@@ -66,7 +66,7 @@ test_that("moments are those of UTC, with as many decimals as they need", {
                    c("1969-12-31T23:59:59Z", "2106-02-07T06:28:16Z", "10000-01-01T00:00:00Z"))
   expect_identical(cells(.POSIXct(c(1e300, -Inf, NaN), "UTC")), c("inf", "-inf", ""))
   expect_identical(cells(as.Date(c("2024-05-01", NA, "1969-12-31"))), c("2024-05-01", "", "1969-12-31"))
-  expect_identical(cells(.Date(19844.9)), "2024-05-01")
+  expect_identical(cells(.Date(19844)), "2024-05-01")
   expect_identical(cells(structure(c(0L, 36000L, 86399L), class = "ITime")), c("00:00:00", "10:00:00", "23:59:59"))
   expect_identical(cells(structure(c(36000.5, -1, NA), class = c("hms", "difftime"), units = "secs")), c("10:00:00.5", "<hms>", ""))
 })
@@ -141,7 +141,9 @@ test_that("cells that are written as bytes are those that are written as texts",
     id = some(sample(c("a", "\u00e4\u00f6", "with, comma", "say \"no\""), number, TRUE)), whole = some(round(stats::runif(number, -1e6, 1e6))),
     two = some(round(stats::runif(number, -10, 1e5), 2)), nine = round(stats::runif(number), 9), zero = rep(c(0, -0), 100),
     time = some(.POSIXct(1714557600 + round(stats::runif(number, -1e9, 1e9), 1), "UTC")), truth = some(stats::runif(number) > 0.5),
-    none = rep(NA_real_, number), odd = c(1 / 3, rep(1e17, number - 1)), count = some(sample(-5:5, number, TRUE)), empty = rep("", number)
+    none = rep(NA_real_, number), odd = c(1 / 3, rep(1e17, number - 1)), count = some(sample(-5:5, number, TRUE)), empty = rep("", number),
+    fours = rep(c(0, 1, 9999, 10000, 10000001, 1e8, 123400005678, 99990000), 25),
+    parts = some(rep(c(0, 0.1, 0.0001, 0.00001, -1.00010001, 10000.0123, 0.1234567, 5), 25))
   )
   by_bytes <- text_of(table)
   lines <- do.call(paste, c(unname(Map(cells_of_column, table, names(table))), sep = ","))
@@ -157,6 +159,9 @@ test_that("clocks of each class are clocks, and moments that are days beside the
   for (column in list(.POSIXct(-25569 * 86400 + clock, "UTC"), .POSIXct(-25568 * 86400 + clock, "UTC"), as.difftime(clock / 60, units = "mins"))) {
     expect_identical(cells_of_column(column, "t"), cells)
   }
+  for (zone in c("UTC", "Europe/Berlin", "Asia/Tokyo")) {
+    expect_identical(cells_of_column(as.POSIXct(c("1899-12-31 10:30:00", NA, "1899-12-30 00:00:00"), tz = zone), "t"), c("10:30:00", "", "00:00:00"))
+  }
   expect_match(cells_of_column(as.difftime(c(1, 2), units = "days"), "t"), "<difftime>", fixed = TRUE)
   times <- function(parts) structure(parts, format = "h:m:s", class = "times")  # as the package chron has them
   expect_identical(cells_of_column(times(clock / 86400), "t"), cells)
@@ -168,4 +173,10 @@ test_that("clocks of each class are clocks, and moments that are days beside the
     joined <- suppressMessages(read_fixes(table, time = c("date", "clock")))
     expect_identical(format(joined$time, "%d %H:%M"), c("01 06:00", "02 12:00", "03 18:00"))
   }
+})
+
+test_that("days with parts of a day have the clock that they are", {
+  expect_identical(cells_of_column(.Date(c(19000.5, 19001, NA, 19002.1)), "day"), c("2022-01-08 12:00:00", "2022-01-09 00:00:00", "", "2022-01-10 02:24:00"))
+  expect_identical(cells_of_column(.Date(c(19000, NA, Inf)), "day"), c("2022-01-08", "", "inf"))
+  expect_identical(text_of_bound("since", .Date(19000.25)), "2022-01-08 06:00:00")
 })

@@ -274,9 +274,11 @@ test_that("the verifier holds odd names, decimetres, grids of one's own, and mor
                "-- 'tracks/a b.csv' tracks/a.csv 'tracks/\u017diga \u00c4_ it'\"'\"'s.csv'", fixed = TRUE)
   expect_identical(attr(verified(folder), "status"), 3L)
   many <- do.call(rbind, lapply(1:70, function(at) walk(paste0("deer", at), 5, at)))
-  folder <- local_evidence(quietly(home_range(many, levels = 95)))
-  expect_identical(about_of(folder)[["runs"]], "6 of groups of 32 animals")
-  expect_identical(attr(verified(folder), "status"), 3L)
+  for (unit in c("m", "dm")) {
+    folder <- local_evidence(quietly(home_range(many, levels = 95, unit = unit)))
+    expect_identical(about_of(folder)[["runs"]], "6 of groups of 32 animals")
+    expect_identical(attr(verified(folder), "status"), 3L)
+  }
 })
 
 # The export of the repository, its tracks in a folder, and their report.

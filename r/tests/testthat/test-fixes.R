@@ -239,6 +239,118 @@ test_that("fixes that are alike are bound", {
   refused(frame(), "and not to data.frame")
 })
 
+test_that("animals that no column names are not made one", {
+  skip_without_split()
+  halves <- lapply(c(0, 1000), function(away) transform(square("a"), easting = easting + away)[-1])
+  both <- lapply(halves, read_quietly)
+  words <- "^animal animal is in two of them, .*: name each, as by name = \"Fox\" of read_fixes, or keep the column of the animal$"
+  refused <- function(...) expect_error(rbind(...), words, class = "homerange_option_error")
+  refused(both[[1]], both[[2]])
+  refused(both[[1]][1:2, ], read_quietly(cbind(animal = "animal", halves[[2]])))
+  expect_identical(summary(rbind(both[[1]][1:2, ], both[[1]][3:4, ]))$fixes, 4L)
+  known <- rbind(both[[1]], transform(both[[2]], animal = "elk"))
+  expect_identical(summary(rbind(known, known[1, ]))$fixes, c(5L, 4L))
+  refused(known, read_quietly(transform(halves[[1]], northing = northing + 1)))
+  refused_later <- function(fixes) expect_error(home_range(fixes), words, class = "homerange_option_error")
+  if (requireNamespace("vctrs", quietly = TRUE)) {
+    refused_later(vctrs::vec_rbind(both[[1]], both[[2]]))
+    expect_identical(nrow(vctrs::vec_rbind(both[[1]][1:2, ], both[[1]][3:4, ])), 4L)
+    renamed <- quietly(home_range(vctrs::vec_rbind(transform(both[[1]], animal = "fox"), both[[2]]), 100))
+    expect_identical(names(renamed), c("fox", "animal"))
+  }
+  named <- Map(function(table, name) read_quietly(table, name = name), halves, c("fox", "elk"))
+  expect_identical(summary(quietly(home_range(do.call(rbind, unname(named)))))$animal, c("fox", "elk")[c(1, 1, 1, 2, 2, 2)])
+  expect_identical(nrow(rbind(read_quietly(halves[[1]], name = "fox"), read_quietly(halves[[2]], name = "fox"))), 8L)
+})
+
+test_that("times whose zone was taken away have that of the reading", {
+  skip_without_program()
+  old <- Sys.getenv("TZ", NA)
+  on.exit(if (is.na(old)) Sys.unsetenv("TZ") else Sys.setenv(TZ = old))
+  Sys.setenv(TZ = "Europe/Vienna")
+  table <- transform(square("a")[-2], time = as.POSIXct("2024-05-01 00:00", tz = "America/Denver") + 3600 * c(0, 743, 745, 800))
+  fixes <- read_quietly(table)
+  seconds <- as.numeric(fixes$time)
+  for (bare in list(.POSIXct(seconds), .POSIXct(seconds, tz = ""), as.POSIXlt(fixes$time))) {
+    lost <- fixes
+    lost$time <- bare
+    for (some in list(lost, lost[1:4, ][4:1, ], rbind(lost, lost[1, ]), dplyr::mutate(lost, n = 1), `class<-`(lost, "data.frame"))) {
+      ranges <- quietly(home_range(some, 100, by = "month"))
+      expect_identical(ranges$groups$group, c("2024-05", "2024-06"))
+      expect_identical(attr(ranges$rows$time, "tzone"), "America/Denver")
+      expect_identical(names(quietly(home_range(some, 100, by = function(x) format(x$time, "%m")))), c("a 05", "a 06"))
+    }
+    expect_identical(summary(lost), summary(fixes))
+    expect_identical(format(lost), format(fixes))
+    expect_output(print(lost), paste(utils::capture.output(print(fixes)), collapse = "\n"), fixed = TRUE)
+    expect_identical(as.data.frame(quietly(read_fixes(lost, since = "2024-05-31 23:00"))), as.data.frame(fixes[2:4, ]), ignore_attr = "row.names")
+  }
+  expect_identical(summary(transform(fixes, time = format(time)))$first, "2024-05-01 00:00:00")
+  expect_identical(summary(transform(fixes, time = .POSIXct(NA_real_, "UTC")))$last, .POSIXct(NA_real_, "UTC"))
+  moved <- transform(fixes, time = .POSIXct(as.numeric(time), tz = "Asia/Tokyo"))
+  expect_match(format(moved)[1], "2024-05-01 15:00:00 to 2024-06-03 23:00:00 Asia/Tokyo", fixed = TRUE)
+})
+
+test_that("a remedy can be written as it is said", {
+  skip_without_split()
+  path <- file.path(local_folder(), "export.csv")
+  writeLines(c("sep=,", "animal,second,easting,northing", "a,0,10,20", "a,60,30,40"), path)
+  expect_error(read_quietly(path), "leave it out, by skip_lines = 1$", class = "homerange_columns_error")
+  expect_identical(nrow(read_quietly(path, skip_lines = 1)), 2L)
+  said <- c("--max-dop 5", "--max-speed=2.5", "--zone 33N", "--na -999", "--skip-lines 1 --header 'a b'", "--time 'a \"b\"'")
+  wanted <- c("max_dop = 5", "max_speed = 2.5", "zone = \"33N\"", "na = \"-999\"", "skip_lines = 1, header = \"a b\"",
+              "time = \"a \\\"b\\\"\"")
+  expect_identical(as_arguments(said), wanted)
+})
+
+test_that("fixes with another name beside their own are read anew", {
+  skip_without_program()
+  fixes <- read_quietly(square("a"), zone = "33N")
+  words <- "^'b' is none of the animals that were read, and its fixes are there by another name too: read them anew by read_fixes[(]as"
+  expect_error(home_range(rbind(fixes, transform(fixes, animal = "b"))), words, class = "homerange_option_error")
+  anew <- quietly(read_fixes(as.data.frame(rbind(fixes, transform(fixes, animal = "b"))), zone = "33N"))
+  expect_identical(quietly(summary(home_range(anew, 100)))$fixes, c(4, 4))
+  of_id <- read_quietly(`names<-`(square("a"), c("id", "second", "x", "y")))
+  both <- rbind(of_id, transform(of_id, animal = "b"))
+  named <- "read_fixes(as.data.frame(fixes), animal = \"animal\", time = \"second\", easting = \"easting\", northing = \"northing\")"
+  expect_error(home_range(both), named, fixed = TRUE, class = "homerange_option_error")
+  anew <- quietly(eval(str2lang(named), list(fixes = both), environment()))
+  expect_identical(quietly(summary(home_range(anew, 100)))$fixes, c(4, 4))
+  moved <- transform(fixes, animal = "b", easting = easting + 1000)
+  expect_error(home_range(rbind(fixes, moved)), "^'b' is none of the animals that were read: bind fixes of several tables by rbind; if it is")
+})
+
+test_that("a column of fixes that is there twice is refused, as of a plain frame", {
+  skip_without_program()
+  fixes <- read_quietly(square("a"))
+  refused <- function(call, text) expect_error(quietly(call), text, class = "homerange_ambiguous_error")
+  for (twice in list(cbind(fixes, animal = "z"), cbind(fixes, easting = 3 * fixes$easting), cbind(fixes, northing = 0), cbind(fixes, second = 1))) {
+    title <- names(twice)[5]
+    for (some in list(twice, twice[4:1, ], as.data.frame(twice))) {
+      refused(home_range(some, 100), paste0("column [0-9] '", title, "' and column 5 '", title, "' both fit .*: rename one$"))
+    }
+    expect_error(read_quietly(twice, easting = "easting", animal = "animal"), title, class = "homerange_data_error")
+    refused(rbind(twice, twice), paste0("fixes are not bound, since some have two columns '", title, "': rename one"))
+  }
+  noted <- cbind(fixes, note = 1, note = 2)
+  expect_identical(summary(quietly(home_range(noted[4:1, ], 100)))$fixes, 4)
+  refused(rbind(noted, noted), "two columns 'note'")
+  refused(home_range(noted, 100, by = "note"), "two columns 'note'")
+  expect_message(again <- read_fixes(noted[4:1, ]), "not in the fixes, since their titles are there twice: note", class = "homerange_left_out_note")
+  expect_identical(names(again), c("animal", "second", "easting", "northing"))
+})
+
+test_that("fixes have the unit in which they were read", {
+  skip_without_split()
+  fixes <- read_quietly(square("a"))
+  expect_error(read_fixes(fixes, unit = "dm"), "^these fixes are in whole metres, which another unit does not change: read the table anew",
+               class = "homerange_option_error")
+  fine <- read_quietly(square("a"), unit = "dm")
+  expect_error(read_fixes(fine[1:2, ], unit = factor("m")), "in whole decimetres, which another unit", class = "homerange_option_error")
+  expect_error(read_fixes(fixes, unit = "km"), "unit: km is neither m nor dm", class = "homerange_option_error")
+  expect_identical(facts_of(quietly(read_fixes(fine, unit = "dm", every = "2min")))$unit, "dm")
+})
+
 test_that("their print says what was taken", {
   skip_without_split()
   said <- utils::capture.output(print(named(zone = "33N")))
@@ -303,9 +415,9 @@ test_that("what a second reading leaves out is left out beside what was before",
   ranges <- quietly(home_range(fixes[fixes$animal == "fox", ], 100))
   expect_identical(as.list(homerange_left_out(ranges)), list(
     animal = c("fox", "fox", "hare/1", "hare/1"), reason = c("coordinates", "outlier", "chosen", "coordinates"), fixes = c(1, 2, 1, 1)))
-  again <- quietly(read_fixes(fixes, unit = "dm"))
+  again <- quietly(read_fixes(fixes, tz = "Asia/Tokyo"))
   expect_identical(again[["note"]], c("c", "b"))
-  expect_identical(facts_of(again)$unit, "dm")
+  expect_identical(facts_of(again)$tz, "Asia/Tokyo")
 })
 
 test_that("groups of fixes that were changed go by their rows and columns", {
@@ -342,9 +454,6 @@ test_that("marks that were set on fixes are read", {
     expect_message(ranges <- home_range(marked, 100), "1 outliers: left out", class = "homerange_left_out_note")
     expect_identical(summary(ranges)$hectares, 2)
   }
-  fixes$use <- 1
-  fixes$visible <- FALSE  # which is not looked at beside use
-  expect_identical(summary(home_range(fixes, 100))$hectares, 4)
 })
 
 test_that("columns of fixes that got other classes are read as those of a frame", {
@@ -357,7 +466,11 @@ test_that("columns of fixes that got other classes are read as those of a frame"
     fixes[[title]] <- column
     quietly(home_range(fixes, 100))
   }
-  for (column in list(format(fixes$time), factor(format(fixes$time)), `attr<-`(fixes$time, "tzone", "UTC"))) {
+  shown <- format(fixes$time)
+  for (column in list(shown, factor(shown), as.Date(fixes$time))) {
+    expect_error(changed("time", column), "the times of fixes have no zone any more: give them one, as by as.POSIXct[(].*, tz = \"Europe/Berlin\"[)]$", class = "homerange_time_error")
+  }
+  for (column in list(as.POSIXct(shown, tz = "Europe/Berlin"), format(fixes$time, "%Y-%m-%dT%H:%M:%S%z"), `attr<-`(fixes$time, "tzone", "UTC"))) {
     expect_identical(as.numeric(homerange_curve(changed("time", column))$time), as.numeric(fixes$time))
   }
   expect_identical(summary(changed("easting", factor(table$easting)))$hectares, 4)
@@ -402,11 +515,12 @@ test_that("a matrix is no name of an animal, and no group", {
   }
 })
 
-test_that("several zones of times are said", {
+test_that("the zone of times is that of the columns that are read", {
   skip_without_split()
   start <- as.POSIXct("2024-03-30 20:00", tz = "Europe/Paris")
   table <- data.frame(animal = "a", time = start + 3600 * 0:3, easting = 1:4, northing = 1:4, created = as.POSIXct("2024-05-01", tz = "UTC"))
-  expect_message(read_fixes(table), "days and hours are those of UTC, since times are of Europe/Paris, UTC")
+  expect_message(read_fixes(table), "days and hours are those of Europe/Paris, the zone of time")
+  expect_identical(attr(quietly(read_fixes(table, time = "created"))$time, "tzone"), "UTC")
 })
 
 test_that("fixes of renamed animals are counted as one, and fixes of other readings are refused", {
@@ -419,8 +533,8 @@ test_that("fixes of renamed animals are counted as one, and fixes of other readi
   expect_identical(as.list(left_since(renamed[-(1:3), ])), list(animal = "", reason = "chosen", fixes = 3))
   expect_identical(nrow(left_since(renamed)), 0L)
   expect_identical(names(home_range(transform_fixes(fixes, "animal", "fox"), 100)), "fox")  # of two that are one
-  others <- list("'lynx' is none of the animals that were read: bind fixes by rbind; .* zone = \"33N\"" = "lynx",
-                 "'fox' has more fixes than were read of it: bind fixes by rbind" = "fox")
+  others <- list("'lynx' is none of the animals that were read: bind fixes of several tables by rbind; .* zone = \"33N\"" = "lynx",
+                 "'fox' has more fixes than were read of it: bind fixes of several tables by rbind" = "fox")
   for (said in names(others)) {
     other <- quietly(read_fixes(transform(square(others[[said]]), easting = easting + 500), zone = "34N"))
     mixed <- structure(rbind(as.data.frame(fixes[1:4, ]), as.data.frame(other)), class = class(fixes), homerange = facts_of(fixes))
@@ -462,4 +576,233 @@ test_that("so many fixes are printed as are wanted", {
   skip_without_split()
   said <- utils::capture.output(print(quietly(read_fixes(square("fox"))), n = 3))
   expect_identical(said[length(said)], "... and 1 more fix")
+})
+
+test_that("tables that functions of R make of fixes keep how these were read", {
+  skip_without_split()
+  fixes <- quietly(read_fixes(square("fox"), unit = "dm", zone = "33N"))
+  sexes <- data.frame(animal = "fox", sex = "f")
+  tables <- list(
+    merge(fixes, sexes), transform(fixes, note = 1), within(fixes, note <- 1), cbind(fixes, note = 1), cbind(fixes, data.frame(note = 1:4)),
+    do.call(rbind, split(fixes, 1)), unsplit(split(fixes, rep(1:2, 2)), rep(1:2, 2)), list2DF(fixes), `class<-`(fixes, "data.frame"), unique(fixes)
+  )
+  tables[[11]] <- unserialize(serialize(fixes, NULL))
+  for (table in Filter(nrow, tables)) {
+    again <- read_fixes(table)
+    expect_identical(as.list(as.data.frame(again)[names(fixes)]), as.list(as.data.frame(fixes)))
+    expect_identical(facts_of(again)[c("unit", "zone", "left_out")], facts_of(fixes)[c("unit", "zone", "left_out")])
+  }
+  moved <- read_fixes(transform(fixes, easting = easting + 0.1))
+  expect_identical(moved$easting, fixes$easting + 0.1)
+  expect_null(facts_of(as.data.frame(fixes)))
+  expect_null(facts_of(merge(fixes, sexes)["sex"]))
+})
+
+test_that("tables that dplyr and tibble make of fixes keep how these were read", {
+  skip_without_program()
+  skip_if_not_installed("dplyr")
+  skip_if_not_installed("tibble")
+  table <- rbind(square("fox"), transform(square("elk"), easting = easting + 1000))
+  fixes <- quietly(read_fixes(cbind(table, side = c("w", "e")), unit = "dm", zone = "33N"))
+  grouped <- dplyr::group_by(fixes, side)
+  tables <- list(
+    tibble::as_tibble(fixes), grouped, dplyr::rowwise(fixes), dplyr::ungroup(dplyr::filter(grouped, dplyr::n() > 1)),
+    dplyr::mutate(grouped, n = dplyr::n()), dplyr::select(grouped, animal, second, easting, northing),
+    dplyr::rename(dplyr::rename(grouped, id = animal), animal = id), dplyr::relocate(grouped, second),
+    dplyr::rename_with(grouped, toupper, side), dplyr::group_modify(grouped, function(rows, key) rows[1:2, ]), dplyr::group_split(grouped)[[1]], dplyr::arrange(grouped, second),
+    dplyr::left_join(grouped, data.frame(side = "w", bank = 1), by = "side"), dplyr::bind_rows(fixes[1:4, ], fixes[5:8, ])
+  )
+  for (table in tables) expect_identical(facts_of(quietly(read_fixes(table)))[c("unit", "zone")], list(unit = "dm", zone = "33N"))
+  expect_s3_class(dplyr::ungroup(grouped), c("homerange_fixes", "tbl_df", "tbl", "data.frame"), exact = TRUE)
+  expect_identical(as.data.frame(grouped), as.data.frame(fixes))
+  expect_message(home_range(grouped), "groups of the table are not looked at (side): by makes", fixed = TRUE, class = "homerange_guessed_note")
+  expect_silent(home_range(dplyr::group_by(fixes, animal)))
+  expect_null(facts_of(dplyr::select(grouped, second)))
+  expect_message(try(read_fixes(dplyr::rename(grouped, id = animal)), TRUE), "fixes without their column 'animal' are read as a data frame")
+  expect_output(print(grouped), "8 fixes of 2 animals")
+})
+
+test_that("points of fixes are fixes as long as they lie where these are", {
+  skip_without_program()
+  skip_if_not_installed("sf")
+  table <- data.frame(id = "fox", timestamp = as.POSIXct("2024-05-01", "UTC") + 3600 * 0:3, x = 562000 + c(0, 200, 200, 0), y = 5134000 + c(0, 0, 200, 200))
+  fixes <- quietly(read_fixes(table, unit = "dm", crs = 32633))
+  points <- sf::st_as_sf(fixes)
+  expect_identical(as.data.frame(read_fixes(points)), as.data.frame(fixes))
+  expect_identical(as.data.frame(read_fixes(sf::st_drop_geometry(sf::st_transform(points, 4326)))), as.data.frame(fixes))
+  moved <- sf::st_set_geometry(points, sf::st_geometry(points) + c(0.5, 0))
+  moved <- quietly(read_fixes(sf::st_set_crs(moved, 32633)))
+  expect_identical(moved$easting, fixes$easting + 0.5)
+  expect_identical(facts_of(moved)[c("unit", "zone")], list(unit = "dm", zone = "33N"))
+  # The columns that they were read from are not taken again in silence where nothing is known of them.
+  expect_error(read_fixes(data.frame(fixes)), paste0("both fit the easting: name one, .*; of fixes that were read it is animal = \"animal\", ",
+    "time = \"time\", easting = \"easting\", northing = \"northing\"$"), class = "homerange_ambiguous_error")
+  named <- quietly(read_fixes(data.frame(fixes), animal = "animal", time = "time", easting = "easting", northing = "northing", crs = 32633, unit = "dm"))
+  expect_identical(as.data.frame(named)[1:4], as.data.frame(fixes)[1:4])
+})
+
+test_that("fixes that were taken away are counted by the animals that they had", {
+  skip_without_split()
+  fixes <- quietly(read_fixes(rbind(square("fox"), transform(square("elk"), easting = easting + 1000))))
+  chosen <- function(...) {
+    left <- left_since(changed_fixes(fixes, ...))
+    `names<-`(left$fixes, left$animal)
+  }
+  changed_fixes <- function(fixes, rows = 1:8, animal = fixes$animal[rows], easting = fixes$easting[rows]) {
+    found <- fixes[rows, ]
+    found[c("animal", "easting")] <- list(animal, easting)
+    found
+  }
+  none <- `names<-`(numeric(), character())
+  expect_identical(chosen(), none)
+  expect_identical(chosen(8:1), none)
+  expect_identical(chosen(c(1:8, 1:8)), none)
+  expect_identical(chosen(animal = rep(c("elk", "fox"), each = 4)), none)  # swapped
+  of_none <- function(number) `names<-`(number, "")
+  expect_identical(chosen(2:8, animal = rep("wolf", 7)), of_none(1))
+  expect_identical(chosen(2:8, animal = rep(c("elk", "fox"), c(3, 4))), of_none(1))
+  expect_identical(chosen(2:8, animal = rep(c("wolf", "elk"), c(3, 4))), of_none(1))
+  expect_identical(chosen(1:7, animal = rep(c("wolf", "elk"), c(4, 3))), c(elk = 1))
+  expect_identical(chosen(c(1, 1, 1, 2, 5:8)), of_none(2))  # two are gone beside one that is there three times
+  expect_identical(chosen(c(1:3, 5:8, 8)), c(fox = 1))
+  expect_identical(chosen(easting = fixes$easting + 1), none)
+  expect_identical(chosen(3:8, easting = c(7, fixes$easting[4:8])), c(fox = 2))
+  expect_identical(chosen(3:8, animal = "wolf", easting = c(7, fixes$easting[4:8])), `names<-`(2, ""))  # of three that are gone one may be the wolf's
+})
+
+test_that("columns that say which fixes count, and are not read, are refused", {
+  skip_without_program()
+  table <- square("fox")
+  said <- function(title, first) paste0("'", title, "' was added to the fixes, and is not read, since '", first, "' goes before it: change that, or drop '", title, "'")
+  is_refused <- function(fixes, text) {
+    for (own in list(fixes, fixes[-1, ])) expect_error(quietly(home_range(own)), text, class = "homerange_columns_error", fixed = TRUE)
+  }
+  used <- quietly(read_fixes(transform(table, use = 1, event.visible = TRUE)))
+  for (title in c("visible", "manually-marked-outlier", "outlier")) is_refused(`[[<-`(used, title, value = c(0, 0, 1, 1)), said(title, "use"))
+  fixes <- quietly(read_fixes(table))
+  is_refused(transform(fixes, Visible = c(0, 1, 1, 1), visible = 1), said("Visible", "visible"))
+  is_refused(transform(fixes, sensor.type = "gps", sensor.type.id = 82798), said("sensor.type.id", "sensor.type"))
+  set <- transform(used, event.visible = c(TRUE, TRUE, FALSE, TRUE))
+  text <- "'event.visible' was changed since this fix was read, and is not read, since 'use' goes before it: change that, or drop 'event.visible'"
+  is_refused(set, text)
+  is_refused(transform(set, northing = northing + 1), text)
+  is_refused(transform(used, use = NULL), "column 5 'event.visible' ")  # which is passed over beside use alone
+  for (fine in list(used[-1, ], transform(used[4:1, ], event.visible = NULL), transform(used, use = c(0, 1, 1, 1)))) {
+    expect_s3_class(quietly(home_range(fine)), "home_range")
+  }
+})
+
+test_that("columns that fixes were read from are not changed beside them", {
+  skip_without_program()
+  table <- data.frame(id = "fox", timestamp = "2024-05-01 00:00:00", lon = c(15.80, 15.81, 15.82), lat = 46.35, note = "a", visible = TRUE)
+  table$timestamp <- format(as.POSIXct("2024-05-01", "UTC") + 3600 * 0:2)
+  fixes <- quietly(read_fixes(table))
+  moved <- transform_fixes(fixes, "lat", c(46.35, 46.35, 46.36))
+  refused <- "^row 3: 'lat' was changed since this fix was read from it: change what fixes have of it, such as easting and northing, and drop it$"
+  fault <- expect_error(home_range(moved), refused, class = "homerange_columns_error")
+  expect_identical(fault$record, 3L)
+  expect_error(read_fixes(moved[3:2, ]), "^row 3 [(]x\\[1, \\][)]: 'lat' was changed", class = "homerange_columns_error")
+  for (fine in list(moved[1:2, ], transform(moved, lat = NULL), transform(moved, northing = northing + 1:3), transform(fixes, note = "b"),
+                    transform(fixes, visible = c(TRUE, TRUE, FALSE)), rbind(fixes, fixes), fixes[c(3, 1, 1), ])) {
+    expect_s3_class(quietly(read_fixes(fine)), "homerange_fixes")
+  }
+  expect_error(quietly(read_fixes(rbind(fixes, moved))), "'lat' was changed", class = "homerange_columns_error")
+  expect_error(read_fixes(transform(fixes, id = "elk")), "'id' was changed", class = "homerange_columns_error")
+})
+
+test_that("columns that fixes have not are said", {
+  skip_without_split()
+  table <- data.frame(tag = "7", animal = c("fox", "fox", "elk"), time = "noon", second = 60 * 0:2, easting = 0, northing = 0, x = c(0, 9, 9), y = 9, n = 1, n = 2,
+                      check.names = FALSE)
+  expect_message(fixes <- read_fixes(table, animal = "tag", time = "second", easting = "x", northing = "y"),
+                 "not in the fixes, which have columns of these titles: animal, time, easting, northing\n", fixed = TRUE)
+  expect_true("not in the fixes, since their titles are there twice: n" %in% facts_of(fixes)$notes)
+  expect_identical(names(fixes), c("animal", "second", "easting", "northing", "tag", "x", "y"))
+  expect_identical(fixes$easting, c(0, 9, 9))
+})
+
+test_that("text below factors stays text", {
+  skip_without_split()
+  fixes <- quietly(read_fixes(transform(square("a"), note = factor(c("u", "v")))))
+  bound <- rbind(fixes, transform(fixes, note = "w"))
+  expect_identical(bound$note, c("u", "v", "u", "v", "w", "w", "w", "w"))
+})
+
+test_that("midnights beside a clock are days, of whatever class and zone", {
+  skip_without_split()
+  table <- data.frame(animal = "a", easting = 1:3, northing = 1, clock = c("10:00:00", "11:00:00", "12:00:00"))
+  for (zone in c("UTC", "Europe/Berlin")) {
+    days <- as.POSIXct(c("2024-07-01", "2024-07-02", "2024-07-03"), tz = zone)
+    wanted <- as.POSIXct(c("2024-07-01 10:00", "2024-07-02 11:00", "2024-07-03 12:00"), tz = zone)
+    for (own in list(days, as.POSIXlt(days))) {
+      table$day <- own
+      expect_identical(quietly(read_fixes(table, time = c("day", "clock")))$time, wanted)
+    }
+  }
+  expect_error(quietly(read_fixes(table, time = c("day", "clock"), tz = "Asia/Tokyo")), "row 1: day clock is ", class = "homerange_time_error")
+})
+
+test_that("files in folders of other letters than the locale's are read and written", {
+  skip_without_program()
+  old <- Sys.getlocale("LC_CTYPE")
+  on.exit(Sys.setlocale("LC_CTYPE", old))
+  folder <- file.path(local_folder(), "Gr\u00fcn")
+  dir.create(folder)
+  Sys.setlocale("LC_CTYPE", "C")
+  path <- function(name) file.path(`Encoding<-`(folder, "UTF-8"), name)
+  ranges <- quietly(home_range(square("Sch\u00e4fer"), 100))
+  expect_silent(write_page(ranges, path("page.html")))
+  expect_silent(write_report(ranges, path("report.txt")))
+  expect_identical(names(expect_silent(read_report(path("report.txt")))), "Sch\u00e4fer")
+  writeLines(c("animal,second,easting,northing", "a,0,1,2", "a,60,5,9"), in_bytes(path("fixes.csv")))
+  expect_identical(nrow(quietly(read_fixes(path("fixes.csv")))), 2L)
+  expect_setequal(list.files(in_bytes(folder)), c("page.html", "report.txt", "fixes.csv"))
+  expect_error(read_fixes(path("none.csv")), "none.csv: No such file or directory$", class = "homerange_text_error")
+})
+
+test_that("rows of several readings are bound where these are alike, and counted once", {
+  skip_without_split()
+  zoned <- function(animal, zone) quietly(read_fixes(square(animal), zone = zone))
+  fox <- zoned("fox", "33N")
+  elk <- zoned("elk", "33N")
+  bound <- rbind(rbind(fox, elk), fox[1, ], elk)
+  expect_identical(facts_of(bound)$fixes, c(fox = 4, elk = 4))
+  expect_identical(nrow(left_since(bound)), 0L)
+  skip_if_not_installed("dplyr")
+  expect_identical(as.data.frame(dplyr::bind_rows(fox, elk)), as.data.frame(rbind(fox, elk)))
+  expect_identical(dplyr::bind_rows(transform(fox, note = 1), elk)$note, rep(c(1, NA), each = 4))
+  other <- "fixes of the (reference system|zone) .*33N.* and of .*34N.* are not bound: read them alike"
+  expect_error(dplyr::bind_rows(fox[1:2, ], zoned("fox", "34N")[3, ]), other, class = "homerange_option_error")
+  expect_error(vctrs::vec_c(fox, zoned("fox", "34N")), other, class = "homerange_option_error")
+  expect_identical(facts_of(vctrs::vec_c(fox, elk))$fixes, c(fox = 4, elk = 4))
+})
+
+test_that("moments beside days are named alone, and what is both times is not joined", {
+  skip_without_split()
+  times <- as.POSIXct("2024-05-01 10:00", tz = "UTC") + 3600 * 0:2
+  both <- function(date, time) data.frame(animal = "a", date = date, time = time, easting = 1:3, northing = 1)
+  refused <- function(table, text, ...) expect_error(quietly(read_fixes(table, ...)), text, class = "homerange_data_error")
+  refused(both(as.Date(times), times), "both fit the time: time has moments: name it alone, as by time = \"time\"$")
+  refused(both(as.Date(times), times), "row 1: date time is .*: time has moments: name it alone, as by time = \"time\"$", time = c("date", "time"))
+  refused(both(as.Date(times), as.Date(times)), "both fit the time: name one, as by time = \"date\"$")
+  refused(both(times, times), "both fit the time: name one, as by time = \"date\"$")
+  expect_identical(quietly(read_fixes(both(as.Date(times), times), time = "time"))$time, times)
+  midnights <- as.POSIXct("2024-05-01", tz = "Europe/Berlin")
+  refused(both(midnights, format(times, "%H:%M")), "date has moments: make days of it, as by as.Date[(]x, tz = \"Europe/Berlin\"[)]$", time = c("date", "time"), tz = "UTC")
+  days <- both(as.Date(midnights, tz = "Europe/Berlin"), format(times, "%H:%M"))
+  expect_identical(quietly(read_fixes(days, time = c("date", "time"), tz = "UTC"))$time, times)
+})
+
+test_that("rows of many kinds have numbers of their own", {
+  many <- seq_len(1e5)
+  expect_identical(expect_silent(numbered(list(many, many))), many)
+  expect_identical(numbered(list(c(many, many), c(rev(many), rev(many)))), c(many, many))
+})
+
+test_that("of many fixes those that were taken away are counted", {
+  skip_without_split()
+  table <- data.frame(animal = "a", second = seq_len(60000), easting = 562000 + seq_len(60000) %% 1000, northing = 5134000 + seq_len(60000) %% 999)
+  fixes <- quietly(read_fixes(table))
+  left <- expect_silent(left_since(fixes[seq(1, 60000, 3), ]))
+  expect_identical(left$fixes, 40000)
 })

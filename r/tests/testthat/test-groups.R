@@ -146,3 +146,19 @@ test_that("values for the records of a file are refused", {
                class = "homerange_option_error")
   expect_s3_class(home_range(path, by = function(fixes) fixes$easting > 2, quiet = TRUE), "home_range")
 })
+
+test_that("by names one column, or has a value for each fix", {
+  skip_without_program()
+  fixes <- quietly(read_fixes(data.frame(animal = "a", second = c(0, 60), easting = 1:2, northing = 1, s = c("u", "v"))))
+  expect_identical(names(quietly(home_range(fixes, by = c("s", "t")))), c("a s", "a t"))
+  for (by in list(c("animal", "s"), c("s", "easting"))) {
+    expect_error(home_range(fixes, by = by), "by names 2 columns: join them, as by paste[(]fixes[$]", class = "homerange_option_error")
+    expect_error(home_range(as.data.frame(fixes), by = by, quiet = TRUE), "by names 2 columns", class = "homerange_option_error")
+  }
+  expect_identical(names(quietly(home_range(fixes, by = paste(fixes$animal, fixes$s)))), c("a a u", "a a v"))
+  for (answer in c("s", "year", "one")) {
+    expect_error(home_range(fixes, by = function(own) answer), "by is 1 value for 2 fixes", class = "homerange_option_error")
+  }
+  expect_identical(names(quietly(home_range(fixes[1, ], by = "s"))), "a u")
+  expect_identical(names(quietly(home_range(fixes[1, ], by = function(own) "year"))), "a year")
+})

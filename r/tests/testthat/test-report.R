@@ -39,6 +39,32 @@ test_that("lines may end as those of other systems do, and numbers have any digi
   expect_identical(read_report(written(great))$rows$second[2], 2^53)
 })
 
+# The report of an animal that stays at a place for these seconds, which then goes 200 units to the north.
+stay <- function(seconds, n = seq_along(seconds)) {
+  number <- length(seconds)
+  rows <- paste("row,a", n, seconds, c(rep("1,0", number - 1), "2,0"), sep = ",")
+  c(paste0("animal,a,fixes,", number), "box,a,7,8,7,208", rows, "corner,a,1,7,8", "corner,a,2,7,208",
+    paste0("percent,a,100,", number, ",2,0"), "end,1")
+}
+
+test_that("rows that differ in number and second alone are read each by itself", {
+  seconds <- cumsum(c(0, rep(c(0, 1, 9, 1000, 99999), 400)))
+  rows <- read_report(written(stay(seconds)))$rows
+  expect_identical(rows$n, as.numeric(seq_along(seconds)))
+  expect_identical(rows$second, seconds)
+  expect_identical(rows$corners, c(rep(1, length(seconds) - 1), 2))
+  expect_identical(rows$area2, numeric(length(seconds)))
+  wrong <- list(c(1:11, 13:2002), c(1:11, 11:2000), c(2:2002), replace(1:2001, 461, 5), replace(1:2001, 12, 120))
+  for (n in wrong) {
+    expect_error(read_report(written(stay(seconds, n))), "lines are missing, or there twice", class = "homerange_report_error")
+  }
+  # The digits of 461, if a comma were one: 5 * 100 + (44 - 48) * 10 + 1.
+  expect_error(read_report(written(stay(replace(seconds, 461, 1), replace(1:2001, 461, 5)))), "lines are missing, or there twice",
+               class = "homerange_report_error")
+  other <- sub("row,a,700,", "row,b,700,", stay(seconds))
+  expect_error(read_report(written(other)), "line 702 is none of a report there: row,b,700,", class = "homerange_report_error")
+})
+
 test_that("the unit is that of the first line", {
   ranges <- read_report(written(c("unit,dm", square)))
   expect_equal(summary(ranges)$hectares[2], 0.04)

@@ -64,6 +64,14 @@ test_that("points that cannot be taken are refused, with the call that helps", {
   # Feet of New York, zone 18.
   feet <- sf::st_as_sf(walk("hare", 50, 21, at = c(981000, 199000)), coords = c("easting", "northing"), crs = 2263)
   refused(feet, "is in US survey foot and not in metres: sf::st_transform(x, 32618)")
+  own <- paste0("PROJCS[\"own\",GEOGCS[\"WGS 84\",DATUM[\"WGS_1984\",SPHEROID[\"WGS 84\",6378137,298.257223563]],PRIMEM[\"Greenwich\",0],",
+                "UNIT[\"degree\",0.0174532925199433]],PROJECTION[\"Transverse_Mercator\"],PARAMETER[\"latitude_of_origin\",0],",
+                "PARAMETER[\"central_meridian\",15],PARAMETER[\"scale_factor\",0.9996],PARAMETER[\"false_easting\",500000],",
+                "PARAMETER[\"false_northing\",0],UNIT[\"Meter\",1]]")
+  in_own <- function(crs) sf::st_set_crs(sf::st_set_crs(hare_points(), NA), crs)
+  refused(in_own(sub("\"Meter\",1", "\"Meter\",0.3", own, fixed = TRUE)), "the CRS own is in Meter of 0.3 m and not in metres: ")
+  wanted <- quietly(read_fixes(hare_points()))$easting
+  for (crs in c(own, sub("Meter", "METRES", own))) expect_identical(quietly(read_fixes(in_own(crs)))$easting, wanted)
   refused(sf::st_transform(hare_points(), 3857), "grow away from the equator: sf::st_transform(x, 32633)")
   refused(sf::st_as_sf(data.frame(x = 1, y = 2, z = 3), coords = c("x", "y", "z"), crs = 4978), "the CRS WGS 84 is not a plane one in metres: project the points first")
   shapes <- sf::st_sfc(sf::st_point(1:2), sf::st_linestring(diag(2)), crs = 32633)

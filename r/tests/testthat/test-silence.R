@@ -77,3 +77,89 @@ test_that("the zone of the session is found without another program", {
   expect_silent(zone <- zone_of_session())
   expect_true(zone %in% c("UTC", OlsonNames()))
 })
+
+test_that("what a refusal says of a column makes it one that is read", {
+  skip_without_split()
+  with_column <- function(title, column) {
+    table <- table_of_four()
+    if (title == "time") table$second <- NULL
+    table[[title]] <- column
+    table
+  }
+  days <- as.difftime(0:3, units = "days")
+  seconds <- "if it is a time, as.numeric(x, units = \"secs\") makes seconds of it, in a column 'second' in its place"
+  refused(read_fixes(with_column("time", days)), seconds, "time")
+  expect_identical(quietly(read_fixes(with_column("second", as.numeric(days, units = "secs"))))$second, 86400 * c(0, 1, 2, 3))
+  hours <- as.difftime(0:3, units = "hours")
+  refused(read_fixes(with_column("time", hours)), paste0("join it to days, as by time = c(\"DAY\", \"time\"); if it is a time since a start, ",
+                                                         "as.numeric(x, units = \"secs\") makes seconds of it, in a column 'second' in its place"), "time")
+  table <- cbind(with_column("time", hours), day = as.Date("2024-05-01"))
+  expect_identical(quietly(read_fixes(table, time = c("day", "time")))$time, as.POSIXct("2024-05-01", tz = "UTC") + 3600 * 0:3)
+  wanted <- 562000 + c(0, 1, 2, 3)
+  refused(read_fixes(with_column("easting", as.list(wanted))), "make text, numbers or times of it", "number")
+  expect_identical(quietly(read_fixes(with_column("easting", do.call(c, as.list(wanted)))))$easting, wanted)
+  pair <- cbind(wanted, 5134000)
+  refused(read_fixes(with_column("easting", pair)), "make each of its columns one of the table, as by cbind(table, x)", "number")
+  within <- with_column("place", pair)[c("animal", "second", "place")]
+  refused(read_fixes(within), "the column 'place' is of several columns: make them columns of the table, as by x$easting <- x[[\"place\"]][, 1]", "columns")
+  within$easting <- within[["place"]][, 1]
+  within$northing <- within[["place"]][, 2]
+  expect_identical(quietly(read_fixes(within))$easting, wanted)
+})
+
+test_that("lengths of time beside days become times", {
+  skip_without_split()
+  table <- cbind(table_of_four()[c("animal", "easting", "northing")], day = as.Date("2024-05-01"), clock = as.difftime(c(0, 1, 30, 31), units = "hours"))
+  refused(read_fixes(table, time = c("day", "clock")),
+          "as.POSIXct(x[[\"day\"]]) + x[[\"clock\"]] makes times of both, in a column that time names alone", "time")
+  table$when <- as.POSIXct(table[["day"]]) + table[["clock"]]
+  expect_identical(quietly(read_fixes(table, time = "when", tz = "UTC"))$time, as.POSIXct("2024-05-01", tz = "UTC") + 3600 * c(0, 1, 30, 31))
+})
+
+test_that("a form of times is for texts", {
+  skip_without_split()
+  moments <- as.POSIXct("2024-05-01 01:00", tz = "UTC") + 3600 * 0:3
+  for (title in c("timestamp", "when", "local_time")) {
+    table <- table_of_four()[c("animal", "easting", "northing")]
+    said <- paste0("time_format is for texts, and '", title, "' has moments: leave it out")
+    for (own in list(moments, `attr<-`(moments, "tzone", "Asia/Tokyo"), as.POSIXlt(moments))) {
+      table[[title]] <- own
+      for (form in c("%d.%m.%Y", "%Y-%m-%d %H:%M:%S", "%Y-%m-%dT%H:%M:%SZ")) {
+        # The program says of a form with Z beside another zone that one is to be left out.
+        words <- if (endsWith(form, "Z") && identical(attr(own, "tzone"), "Asia/Tokyo")) "leave one of them out" else said
+        refused(read_fixes(table, time_format = form), words, "option")
+        refused(read_fixes(table, time = title, time_format = form), words, "option")
+      }
+    }
+    table[[title]] <- format(moments, "%d.%m.%Y %H:%M")
+    table$deployed <- moments
+    expect_identical(quietly(read_fixes(table, time = title, time_format = "%d.%m.%Y %H:%M", tz = "UTC"))$time, moments)
+  }
+  table <- cbind(table, day = as.Date("2024-05-01"), clock = as.difftime(1:4, units = "hours"))
+  expect_identical(quietly(read_fixes(table, time = c("day", "clock"), time_format = "%Y-%m-%d %H:%M:%S"))$time, moments)
+})
+
+test_that("units that are no lengths say what makes of them what is read", {
+  skip_without_split()
+  skip_if_not_installed("units")
+  table <- table_of_four()
+  table$second <- units::set_units(0:3, "min")
+  refused(read_fixes(table), "if it is a time, units::drop_units(units::set_units(x, \"s\")) makes seconds of it, in a column 'second' in its place", "time")
+  table$second <- units::drop_units(units::set_units(table$second, "s"))
+  expect_identical(quietly(read_fixes(table))$second, 60 * c(0, 1, 2, 3))
+  table$easting <- units::set_units(table$easting, "kg")
+  refused(read_fixes(table), "it is no length: units::drop_units(x) makes numbers of it", "number")
+  table$easting <- units::drop_units(table$easting)
+  expect_identical(nrow(quietly(read_fixes(table))), 4L)
+})
+
+test_that("points of a site in feet are read once they are metres", {
+  skip_without_split()
+  skip_if_not_installed("sf")
+  site <- "ENGCRS[\"site\",EDATUM[\"site\"],CS[Cartesian,2],AXIS[\"x\",east],AXIS[\"y\",north],LENGTHUNIT[\"foot\",0.3048]]"
+  points <- sf::st_set_crs(sf::st_as_sf(table_of_four(), coords = c("easting", "northing")), sf::st_crs(site))
+  refused(read_fixes(points), "turn them into metres first, as by sf::st_set_geometry(x, sf::st_geometry(x) * 0.3048)", "crs")
+  # 562000 feet are 171297.6 metres.
+  expect_identical(quietly(read_fixes(sf::st_set_geometry(points, sf::st_geometry(points) * 0.3048)))$easting[1], 171298)
+  refused(read_fixes(table_of_four(), crs = sf::st_crs(site)), "turn them into metres first, and leave crs out", "crs")
+})

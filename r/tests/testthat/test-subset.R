@@ -94,9 +94,33 @@ test_that("functions of R speak of animals", {
   expect_identical(names(rbind(report["otter"], report["fox"])), c("otter", "fox"))
 })
 
+test_that("a dollar answers as brackets do", {
+  path <- system.file("extdata", "report.txt", package = "homerange")
+  report <- read_report(path)
+  other <- file.path(local_folder(), "report.txt")
+  writeLines(gsub("\\botter\\b", "unit", readLines(path)), other)
+  named <- read_report(other)
+  outside <- function(call, ...) eval(call, list(...), globalenv())  # as a user calls, and not the package
+  expect_identical(outside(quote(x$otter), x = report), report[["otter"]])
+  expect_identical(outside(quote(x$unit), x = report), "m")
+  expect_identical(outside(quote(x$unit), x = named), named[["unit"]])
+  refused <- function(call, text) expect_error(outside(call, x = report), text, fixed = TRUE, class = "homerange_option_error")
+  refused(quote(x$wolf), "there is no animal wolf")
+  refused(quote(x$uni), "there is no animal uni")
+  refused(quote(x["otter", "fox"]), "animals are chosen by one vector, as by x[c(\"fox\", \"elk\")]")
+  refused(quote(x[, 1]), "ranges are no table")
+  refused(quote(x[["otter", "fox"]]), "the name or the place of one animal is wanted")
+  refused(quote(x[[]]), "the name or the place of one animal is wanted")
+  expect_identical(report[], report)
+  expect_identical(report[["otter", exact = TRUE]], report["otter"])
+})
+
 test_that("the ranges of an animal are not put or taken away by its name", {
   skip_without_program()
   ranges <- quietly(home_range(herd_of_three(), 100))
+  expect_error(ranges$fox <- NULL, "are not changed one by one", class = "homerange_option_error")
+  expect_error(ranges[] <- 1, "are not changed one by one", class = "homerange_option_error")
+  expect_error(ranges["unit", "fox"] <- 1, "are not changed one by one", class = "homerange_option_error")
   expect_error(ranges["fox"] <- ranges["fox"], "are not changed one by one", class = "homerange_option_error")
   expect_error(ranges[["fox"]] <- NULL, "take some by x[..], and bind ranges by c", fixed = TRUE, class = "homerange_option_error")
 })

@@ -12,6 +12,9 @@ from cases import finish
 
 TITLES = "animal,second,easting,northing"
 FAR = "".join(f"v,{at},{500000 + 10 * at},{5000000 + 7 * at}\n" for at in range(9)) + "v,9,505000,5000000\nv,10,500010,5000003\n"
+# Four animals in kilometres among five in metres, which begin 5,077 km north of them.
+APART = "".join(f"{name},{at},{15 + at},{46 + at}\n" if name in "bcde" else f"{name},{at},{561000 + at * 1000 // 3},{5077000 + at * 1000 // 3}\n"
+                for name in "abcdefghi" for at in range(4))
 KILOMETRES = "".join(f"v,{at},{500 + at % 3},{5000 + at % 2}\n" for at in range(10))
 OWN = f"{TITLES}\nv,0,1000,2000\nv,60,1030,2040\n"
 OF_ZERO = f"{TITLES},dop\nv,0,1000,2000,0\nv,9,1001,2000,-1\nv,20,1002,2000,4.9\nv,30,1003,2000,5\nv,40,1004,2000,5.0\n"
@@ -94,13 +97,21 @@ REFUSED = [
     ("digits that have lost a zero", ["--time", "date,time", "--time-format", "%Y-%m-%d %H%M"], b"id,date,time,x,y\na,2024-05-01,130,1000,2000\n", 1, "not a time of the form %Y-%m-%d %H%M"),
     ("a day without its zero", ["--time-format", "%d%m%y"], b"id,date,x,y\na,10524,1000,2000\n", 1, "not a time of the form %d%m%y"),
     ("classes as numbers with decimals", [], b"id,date,x,y,argos-lc\na,2024-05-01,1000,2000,3.0\na,2024-05-02,1030,2040,b\n", None, "fixes are of Argos"),
+    ("a form with Z beside another zone", ["--time-format", "%Y-%m-%dT%H:%M:%SZ", "--tz", "Europe/Ljubljana"], b"id,date,x,y\na,2024-05-01T00:30:04Z,1000,2000\n", None,
+     "time-format is '%Y-%m-%dT%H:%M:%SZ', which ends with UTC, and tz is 'Europe/Ljubljana': leave one of them out"),
+    ("a form with a zone that is not named", ["--time-format", "%Y-%m-%d %H:%M CET"], b"id,date,x,y\na,2024-05-01 00:30 CET,1000,2000\n", None, "which may end with a zone of time, and no form has one: name it, as by --tz"),
+    ("a form with an offset", ["--time-format", "%d.%m.%Y|%Y-%m-%d %H:%M+02:00"], b"id,date,x,y\na,2024-05-01 00:30+02:00,1000,2000\n", None, "time-format is '%Y-%m-%d %H:%M+02:00', which may end with a zone"),
+    ("a zone under a title of another language", [], b"id,date,x,y,huso\na,2024-05-01,500000,5000000,30\na,2024-05-02,500030,5000040,31\n", None, "column 5 'huso' has several values"),
+    ("classes of another title, behind LC", [], b"id,date,x,y,Quality\na,2024-05-01,1000,2000,LC3\na,2024-05-02,1030,2040,lcb\n", None, "column 5 'Quality' may have Argos classes"),
+    ("no fix of a class", ["--argos-class", "9"], b"id,date,x,y,argos-lc\na,2024-05-01,1000,2000,3\na,2024-05-02,1030,2040,B\na,2024-05-02,,,B\n", None, "no fix is left; left out by reason: coordinates 1, class 2"),
+    ("a sensor of no fix among others", ["--sensor", "vhf,GPS"], b"id,date,x,y,sensor-type\na,2024-05-01,1000,2000,gps\na,2024-05-02,1030,2040,Argos\n", None, "--sensor: no fix is of vhf"),
     ("classes of another title", [], b"id,date,x,y,Quality\na,2024-05-01,1000,2000,3\na,2024-05-02,1030,2040,B\n", None, "column 5 'Quality' may have Argos classes"),
     ("a name that has lost digits", [], b"id,date,x,y\nb,2024-05-01,1000,2000\n3.00434E+14,2024-05-01,1000,2000\n3.00434E+14,2024-05-02,1030,2040\n", 2, "is a number that has lost digits"),
     ("zones of metres that change", [], b"id,date,x,y,UTMzone\na,2024-05-01,500000,5000000,33N\na,2024-05-02,500030,5000040,34N\n", None, "column 5 'UTMzone' has several values"),
     ("a hemisphere beside degrees", [], b"id,date,lon,lat,E/W\na,2024-05-01,0.5,51.5,E\na,2024-05-02,0.5,51.5,W\n", None, "column 5 'E/W' has S or W beside degrees above 0"),
     ("halves of the day", [], b"id,time,x,y,half\na,2024-05-01 01:00,1000,2000,AM\na,2024-05-01 01:30,1030,2040,pm\n", None, "column 5 'half' has halves of the day"),
     ("a clock beside days", [], b"id,date,x,y,Uhrzeit\na,2024-05-01,1000,2000,10:30\na,2024-05-01,1030,2040,9:15\n", None, "column 5 'Uhrzeit' has hours"),
-    ("hours beside days", [], b"id,date,x,y,hora\na,2024-05-01,1000,2000,7\na,2024-05-01,1030,2040,23\n", None, "column 5 'hora' has hours"),
+    ("hours beside days", [], b"id,date,x,y,hora\na,2024-05-01,1000,2000,7\na,2024-05-01,1030,2040,23\n", None, "column 5 'hora' has hours, which the days of the time have not: join them, as by --time DAY,COLUMN --time-format '%Y-%m-%d %H'"),
     ("an offset of times that begins as UTC", [], b"id,time,x,y,utc_offset\na,2024-03-31 00:00,1000,2000,Z\na,2024-03-31 00:30,1030,2040,+00:00\na,2024-03-31 01:30,1060,2040,+01:00\n", None,
      "column 5 'utc_offset' says of which zone times are"),
     ("an offset of times", [], b"id,time,x,y,utc_offset\na,2024-05-01 01:00,1000,2000,+2\na,2024-05-01 02:00,1030,2040,+2\n", None, "column 5 'utc_offset' says of which zone times are"),
@@ -109,6 +120,9 @@ REFUSED = [
     ("a longitude of no place", [], b"id,date,lon,lat\na,2024-05-01,15.8,46.3\na,2024-05-02,-9999,46.2\n", 2, "a word for what is missing is named by --na, such as --na -9999"),
     ("seconds without dates, from a day on", ["--since", "2024-05-01"], OWN.encode(), None, "the seconds of second end with 60, so they begin at a start of their own and have no dates: leave out --since 2024-05-01"),
     ("seconds without dates, to a day", ["--until", "2024-05-01"], OWN.encode(), None, "the seconds of second end with 60, so they begin at a start of their own and have no dates: leave out --until 2024-05-01"),
+    ("metres as degrees", [], b"id,date,lon,lat\na,2024-05-01,561000,5134000\n", 1,
+     "there is no place of longitude 561000 and latitude 1000000 or more: coordinates in metres are named by --easting and --northing, and a word for what is missing by --na"),
+    ("a latitude of metres", [], b"id,date,lon,lat\na,2024-05-01,15.8,5134000\n", 1, "latitude 1000000 or more: a word for what is missing is named by --na"),
     ("longitude and latitude the other way", [], b"id,date,lon,lat\na,2024-05-01,46.3,115.8\n", 1, "are their columns to be named the other way, by --lon and --lat?"),
     ("several zones without degrees", [], b"individual-local-identifier,timestamp,utm-easting,utm-northing,utm-zone\na,2024-05-01,500000,5000000,33N\na,2024-05-02,500030,5000040,34N\n", None,
      "fixes lie in several zones (33N 1, 34N 1): make a table of each"),
@@ -123,6 +137,22 @@ REFUSED = [
      "timestamp: the clocks of Europe/Ljubljana passed over that time"),
 ]
 READ = [
+    ("hours joined to days as they are told to be", ["--time", "date,hora", "--time-format", "%Y-%m-%d %H"], b"id,date,x,y,hora\na,2024-05-01,1000,2000,7\na,2024-05-01,1030,2040,23\n",
+     ["times are read as %Y-%m-%d %H, in UTC", *LINES, columns("id, date, hora, x, y", "0.030 by 0.040", ", from 2024-05-01 to 2024-05-01")], {"a": "a,1714546800,1000,2000\na,1714604400,1030,2040\n"}),
+    ("a form with Z in UTC", ["--time-format", "%Y-%m-%dT%H:%MZ", "--tz", "UTC"], b"id,date,x,y\na,2024-05-01T00:30Z,1000,2000\na,2024-05-01T01:30Z,1030,2040\n",
+     ["times are read as %Y-%m-%dT%H:%MZ, in UTC", *LINES, columns("id, date, x, y", "0.030 by 0.040", ", from 2024-05-01 to 2024-05-01")], {"a": "a,1714523400,1000,2000\na,1714527000,1030,2040\n"}),
+    ("a form with a zone that is named", ["--time-format", "%Y-%m-%d %H:%M CET", "--tz", "Etc/GMT-1"], b"id,date,x,y\na,2024-05-01 00:30 CET,1000,2000\na,2024-05-01 01:30 CET,1030,2040\n",
+     ["times are read as %Y-%m-%d %H:%M CET, in Etc/GMT-1", *LINES, columns("id, date, x, y", "0.030 by 0.040", ", from 2024-04-30 to 2024-05-01")], {"a": "a,1714519800,1000,2000\na,1714523400,1030,2040\n"}),
+    ("Argos classes as they are written", ["--argos-class", "lc3, B"],
+     b"id,date,x,y,argos-lc\na,2024-05-01,1000,2000,LC3\na,2024-05-02,1010,2000,3.0\na,2024-05-03,1020,2000,3 \na,2024-05-04,1030,2040,b\na,2024-05-05,5,5,LC 2\na,2024-05-06,5,5,A\n",
+     ["2 fixes are of other Argos classes than lc3, B: left out", *LINES, columns("id, date, x, y", "0.030 by 0.040", ", from 2024-05-01 to 2024-05-04")],
+     {"a": "a,1714521600,1000,2000\na,1714608000,1010,2000\na,1714694400,1020,2000\na,1714780800,1030,2040\n"}),
+    ("a sensor in great letters, by its number and with a blank", [], b"id,date,x,y,sensor-type\na,2024-05-01,1000,2000,GPS\na,2024-05-02,1010,2000,gps \na,2024-05-03,1030,2040,653\n",
+     [*LINES, columns("id, date, x, y", "0.030 by 0.040", ", from 2024-05-01 to 2024-05-03")],
+     {"a": "a,1714521600,1000,2000\na,1714608000,1010,2000\na,1714694400,1030,2040\n"}),
+    ("a type in great letters", ["--fix-type", "3d"], b"id,date,x,y,fix-type\na,2024-05-01,1000,2000,3D\na,2024-05-02,1010,2000,3d\na,2024-05-03,1030,2040,2D\na,2024-05-04,1030,2040,3D \n",
+     ["1 fixes are of other fix types than 3d: left out", *LINES, columns("id, date, x, y", "0.030 by 0.040", ", from 2024-05-01 to 2024-05-04")],
+     {"a": "a,1714521600,1000,2000\na,1714608000,1010,2000\na,1714780800,1030,2040\n"}),
     ("a word that is missing", ["--na", "-9999"], f"{TITLES}\nv,0,1000,2000\nv,30,-9999,-9999\nv,60,1030,2040\n".encode(),
      ["1 records have no coordinates: left out", *LINES, OWN_COLUMNS], {"v": "v,0,1000,2000\nv,60,1030,2040\n"}),
     ("a word that is missing, and an empty one", ["--na", "-9999,"], f"{TITLES}\nv,0,1000,2000\nv,30,-9999,\nv,60,1030,2040\n".encode(),
@@ -144,7 +174,11 @@ READ = [
      ["times are read as %Y%m%d%H, in UTC", *LINES, columns("id, timestamp, x, y", "0.030 by 0.040", ", from 2024-05-01 to 2024-05-02")],
      {"a": "a,1714564800,1000,2000\na,1714654800,1030,2040\n"}),
     ("seconds since 1970 with decimals", [], b"id,timestamp,x,y\na,1714523404.75,1000,2000\na,1714523561,1030,2040\n",
-     [*LINES, columns("id, timestamp, x, y", "0.030 by 0.040", ", from 2024-05-01 to 2024-05-01")], {"a": "a,1714523404,1000,2000\na,1714523561,1030,2040\n"}),
+     [*LINES, "1 times have parts of a second: taken by whole seconds, also by filters", columns("id, timestamp, x, y", "0.030 by 0.040", ", from 2024-05-01 to 2024-05-01")],
+     {"a": "a,1714523404,1000,2000\na,1714523561,1030,2040\n"}),
+    ("animals in two units", [], f"{TITLES}\n{APART}".encode(),
+     [*LINES, "b, c, d and 1 more lie 5,077 km from the other animals: are all in one unit and system?", "columns: animal, second, easting, northing; 9 animals, box 561.985 by 5077.954 km, from second 0 to 3"],
+     {name: "".join(f"{line}\n" for line in APART.splitlines() if line[0] == name) for name in "abcdefghi"}),
     ("a title as packed files begin", [], OWN.replace("animal", "PK,animal").replace("v,", "1,v,").encode(), [*LINES, OWN_COLUMNS, "not read: PK"],
      {"v": "v,0,1000,2000\nv,60,1030,2040\n"}),
     ("the mark of UTF-8", ["--encoding", "utf8"], MARK + OWN.encode(), [*LINES, OWN_COLUMNS], {"v": "v,0,1000,2000\nv,60,1030,2040\n"}),

@@ -1,0 +1,22 @@
+use Rattle.std.proofs.Common.{codes, rules}
+use Rattle.page_report.specs.Lines.{percent_of}
+use Rattle.page_report.specs.Reading.{parts, percents_of}
+use Rattle.page_report.proofs.Many.{line_more, line_refused, lines_end}
+use Rattle.page_report.proofs.reading.percents_of.Goals as goal
+
+pub returns-in_default-percent_of-clause-fault : goal.returns-in_default-percent_of-clause-fault
+returns-in_default-percent_of-clause-fault c =
+    line_refused (codes "percent,") (λ number. percent_of c.args.name.now) c.loop-line.percents.items (parts c.loop-line.rest.now) c.in-Some.line.now (parts c.in-Some.behind.now)
+    (percents_of c.args.name.now 0 (parts c.args.text.now)) c.refused.result c.loop-line.invariant c.in-Some.ensures.line c.in-Some.ensures.more
+    (search rules) c.refused.ensures
+
+pub loop-line-preserved : goal.loop-line-preserved
+loop-line-preserved c =
+    line_more (codes "percent,") (λ number. percent_of c.args.name.now) c.loop-line.percents.items c.push.new.items.items (parts c.loop-line.rest.now) c.in-Some.line.now (parts c.in-Some.behind.now)
+    (percents_of c.args.name.now 0 (parts c.args.text.now)) c.in-Some-percent_of.percent c.loop-line.invariant c.in-Some.ensures.line c.in-Some.ensures.more
+    (search rules) (search rules)
+
+pub returns-clause-found : goal.returns-clause-found
+returns-clause-found c =
+    lines_end (codes "percent,") (λ number. percent_of c.args.name.now) c.loop-line.percents.items (parts c.loop-line.rest.now)
+    (percents_of c.args.name.now 0 (parts c.args.text.now)) c.loop-line.invariant (search rules)

@@ -1,0 +1,4 @@
+//! Tests of reports that are read back.
+#![tactic(auto)]
+
+mod reports;

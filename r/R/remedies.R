@@ -1,0 +1,67 @@
+# What is to be done with columns of a frame that are refused, so that they are read.
+
+in_seconds <- "as.numeric(x, units = \"secs\") makes seconds of it, in a column 'second' in its place"
+
+# What to do with a column of a class: numbers alone may be other ones than they seem. Lengths of time beside days are parts of times.
+remedy_of_class <- function(column, class, days = NULL, title = NULL) {
+  if (class == "difftime" && length(days)) {
+    return(paste0("as.POSIXct(x[[\"", days[1], "\"]]) + x[[\"", title, "\"]] makes times of both, in a column that time names alone"))
+  }
+  if (inherits(column, "units")) return(remedy_of_unit(column))
+  if (length(dim(column)) == 2) return("make each of its columns one of the table, as by cbind(table, x)")
+  switch(
+    class, difftime = , Period = , Duration = paste0("if it is a time, ", in_seconds),
+    Interval = "lubridate::int_start(x) makes times of it",
+    haven_labelled = , haven_labelled_spss = "haven::as_factor(x) makes text of it", chron = , dates = "as.POSIXct(x) makes times of it",
+    "make text, numbers or times of it"
+  )
+}
+
+# What to do with a column of a unit that is no length in metres.
+remedy_of_unit <- function(column) {
+  if (!is.null(in_unit(column, "degrees"))) return("units::set_units(x, \"degrees\") makes degrees of it")
+  if (!is.null(in_unit(column, "m"))) return("units::set_units(x, \"m\") makes metres of it")
+  if (is.null(in_unit(column, "s"))) return("it is no length: units::drop_units(x) makes numbers of it")
+  "if it is a time, units::drop_units(units::set_units(x, \"s\")) makes seconds of it, in a column 'second' in its place"
+}
+
+# Refuses a table whose places are within one of its columns: shapes, or a matrix or a table of two.
+check_columns_within <- function(x) {
+  titles <- readable(names(x))
+  shapes <- titles[vapply(as.list(x), inherits, NA, "sfc")]
+  if (length(shapes) && !inherits(x, "sf")) {
+    refuse("columns", "the column '", shapes[1], "' has shapes, and the table is none of sf: sf::st_as_sf(x) makes one of it")
+  }
+  several <- titles[vapply(as.list(x), NCOL, 0L) > 1]
+  if (length(several)) {
+    refuse("columns", "the column '", several[1], "' is of several columns: make them columns of the table, as by x$easting <- x[[\"",
+           several[1], "\"]][, 1]")
+  }
+}
+
+# What the program says of days and times that it joins, or would join, where they are more than days and clocks.
+with_remedy_of_moments <- function(text, frame) {
+  both <- regmatches(text, regexec("'([^']*)' and column [0-9]+ '([^']*)' both fit the time: ", text))[[1]][-1]
+  titles <- if (length(both)) both else titles_of_time(frame)
+  if (length(titles) < 2) return(text)
+  own <- as.list(frame$x)[match(titles, one_line(readable(names(frame$x))))]
+  moments <- Filter(is_of_moments, own)
+  whole <- names(Filter(Negate(are_midnights), moments))
+  helps <- if (length(whole) == 1) {
+    paste0(whole, " has moments: name it alone, as by time = \"", whole, "\"")
+  } else if (!length(both) && length(moments) && !length(whole)) {
+    paste0(names(moments)[1], " has moments: make days of it, as by as.Date(x, tz = \"", zone_of_times(moments[[1]]), "\")")
+  }
+  if (!is.null(helps)) return(paste0(sub(": (name one|if it is one|write|name) .*", "", text), ": ", helps))
+  are_full <- length(moments) > 1 || all(vapply(own, inherits, NA, "Date"))
+  if (are_full) sub(", or both, as by .*", "", text) else text
+}
+
+# What the program says of a time that is a clock alone, with what is to be done with a column of this class: no form has a clock.
+with_remedy_of_clocks <- function(text, x) {
+  titles <- names(x)[vapply(as.list(x), has_class_of_clocks, NA) & !vapply(as.list(x), is_of_moments, NA)]
+  own <- titles_at_start(readable(titles), text)
+  if (!length(own)) return(text)
+  since <- if (inherits(x[[own[1]]], "difftime")) paste0("; if it is a time since a start, ", in_seconds)
+  paste0(sub(": (if it is one|write|name)\\b.*", "", text), ": join it to days, as by time = c(\"DAY\", \"", own[1], "\")", since)
+}
