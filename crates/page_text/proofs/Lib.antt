@@ -1,0 +1,4 @@
+mod CellFacts
+mod FigureFacts
+mod HarmlessFacts
+mod ShownFacts
