@@ -1,38 +1,14 @@
--- A cell is written in parts, and read back.
-use Rattle.std.proofs.Common.{◌≡◌, ℕ, ◌==◌, Bool, true, false, not, cond, ◌||◌, List, [], ◌∷◌, ◌++◌, inl, inr, refl, sym, ap, subst, ◌∙◌, arith, append_assoc, codes, slice_index, if◌then◌else◌}
+-- A cell is read back.
+use Rattle.std.proofs.Common.{◌≡◌, ℕ, ◌==◌, true, false, ◌||◌, List, [], ◌∷◌, ◌++◌, inl, inr, refl, sym, ap, subst, ◌∙◌, arith, append_assoc}
 use Rattle.std.proofs.lemmas.Bool.{cases_Bool}
 use Rattle.std.proofs.lemmas.Bool.Decides.{nat_tests}
 use Rattle.std.specs.List.{flat_map, list_any}
 use lib.Dec.{T}
-use Rattle.page_text.specs.Cells.{apostrophe, cell, in_quotes, is_formula, is_special, quoted, quoted_byte, read_cell, read_plain, read_quoted, shown_cell, text_of_cell, with_byte}
+use Rattle.page_text.specs.Cells.{cell, in_quotes, is_formula, is_special, quoted_byte, read_cell, read_plain, read_quoted, shown_cell, text_of_cell}
 use Rattle.page_text.specs.Laws.{ends_cell}
 
 never : {A : Type 0} → false ≡ true → A
 never e = absurd (subst T (sym e) tt)
-
--- an apostrophe changes nothing of what needs quotes
-pub same_test : (text : List ℕ) → list_any is_special (shown_cell text) ≡ list_any is_special text
-same_test text =
-    elim (is_formula (slice_index text 0)) as (λ v. list_any is_special ((if v then codes "'" else []) ++ text) ≡ list_any is_special text) [
-      | true ↦ refl
-      | false ↦ refl
-    ]
-
--- a text in quotes, in the parts in which it is written
-quoted_parts : (text : List ℕ) → quoted (shown_cell text) ≡ 34 ∷ (apostrophe text ++ (flat_map quoted_byte text ++ 34 ∷ []))
-quoted_parts text =
-    elim (is_formula (slice_index text 0)) as (λ v. quoted ((if v then codes "'" else []) ++ text) ≡ 34 ∷ ((if v then codes "'" else []) ++ (flat_map quoted_byte text ++ 34 ∷ []))) [
-      | true ↦ refl
-      | false ↦ refl
-    ]
-
-pub quoted_cell : (before text : List ℕ) → list_any is_special text ≡ true
-    → (((before ++ 34 ∷ []) ++ apostrophe text) ++ flat_map quoted_byte text) ++ 34 ∷ [] ≡ before ++ cell text
-quoted_cell before text special =
-    rw (same_test text, special, quoted_parts text) (simp append_assoc)
-
-pub plain_cell : (before text : List ℕ) → list_any is_special text ≡ false → (before ++ apostrophe text) ++ text ≡ before ++ cell text
-plain_cell before text plain = rw (same_test text, plain) (append_assoc before (apostrophe text) text)
 
 -- what ends a cell is no quote, and is special
 no_quote : (byte : ℕ) → (byte == 44 || byte == 10) ≡ true → (byte == 34) ≡ false

@@ -4,7 +4,7 @@ use Rattle.std.proofs.lemmas.List.{drop_all, drop_more, length-map}
 use Rattle.page_text.specs.Figures.{between, comma_before, grouped_behind, listed}
 
 -- a text with a part of what is left written comes to the same
-pub one_more : (text all part left rest : List ℕ) → rest ≡ part ++ left → text ++ rest ≡ all → (text ++ part) ++ left ≡ all
+one_more : (text all part left rest : List ℕ) → rest ≡ part ++ left → text ++ rest ≡ all → (text ++ part) ++ left ≡ all
 one_more text all part left rest split whole = append_assoc text part left ∙ ap (λ l. text ++ l) (sym split) ∙ whole
 
 -- the digits that are left, where the next is written

@@ -1,5 +1,5 @@
 -- What is shown of a text is harmless.
-use Rattle.std.proofs.Common.{◌≡◌, ℕ, zero, suc, ◌+◌, ◌-◌, ◌<◌, ◌/◌, ◌%◌, ◌==◌, Bool, true, false, not, ◌&&◌, ◌||◌, List, [], ◌∷◌, ◌++◌, slice_index, Option, Some, None, inl, inr, refl, sym, ap, ◌∙◌, append_assoc, arith, codes, if◌then◌else◌}
+use Rattle.std.proofs.Common.{◌≡◌, ℕ, zero, suc, ◌<◌, ◌/◌, ◌%◌, ◌==◌, Bool, true, false, not, ◌&&◌, List, [], ◌∷◌, ◌++◌, slice_index, inl, inr, refl, ◌∙◌, arith, codes}
 use Rattle.std.proofs.lemmas.Bool.{and_from, and_parts, cases_Bool}
 use Rattle.std.proofs.lemmas.Bool.Decides.{nat_tests}
 use Rattle.std.proofs.lemmas.List.Folds.{list_all-append}
@@ -8,7 +8,7 @@ use Rattle.std.specs.Char.{is_ascii_control}
 use Rattle.std.specs.List.{list_all}
 use Rattle.hex.specs.Hex.{encode_lower, encode_with, lower_digits}
 use Rattle.page_text.specs.Laws.{is_harmless, is_plain}
-use Rattle.page_text.specs.Shown.{bytes_behind, entity, escaped_behind, hidden_code, is_hidden, long_escape, short_escape, sign_beside, sign_text, starts_control, starts_wide, wide_code}
+use Rattle.page_text.specs.Shown.{bytes_behind, entity, escaped_behind, is_hidden, long_escape, short_escape, sign_text, starts_control, starts_wide, wide_code}
 
 -- bytes that stand for themselves, before others
 abbrev is_letter : ℕ → Bool

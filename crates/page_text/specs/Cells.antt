@@ -1,5 +1,5 @@
 -- A cell of a table, and how it is read.
-use Rattle.std.specs.Prelude.{ℕ, ◌==◌, Bool, true, false, not, ◌||◌, if◌then◌else◌, List, [], ◌∷◌, ◌++◌, codes, slice_index}
+use Rattle.std.specs.Prelude.{ℕ, ◌==◌, Bool, true, false, if◌then◌else◌, List, [], ◌∷◌, ◌++◌, codes, slice_index}
 use Rattle.std.specs.List.{flat_map, list_any}
 
 -- whether a spreadsheet may compute a text that starts with this byte, or hides it

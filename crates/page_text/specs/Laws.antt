@@ -1,8 +1,7 @@
 -- What holds of each text and number.
-use Rattle.std.specs.Prelude.{◌≡◌, ℕ, ◌+◌, ◌*◌, ◌<◌, ◌≤◌, ◌==◌, Bool, true, false, not, ◌&&◌, ◌||◌, List, [], ◌∷◌, ◌++◌, codes, slice_index, IsTrue}
+use Rattle.std.specs.Prelude.{◌≡◌, ℕ, ◌+◌, ◌*◌, ◌<◌, ◌≤◌, ◌==◌, Bool, true, false, not, ◌&&◌, ◌||◌, List, [], ◌∷◌, ◌++◌, codes}
 use Rattle.std.specs.Char.{is_ascii_control}
-use Rattle.std.specs.List.{list_any}
-use Rattle.page_text.specs.Cells.{cell, is_special, read_cell, shown_cell, text_of_cell}
+use Rattle.page_text.specs.Cells.{cell, read_cell, shown_cell, text_of_cell}
 use Rattle.page_text.specs.Figures.{rounded}
 use Rattle.page_text.specs.Shown.{escaped}
 

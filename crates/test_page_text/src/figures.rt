@@ -140,7 +140,10 @@ fn quotients_are_rounded_once(rt: HostRuntime) {
             u128::from(whole.max(1)),
             places,
         );
-        assert!(rt; is_written(&text, pushed, expected.as_bytes()), "{part} of {whole}");
+        assert!(rt;
+            is_written(&text, pushed, expected.as_bytes()),
+            "{part} of {whole}"
+        );
     }
 }
 
@@ -149,7 +152,10 @@ fn quotients_have_three_digits(rt: HostRuntime) {
     for (part, expected) in THREE_DIGITS {
         let mut text = Vec::new(rt.alloc());
         let pushed = push_three_digits(&mut text, u128::from(part), 1_000);
-        assert!(rt; is_written(&text, pushed, expected.as_bytes()), "{part} of 1000");
+        assert!(rt;
+            is_written(&text, pushed, expected.as_bytes()),
+            "{part} of 1000"
+        );
     }
 }
 
@@ -158,10 +164,16 @@ fn areas_are_hectares_or_square_metres(rt: HostRuntime) {
     for (area2, unit, expected, signed) in AREAS {
         let mut text = Vec::new(rt.alloc());
         let pushed = push_hectares(&mut text, u128::from(area2), unit);
-        assert!(rt; is_written(&text, pushed, expected.as_bytes()), "{area2} {unit}");
+        assert!(rt;
+            is_written(&text, pushed, expected.as_bytes()),
+            "{area2} {unit}"
+        );
         let mut own = Vec::new(rt.alloc());
         let pushed = push_with_sign(&mut own, u128::from(area2), unit);
-        assert!(rt; is_written(&own, pushed, signed.as_bytes()), "{area2} {unit}, signed");
+        assert!(rt;
+            is_written(&own, pushed, signed.as_bytes()),
+            "{area2} {unit}, signed"
+        );
     }
 }
 
@@ -184,7 +196,10 @@ fn days_have_tenths_below_ten(rt: HostRuntime) {
     for (seconds, expected) in DAYS {
         let mut text = Vec::new(rt.alloc());
         let pushed = push_days(&mut text, seconds);
-        assert!(rt; is_written(&text, pushed, expected.as_bytes()), "{seconds} s");
+        assert!(rt;
+            is_written(&text, pushed, expected.as_bytes()),
+            "{seconds} s"
+        );
     }
 }
 
@@ -193,7 +208,10 @@ fn lengths_of_time_have_their_unit(rt: HostRuntime) {
     for (seconds2, expected) in INTERVALS {
         let mut text = Vec::new(rt.alloc());
         let pushed = push_interval(&mut text, seconds2);
-        assert!(rt; is_written(&text, pushed, expected.as_bytes()), "{seconds2:?}");
+        assert!(rt;
+            is_written(&text, pushed, expected.as_bytes()),
+            "{seconds2:?}"
+        );
     }
 }
 
@@ -202,7 +220,10 @@ fn shares_of_fixes_are_neither_nothing_nor_all(rt: HostRuntime) {
     for (count, all, expected) in SHARES_OF_FIXES {
         let mut text = Vec::new(rt.alloc());
         let pushed = push_share_of_fixes(&mut text, count, all.max(1));
-        assert!(rt; is_written(&text, pushed, expected.as_bytes()), "{count} of {all}");
+        assert!(rt;
+            is_written(&text, pushed, expected.as_bytes()),
+            "{count} of {all}"
+        );
     }
 }
 
@@ -211,6 +232,9 @@ fn shares_of_areas_are_tenths(rt: HostRuntime) {
     for (part, whole, expected) in SHARES_OF_AREAS {
         let mut text = Vec::new(rt.alloc());
         let pushed = push_share_of_area(&mut text, u128::from(part), u128::from(whole));
-        assert!(rt; is_written(&text, pushed, expected.as_bytes()), "{part} of {whole}");
+        assert!(rt;
+            is_written(&text, pushed, expected.as_bytes()),
+            "{part} of {whole}"
+        );
     }
 }

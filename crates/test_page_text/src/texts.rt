@@ -10,7 +10,10 @@ const SHOWN: [(&[u8], &[u8]); 13] = [
     (b"", b""),
     (b"<b>&\"'</b>", b"&lt;b&gt;&amp;&quot;&#x27;&lt;/b&gt;"),
     (b"a\x1B[31m\n\x7F", b"a\\x1b[31m\\x0a\\x7f"),
-    (b"\xC2\x80\xC2\x85\xC2\x9F\xC2\xA0", b"\\x80\\x85\\x9f\xC2\xA0"),
+    (
+        b"\xC2\x80\xC2\x85\xC2\x9F\xC2\xA0",
+        b"\\x80\\x85\\x9f\xC2\xA0",
+    ),
     (
         b"a\xE2\x80\x8B\xE2\x80\x8C\xE2\x80\x8E\xE2\x80\x8F\xE2\x80\x90",
         b"a\\u200b\xE2\x80\x8C\\u200e\\u200f\xE2\x80\x90",
@@ -102,6 +105,9 @@ fn words_are_listed(rt: HostRuntime) {
     ] {
         let mut text = Vec::new(rt.alloc());
         let pushed = push_listed(&mut text, words.get(..count).unwrap_or(&[]));
-        assert!(rt; is_written(&text, pushed, expected.as_bytes()), "{count} words");
+        assert!(rt;
+            is_written(&text, pushed, expected.as_bytes()),
+            "{count} words"
+        );
     }
 }
