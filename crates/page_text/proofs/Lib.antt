@@ -1,3 +1,4 @@
+mod AttributeFacts
 mod CellFacts
 mod FigureFacts
 mod HarmlessFacts

@@ -1,9 +1,9 @@
 -- What holds of each text and number.
-use Rattle.std.specs.Prelude.{◌≡◌, ℕ, ◌+◌, ◌*◌, ◌<◌, ◌≤◌, ◌==◌, Bool, true, false, not, ◌&&◌, ◌||◌, List, [], ◌∷◌, ◌++◌, codes}
+use Rattle.std.specs.Prelude.{◌≡◌, ℕ, zero, suc, ◌+◌, ◌*◌, ◌<◌, ◌≤◌, ◌==◌, Bool, true, false, not, ◌&&◌, ◌||◌, if◌then◌else◌, List, [], ◌∷◌, ◌++◌, codes}
 use Rattle.std.specs.Char.{is_ascii_control}
-use Rattle.page_text.specs.Cells.{cell, read_cell, shown_cell, text_of_cell}
+use Rattle.page_text.specs.Cells.{cell, read_cell, shown_cell, text_of_cell, with_byte}
 use Rattle.page_text.specs.Figures.{rounded}
-use Rattle.page_text.specs.Shown.{escaped}
+use Rattle.page_text.specs.Shown.{attribute, escaped}
 
 -- whether a byte is no control character, and neither begins nor ends markup or the value of an attribute
 abbrev pub is_plain : ℕ → Bool
@@ -28,6 +28,25 @@ is_harmless (byte ∷ others) = is_plain byte && (not (byte == 38) || begins_ent
 -- whatever a text is, what is shown of it is harmless
 abbrev pub ShownTextIsHarmless : Type 0
 ShownTextIsHarmless = (text : List ℕ) → is_harmless (escaped text) ≡ true
+
+-- the byte that an entity stands for, of which this stands behind its `&`, and how many bytes that are; or the `&` itself
+abbrev pub meaning : List ℕ → ℕ × ℕ
+meaning text =
+    if begins (codes "amp;") text then (38, 4) else if begins (codes "lt;") text then (60, 3) else if begins (codes "gt;") text then (62, 3)
+    else if begins (codes "quot;") text then (34, 5) else if begins (codes "#x27;") text then (39, 5) else (38, 0)
+
+-- the value of an attribute in quotes, up to the quote that ends it, and what stands behind that; without so many bytes
+unfoldable pub read_attribute : ℕ → List ℕ → List ℕ × List ℕ
+read_attribute behind [] = ([], [])
+read_attribute (suc behind) (byte ∷ others) = read_attribute behind others
+read_attribute zero (byte ∷ others) =
+    if byte == 34 then ([], others)
+    else if byte == 38 then with_byte (meaning others).0 (read_attribute (meaning others).1 others)
+    else with_byte byte (read_attribute 0 others)
+
+-- an attribute is read back, whatever its value is
+abbrev pub AttributesAreReadBack : Type 0
+AttributesAreReadBack = (value rest : List ℕ) → read_attribute 0 (attribute value ++ 34 ∷ rest) ≡ (value, rest)
 
 -- whether nothing stands behind a cell, or what parts it from the next or ends the line
 abbrev pub ends_cell : List ℕ → Bool

@@ -16,7 +16,9 @@ pub use figures::{
     push_with_sign,
 };
 pub use fixed::{Places, push_fixed};
-pub use laws::{cells_are_read_back, rounded_is_nearest, shown_text_is_harmless};
+pub use laws::{
+    attributes_are_read_back, cells_are_read_back, rounded_is_nearest, shown_text_is_harmless,
+};
 pub use listed::push_listed;
 pub use shown::{push_attribute, push_escaped, push_named};
 pub use times::{push_days, push_interval};
