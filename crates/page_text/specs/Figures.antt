@@ -118,11 +118,22 @@ interval None = nothing
 interval (Some seconds2) = length_of_time seconds2
 
 -- a share of fixes in whole per cent; what is neither nothing nor all is not written so
+abbrev pub share_number : ℕ → ℕ → List ℕ
+share_number count all =
+    if nat_lt 0 count && nat_lt (200 * count) all then codes "<1"
+    else if nat_lt count all && nat_le (200 * (all - count)) all then codes ">99"
+    else fixed (100 * count) all Whole
+
 abbrev pub share_of_fixes : ℕ → ℕ → List ℕ
-share_of_fixes count all =
-    if nat_lt 0 count && nat_lt (200 * count) all then codes "<1 %"
-    else if nat_lt count all && nat_le (200 * (all - count)) all then codes ">99 %"
-    else fixed (100 * count) all Whole ++ codes " %"
+share_of_fixes count all = share_number count all ++ codes " %"
+
+-- a count of fixes with its share, between which and its sign no line ends
+abbrev pub unbroken : List ℕ
+unbroken = 0xC2 ∷ 0xA0 ∷ []
+
+abbrev pub count_with_share : ℕ → ℕ → List ℕ
+count_with_share count all =
+    if count == 0 then codes "0" else counted count ++ codes " (" ++ share_number count all ++ unbroken ++ codes "%)"
 
 -- a share of an area in tenths of a per cent
 abbrev pub share_of_area : ℕ → ℕ → List ℕ

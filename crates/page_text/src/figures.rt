@@ -1,15 +1,18 @@
 // Counts, areas and shares.
 
 ghost use Rattle.std.specs.Prelude.{◌≡◌, ◌++◌, ◌+◌, ◌*◌, ◌<◌, ◌≤◌, ◌^◌, OnOk, length};
-ghost use Rattle.page_text.specs.Figures.{counted, fixes, fixes_word, hectare, hectare_sign, hectares, is_small, share_of_area, share_of_fixes, square_metre, three_digits, three_places, with_sign};
+ghost use Rattle.page_text.specs.Figures.{count_with_share, fixes, fixes_word, hectare, hectare_sign, hectares, is_small, share_number, share_of_area, share_of_fixes, square_metre, three_digits, three_places, with_sign};
 
 use crate::bytes::push;
 use crate::fixed::{Places, push_fixed};
 use range_plane::Scale;
 use std::alloc::AllocError;
 
-/// What stands for a number that there is not: a dash.
+// What stands for a number that there is not: a dash.
 pub(crate) const NOTHING: &[u8] = b"\xE2\x80\x93";
+
+// A blank at which no line ends.
+const UNBROKEN: &[u8] = b"\xC2\xA0";
 
 // What stands behind a count of fixes.
 fn fixes_word(count: u64) -> &'static str
@@ -130,24 +133,51 @@ pub fn push_with_sign(text: &mut Vec<u8>, area2: u128, unit: Scale) -> Result<()
     push(text, hectare_sign(is_small(area2, unit)))
 }
 
-/// Appends a share of fixes in whole per cent; what is neither nothing nor all is not written so.
+// Appends a share of fixes in whole per cent, without its sign; what is neither nothing nor all is not written so.
+fn push_share_number(text: &mut Vec<u8>, count: u64, all: u64) -> Result<(), AllocError>
+    requires { 0 < all }
+    ensures { OnOk result (text.new.items ≡ text.old.items ++ share_number count all) }
+{
+    let (part, whole) = (u128::from(count), u128::from(all));
+    if 0 < part && 200 * part < whole {
+        push(text, "<1")
+    } else if part < whole && 200 * (whole - part) <= whole {
+        push(text, ">99")
+    } else {
+        push_fixed(text, 100 * part, whole, Places::Whole)
+    }
+}
+
+/// Appends a share of fixes in whole per cent.
 ///
 /// # Errors
 ///
 /// Memory ran out.
 pub fn push_share_of_fixes(text: &mut Vec<u8>, count: u64, all: u64) -> Result<(), AllocError>
-    requires some { 0 < all }
+    requires { 0 < all }
     ensures { OnOk result (text.new.items ≡ text.old.items ++ share_of_fixes count all) }
 {
-    let (part, whole) = (u128::from(count), u128::from(all));
-    if 0 < part && 200 * part < whole {
-        push(text, "<1 %")
-    } else if part < whole && 200 * (whole - part) <= whole {
-        push(text, ">99 %")
-    } else {
-        push_fixed(text, 100 * part, whole, Places::Whole)?;
-        push(text, " %")
+    push_share_number(text, count, all)?;
+    push(text, " %")
+}
+
+/// Appends a count of fixes with its share, or 0 alone.
+///
+/// # Errors
+///
+/// Memory ran out.
+pub fn push_count_with_share(text: &mut Vec<u8>, count: u64, all: u64) -> Result<(), AllocError>
+    requires { 0 < all }
+    ensures { OnOk result (text.new.items ≡ text.old.items ++ count_with_share count all) }
+{
+    if count == 0 {
+        return push(text, "0");
     }
+    push_fixed(text, u128::from(count), 1, Places::Whole)?;
+    push(text, " (")?;
+    push_share_number(text, count, all)?;
+    text.extend_from_slice(UNBROKEN)?;
+    push(text, "%)")
 }
 
 /// Appends a share of an area in tenths of a per cent, or a dash where there is no area.

@@ -12,8 +12,8 @@ mod times;
 
 pub use cells::push_cell;
 pub use figures::{
-    push_fixes, push_hectares, push_share_of_area, push_share_of_fixes, push_three_digits,
-    push_with_sign,
+    push_count_with_share, push_fixes, push_hectares, push_share_of_area, push_share_of_fixes,
+    push_three_digits, push_with_sign,
 };
 pub use fixed::{Places, push_fixed};
 pub use laws::{

@@ -2,8 +2,8 @@
 
 use crate::written::is_written;
 use page_text::{
-    Places, push_days, push_fixed, push_fixes, push_hectares, push_interval, push_share_of_area,
-    push_share_of_fixes, push_three_digits, push_with_sign,
+    Places, push_count_with_share, push_days, push_fixed, push_fixes, push_hectares, push_interval,
+    push_share_of_area, push_share_of_fixes, push_three_digits, push_with_sign,
 };
 use range_plane::Scale;
 
@@ -119,6 +119,15 @@ const SHARES_OF_FIXES: [(u64, u64, &str); 16] = [
     (9_223_372_036_854_775_808, u64::MAX, "50 %"),
 ];
 
+// Fixes of some, with their share. What is expected was written as `Overlaps.text` of page_tables.py does.
+const COUNTS: [(u64, u64, &str); 5] = [
+    (0, 274, "0"),
+    (1, 274, "1 (<1\u{A0}%)"),
+    (85, 274, "85 (31\u{A0}%)"),
+    (1_234, 1_240, "1,234 (>99\u{A0}%)"),
+    (2, 2, "2 (100\u{A0}%)"),
+];
+
 // Areas of others, as shares.
 const SHARES_OF_AREAS: [(u64, u64, &str); 7] = [
     (0, 0, "–"),
@@ -220,6 +229,18 @@ fn shares_of_fixes_are_neither_nothing_nor_all(rt: HostRuntime) {
     for (count, all, expected) in SHARES_OF_FIXES {
         let mut text = Vec::new(rt.alloc());
         let pushed = push_share_of_fixes(&mut text, count, all.max(1));
+        assert!(rt;
+            is_written(&text, pushed, expected.as_bytes()),
+            "{count} of {all}"
+        );
+    }
+}
+
+#[test]
+fn counts_have_their_share(rt: HostRuntime) {
+    for (count, all, expected) in COUNTS {
+        let mut text = Vec::new(rt.alloc());
+        let pushed = push_count_with_share(&mut text, count, all.max(1));
         assert!(rt;
             is_written(&text, pushed, expected.as_bytes()),
             "{count} of {all}"
