@@ -1,0 +1,2 @@
+mod GrowthFacts
+mod IntervalFacts
