@@ -1,0 +1,3 @@
+mod DoubleFacts
+mod NumberFacts
+mod TimeFacts

@@ -1,0 +1,3 @@
+pub mod Doubles
+pub mod Numbers
+pub mod Times
