@@ -83,6 +83,13 @@ pub fn facts_of(alloc: Global, animal: &ReadAnimal) -> Result<Facts, AllocError>
     Ok(facts_with(animal, &intervals, median2))
 }
 
+/// The second of the fix of an animal with a number, from 1 on.
+pub fn second_of_fix(animal: &ReadAnimal, number: usize) -> Option<u64>
+    ensures { result ≡ second_at (seconds_of (said animal.now)) number }
+{
+    second_at(&animal.rows, number)
+}
+
 /// The percent polygon of an animal at a level.
 pub fn at_level(animal: &ReadAnimal, level: u8) -> Option<PercentRow>
     ensures { result ≡ at_level (said animal.now) level }

@@ -7,6 +7,6 @@ mod growth;
 mod intervals;
 mod pairs;
 
-pub use facts::{Facts, at_level, facts_of};
+pub use facts::{Facts, at_level, facts_of, second_of_fix};
 pub use growth::Growth;
 pub use pairs::count_of;

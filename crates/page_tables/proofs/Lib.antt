@@ -1,3 +1,4 @@
 mod DoubleFacts
 mod NumberFacts
+mod TableFacts
 mod TimeFacts

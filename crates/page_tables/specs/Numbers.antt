@@ -52,5 +52,5 @@ places_of Metre = 5
 places_of Decimetre = 7
 
 -- a doubled area as hectares, exactly: a fifth of the last decimal is one of it
-abbrev pub hectares : ℕ → Scale → List ℕ
+unfoldable pub hectares : ℕ → Scale → List ℕ
 hectares area2 unit = number (area2 / hectare unit) (places_of unit) (area2 % hectare unit * 5)

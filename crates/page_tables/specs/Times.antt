@@ -30,6 +30,6 @@ abbrev pub time_text : ℕ → List ℕ
 time_text second = date_text (second / DAY) ++ codes "T" ++ clock_text (second % DAY) ++ codes "Z"
 
 -- the cell of a time, which is empty where there is none or the calendar of tables has ended
-abbrev pub time_cell : Option ℕ → List ℕ
+unfoldable pub time_cell : Option ℕ → List ℕ
 time_cell None = []
 time_cell (Some second) = if nat_lt second END then time_text second else []

@@ -139,6 +139,7 @@ fn places_of(unit: Scale) -> u8
 }
 
 /// Appends a doubled area as hectares.
+#[tactic(auto, unfolding(crate::specs::Numbers::hectares))]
 pub(crate) fn push_hectares(text: &mut Vec<u8>, area2: u128, unit: Scale) -> Result<(), AllocError>
     ensures { OnOk result (text.new.items ≡ text.old.items ++ hectares area2 unit) }
 {

@@ -71,6 +71,7 @@ fn push_time(text: &mut Vec<u8>, second: u64) -> Result<(), AllocError>
 }
 
 /// Appends the cell of a time, which is empty where there is none or the calendar of tables has ended.
+#[tactic(auto, unfolding(crate::specs::Times::time_cell))]
 pub(crate) fn push_time_cell(text: &mut Vec<u8>, second: Option<u64>) -> Result<(), AllocError>
     ensures { OnOk result (text.new.items ≡ text.old.items ++ time_cell second) }
 {
