@@ -1,3 +1,4 @@
+mod AnimalFacts
 mod DoubleFacts
 mod NumberFacts
 mod TableFacts

@@ -1,5 +1,5 @@
 -- Tables, one more cell or line written.
-use Rattle.std.proofs.Common.{◌≡◌, ℕ, zero, suc, ◌+◌, ◌-◌, ◌<◌, ◌≤◌, List, [], ◌∷◌, ◌++◌, length, take, map, refl, sym, ap, ◌∙◌, arith, append_assoc, append-nil}
+use Rattle.std.proofs.Common.{◌≡◌, ℕ, zero, suc, ◌+◌, ◌-◌, ◌<◌, ◌≤◌, List, [], ◌∷◌, ◌++◌, length, take, map, refl, sym, ap, ◌∙◌, arith, append_assoc, append-nil, Bor}
 use Rattle.std.proofs.lemmas.Grind.{flat_map-append}
 use Rattle.std.proofs.lemmas.List.{take_all}
 use Rattle.std.specs.List.{flat_map}
@@ -26,6 +26,14 @@ written f xs place ended = ap (flat_map f) (take_all place xs ended)
 pub table_of_map : {A : Type 0} (f : A → List (List ℕ)) (xs : List A) → flat_map (λ x. line (f x)) xs ≡ table (map f xs)
 table_of_map f [] = refl
 table_of_map f (x ∷ xs) = ap (λ l. line (f x) ++ l) (table_of_map f xs)
+
+pub behind_of_map : {A : Type 0} (f : A → List ℕ) (xs : List A) → flat_map (λ x. behind_comma (f x)) xs ≡ behind (map f xs)
+behind_of_map f [] = refl
+behind_of_map f (x ∷ xs) = ap (λ l. behind_comma (f x) ++ l) (behind_of_map f xs)
+
+pub behind_of_texts : (f : List ℕ → List ℕ) (xs : List (Bor (List ℕ))) → flat_map (λ x. behind_comma (f x.now)) xs ≡ behind (map f (map (λ x. x.now) xs))
+behind_of_texts f [] = refl
+behind_of_texts f (x ∷ xs) = ap (λ l. behind_comma (f x.now) ++ l) (behind_of_texts f xs)
 
 -- the lines of animals, and their names
 pub animals_table : (unit : Scale) (animals : List ReadAnimal)

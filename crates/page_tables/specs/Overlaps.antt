@@ -1,21 +1,10 @@
 -- The table `overlaps.csv`: a line and a column for each animal.
-use Rattle.std.specs.Prelude.{ℕ, zero, suc, ◌+◌, ◌/◌, ◌%◌, ◌==◌, if◌then◌else◌, List, [], ◌∷◌, codes, length, map, Option, Some, None}
+use Rattle.std.specs.Prelude.{ℕ, zero, suc, ◌+◌, List, [], ◌∷◌, codes, length, map, Option, Some, None}
 use Rattle.std.specs.List.{slice_get}
 use Rattle.page_report.specs.Reading.{Read, Said}
 use Rattle.page_facts.specs.Facts.{count_of}
-use Rattle.page_tables.specs.Doubles.{ten_thousandths}
 use Rattle.page_tables.specs.Lines.{name_cell, table}
-use Rattle.page_tables.specs.Numbers.{number}
-
--- a share with four decimals
-abbrev pub share : ℕ → ℕ → List ℕ
-share part whole = number (ten_thousandths part whole / 10000) 4 (ten_thousandths part whole % 10000)
-
--- the cell of a share, which is empty where a number is not known or there is nothing
-abbrev pub share_cell : Option ℕ → Option ℕ → List ℕ
-share_cell None whole = []
-share_cell (Some part) None = []
-share_cell (Some part) (Some whole) = if whole == 0 then [] else share part whole
+use Rattle.page_tables.specs.Shares.{share_cell}
 
 -- which share of the fixes of an animal lies in the range of another
 unfoldable pub overlap_cell : Read → ℕ → ℕ → List ℕ

@@ -1,12 +1,15 @@
-//! The tables of a report as text: `summary.csv` and `overlaps.csv`.
+//! The tables of a report as text: `summary.csv`, `overlaps.csv` and `animals.csv`.
 #![tactic(auto)]
 
+mod animals;
 mod cells;
 mod doubles;
 mod numbers;
 mod overlaps;
+mod shares;
 mod summary;
 mod times;
 
+pub use animals::{Told, push_animals};
 pub use overlaps::push_overlaps;
 pub use summary::push_summary;

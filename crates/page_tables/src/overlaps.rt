@@ -1,38 +1,24 @@
 // The table of the shares of fixes that lie in ranges.
 
-ghost use Rattle.std.specs.Prelude.{◌≡◌, ◌<◌, ◌++◌, ◌^◌, OnOk, length, map};
+ghost use Rattle.std.specs.Prelude.{◌≡◌, ◌++◌, OnOk, length, map};
 ghost use Rattle.std.specs.List.{slice_get};
 ghost use Rattle.page_report.specs.Reading.{read};
 ghost use Rattle.page_tables.specs.Lines.{behind, behind_comma, joined, line, name_cell, table};
-ghost use Rattle.page_tables.specs.Overlaps.{cells_from, lines_from, name_if, overlap_cell, overlap_cells, overlap_titles, overlaps, range_cells, share, share_cell};
+ghost use Rattle.page_tables.specs.Overlaps.{cells_from, lines_from, name_if, overlap_cell, overlap_cells, overlap_titles, overlaps, range_cells};
 
 use crate::cells::push_name;
-use crate::doubles::ten_thousandths;
-use crate::numbers::push_number;
+use crate::shares::push_share_cell;
 use page_facts::count_of;
 use page_report::Report;
 use std::alloc::AllocError;
 
-// Appends a share with four decimals.
-fn push_share(text: &mut Vec<u8>, part: u64, whole: u64) -> Result<(), AllocError>
-    requires { 0 < whole }
-    ensures { OnOk result (text.new.items ≡ text.old.items ++ share part whole) }
+// A count that may be known.
+fn wide(count: Option<usize>) -> Option<u64>
+    ensures { result ≡ count }
 {
-    let scaled = ten_thousandths(part, whole);
-    push_number(text, scaled / 10_000, 4, (scaled % 10_000) as u64)
-}
-
-// Appends the cell of a share, if its numbers are known.
-fn push_share_cell(
-    text: &mut Vec<u8>,
-    part: Option<usize>,
-    whole: Option<usize>,
-) -> Result<(), AllocError>
-    ensures { OnOk result (text.new.items ≡ text.old.items ++ share_cell part whole) }
-{
-    match (part, whole) {
-        (Some(part), Some(whole)) if whole > 0 => push_share(text, part as u64, whole as u64),
-        _ => Ok(()),
+    match count {
+        Some(count) => Some(count as u64),
+        None => None,
     }
 }
 
@@ -47,8 +33,8 @@ fn push_overlap(
     ensures { OnOk result (text.new.items ≡ text.old.items ++ behind_comma (overlap_cell (read report.now) animal range)) }
 {
     text.extend_from_slice(b",")?;
-    let fixes = count_of(report, animal, animal);
-    push_share_cell(text, count_of(report, animal, range), fixes)
+    let fixes = wide(count_of(report, animal, animal));
+    push_share_cell(text, wide(count_of(report, animal, range)), fixes)
 }
 
 // Appends the shares of an animal in all ranges, behind other cells.
@@ -61,8 +47,8 @@ fn push_cells(text: &mut Vec<u8>, report: &Report, animal: usize) -> Result<(), 
     Ok(())
 }
 
-// Appends the name of an animal.
-fn push_name_at(text: &mut Vec<u8>, report: &Report, animal: usize) -> Result<(), AllocError>
+/// Appends the name of an animal.
+pub(crate) fn push_name_at(text: &mut Vec<u8>, report: &Report, animal: usize) -> Result<(), AllocError>
     ensures { OnOk result (text.new.items ≡ text.old.items ++ name_cell (name_if (slice_get (read report.now).animals animal))) }
 {
     match report.animals.get(animal) {

@@ -1,0 +1,5 @@
+//! Tests of the tables of a report.
+#![tactic(auto)]
+
+mod reports;
+mod tables;
