@@ -1,5 +1,6 @@
 mod AnimalFacts
 mod DoubleFacts
+mod LawFacts
 mod NumberFacts
 mod TableFacts
 mod TimeFacts

@@ -1,5 +1,6 @@
 pub mod Animals
 pub mod Doubles
+pub mod Laws
 pub mod Lines
 pub mod Numbers
 pub mod Overlaps

@@ -12,4 +12,3 @@ unfoldable pub share_cell : Option ℕ → Option ℕ → List ℕ
 share_cell None whole = []
 share_cell (Some part) None = []
 share_cell (Some part) (Some whole) = if whole == 0 then [] else share part whole
-

@@ -69,11 +69,7 @@ fn push_behind_known(text: &mut Vec<u8>, number: Option<u64>) -> Result<(), Allo
 }
 
 // Appends the cell of a quotient behind others.
-fn push_behind_share(
-    text: &mut Vec<u8>,
-    part: Option<u64>,
-    whole: u64,
-) -> Result<(), AllocError>
+fn push_behind_share(text: &mut Vec<u8>, part: Option<u64>, whole: u64) -> Result<(), AllocError>
     ensures { OnOk result (text.new.items ≡ text.old.items ++ behind_comma (share_cell part (Some whole))) }
 {
     text.extend_from_slice(b",")?;
@@ -277,11 +273,7 @@ fn push_last_titles(text: &mut Vec<u8>, report: &Report) -> Result<(), AllocErro
 }
 
 // Appends the line of titles.
-fn push_titles(
-    text: &mut Vec<u8>,
-    report: &Report,
-    reasons: &[&[u8]],
-) -> Result<(), AllocError>
+fn push_titles(text: &mut Vec<u8>, report: &Report, reasons: &[&[u8]]) -> Result<(), AllocError>
     ensures { OnOk result (text.new.items ≡ text.old.items ++ line (animal_titles (read report.now) (map (λ reason. reason.now) reasons.now))) }
 {
     push_first_titles(text, reasons)?;

@@ -74,7 +74,11 @@ fn push_in_powers(text: &mut Vec<u8>, places: u8, number: u64) -> Result<(), All
     let digits = buffer.format(number).as_bytes();
     push_pointed(text, digits)?;
     text.extend_from_slice(b"e-0")?;
-    push_padded(text, 1, (usize::from(places) + 1).saturating_sub(digits.len()) as u64)
+    push_padded(
+        text,
+        1,
+        (usize::from(places) + 1).saturating_sub(digits.len()) as u64,
+    )
 }
 
 // Appends so many decimals of a small number, by its first digits and a power of ten.

@@ -48,7 +48,11 @@ fn push_cells(text: &mut Vec<u8>, report: &Report, animal: usize) -> Result<(), 
 }
 
 /// Appends the name of an animal.
-pub(crate) fn push_name_at(text: &mut Vec<u8>, report: &Report, animal: usize) -> Result<(), AllocError>
+pub(crate) fn push_name_at(
+    text: &mut Vec<u8>,
+    report: &Report,
+    animal: usize,
+) -> Result<(), AllocError>
     ensures { OnOk result (text.new.items ≡ text.old.items ++ name_cell (name_if (slice_get (read report.now).animals animal))) }
 {
     match report.animals.get(animal) {

@@ -3,6 +3,7 @@
 // `left,owl,2,no dop`, `track,fox,5,4` and `track,owl,3,3`. The name with a quote is in a report by hand, and its cells are by csv.writer.
 
 /// A report, and its three tables.
+#[derive(Clone, Copy)]
 pub(crate) struct Case {
     pub report: &'static str,
     pub summary: &'static str,

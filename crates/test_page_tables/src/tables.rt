@@ -1,9 +1,7 @@
 // Tests of tables. What is expected was written by the makers in Python, as `reports.rt` says.
 
-use crate::reports::{
-    Case, DECIMETRES, NAMES, NO_AREA, ONE, ONE_FIX, QUOTED, SECONDS, TWO,
-};
-use page_facts::facts_of;
+use crate::reports::{Case, DECIMETRES, NAMES, NO_AREA, ONE, ONE_FIX, QUOTED, SECONDS, TWO};
+use page_facts::{Facts, Growth, facts_of};
 use page_report::{ReadFault, Report, read_report};
 use page_tables::{Told, push_animals, push_overlaps, push_summary};
 use std::alloc::{AllocError, Global};
@@ -76,9 +74,21 @@ fn tables_are_those_of_the_makers_in_python(rt: HostRuntime) {
             assert!(rt; false, "it is not read");
             return;
         };
-        assert!(rt; is_written(summary(rt.alloc(), &report), case.summary), "{}", case.summary);
-        assert!(rt; is_written(overlaps(rt.alloc(), &report), case.overlaps), "{}", case.overlaps);
-        assert!(rt; is_written(plain_animals(rt.alloc(), &report), case.animals), "{}", case.animals);
+        assert!(rt;
+            is_written(summary(rt.alloc(), &report), case.summary),
+            "{}",
+            case.summary
+        );
+        assert!(rt;
+            is_written(overlaps(rt.alloc(), &report), case.overlaps),
+            "{}",
+            case.overlaps
+        );
+        assert!(rt;
+            is_written(plain_animals(rt.alloc(), &report), case.animals),
+            "{}",
+            case.animals
+        );
     }
 }
 
@@ -107,8 +117,16 @@ fn fixes_that_were_left_out_have_columns(rt: HostRuntime) {
         assert!(rt; false, "it is not read");
         return;
     };
-    assert!(rt; is_written(summary(rt.alloc(), &report), TWO.summary), "{}", TWO.summary);
-    assert!(rt; is_written(overlaps(rt.alloc(), &report), TWO.overlaps), "{}", TWO.overlaps);
+    assert!(rt;
+        is_written(summary(rt.alloc(), &report), TWO.summary),
+        "{}",
+        TWO.summary
+    );
+    assert!(rt;
+        is_written(overlaps(rt.alloc(), &report), TWO.overlaps),
+        "{}",
+        TWO.overlaps
+    );
 }
 
 // A report of a fox with 800 fixes, of which 17 lie in the range of an owl.
@@ -118,7 +136,9 @@ fn of_many(alloc: Global) -> Result<String, AllocError> {
         let row = format!(in alloc; "row,fox,{number},{number},1,0\n")?;
         text.push_str(&row)?;
     }
-    text.push_str("corner,fox,1,1,1\nanimal,owl,fixes,1\nbox,owl,2,2,2,2\nrow,owl,1,1,1,0\ncorner,owl,1,2,2\n")?;
+    text.push_str(
+        "corner,fox,1,1,1\nanimal,owl,fixes,1\nbox,owl,2,2,2,2\nrow,owl,1,1,1,0\ncorner,owl,1,2,2\n",
+    )?;
     text.push_str("overlap,fox,owl,17,800\noverlap,owl,fox,0,1\nend,2\n")?;
     Ok(text)
 }
@@ -135,5 +155,45 @@ fn shares_are_rounded_as_floats_are(rt: HostRuntime) {
         return;
     };
     let expected = "fixes_of,fox,owl\nfox,1.0,0.0213\nowl,0.0,1.0\n";
-    assert!(rt; is_written(overlaps(rt.alloc(), &report), expected), "{expected}");
+    assert!(rt;
+        is_written(overlaps(rt.alloc(), &report), expected),
+        "{expected}"
+    );
+}
+
+// Doubled areas that fall, of which the last but one is the first from which on all are 95 per cent or more of the last.
+const FALLING: &str =
+    "animal,fox,fixes,5\nbox,fox,1,1,9,9\nrow,fox,1,9,1,0\nrow,fox,2,19,3,100\nrow,fox,3,30,3,10\nrow,fox,4,33,3,100\nrow,fox,5,40,3,96\n\
+    end,1\n";
+
+#[test]
+fn growth_is_that_from_which_on_the_area_stayed(rt: HostRuntime) {
+    let Ok(report) = read_report(rt.alloc(), FALLING.as_bytes()) else {
+        assert!(rt; false, "it is not read");
+        return;
+    };
+    let [fox] = report.animals.as_slice() else {
+        assert!(rt; false, "it has one animal");
+        return;
+    };
+    let Ok(facts) = facts_of(rt.alloc(), fox) else {
+        assert!(rt; false, "there is memory");
+        return;
+    };
+    let growth = Growth {
+        area2: 96,
+        within: Some(4),
+        tenth: 0,
+        quarter: 86,
+    };
+    let expected = Facts {
+        fixes: 5,
+        first: Some(9),
+        last: Some(40),
+        median2: Some(17),
+        longest: Some(11),
+        growth,
+        within_second: Some(33),
+    };
+    assert!(rt; facts == expected, "{facts:?}");
 }
