@@ -2,7 +2,6 @@
 use Rattle.std.proofs.Common.{◌≡◌, ℕ, zero, suc, ◌+◌, ◌-◌, ◌*◌, ◌/◌, ◌^◌, ◌<◌, ◌≤◌, true, false, refl, arith}
 use Rattle.std.proofs.Math.Nat.{div-lt_iff_lt-mul, mul-le-mul_left}
 use Rattle.page_tables.specs.Doubles.{doubled, even_rounded, is_full}
-use Rattle.page_tables.specs.declared.doubles.Multiple.{Multiple}
 
 pub doubled_none : (more part whole power : ℕ) → more ≡ 0 → doubled more part whole power ≡ record { part = part; power = power }
 unfolding doubled

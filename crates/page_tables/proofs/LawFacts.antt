@@ -2,9 +2,8 @@
 use Rattle.std.proofs.Common.{◌≡◌, ℕ, ◌+◌, ◌*◌, ◌/◌, ◌%◌, ◌<◌, ◌^◌, arith}
 use Rattle.range_plane.specs.declared.scale.Scale.{Scale}
 use Rattle.range_plane.specs.declared.scale.Scale.TheVariants.{Metre, Decimetre}
-use Rattle.page_tables.specs.Laws.{DaysAreOfTheCalendar, HectaresAreExact}
+use Rattle.page_tables.specs.Laws.{DaysAreOfTheCalendar}
 use Rattle.page_tables.specs.Numbers.{hectare, places_of}
-use Rattle.page_tables.specs.Times.{day_after}
 use Rattle.page_tables.proofs.TimeFacts.{is_day}
 
 pub exact : (area2 : ℕ) (unit : Scale)

@@ -6,7 +6,6 @@ use Rattle.range_stats.specs.declared.percents.PercentRow.{PercentRow}
 use Rattle.page_report.specs.Reading.{Read, Said}
 use Rattle.page_facts.specs.Facts.{at_level}
 use Rattle.page_facts.specs.declared.facts.Facts.{Facts}
-use Rattle.page_facts.specs.declared.growth.Growth.{Growth}
 use Rattle.page_tables.specs.Lines.{behind, behind_comma, name_cell, table}
 use Rattle.page_tables.specs.Numbers.{hectares}
 use Rattle.page_tables.specs.Overlaps.{name_if}

@@ -1,4 +1,4 @@
-use Rattle.std.proofs.Common.{◌≡◌, ◌++◌, ◌∙◌, ap, append_assoc, map}
+use Rattle.std.proofs.Common.{◌++◌, ◌∙◌, ap, append_assoc, map}
 use Rattle.page_report.specs.Reading.{read}
 use Rattle.page_tables.specs.Animals.{animal_titles, told_lines}
 use Rattle.page_tables.specs.Lines.{line, table}

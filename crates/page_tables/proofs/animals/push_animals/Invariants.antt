@@ -1,4 +1,4 @@
-use Rattle.std.proofs.Common.{◌≡◌, ◌++◌, drop, map}
+use Rattle.std.proofs.Common.{◌≡◌, ◌++◌, drop}
 use Rattle.page_report.specs.Reading.{read}
 use Rattle.page_tables.specs.Animals.{told_lines}
 use Rattle.page_tables.specs.Lines.{table}

@@ -1,4 +1,4 @@
-use Rattle.std.proofs.Common.{◌≡◌, ◌++◌, ◌∙◌, ap, codes, decimal}
+use Rattle.std.proofs.Common.{◌++◌, ◌∙◌, ap, decimal}
 use Rattle.page_tables.specs.Lines.{behind_comma}
 use Rattle.page_tables.proofs.TableFacts.{behind_of_map, written}
 use Rattle.page_tables.proofs.animals.push_left_cells.Goals as goal

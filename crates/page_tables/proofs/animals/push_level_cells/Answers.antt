@@ -1,4 +1,4 @@
-use Rattle.std.proofs.Common.{◌≡◌, ◌++◌, ◌∙◌, ap, codes, decimal}
+use Rattle.std.proofs.Common.{◌++◌, ◌∙◌, ap}
 use Rattle.page_report.specs.Reading.{read}
 use Rattle.page_tables.specs.Animals.{level_cell}
 use Rattle.page_tables.specs.Lines.{behind_comma}

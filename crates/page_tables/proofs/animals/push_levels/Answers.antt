@@ -1,4 +1,4 @@
-use Rattle.std.proofs.Common.{◌≡◌, ◌++◌, ◌∙◌, ap, codes, decimal}
+use Rattle.std.proofs.Common.{◌++◌, ◌∙◌, ap, codes, decimal}
 use Rattle.range_stats.specs.declared.percents.PercentRow.{PercentRow}
 use Rattle.page_tables.specs.Lines.{behind_comma}
 use Rattle.page_tables.proofs.TableFacts.{behind_of_map, written}

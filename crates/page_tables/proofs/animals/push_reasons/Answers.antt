@@ -1,4 +1,4 @@
-use Rattle.std.proofs.Common.{◌≡◌, ◌++◌, ◌∙◌, ap, Bor, ℕ, List, codes}
+use Rattle.std.proofs.Common.{◌++◌, ◌∙◌, ap, Bor, ℕ, List, codes}
 use Rattle.page_tables.specs.Lines.{behind_comma}
 use Rattle.page_tables.proofs.TableFacts.{behind_of_texts, written}
 use Rattle.page_tables.proofs.animals.push_reasons.Goals as goal

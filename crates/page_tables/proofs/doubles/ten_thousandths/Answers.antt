@@ -1,4 +1,4 @@
-use Rattle.std.proofs.Common.{◌≡◌, ◌<◌, ◌^◌, ◌∙◌, ap, subst, sym}
+use Rattle.std.proofs.Common.{◌<◌, ◌^◌, ◌∙◌, ap, subst, sym}
 use Rattle.page_tables.specs.Doubles.{even_rounded}
 use Rattle.page_tables.proofs.DoubleFacts.{even_below}
 use Rattle.page_tables.proofs.doubles.ten_thousandths.Goals as goal

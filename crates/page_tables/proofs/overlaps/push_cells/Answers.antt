@@ -1,4 +1,4 @@
-use Rattle.std.proofs.Common.{◌≡◌, ◌<◌, ◌≤◌, arith, length, map}
+use Rattle.std.proofs.Common.{◌<◌, ◌≤◌, arith, length}
 use Rattle.std.proofs.lemmas.List.{length-map}
 use Rattle.page_report.specs.Reading.{read, said}
 use Rattle.page_tables.proofs.TableFacts.{next_cell, no_cell, no_more, one_more}

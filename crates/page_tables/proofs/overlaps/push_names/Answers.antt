@@ -1,4 +1,4 @@
-use Rattle.std.proofs.Common.{◌≡◌, ◌≤◌, length, arith, ◌++◌, ◌∙◌, ap}
+use Rattle.std.proofs.Common.{◌≤◌, length, arith, ◌++◌, ◌∙◌, ap}
 use Rattle.page_report.specs.declared.animal.ReadAnimal.{ReadAnimal}
 use Rattle.page_tables.specs.Lines.{behind_comma, name_cell}
 use Rattle.page_tables.proofs.TableFacts.{names_behind, written}

@@ -1,4 +1,4 @@
-use Rattle.std.proofs.Common.{◌≡◌, ◌<◌, ◌≤◌, ◌++◌, ◌∙◌, ap, append_assoc, arith, length, map}
+use Rattle.std.proofs.Common.{◌<◌, ◌≤◌, ◌++◌, ◌∙◌, ap, append_assoc, arith, length}
 use Rattle.std.proofs.lemmas.List.{length-map}
 use Rattle.page_report.specs.Reading.{read, said}
 use Rattle.page_tables.specs.Lines.{line, table}

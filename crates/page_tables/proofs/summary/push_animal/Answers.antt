@@ -1,4 +1,4 @@
-use Rattle.std.proofs.Common.{◌≡◌, ◌≤◌, length, arith, ◌++◌, ◌∙◌, ap}
+use Rattle.std.proofs.Common.{◌≤◌, length, arith, ◌++◌, ◌∙◌, ap}
 use Rattle.range_stats.specs.declared.percents.PercentRow.{PercentRow}
 use Rattle.page_report.specs.Reading.{said}
 use Rattle.page_tables.specs.Lines.{line}

@@ -1,4 +1,4 @@
-use Rattle.std.proofs.Common.{◌≡◌, ◌≤◌, length, arith, ◌++◌, ◌∙◌, ap, append_assoc, flat_map, map}
+use Rattle.std.proofs.Common.{◌≤◌, length, arith, ◌++◌, ◌∙◌, ap, append_assoc, flat_map, map}
 use Rattle.page_report.specs.Reading.{said}
 use Rattle.page_tables.specs.Lines.{line, table}
 use Rattle.page_tables.specs.Summary.{animal_lines, summary_titles}

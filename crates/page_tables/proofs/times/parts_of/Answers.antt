@@ -1,5 +1,4 @@
-use Rattle.std.proofs.Common.{◌≡◌, ◌∙◌, arith, rules, unsigned_abs}
-use Rattle.page_tables.specs.Times.{day_after}
+use Rattle.std.proofs.Common.{◌≡◌, ◌∙◌, rules, unsigned_abs}
 use Rattle.page_tables.proofs.TimeFacts.{same_day}
 use Rattle.page_tables.proofs.times.parts_of.Goals as goal
 
