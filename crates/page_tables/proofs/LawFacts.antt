@@ -2,8 +2,9 @@
 use Rattle.std.proofs.Common.{◌≡◌, ℕ, ◌+◌, ◌*◌, ◌/◌, ◌%◌, ◌<◌, ◌^◌, arith}
 use Rattle.range_plane.specs.declared.scale.Scale.{Scale}
 use Rattle.range_plane.specs.declared.scale.Scale.TheVariants.{Metre, Decimetre}
+use Rattle.page_text.specs.Figures.{hectare}
 use Rattle.page_tables.specs.Laws.{DaysAreOfTheCalendar}
-use Rattle.page_tables.specs.Numbers.{hectare, places_of}
+use Rattle.page_tables.specs.Numbers.{places_of}
 use Rattle.page_tables.proofs.TimeFacts.{is_day}
 
 pub exact : (area2 : ℕ) (unit : Scale)

@@ -2,7 +2,8 @@
 use Rattle.std.specs.Prelude.{◌≡◌, ℕ, ◌+◌, ◌*◌, ◌/◌, ◌%◌, ◌<◌, ◌≤◌, ◌^◌, pos}
 use Rattle.jiff_core.specs.Calendar.{days_from_civil, days_in_month}
 use Rattle.range_plane.specs.declared.scale.Scale.{Scale}
-use Rattle.page_tables.specs.Numbers.{hectare, places_of}
+use Rattle.page_text.specs.Figures.{hectare}
+use Rattle.page_tables.specs.Numbers.{places_of}
 use Rattle.page_tables.specs.Times.{day_after}
 
 -- the whole part and the decimals of hectares come to the area exactly, and the decimals are below one

@@ -2,7 +2,7 @@
 use Rattle.std.specs.Prelude.{ℕ, zero, suc, ◌+◌, ◌-◌, ◌*◌, ◌/◌, ◌%◌, ◌^◌, ◌==◌, Bool, not, nat_lt, ◌&&◌, if◌then◌else◌, List, [], ◌∷◌, ◌++◌, codes, decimal, length}
 use Rattle.range_plane.specs.declared.scale.Scale.{Scale}
 use Rattle.range_plane.specs.declared.scale.Scale.TheVariants.{Metre, Decimetre}
-use Rattle.page_text.specs.Figures.{digit}
+use Rattle.page_text.specs.Figures.{digit, hectare}
 
 -- the last digits of a number, so many
 unfoldable pub padded : ℕ → ℕ → List ℕ
@@ -42,15 +42,11 @@ number whole places decimals =
     if whole == 0 && is_small places decimals then small places decimals
     else decimal whole ++ codes "." ++ trimmed places decimals
 
--- how much doubled area a hectare has, and how many decimals hectares then have
-abbrev pub hectare : Scale → ℕ
-hectare Metre = 20000
-hectare Decimetre = 2000000
-
+-- how many decimals hectares have
 abbrev pub places_of : Scale → ℕ
 places_of Metre = 5
 places_of Decimetre = 7
 
--- a doubled area as hectares, exactly: a fifth of the last decimal is one of it
+-- a doubled area as hectares, exactly: one more of it is five more in the last decimal
 unfoldable pub hectares : ℕ → Scale → List ℕ
 hectares area2 unit = number (area2 / hectare unit) (places_of unit) (area2 % hectare unit * 5)

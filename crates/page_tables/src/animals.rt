@@ -7,7 +7,7 @@ ghost use Rattle.page_tables.specs.Animals.{animal_titles, animals, area_cell, b
 ghost use Rattle.page_tables.specs.Lines.{behind, behind_comma, joined, line, table};
 ghost use Rattle.page_tables.specs.Shares.{share_cell};
 
-use crate::cells::{push_behind_hectares, push_behind_time, push_behind_whole};
+use crate::cells::{push_behind_hectares, push_behind_time, push_behind_whole, wide};
 use crate::numbers::push_whole;
 use crate::overlaps::push_name_at;
 use crate::shares::push_share_cell;
@@ -87,16 +87,6 @@ fn push_fact_cells(text: &mut Vec<u8>, facts: &Facts) -> Result<(), AllocError>
     push_behind_share(text, between(facts.first, facts.last), 86_400)?;
     push_behind_share(text, short_if(facts.median2), 7_200)?;
     push_behind_share(text, facts.longest, 3_600)
-}
-
-// The number of a fix, if it is known.
-fn wide(number: Option<usize>) -> Option<u64>
-    ensures { result ≡ number }
-{
-    match number {
-        Some(number) => Some(number as u64),
-        None => None,
-    }
 }
 
 // Appends the cells of how an area grew.

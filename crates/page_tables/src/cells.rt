@@ -11,6 +11,16 @@ use page_text::push_cell;
 use range_plane::Scale;
 use std::alloc::AllocError;
 
+/// A count that may be known.
+pub(crate) fn wide(count: Option<usize>) -> Option<u64>
+    ensures { result ≡ count }
+{
+    match count {
+        Some(count) => Some(count as u64),
+        None => None,
+    }
+}
+
 /// Appends the cell of a name.
 #[tactic(auto, unfolding(crate::specs::Lines::name_cell))]
 pub(crate) fn push_name(text: &mut Vec<u8>, name: &[u8]) -> Result<(), AllocError>

@@ -1,8 +1,8 @@
 // Numbers as tables have them.
 
 ghost use Rattle.std.specs.Prelude.{◌≡◌, ◌+◌, ◌*◌, ◌<◌, ◌≤◌, ◌++◌, ◌^◌, OnOk, decimal};
-ghost use Rattle.page_text.specs.Figures.{digit};
-ghost use Rattle.page_tables.specs.Numbers.{has_zero, hectare, hectares, in_powers, is_small, number, padded, places_of, pointed, small, trimmed};
+ghost use Rattle.page_text.specs.Figures.{digit, hectare};
+ghost use Rattle.page_tables.specs.Numbers.{has_zero, hectares, in_powers, is_small, number, padded, places_of, pointed, small, trimmed};
 
 use itoa::Buffer;
 use range_plane::Scale;

@@ -6,21 +6,11 @@ ghost use Rattle.page_report.specs.Reading.{read};
 ghost use Rattle.page_tables.specs.Lines.{behind, behind_comma, joined, line, name_cell, table};
 ghost use Rattle.page_tables.specs.Overlaps.{cells_from, lines_from, name_if, overlap_cell, overlap_cells, overlap_titles, overlaps, range_cells};
 
-use crate::cells::push_name;
+use crate::cells::{push_name, wide};
 use crate::shares::push_share_cell;
 use page_facts::count_of;
 use page_report::Report;
 use std::alloc::AllocError;
-
-// A count that may be known.
-fn wide(count: Option<usize>) -> Option<u64>
-    ensures { result ≡ count }
-{
-    match count {
-        Some(count) => Some(count as u64),
-        None => None,
-    }
-}
 
 // Appends the share of the fixes of an animal that lies in a range, behind other cells.
 #[tactic(auto, unfolding(crate::specs::Overlaps::overlap_cell))]
