@@ -1,0 +1,10 @@
+pub mod AnalysisWithin
+pub mod AnimalsBack
+pub mod FieldsBack
+pub mod LinesBack
+pub mod ManyBack
+pub mod Names
+pub mod OverlapsBack
+pub mod Polygons
+pub mod ReadingWithin
+pub mod ReportBack
