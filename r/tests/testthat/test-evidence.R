@@ -327,6 +327,41 @@ test_that("evidence of the files of a frame has its record", {
   expect_identical(attr(verified(again), "status"), 3L)
 })
 
+test_that("a record of another run is refused, and a folder for a file", {
+  skip_without_program()
+  table <- fixes_by_hand()
+  folder_of <- function(table, ...) local_evidence(quietly(home_range(table, 100, ...)), parent.frame())
+  own <- folder_of(table)
+  files <- list.files(file.path(own, "tracks"), "csv$", full.names = TRUE)
+  read <- function(record, files = NULL) read_report(file.path(own, "report.txt"), files = files, record = file.path(record, "tracks", "split.txt"))
+  refused <- function(call, text) expect_error(call, text, class = "homerange_text_error")
+  expect_identical(names(read(own, files)), names(read(own)))
+  refused(read(folder_of(table[-8, ])), "the report has 1 fixes of one, and split.txt has 0: was a track changed, or left out[?]$")
+  refused(read(folder_of(table[-1, ])), "the report has 4 fixes of old_boar, and split.txt has 3")
+  refused(read(folder_of(table, unit = "dm")), "the report is in m, and split.txt in dm: take the record of the tracks of this report$")
+  moved <- folder_of(transform(table, northing = northing + (animal == "one")))
+  expect_identical(names(read(moved)), names(read(own)))  # of which nothing tells that it is another
+  refused(read(moved, files), "no file is the track of one of which split.txt has the checksum: take the record of these files")
+  for (call in list(function(path) read_report(path), function(path) read_report(file.path(own, "report.txt"), record = path))) {
+    expect_error(call(own), "hand-in is a folder, and a file is wanted$", class = "homerange_file_error")
+    expect_error(call(""), "= \"\" is no path: it is empty$", class = "homerange_option_error")
+  }
+})
+
+test_that("layers of seconds without a date have whole seconds", {
+  skip_without_program()
+  skip_if_not_installed("sf")
+  for (start in c(0, 2^34)) {
+    table <- transform(walk("a", 12, 1), second = second + start)
+    folder <- local_evidence(quietly(home_range(table, c(50, 100))))
+    read <- function(layer) sf::st_read(file.path(folder, "ranges.gpkg"), layer, quiet = TRUE, int64_as_string = TRUE)
+    expect_identical(as.character(read("fixes")$time), sprintf("%.0f", table$second))
+    expect_identical(as.character(read("ranges")$first), rep(sprintf("%.0f", start), 2))
+    said <- verified(folder)
+    expect_true(any(startsWith(said, "held: ranges.gpkg: made again it has the same layers")), info = said)
+  }
+})
+
 test_that("files that are not those of their report or record are refused", {
   skip_without_program()
   own <- split_by_hand()
