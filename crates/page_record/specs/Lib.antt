@@ -1,0 +1,5 @@
+pub mod Fields
+pub mod Kinds
+pub mod Reading
+pub mod Unescaped
+pub mod Zones
