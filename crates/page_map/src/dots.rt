@@ -5,7 +5,7 @@ ghost use Rattle.page_drawing.specs.Bounds.{IsWithin};
 
 use crate::boundary::push_corner;
 use crate::frame::Frame;
-use crate::ground::{Plane, ground_of};
+use crate::land::{Plane, ground_of};
 use crate::place::Place;
 use crate::scene::Scene;
 use crate::times::{lengths, parts};

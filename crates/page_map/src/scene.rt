@@ -3,7 +3,7 @@
 ghost use Rattle.std.specs.Prelude.{◌<◌, ◌≤◌, ◌^◌};
 
 use crate::extent::{Extent, joined, widened};
-use crate::ground::{Ground, Plane, ground_of};
+use crate::land::{Ground, Plane, ground_of};
 use range_plane::{Point, Scale};
 use std::alloc::{AllocError, Global};
 
