@@ -296,9 +296,13 @@ with_rows <- function(x, call) {
 refuse_row <- function(x, kind, record, text) {
   text <- gsub("\\brecord ([0-9]+)\\b", "row \\1", text, perl = TRUE)
   if (is.null(record)) refuse(kind, text)
-  label <- row.names(x)[record]
-  where <- if (label == record) paste0("row ", label, ": ") else paste0("row ", label, " (x[", record, ", ]): ")
-  refuse(kind, where, text, record = record)
+  refuse(kind, row_named(x, record), ": ", text, record = record)
+}
+
+# A row by its label, and where that is not its place by that too.
+row_named <- function(x, at) {
+  label <- row.names(x)[at]
+  if (label == at) paste("row", label) else paste0("row ", label, " (x[", at, ", ])")
 }
 
 # The zone by whose clock days and hours of a frame are counted: the only one that these of its columns have, where none is named.

@@ -1,5 +1,14 @@
 # How much of home ranges lies in a reserve.
 
+around <- 100000  # metres around the ranges, to where a boundary is taken that is too wide for their system
+longest_degrees <- 0.1  # of an edge, behind which it gets a point
+longest_metres <- 10000
+missed <- 1e-3  # of the longest edge, by which a place may miss itself that is turned to another system and back
+torn <- 100000  # metres from one such point to the next, where an edge is torn apart
+half_turn <- 180
+help_for_wide <- paste("the reserve reaches to where the CRS of the ranges has no places: cut it to the surroundings of the ranges before,",
+                       "as by sf::st_crop(reserve, box)")
+
 # A row for each animal and level with the hectares of the polygon, those of them in the reserve, and their share.
 homerange_share <- function(x, reserve, levels = 100) {
   check_ranges(x)
@@ -24,16 +33,85 @@ boundary_of <- function(ranges, reserve) {
   if (!inherits(reserve, c("sf", "sfc", "sfg"))) refuse("option", "reserve: an sf geometry is wanted")
   own <- crs_or_none(ranges)
   shapes <- if (inherits(reserve, "sfg")) sf::st_sfc(reserve, crs = own) else sf::st_geometry(reserve)
+  shapes <- sf::st_zm(shapes)
   if (is_without_place(sf::st_crs(shapes), "reserve")) shapes <- sf::st_set_crs(shapes, NA)
   if (is.na(sf::st_crs(shapes)) != is.na(own)) {
     refuse("crs", if (is.na(own)) "the ranges have no CRS, and the reserve has: name it, as by home_range(x, crs = 32633)" else
       "the reserve has no CRS, and the ranges have: name it, as by sf::st_set_crs(reserve, 32633)")
   }
-  if (!is.na(own)) shapes <- sf::st_transform(shapes, own)
-  if (!all(sf::st_is_valid(shapes))) {
-    refuse("option", "the boundary of the reserve crosses itself: mend it, as by sf::st_make_valid(reserve)")
+  check_shapes(sf::st_set_crs(shapes, NA), reserve)
+  shapes <- polygons_of(shapes)
+  if (!any(as.numeric(sf::st_area(sf::st_set_crs(shapes, NA))) > 0)) refuse("option", "the reserve has no area")
+  if (!is.na(own) && sf::st_crs(shapes) != own) shapes <- turned_shapes(shapes, own, ranges)
+  sf::st_union(shapes)
+}
+
+# Refuses the first of the shapes of a reserve that bounds nothing, with its row.
+check_shapes <- function(shapes, reserve) {
+  are_numbers <- sf::st_is_empty(shapes) | vapply(shapes, function(shape) all(is.finite(unlist(shape))), NA)
+  odd <- which(!are_numbers)[1]
+  what <- "has a corner that is no number: mend it, or leave it out"
+  if (is.na(odd)) {
+    odd <- which(!sf::st_is_valid(shapes))[1]
+    is_hole <- !is.na(odd) && startsWith(sf::st_is_valid(shapes[odd], reason = TRUE), "Hole")
+    what <- paste0(if (is_hole) "has a hole that lies outside of it" else "crosses itself", ": mend it, as by sf::st_make_valid(reserve)")
   }
-  boundary <- sf::st_union(shapes)
-  if (!isTRUE(sum(as.numeric(sf::st_area(boundary))) > 0)) refuse("option", "the reserve has no area")
-  boundary
+  if (is.na(odd)) return(invisible())
+  where <- if (inherits(reserve, "sfg")) "" else paste0(if (is.data.frame(reserve)) row_named(reserve, odd) else paste("row", odd), ": ")
+  refuse("option", where, "the boundary of the reserve ", what)
+}
+
+# The polygons among shapes.
+polygons_of <- function(shapes) {
+  shapes <- shapes[sf::st_dimension(shapes) %in% 2]
+  if (any(sf::st_is(shapes, "GEOMETRYCOLLECTION"))) shapes <- sf::st_collection_extract(shapes, "POLYGON")
+  if (length(shapes)) sf::st_cast(shapes, "MULTIPOLYGON") else shapes
+}
+
+# Polygons of one reference system in another, where they go straight in their own; of those that are too wide for it what lies
+# around the ranges.
+turned_shapes <- function(shapes, own, ranges) {
+  is_in_degrees <- isTRUE(sf::st_is_longlat(shapes))
+  longest <- if (is_in_degrees) longest_degrees else longest_metres / max(in_unit(sf::st_crs(shapes)$ud_unit, "m"), 0.1)
+  found <- turned(shapes, own, longest)
+  if (is.null(found)) {
+    near <- surroundings(ranges, own, sf::st_crs(shapes), is_in_degrees)
+    cut <- sf::st_intersection(sf::st_set_crs(shapes, NA), near)
+    found <- turned(polygons_of(sf::st_set_crs(cut, sf::st_crs(shapes))), own, longest)
+  }
+  if (is.null(found)) refuse("crs", help_for_wide)
+  found
+}
+
+# Polygons in another system, with points between corners that lie far from each other; NULL where it has no places for all of them.
+turned <- function(shapes, own, longest) {
+  if (!length(shapes)) return(sf::st_sfc(crs = own))
+  crs <- sf::st_crs(shapes)
+  whole <- sf::st_segmentize(sf::st_set_crs(shapes, NA), longest)
+  at <- sf::st_coordinates(whole)
+  there <- projected(at[, 1:2], crs, own)
+  back <- projected(there, own, crs)
+  last <- nrow(at)
+  is_step <- rowSums(at[-1, -(1:2), drop = FALSE] != at[-last, -(1:2), drop = FALSE]) == 0
+  steps <- sqrt(rowSums((there[-1, ] - there[-last, ])^2))[is_step]
+  if (!isTRUE(all(abs(back - at[, 1:2]) <= missed * longest)) || !isTRUE(max(steps) <= torn)) return(NULL)
+  found <- sf::st_transform(sf::st_set_crs(whole, crs), own)
+  if (all(sf::st_is_valid(found))) found
+}
+
+# Coordinates of one reference system in another; not finite where they have no place there.
+projected <- function(at, from, into) {
+  sf::sf_project(from$wkt, into$wkt, at, keep = TRUE, warn = FALSE, authority_compliant = FALSE)
+}
+
+# The box around the ranges, in the system of a boundary.
+surroundings <- function(ranges, own, crs, is_in_degrees) {
+  sides <- apply(in_metres(ranges, ranges$corners), 2, range) + c(-around, around)
+  sides <- sides[, 1:2]
+  corners <- cbind(sides[c(1, 2, 2, 1, 1), 1], sides[c(1, 1, 2, 2, 1), 2])
+  ring <- sf::st_segmentize(sf::st_sfc(sf::st_polygon(list(corners))), longest_metres)
+  at <- projected(sf::st_coordinates(ring)[, 1:2], own, crs)
+  # A box that holds a pole, or the meridian at which longitudes begin anew, is none of longitudes.
+  if (!all(is.finite(at)) || is_in_degrees && diff(range(at[, 1])) > half_turn) refuse("crs", help_for_wide)
+  sf::st_as_sfc(sf::st_bbox(c(xmin = min(at[, 1]), ymin = min(at[, 2]), xmax = max(at[, 1]), ymax = max(at[, 2]))))
 }

@@ -8,7 +8,8 @@ homerange_share(x, reserve, levels = 100)
 \arguments{
 \item{x}{a home range, from \code{\link{home_range}} or \code{\link{read_report}}.}
 \item{reserve}{an \code{sf} geometry of polygons, which are taken together. It may be in another coordinate reference system
-  (CRS) than the ranges; where those have none, it must have none, and its coordinates are theirs.}
+  (CRS) than the ranges, and goes straight in that one; what reaches to where the CRS of the ranges has no places is taken as
+  far as 100 km from the ranges. Where those have none, it must have none, and its coordinates are theirs.}
 \item{levels}{one level of the polygons in per cent or several, as \code{\link{homerange_corners}} takes them.}
 }
 \value{
@@ -20,7 +21,7 @@ A data frame with a row for each animal, in the order of \code{x}, level by leve
 \item{share}{\code{inside / hectares}, from 0 to 1; \code{NA} for a range without an area.}
 }
 \section{Errors}{
-A boundary that crosses itself, one without an area, and what is no \code{sf} geometry are refused as
+A boundary of which a shape crosses itself, one without an area, and what is no \code{sf} geometry are refused as
 \code{homerange_option_error}; a CRS that one of the two lacks as \code{homerange_crs_error}.
 }
 \examples{

@@ -8,7 +8,7 @@ import tempfile
 from collections import Counter
 from functools import cached_property
 from pathlib import Path
-from typing import TYPE_CHECKING, Any, Callable, Iterable, Sequence, Tuple
+from typing import TYPE_CHECKING, Any, Callable, Iterable, Sequence
 
 import numpy
 import pandas
@@ -27,6 +27,7 @@ from .groups import Group, check_by, group_tracks, is_period, labels_of
 from .growth import share
 from .outer import counts_within, polygon_kept
 from .overview import Facts, Row, facts_of, reasons_of, rows_of
+from .reserve import Bounds, boundary_of
 from .rows import rows_in
 from .runs import Runs
 from .tracks import Tracks, tracks_of_files, tracks_of_fixes
@@ -34,8 +35,6 @@ from .tracks import Tracks, tracks_of_files, tracks_of_fixes
 if TYPE_CHECKING:
     import geopandas
     from numpy.typing import NDArray
-
-Bounds = Tuple[float, float, float, float]  # the least easting and northing, and the greatest
 
 
 class HomeRanges:
@@ -229,6 +228,12 @@ class HomeRanges:
             whole = {name: table.corners for name, table in self._report.tables.items()}
             self._corners[level] = whole if level == 100 else self._kept_corners(level)
         return {name: self._in_metres(points) for name, points in self._corners[level].items()}
+
+    @property
+    def box(self) -> Bounds:
+        """The box of all ranges, in metres."""
+        eastings, northings = zip(*(corner for corners in self.corners().values() for corner in corners))
+        return min(eastings), min(northings), max(eastings), max(northings)
 
     def _overlaps_at(self, level: int) -> dict[tuple[str, str], int]:
         """The counts of the fixes of each animal in the polygon of each."""
@@ -502,57 +507,17 @@ def check_whole(ranges: HomeRanges, what: str) -> None:
         refuse(f"{what} is of whole ranges, and these are by groups: make those of one group alone, of its fixes")
 
 
-def boundary_of(ranges: HomeRanges, reserve: Any) -> Any:
-    """The shape of a reserve, in the reference system of the ranges."""
-    own = getattr(reserve, "crs", None)
-    if hasattr(reserve, "geometry") or hasattr(reserve, "geom_type") and not isinstance(
-            getattr(reserve, "geom_type"), str):
-        if (own is None) != (ranges.crs is None):
-            who, how = ("ranges have", "home_range(.., crs=..)") if own is not None else (
-                "reserve has", "reserve.set_crs(..)")
-            refuse(f"the {who} no CRS, and the other has: name it, as by {how}", "crs")
-        from shapely.ops import unary_union
-
-        shapes = reserve if own is None else reserve.to_crs(ranges.crs)
-        reserve = unary_union([shape for shape in shapes.geometry if shape is not None])
-    if not hasattr(reserve, "intersection") or not hasattr(reserve, "is_valid"):
-        refuse("reserve is neither a GeoDataFrame, a GeoSeries nor a shape of shapely")
-    if not reserve.is_valid:
-        refuse("the boundary of the reserve crosses itself: mend it, as by reserve.buffer(0)")
-    if reserve.area == 0:
-        refuse("the reserve has no area")
-    if own is None and is_in_degrees(reserve.bounds) and not meets(reserve.bounds, box_of_ranges(ranges)):
-        refuse("the reserve has no CRS, and lies as longitude and latitude do: make a GeoSeries of it with its CRS, which is taken "
-               "to that of the ranges", "degrees")
-    return reserve
-
-
-def is_in_degrees(box: Bounds) -> bool:
-    """Whether a box may be one of longitude and latitude."""
-    return -180 <= box[0] and -90 <= box[1] and box[2] <= 180 and box[3] <= 90
-
-
-def meets(one: Bounds, other: Bounds) -> bool:
-    """Whether two boxes have a place in common."""
-    return one[0] <= other[2] and other[0] <= one[2] and one[1] <= other[3] and other[1] <= one[3]
-
-
-def box_of_ranges(ranges: HomeRanges) -> Bounds:
-    """The box of all ranges, in metres."""
-    eastings, northings = zip(*(corner for corners in ranges.corners().values() for corner in corners))
-    return min(eastings), min(northings), max(eastings), max(northings)
-
-
 def share_inside(ranges: HomeRanges, reserve: Any, level: int = 100) -> pandas.DataFrame:
     """How much of each animal's range lies in a reserve: a row for each animal with ``animal``, ``level``, ``hectares``,
     ``inside`` (hectares in the reserve) and ``share`` (0 to 1; NaN for a range without an area).
 
     reserve: a GeoDataFrame or a GeoSeries, whose shapes are taken together, in whatever reference system; or a shape of
-        shapely in that of the ranges.
+        shapely in that of the ranges. A shape of another system goes straight in that one; one that reaches to where the system
+        of the ranges has no places is taken as far as 100 km from the ranges.
     """
     if not isinstance(ranges, HomeRanges):
         refuse(f"share_inside takes what home_range answers, and not a {type(ranges).__name__}")
-    boundary = boundary_of(ranges, reserve)
+    boundary = boundary_of(reserve, ranges.crs, ranges.box)
     polygons = ranges.polygons(level)
     inside = [shape.intersection(boundary).area / 10_000 for shape in polygons.geometry]
     whole = [shape.area / 10_000 for shape in polygons.geometry]

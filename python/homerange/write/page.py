@@ -12,7 +12,8 @@ from typing import Any, Mapping, NamedTuple, Sequence
 from ..about import Words
 from ..errors import ProgramError, check_place, files_as_said, path_of, refuse
 from ..program import PACKAGE, find_program, program_of
-from ..ranges.home import HomeRanges, boundary_of, check_ranges, check_whole
+from ..ranges.home import HomeRanges, check_ranges, check_whole
+from ..ranges.reserve import boundary_of
 from ..ranges.overview import Row
 from ..units import zone_of_time, zone_text
 from .drawing import colour
@@ -239,7 +240,7 @@ def words_typed(title: str | None = None, study: str | None = None, species: str
 
 def rings_given(ranges: HomeRanges, reserve: Any) -> list[list[Point]] | None:
     """The rings of a boundary that was given, in the reference system of the ranges."""
-    return None if reserve is None else rings_of(boundary_of(ranges, reserve))
+    return None if reserve is None else rings_of(boundary_of(reserve, ranges.crs, ranges.box))
 
 
 def write_page(

@@ -10,7 +10,8 @@ from .page import LEAST, rings_of
 from .page_map import (
     STYLES, Box, Frame, Numbers, Point, Shape, box_of, box_of_shapes, corners, length_text, side, thinned,
 )
-from ..ranges.home import HomeRanges, boundary_of
+from ..ranges.home import HomeRanges
+from ..ranges.reserve import boundary_of
 from .plot_style import ALONE, EDGE, LEVELS, SMALL, Drawn, halo
 
 WIDE = 2500.0  # metres of a map from which on its axes are in kilometres
@@ -33,7 +34,7 @@ def shapes_of(ranges: HomeRanges, drawn: Sequence[Drawn], levels: Sequence[int],
 
 def rings_over(ranges: HomeRanges, over: Any) -> list[list[Point]]:
     """The rings of a boundary, in the reference system of the ranges."""
-    return [] if over is None else rings_of(boundary_of(ranges, over))
+    return [] if over is None else rings_of(boundary_of(over, ranges.crs, ranges.box))
 
 
 def box_drawn(shapes: Sequence[Shape], rings: Sequence[Sequence[Point]], least: float) -> Box:

@@ -42,6 +42,63 @@ test_that("what is no reserve is refused", {
   expect_error(homerange_share(ranges, sf::st_point(c(1, 1))), "has no area", class = "homerange_option_error")
 })
 
+wide_box <- function(west, south, east, north) {
+  sf::st_polygon(list(cbind(c(west, east, east, west, west), c(south, south, north, north, south))))
+}
+
+test_that("each shape of a reserve is looked at", {
+  skip_without_program()
+  skip_if_not_installed("sf")
+  ranges <- quietly(home_range(herd(), crs = 32633))
+  bow <- sf::st_polygon(list(cbind(c(0, 10, 10, 0, 0), c(0, 10, 0, 10, 0))))
+  split <- sf::st_polygon(list(cbind(c(0, 9, 9, 0), c(0, 0, 9, 0)), cbind(c(50, 60, 60, 50), c(50, 50, 60, 50))))
+  whole <- box(561000, 563000)
+  lost <- whole
+  lost[[1]][2, 2] <- NaN
+  refused <- function(reserve, said) {
+    expect_error(homerange_share(ranges, reserve), said, fixed = TRUE, class = "homerange_option_error")
+    expect_error(write_page(ranges, file.path(local_folder(), "page.html"), reserve = reserve), said, fixed = TRUE)
+  }
+  refused(sf::st_sfc(bow, whole, crs = 32633), "row 1: the boundary of the reserve crosses itself: mend it, as by sf::st_make_valid")
+  table <- sf::st_sf(name = 1:3, geometry = sf::st_sfc(whole, sf::st_polygon(), bow, crs = 32633), row.names = c("a", "b", "c"))
+  refused(table, "row c (x[3, ]): the boundary of the reserve crosses itself")
+  refused(sf::st_sfc(whole, split, crs = 32633), "row 2: the boundary of the reserve has a hole that lies outside of it: mend it")
+  refused(sf::st_sfc(lost, whole, crs = 32633), "row 1: the boundary of the reserve has a corner that is no number")
+  bow <- sf::st_polygon(list(cbind(562000 + c(0, 200, 200, 0, 0), 5134000 + c(0, 200, 0, 200, 0))))
+  # Two of four triangles about its middle.
+  expect_equal(homerange_share(ranges, sf::st_make_valid(sf::st_sfc(bow, crs = 32633)))$share[1], 0.5)
+})
+
+test_that("a wide reserve is taken around the ranges", {
+  skip_without_program()
+  skip_if_not_installed("sf")
+  ranges <- quietly(home_range(herd(), crs = 32633))  # from 15.80 to 16.05 degrees east, near 46.36 degrees north
+  share_of <- function(reserve, crs = 4326) homerange_share(ranges, sf::st_sfc(reserve, crs = crs))$share[1:4]
+  for (reserve in list(wide_box(-170, -80, 170, 85), wide_box(-180, 0, 180, 90), wide_box(-180, -90, 180, 90))) {
+    expect_equal(share_of(reserve), rep(1, 4))
+  }
+  for (reserve in list(wide_box(-180, 47, 180, 90), wide_box(16.1, -90, 180, 90), wide_box(-170, -80, 15, 85),
+                       wide_box(-180, -90, 180, -60))) {
+    expect_equal(share_of(reserve), rep(0, 4))
+  }
+  expect_equal(share_of(wide_box(-20e6, -20e6, 20e6, 20e6), 3857), rep(1, 4))
+  around_180 <- transform(herd(), x = x + 158000)
+  beside <- quietly(home_range(around_180[around_180$id == "inside", ], crs = 32660))
+  expect_error(homerange_share(beside, sf::st_sfc(wide_box(-180, -90, 180, 90), crs = 4326)),
+               "the reserve reaches to where the CRS of the ranges has no places: cut it", class = "homerange_crs_error")
+})
+
+test_that("long edges go straight in degrees", {
+  skip_without_program()
+  skip_if_not_installed("sf")
+  # At 15 degrees east the parallel of 46.3 degrees runs 2.6 km south of the ranges, and the straight line of UTM between its ends
+  # north of them: (9 degrees of longitude * 76.9 km / 2)^2 / 2 / 6379 km * tan(46.3 degrees) = 9.8 km north of the parallel.
+  fixes <- data.frame(id = "a", date = as.Date("2024-05-01") + 0:3, x = 500000 + c(0, 200, 200, 0), y = 5130000 + c(0, 0, 200, 200))
+  ranges <- quietly(home_range(fixes, crs = 32633))
+  share_of <- function(south, north) homerange_share(ranges, sf::st_sfc(wide_box(10.5, south, 19.5, north), crs = 4326))$share
+  expect_equal(c(share_of(46.3, 50), share_of(40, 46.3)), c(1, 0))
+})
+
 test_that("there are no arguments that are swallowed", {
   skip_without_program()
   ranges <- quietly(home_range(herd()))
