@@ -296,7 +296,10 @@ def parse(lines: Lines, reader: Reader | None = None) -> Report:
 def check_end(text: str, where: str) -> None:
     """Refuses a report that does not end as one, of which this is the end."""
     if END.fullmatch(text, text.rfind("\n", 0, -1) + 1) is None:
-        raise ReportError(f"{one_line(where)} is cut off: its last line is not 'end,' with the number of animals")
+        what = "is cut off: its last line is not 'end,' with the number of animals"
+        if text.endswith("\r\n"):
+            what = "has lines that end in CR and LF, as Windows and some mails make them: take the file as the program wrote it"
+        raise ReportError(f"{one_line(where)} {what}")
 
 
 def lines_of(text: bytes, where: str) -> Lines:

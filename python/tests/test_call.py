@@ -47,6 +47,7 @@ def stub(tmp_path, monkeypatch):
     ({"max_dop": float("nan")}, "max_dop is nan and"), ({"max_dop": True}, "max_dop is True and"),
     ({"every": "often"}, "every='often' is not a second or more"), ({"every": 0.0001}, "every=0.0001 is not a second or more"),
     ({"every": True}, "every=True is not a second"), ({"every": clock.timedelta(seconds=-5)}, "is not a second or more"),
+    ({"every": "1d"}, "every='1d' is not a second or more in h, min or s, such as '24h', '30min' or '90s'"),
     ({"every": 1.0001}, "every=1.0001 is no whole number of seconds"),
     ({"every": clock.timedelta(seconds=2.5)}, "is no whole number of seconds: write such as '90min' or '5s'"),
     ({"since": 20240401}, "since=20240401 is neither a text such as '2024-05-01' nor a date"),
@@ -154,6 +155,9 @@ def test_a_program_that_is_ended_is_no_bad_table(stub):
 @pytest.mark.parametrize("said, wanted", [
     ("name it, as by --time 'a b'", "name it, as by time='a b'"), ("such as --zone 33N", "such as zone='33N'"),
     ("name it, by --na=x", "name it, by na='x'"), ("by --lon and --lat and --zone 33N, or", "by lon and lat and zone='33N', or"),
+    ("name it, by --na=.", "name it, by na='.'"), ("by --na=.., or", "by na='..', or"), ("(by --na=n/a)", "(by na='n/a')"),
+    ("by --na='x;y'", "by na='x;y'"), ("x is 'a', which --na names, and so no time: leave it out of --na",
+                                       "x is 'a', which na names, and so no time: leave it out of na"),
     ("such as --argos-class 3,2,1 (none is a fix", "such as argos_class='3,2,1' (none is a fix"),
     ("leave it out, by --skip-lines 1", "leave it out, by skip_lines=1"), ("read them by --from lotek", "read them by from_='lotek'"),
     (", and --skip-unnamed leaves such records out", ", and skip_unnamed=True leaves such records out"),

@@ -320,6 +320,27 @@ def test_printing_says_what_was_taken(splitter):
     assert repr(seconds).startswith("2 fixes of 1 animals, from second 0 to second 60, box 0.500 by 0.500 km; reference system not known\n")
 
 
+def test_printing_fixes_without_an_end(splitter):
+    fixes = quietly(read_fixes, frame_of(fox=SQUARE), zone="33N")
+    with warnings.catch_warnings():
+        warnings.simplefilter("error")
+        for value in (float("inf"), float("-inf")):
+            fixes.loc[2, "easting"] = value
+            assert ", box inf by 0.200 km; " in repr(fixes).split("\n")[0]
+            assert ", box inf by 0.200 km; " in repr(fixes.assign(easting=value)).split("\n")[0]
+
+
+def test_fixes_that_read_fixes_did_not_make_are_refused():
+    with pytest.raises(FrameError, match="^it is not known how these fixes were read, since read_fixes did not make them, or they were joined"):
+        home_range(Fixes(frame_of(fox=SQUARE).rename(columns={"timestamp": "time"})))
+
+
+def test_rows_are_named_by_their_places_where_labels_repeat(splitter):
+    far = frame_of(fox=[*SQUARE, (90_000, 0), *SQUARE])
+    with told(r"rows? 4 \(frame.iloc\[8\]\)|4 \(frame.iloc\[13\]\)"):
+        read_fixes(pandas.concat([frame_of(elk=SQUARE), far]))
+
+
 def test_fixes_are_points(splitter):
     geopandas = pytest.importorskip("geopandas")
     place = [(500_000 + east, 5_000_000 + north) for east, north in SQUARE]

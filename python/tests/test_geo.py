@@ -123,6 +123,13 @@ def test_a_crs_is_of_metres_that_have_a_way_to_degrees(splitter, crs, said):
                 call()
 
 
+def test_points_in_metres_that_are_called_degrees_are_refused_with_what_helps():
+    points = geo("EPSG:4326")
+    with pytest.raises(FrameError, match=r": if they are metres, give the points .*, as by frame.set_crs\(32633, allow_override=True\)"):
+        read_fixes(points)
+    assert len(read_fixes(points.set_crs(32633, allow_override=True))) == len(POINTS)
+
+
 def test_points_whose_sides_are_the_other_way_are_turned():
     frame = geo(4326, [(46.0 + at / 1000, 96.0 + at * at / 1000) for at in range(5)])
     said = r"^row 0: there is no place of longitude 46 and latitude 96: are x and y of the points the other way\? frame.set_geometry\(.*\) turns them$"

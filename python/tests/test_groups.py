@@ -3,6 +3,7 @@ what is shown of long work."""
 import io
 import os
 
+import numpy
 import pandas
 import pytest
 from exact import area2, cloud, hull
@@ -121,6 +122,8 @@ def test_rows_without_a_group(frame):
     ({"a": 1}, "by=.* is none of"), (["a"] * 79, "by is 79 values for 80 rows"), (lambda fixes: 5, "by is 5 for 80 rows"),
     (pandas.Series(["a"] * 79), "by is a Series with another index than the frame"),
     (pandas.Series([1.5] * 80), "row .*: by has a group that is '1.5', a number that is not whole"),
+    (lambda fixes: fixes[["animal", "time"]], r"by is a table, and a value for each row is wanted: take one column, or join several, as by"),
+    (numpy.zeros((80, 2)), "by is a table, and a value for each row is wanted"),
     (["a\tb"] * 80, "row .*: by has a group that is 'a.*b', with a control character")])
 def test_what_is_refused(frame, by, said):
     with pytest.raises(FrameError, match=said):

@@ -244,6 +244,13 @@ def test_what_is_no_text_is_no_report(tmp_path):
         read_report(path)
 
 
+def test_a_report_whose_lines_end_in_two_signs_is_not_called_cut_off(files, tmp_path):
+    path = tmp_path / "report.txt"
+    path.write_bytes(Path(report_of(files)).read_bytes().replace(b"\n", b"\r\n"))
+    with pytest.raises(ReportError, match="report.txt has lines that end in CR and LF, .*: take the file as the program wrote it$"):
+        read_report(path)
+
+
 def test_a_file_that_is_not_there_is_refused(files, tmp_path):
     report, none = report_of(files), tmp_path / "none"
     for call in (lambda: read_report(none), lambda: read_report(report, files=[none]), lambda: read_report(report, record=none)):

@@ -231,7 +231,7 @@ span_text <- function(x) {
 # How far they lie from each other.
 box_text <- function(x) {
   if (!nrow(x)) return(NULL)
-  sides <- vapply(list(x$easting, x$northing), function(side) diff(range(side)) / 1000, 0)
+  sides <- vapply(list(x$easting, x$northing), function(side) if (any(is.infinite(side))) Inf else diff(range(side)) / 1000, 0)
   paste0("in a box of ", sprintf("%.3f by %.3f km", sides[1], sides[2]), ", in whole ", units_known[[facts_of(x)$unit]]$name)
 }
 

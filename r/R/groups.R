@@ -74,6 +74,9 @@ check_titles <- function(by, fixes) {
 
 # A value for each of so many rows or fixes.
 values_of <- function(by, number, what) {
+  if (length(dim(by)) > 1) {
+    refuse("option", "by is a table, and a value for each row is wanted: take one column, or join several, as by paste(x$a, x$b)")
+  }
   if (is.list(by) || is.language(by) || is.environment(by)) {
     refuse("option", argument_text("by", by), " is none of ", paste0("\"", names(periods), "\"", collapse = ", "),
            ", no column of the fixes, no value for each of them, and no function of them")

@@ -160,15 +160,21 @@ text_of_bound <- function(option, value) {
 
 # A length of time: text such as 2h, a number of hours, or a length of R, of lubridate or of units, in whole seconds.
 text_of_length <- function(every) {
-  if (is_text(every)) return(as.vector(every))
-  seconds <- seconds_of_length(every)
+  seconds <- if (is_text(every)) seconds_of_text(every) else seconds_of_length(every)
   if (length(seconds) != 1 || !is.finite(seconds) || round(seconds) < 1 || seconds >= longest_length) {
-    refuse("option", argument_text("every", every), " is not a second or more, such as \"2h\" or \"30min\"")
+    refuse("option", argument_text("every", every), " is not a second or more in h, min or s, such as \"24h\", \"30min\" or \"90s\"")
   }
+  if (is_text(every)) return(as.vector(every))
   if (abs(seconds - round(seconds)) > 1e-6) {
     refuse("option", argument_text("every", every), " is no whole number of seconds: write such as \"90min\" or \"5s\"")
   }
   sprintf("%.0fs", round(seconds))
+}
+
+# The seconds of a text such as 2h; NULL of another one.
+seconds_of_text <- function(every) {
+  parts <- regmatches(every, regexec("^([0-9]+([.][0-9]+)?)(h|min|s)$", every))[[1]]
+  if (length(parts)) as.numeric(parts[2]) * c(h = 3600, min = 60, s = 1)[[parts[4]]]
 }
 
 # The seconds of a length of time; NULL of what is none, or of months and years, which are not of one length.

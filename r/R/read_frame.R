@@ -11,6 +11,9 @@ remedies_of_frames <- c(
 remedy_of_swapped <- paste0(": are x and y of the points the other way? sf::st_geometry(x) <- sf::st_set_crs(sf::st_geometry(x) * ",
                             "matrix(c(0, 1, 1, 0), 2), sf::st_crs(x)) turns them")
 
+remedy_of_metres <- paste0(": if they are metres, give the points the reference system that they have, as by ",
+                           "sf::st_set_crs(sf::st_set_crs(x, NA), 32633); a word for what is missing is named by na")
+
 # The fixes of a data frame.
 read_frame <- function(x, given, folder, has_rows) {
   check_frame(x, given)
@@ -258,7 +261,10 @@ refuse_frame <- function(frame, refusal, folder) {
   if (length(odd)) refuse_cell(frame, refusal$kind, if (any(named)) odd[named] else odd)
   if (startsWith(refusal$text, "there are no columns of usual titles for easting")) check_columns_within(frame$x)
   if (refusal$kind == "time") text <- with_remedy_of_clocks(text, frame$x)
-  if (length(frame$places$parts)) text <- sub(": are their columns to be named the other way.*", remedy_of_swapped, text)
+  if (length(frame$places$parts)) {
+    text <- sub(": are their columns to be named the other way.*", remedy_of_swapped, text)
+    text <- sub(": coordinates in metres are named by .*", remedy_of_metres, text)
+  }
   if (grepl("both fit the time: |and not a time ", text)) text <- with_remedy_of_moments(text, frame)
   refuse_row(frame$x, refusal$kind, refusal$record, paste0(of_frame(text, frame$x), remedy_of_fixes(frame$x, refusal)))
 }

@@ -105,7 +105,10 @@ def values_for(values: Any, frame: pandas.DataFrame) -> pandas.Series:
         return aligned(values, frame)
     is_list = pandas.api.types.is_list_like(values) and hasattr(values, "__len__") and not isinstance(values, BYTES)
     count = len(values) if is_list else None
-    if count != len(frame) or getattr(values, "ndim", 1) != 1:
+    if getattr(values, "ndim", 1) > 1:
+        refuse("by is a table, and a value for each row is wanted: take one column, or join several, as by frame['a'].astype(str) + ' ' + "
+               "frame['b'].astype(str)")
+    if count != len(frame):
         refuse(f"by is {repr(values) if count is None else f'{count} values'} for {len(frame)} rows")
     if not isinstance(values, (list, tuple)):
         return pandas.Series(values)

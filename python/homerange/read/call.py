@@ -16,8 +16,8 @@ KINDS = {"memory": 3, "output": 4}  # kinds of refusals that are none of a table
 NAMES = {in_program(name): name for name in (*FORMS, *FLAGS)}
 NUMBERS = ("skip_lines", "max_dop", "max_speed")
 # An option as the program says it, with its value if one of these words does not follow; what is quoted is passed over.
-NO_VALUE = "and|are|for|has|is|leaves|or|out|times"
-VALUE = rf"(?: (?!(?:{NO_VALUE})\b)|=)('[^']*'|[^\s']*[^\s',;:.)])"
+NO_VALUE = "and|are|for|has|is|leaves|names|or|out|times"
+VALUE = rf"(?: (?!(?:{NO_VALUE})\b)('[^']*'|[^\s']*[^\s',;:.)])|=('[^']*'|[^\s']+?(?=[,;:)]?(?:\s|$))))"
 OPTION = re.compile(rf"'[^']*'|--({'|'.join(sorted(NAMES, key=len, reverse=True))})(?![\w-])(?:{VALUE})?")
 FOLLOWED = re.compile(rf"(--[a-z-]+{VALUE})(?= --[a-z])")  # by another one, without a comma between
 WORD = re.compile(f"({'|'.join(name for name in NAMES if '-' in name)})(?= is )")  # at the start of what is said of a word
@@ -28,7 +28,7 @@ def as_arguments(text: str, kind: str = "") -> str:
     def argument(found: re.Match[str]) -> str:
         if found[1] is None:
             return found[0]
-        name, value = NAMES[found[1]], found[2]
+        name, value = NAMES[found[1]], found[2] or found[3]
         if value is None:
             return f"{name}=True" if name in FLAGS else name
         bare = value.removeprefix("'").removesuffix("'")

@@ -49,6 +49,11 @@ def cells_of(series: pandas.Series) -> Cells:
     return object_cells(series.to_numpy(dtype=object, na_value=None))
 
 
+def inner_type(kind: Any) -> Any:
+    """The class of the values of a column, of categories that of these."""
+    return kind.categories.dtype if isinstance(kind, pandas.CategoricalDtype) else kind
+
+
 def is_time(kind: Any) -> bool:
     """Whether a class of columns is that of date-times."""
     return isinstance(kind, pandas.DatetimeTZDtype) or isinstance(kind, numpy.dtype) and kind.kind == "M"

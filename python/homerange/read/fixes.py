@@ -3,6 +3,7 @@
 from __future__ import annotations
 
 import html
+import math
 from collections import Counter
 from dataclasses import dataclass, field, replace
 from typing import TYPE_CHECKING, Any, Callable, Iterable, Sequence
@@ -188,7 +189,8 @@ def is_of_classes(fixes: Fixes) -> bool:
 def reading_of(fixes: Fixes) -> Reading:
     """How fixes were read, which has to be known."""
     return fixes.reading if fixes.reading is not None else refuse(
-        "it is not known how these fixes were read, since they were joined to others: read them anew by read_fixes")
+        "it is not known how these fixes were read, since read_fixes did not make them, or they were joined to others: read "
+        "pandas.DataFrame(fixes) by read_fixes")
 
 
 def clock_of(fixes: Fixes) -> str:
@@ -213,13 +215,19 @@ def told(fixes: Fixes) -> str:
     return "\n".join([*lines, *questions[:SHOWN]])
 
 
+def extent(side: pandas.Series) -> float:
+    """From the least coordinate to the greatest."""
+    least, most = float(side.min()), float(side.max())
+    return math.inf if math.inf in (-least, most) or least == math.inf else most - least
+
+
 def head(fixes: Fixes, reading: Reading) -> str:
     """How many fixes there are, of when and where."""
     system = reading.system_text or "reference system not known"
     counted = f"{len(fixes)} fixes of {fixes['animal'].nunique()} animals"
     if not len(fixes):
         return f"{counted}; {system}"
-    sizes = [(fixes[title].max() - fixes[title].min()) / 1000 for title in PLACES]
+    sizes = [extent(fixes[title]) / 1000 for title in PLACES]
     title = title_of_time(fixes)
     ends = [str(end.date()) if isinstance(end, pandas.Timestamp) else f"second {end}"
             for end in (fixes[title].min(), fixes[title].max())]

@@ -25,11 +25,12 @@ from .call import as_arguments, split_table
 from .cells import cells_of
 from .changes import PLACES, checksum_of_rows, judged_rows, left_since, own_titles, refuse_changed, refuse_unread, seen, with_named_levels
 from .fixes import Fixes, Reading, clock_of, is_known, is_of_classes, reading_of
-from .refusals import COLUMNS, check_cells, columns_read, refuse_text, steps_said
+from .refusals import COLUMNS, check_cells, columns_read, refuse_text
 from .systems import are_degrees, crs_named, options_of, refuse_zone, scale_said
 from .text import (
     NAME, Text, frame_given, has_times, in_own_words, plain, text_of_frame, with_clock_of, with_time_named, write_text, zones_in)
 from .tracks import NAMED, Whole, left_out, own_names, read_tracks, rows_of
+from .widths import narrow_places, steps_said
 from .words import words_of_options
 
 SINCE_1970 = (10 ** 8, 9_223_372_036)  # seconds that have a calendar: from 1973 to where pandas' times end
@@ -242,12 +243,16 @@ def read_text(text: Text, folder: Path, program: str, has_rows: bool) -> ReadTab
     record = read_record(folder / "tracks" / "split.txt")
     whole = read_tracks(folder / "tracks", record)
     check_cells(text, record)
-    notes = [*text.notes, *(text.clock or ()), *steps_said(text, record)]
+    narrow, rows = narrow_places(text.columns, record, COLUMNS), rows_of(folder / "tracks", whole) if has_rows else None
+    if narrow and rows is None:
+        split_table(NAME, "rows", ["--records", *words_of_options(text.options)], program, str(folder))
+        rows = rows_of(folder / "rows", whole)
+    notes = [*text.notes, *(text.clock or ()), *(() if rows is None else steps_said(narrow, rows, record.unit))]
     fixes = fixes_of(whole, record, folder, text.options.get("tz"), text.crs, notes, lambda line: said_of(line, text))
     titles, sources = (frozenset(in_own_words(column.title, text) for column in several)
                        for several in (text.columns, columns_read(text, record)))
     fixes.reading = replace(reading_of(fixes), titles=titles, sources=sources)
-    return ReadTable(fixes, reading_of(fixes).notes, None, rows_of(folder / "tracks", whole) if has_rows else None)
+    return ReadTable(fixes, reading_of(fixes).notes, None, rows if has_rows else None)
 
 
 def split_text(text: Text, folder: Path, program: str, words: Sequence[str]) -> Text:
@@ -273,8 +278,9 @@ def said_of(line: str, text: Text) -> str:
 
 
 def label_of(text: Text, record: int) -> str:
-    """The label of a row."""
-    return one_line(str(text.labels[record - 1]))
+    """The label of a row, and its place where labels are there twice."""
+    label = one_line(str(text.labels[record - 1]))
+    return label if text.labels.is_unique else f"{label} (frame.iloc[{record - 1}])"
 
 
 def fixes_of(whole: Whole, record: Record, folder: Path, tz: str | None, crs: Any, notes: Iterable[str],

@@ -13,11 +13,10 @@ import pandas
 
 from ..errors import FrameError, one_line, refuse
 from ..record import Record
-from ..units import UNITS
 from .call import as_arguments
 from .cells import IANA, cell_of, is_missing, is_time, odd_row, row_named
 from .systems import TITLES_OF_DEGREES
-from .text import NAME, Column, Text, has_times, in_own_words, inner_type, titles_named, zones_in
+from .text import NAME, Column, Text, has_times, in_own_words, titles_named, zones_in
 
 # What the program says of files, and what is said of frames in its place.
 OF_FILES = {re.compile("(?<=may stand before thousands): export without it"): ": make numbers of its column, if they are decimals",
@@ -27,7 +26,8 @@ OF_FILES = {re.compile("(?<=may stand before thousands): export without it"): ":
             re.compile(f"^{NAME} has (.*): is its separator another[?]$"): r"the data frame has \1"}
 HELP_SWAPPED = ("are x and y of the points the other way? frame.set_geometry(geopandas.points_from_xy(frame.geometry.y, frame.geometry.x, "
                 "crs=frame.crs)) turns them")
-DEGREE = 111_320  # metres of one at the equator
+HELP_METRES = ("if they are metres, give the points the reference system that they have, as by frame.set_crs(32633, allow_override=True); a "
+               "word for what is missing is named by na")
 TIMES = (clock.date, clock.time, clock.timedelta, pandas.Period, numpy.datetime64, numpy.timedelta64)  # and lengths of them
 COLUMNS, UNREAD, NO_ANIMAL = "columns: ", "not read: ", "no column has a usual title for the animal"  # how lines begin
 
@@ -53,6 +53,7 @@ def with_remedy(said: str, text: Text) -> str:
     if "both fit the time: " in said or "and not a time " in said:
         return with_moments_alone(said, text)
     if str(text.options.get("lat")).startswith(TITLES_OF_DEGREES["lat"]):
+        said = re.sub(": coordinates in metres are named by .*", f": {HELP_METRES}", said)
         return re.sub(": are their columns to be named the other way.*", f": {HELP_SWAPPED}", said)
     if text.shapes is not None and said.startswith("there are no columns of usual titles"):
         return (f"there are no columns of usual titles for coordinates, and {text.shapes} has shapes: make points of a GeoDataFrame "
@@ -215,31 +216,3 @@ def what_no_name_is(value: Any) -> str | None:
         return "a time"
     is_number = isinstance(value, (float, numpy.floating)) or isinstance(value, Decimal) and not value.is_finite()
     return "a number that is not whole" if is_number and not float(value).is_integer() else None
-
-
-def steps_said(text: Text, record: Record) -> list[str]:
-    """What is said of numbers of 32 or 16 bits that lie farther from each other than the unit."""
-    unit, taken = 1 / UNITS[record.unit].per_metre, next((line for line in record.said if line.startswith(COLUMNS)), "").split(";")[0]
-    own = [column for column in text.columns if f", {one_line(column.title)}," in f"{taken},"]
-    return [line for column in own for line in [step_said(column, unit)] if line is not None]
-
-
-def step_said(column: Column, unit: float) -> str | None:
-    """The same of one column, which are degrees or metres by their size."""
-    kind = narrowest(column.values)
-    if kind is None:
-        return None
-    most = numpy.abs(numpy.asarray(column.values.dropna(), dtype="float64")).max(initial=0)
-    step = float(numpy.spacing(kind.type(most)))
-    metres = step * DEGREE if most <= 360 else step
-    if metres <= unit:
-        return None
-    return f"numbers of {column.title} have {8 * kind.itemsize} bits, and may be {metres:.2g} m from the places that were measured"
-
-
-def narrowest(values: pandas.Series) -> numpy.dtype[Any] | None:
-    """The class of the narrowest numbers of floating point of a column, if it has some of less than 64 bits, whatever holds them."""
-    kind = inner_type(values.dtype)
-    own = getattr(kind, "numpy_dtype", getattr(kind, "subtype", kind))
-    kinds = {value.dtype for value in values if isinstance(value, numpy.floating)} if own == object else {own}
-    return next((narrow for narrow in map(numpy.dtype, ("float16", "float32")) if narrow in kinds), None)

@@ -14,8 +14,9 @@ import numpy
 import pandas
 
 from ..errors import one_line, refuse
-from .cells import IANA, Cells, are_like_thousands, cells_of, is_missing, is_time, zone_name
+from .cells import IANA, Cells, are_like_thousands, cells_of, inner_type, is_missing, is_time, zone_name
 from .systems import TITLES, TITLES_OF_DEGREES, columns_of_points, crs_named, is_local, options_of
+from .widths import missing_as_written
 
 if TYPE_CHECKING:
     import geopandas
@@ -77,7 +78,7 @@ def text_of_frame(frame: pandas.DataFrame, options: Mapping[str, Any]) -> Text:
         crs = None if is_local(points.crs) or "lon" in places else points.crs
     elif crs is not None:
         crs = crs_named(crs)
-    found.update(options_of(crs, found.get("zone")))
+    found.update(options_of(crs, found.get("zone")), na=missing_as_written(found.get("na"), columns))
     shapes = title_of_shapes(frame) if points is None else None
     text = Text(columns, frame.index, found, crs, notes, None if found.get("tz") is not None else [], shapes=shapes)
     return with_clock_of(text, columns)
@@ -180,11 +181,6 @@ def has_times(values: pandas.Series) -> bool:
     if is_time(kind) or isinstance(kind, pandas.PeriodDtype) or "timestamp" in str(kind):
         return True
     return bool(kind == object and pandas.api.types.infer_dtype(values, skipna=True) in ("datetime", "datetime64"))
-
-
-def inner_type(kind: Any) -> Any:
-    """The class of the values of a column, of categories that of these."""
-    return kind.categories.dtype if isinstance(kind, pandas.CategoricalDtype) else kind
 
 
 def zones_in(values: pandas.Series) -> set[str | None]:

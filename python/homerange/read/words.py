@@ -13,6 +13,7 @@ from typing import Any, Callable, Iterable, Mapping
 from ..errors import BYTES, one_line, refuse, truth_of
 
 LONGEST_WORD = 2 ** 16  # bytes of a word; the system takes some more
+TAKEN = "is not a second or more in h, min or s, such as '24h', '30min' or '90s'"  # what a length of time is that is none
 LENGTHS = {"h": 3600, "min": 60, "s": 1}
 LENGTH = re.compile("([0-9]+(?:[.][0-9]+)?)(h|min|s)")
 NUMBER = re.compile("[-+]?(?:[0-9]+[.]?[0-9]*|[.][0-9]+)(?:[eE][-+]?[0-9]+)?")
@@ -68,7 +69,7 @@ def length_of(value: Any, option: str) -> str:
     else:
         seconds = seconds_of(value)
     if not 1 <= seconds < 2 ** 40:
-        refuse(f"{option}={value!r} is not a second or more, such as '2h' or '30min'")
+        refuse(f"{option}={value!r} {TAKEN}")
     if isinstance(value, str):
         return value
     if abs(seconds - round(seconds)) > SLACK:
@@ -113,10 +114,10 @@ def words_of(value: Any, option: str) -> str:
 def word_of(word: Any, option: str) -> str:
     if isinstance(word, str):
         return word
+    if isinstance(word, Integral) and not isinstance(word, bool):
+        return str(int(word))
     if not isinstance(word, Real) or isinstance(word, bool) or not math.isfinite(word):
         refuse(f"{option}: {word!r} is no word: a text is wanted")
-    if isinstance(word, Integral):
-        return str(int(word))
     return digits_of(float(str(word)) if type(word).__module__ == "numpy" else float(word))  # of 32 bits by their own digits
 
 

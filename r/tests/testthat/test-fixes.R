@@ -359,6 +359,15 @@ test_that("fixes have the unit in which they were read", {
   expect_identical(facts_of(quietly(read_fixes(fine, unit = "dm", every = "2min")))$unit, "dm")
 })
 
+test_that("fixes without an end are printed", {
+  skip_without_split()
+  fixes <- named(zone = "33N")
+  fixes$easting[2] <- -Inf
+  expect_identical(format(fixes)[2], "in a box of Inf by 0.003 km, in whole metres")
+  fixes$easting <- Inf
+  expect_identical(format(fixes)[2], "in a box of Inf by 0.003 km, in whole metres")
+})
+
 test_that("their print says what was taken", {
   skip_without_split()
   said <- utils::capture.output(print(named(zone = "33N")))

@@ -89,7 +89,9 @@ test_that("what no option can say is refused", {
   refused("animal = 2 is no name of a column: a text, or several, is wanted", animal = 2)
   refused("max_dop is 2 values and not a number from 0", max_dop = 1:2)
   refused("max_dop is Date and not a number from 0", max_dop = as.Date("2024-05-01"))
-  refused("every = 0 is not a second or more, such as \"2h\" or \"30min\"", every = 0)
+  refused("every = 0 is not a second or more in h, min or s, such as \"24h\", \"30min\" or \"90s\"", every = 0)
+  refused("every = \"1d\" is not a second or more in h, min or s, such as \"24h\", \"30min\" or \"90s\"", every = "1d")
+  refused("every = \"0.2s\" is not a second or more in h, min or s", every = "0.2s")
   refused("every = 1.0001 is no whole number of seconds", every = 1.0001)
   refused("every = TRUE is not a second or more", every = TRUE)
   refused("since = 2 values is neither a text such as \"2024-05-01\" nor a date", since = c("2024-05-01", "2024-05-02"))
@@ -139,6 +141,8 @@ test_that("options in the program's text are said as arguments", {
     "such as --zone 33N" = "such as zone = \"33N\"", "say so by --lon 'a b' --lat y --zone 33N; or" =
       "say so by lon = \"a b\", lat = \"y\", zone = \"33N\"; or",
     "such as --argos-class 3,2,1 (none is" = "such as argos_class = \"3,2,1\" (none is", "by --na=x" = "by na = \"x\"",
+    "name it, by --na=." = "name it, by na = \".\"", "by --na=.., or" = "by na = \"..\", or", "(by --na=n/a)" = "(by na = \"n/a\")",
+    "by --na='x;y'" = "by na = \"x;y\"", "'a', which --na names: leave it out of --na" = "'a', which na names: leave it out of na",
     "and --skip-unnamed leaves such records out" = "and skip_unnamed = TRUE leaves such records out",
     "take these, by --lon and --lat and more" = "take these, by lon and lat and more", "without --tz times are" = "without tz times are",
     "read by --from gpx" = "read by from = \"gpx\"", "leave --tz out, or" = "leave tz out, or", "a -- b" = "a -- b"

@@ -219,6 +219,15 @@ test_that("points whose sides are the other way are turned", {
   expect_error(quietly(home_range(table)), "are their columns to be named the other way, by lon and lat[?]$", class = "homerange_data_error")
 })
 
+test_that("points in metres that are called degrees are refused with what helps", {
+  skip_without_program()
+  skip_if_not_installed("sf")
+  x <- sf::st_as_sf(walk("a", 8, 1), coords = c("easting", "northing"), crs = 4326)
+  expect_error(quietly(read_fixes(x)), ": if they are metres, give the points .*, as by sf::st_set_crs[(]sf::st_set_crs[(]x, NA[)], 32633[)]",
+               class = "homerange_data_error")
+  expect_identical(nrow(quietly(read_fixes(sf::st_set_crs(sf::st_set_crs(x, NA), 32633)))), 8L)
+})
+
 test_that("points of fixes are refused as ranges of them are", {
   skip_without_program()
   skip_if_not_installed("sf")
