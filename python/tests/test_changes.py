@@ -1,6 +1,7 @@
 """Fixes that were changed since they were read: how many were taken away, what says which count, and what is refused."""
 import copy
 import pickle
+import re
 import warnings
 from collections import Counter
 
@@ -9,7 +10,7 @@ import pandas
 import pytest
 from frames import frame_of, noted, told
 
-from homerange import FrameError, HomeRangeNote, home_range
+from homerange import FrameError, HomeRangeNote, home_range, write_page
 from homerange.read.fixes import Fixes
 from homerange.read.reading import read_fixes
 
@@ -91,16 +92,37 @@ def test_what_was_left_out_of_animals_that_have_other_names_is_of_none(splitter)
     frame = frame_of(a=[*SQUARE, (numpy.nan, 1)], b=[*APART, (numpy.nan, 1), (numpy.nan, 1)])
     with told("^3 records have no coordinates: left out$"):
         fixes = read_fixes(frame, zone="33N")
-    for change, left in (
-            (lambda animal: animal, {("a", "coordinates"): 1, ("b", "coordinates"): 2, ("a", "chosen"): 1}),
-            (lambda animal: animal.map(SWAPPED), {("", "coordinates"): 3, ("", "chosen"): 1}),
-            (lambda animal: animal.replace("a", "c"), {("", "coordinates"): 1, ("b", "coordinates"): 2, ("", "chosen"): 1})):
+    for change, unknown, left in (
+            (lambda animal: animal, {}, {("a", "coordinates"): 1, ("b", "coordinates"): 2, ("a", "chosen"): 1}),
+            (lambda animal: animal.map(SWAPPED), {"a", "b"}, {("", "coordinates"): 3, ("", "chosen"): 1}),
+            (lambda animal: animal.replace("a", "c"), {"c"}, {("", "coordinates"): 1, ("b", "coordinates"): 2, ("", "chosen"): 1})):
         found = home_range(fixes.assign(animal=change(fixes["animal"])).iloc[1:])
         assert {(name, reason): count for name, reason, count in found.left_out().values.tolist()} == left
-        own = Counter({animal: sum(count for (name, _), count in left.items() if name == animal) for animal in found.animals})
+        own = {animal: None if animal in unknown else sum(count for (name, _), count in left.items() if name == animal)
+               for animal in found.animals}
         summary, overview = found.summary(), found.overview()
-        assert dict(zip(summary["animal"], summary["left_out"])) == own
-        assert dict(zip(overview["animal"], overview["records"] - overview["used"])) == own
+        for table, counts in ((summary, summary["left_out"]), (overview, overview["records"] - overview["used"])):
+            assert dict(zip(table["animal"], counts.astype(object).where(counts.notna(), None))) == own
+
+
+def test_what_is_not_known_of_an_animal_stays_so(splitter, tmp_path):
+    frame = frame_of(a=[*SQUARE, (numpy.nan, 1)], b=[*APART, (numpy.nan, 1), (numpy.nan, 1)])
+    with told("^3 records have no coordinates: left out$"):
+        first = read_fixes(frame, zone="33N")
+    second = read_fixes(first.assign(animal=first["animal"].replace("a", "c")))
+    third = read_fixes(second.assign(animal=second["animal"].replace("c", "d")))
+    for fixes, name in ((second, "c"), (third, "d"), (third.iloc[1:], "d")):
+        ranges = home_range(fixes)
+        assert ranges.summary().set_index("animal")["left_out"].isna().to_dict() == {"b": False, name: True}
+        assert ranges.overview().set_index("animal").loc["b", ["records", "left_coordinates"]].tolist() == [6, 2]
+        write_page(ranges, tmp_path / "page.html")
+        cells = re.findall('data-field="(records|left_coordinates)">([^<]*)<', (tmp_path / "page.html").read_text())
+        assert [cell for _, cell in cells] in (["6", "2", "–", "–"], ["–", "–", "6", "2"])
+
+
+def test_of_an_animal_with_another_name_all_is_known_where_nothing_was_left_out(fixes):
+    ranges = home_range(fixes.assign(animal=fixes["animal"].replace("a", "c")))
+    assert ranges.summary()["left_out"].tolist() == [0] * 6 and ranges.overview()["records"].tolist() == [4, 4]
 
 
 def test_fixes_bound_of_several_readings_are_counted(fixes):

@@ -147,6 +147,7 @@ bound_facts <- function(facts) {
   counts <- unlist(lapply(facts, `[[`, "fixes"))
   found$fixes <- vapply(split(counts, factor(names(counts), unique(names(counts)))), sum, 0)
   found$left_out <- summed_left(do.call(rbind, lapply(facts, `[[`, "left_out")))
+  found$unknown <- unique(unlist(lapply(facts, `[[`, "unknown")))
   found
 }
 
@@ -166,17 +167,34 @@ summed_left <- function(left) {
   list2DF(list(animal = left$animal[first], reason = left$reason[first], fixes = unname(counts)))
 }
 
-# What was left out when the fixes were read, and since: by the animals that they had then, and of none where that is not known.
+# What was left out when the fixes were read, and since: by the animals that they had then, and of none where that is not known; and
+# the animals of which it is not known, since some that are counted of none may be theirs.
 left_since <- function(fixes) {
   facts <- facts_of(fixes)
-  if (is.null(facts$seen) || identical(unname(as.list(fixes)[own_columns(fixes)]), facts$seen$own)) return(facts$left_out)
+  if (is.null(facts$seen) || identical(unname(as.list(fixes)[own_columns(fixes)]), facts$seen$own)) {
+    return(list(left = facts$left_out, unknown = facts$unknown))
+  }
   since <- gone_since(fixes)
   gone <- since$fixes[since$fixes > 0]
   chosen <- list(animal = as.character(names(gone)), reason = rep("chosen", length(gone)), fixes = unname(gone))
   left <- rbind(facts$left_out, list2DF(chosen))
-  left$animal[left$animal %in% since$unsure] <- ""
-  summed_left(left)
+  is_moved <- left$animal %in% since$unsure
+  is_lost <- any(is_moved & left$fixes > 0) || "" %in% names(gone)
+  left$animal[is_moved] <- ""
+  list(left = summed_left(left), unknown = c(intersect(facts$unknown, as.character(fixes$animal)),
+                                             if (is_lost || length(facts$unknown)) animals_in_doubt(fixes, since)))
 }
+
+# The animals of fixes of which not as many were read as there are, with those that were taken away, or that had other names.
+animals_in_doubt <- function(fixes, since) {
+  now <- table(as.character(fixes$animal))
+  read <- facts_of(fixes)$fixes
+  number_of <- function(counts) ifelse(names(now) %in% names(counts), as.vector(counts[names(now)]), 0)
+  names(now)[names(now) %in% since$unsure | as.vector(now) + pmax(number_of(since$fixes), 0) != number_of(read)]
+}
+
+# A count of each animal, missing where it is not known.
+known_counts <- function(counts, animals, unknown) replace(as.numeric(counts), animals %in% unknown, NA)
 
 # A row for each animal: how many fixes, from when to when, and how many were left out.
 summary.homerange_fixes <- function(object, ...) {
@@ -186,10 +204,10 @@ summary.homerange_fixes <- function(object, ...) {
   rows <- split(seq_len(nrow(object)), factor(object$animal, animals))
   times <- object[[column_of_time(object)]]
   at <- function(pick) vapply(rows, function(own) own[c(pick(xtfrm(times[own])), NA)[1]], 1L)
-  left <- left_since(object)
-  counts <- vapply(animals, function(animal) sum(left$fixes[left$animal == animal]), 0)
+  since <- left_since(object)
+  counts <- vapply(animals, function(animal) sum(since$left$fixes[since$left$animal == animal]), 0)
   list2DF(list(animal = animals, fixes = unname(lengths(rows)), first = times[at(which.min)], last = times[at(which.max)],
-               left_out = unname(counts)))
+               left_out = known_counts(counts, animals, since$unknown)))
 }
 
 column_of_time <- function(fixes) if ("time" %in% names(fixes)) "time" else "second"
@@ -217,7 +235,7 @@ format.homerange_fixes <- function(x, ...) {
   read <- unique(grep("^(columns: |not read: )", facts$notes, value = TRUE))
   c(paste0(count_of(nrow(x), "fix", "fixes"), " of ", count_of(length(unique(x$animal)), "animal"), span_text(x)),
     box_text(x), system_text(facts), unique(sub("; [0-9]+ animals, box .*", "", sub("^columns", "read", read))),
-    left_text(left_since(x)), facts$notes[asked])
+    left_text(left_since(x)$left), facts$notes[asked])
 }
 
 # From when to when fixes are.

@@ -40,9 +40,10 @@ fixes_to_take <- function(x, options, quiet, folder, has_rows) {
 # The ranges of a report of fixes, with what is known of these.
 ranges_of_fixes <- function(report, whole, fixes) {
   facts <- facts_of(fixes)
-  left <- if (is.null(whole$groups)) left_since(fixes)
-  ranges <- new_home_range(report, whole$fixes$time, whole$fixes, left, facts$crs, whole$shift, facts$zone,
+  since <- if (is.null(whole$groups)) left_since(fixes)
+  ranges <- new_home_range(report, whole$fixes$time, whole$fixes, since$left, facts$crs, whole$shift, facts$zone,
                            c(facts$notes, whole$note), clock_of_fixes(fixes))
+  ranges$unknown <- since$unknown
   ranges["groups"] <- list(whole$groups)
   ranges$read <- facts[intersect(c("record", "files", "is_again"), names(facts))]
   ranges

@@ -23,7 +23,8 @@ rows_of_page <- function(ranges) {
     found <- growth_of(areas[[at]])
     gone <- vapply(left, `[`, 0, at)
     c(found, list(
-      animal = animals$animal[at], records = if (is.null(ranges$left_out)) NA else length(own) + sum(gone), left = gone,
+      animal = animals$animal[at], left = gone,
+      records = if (is.null(ranges$left_out) || animals$animal[at] %in% ranges$unknown) NA else length(own) + sum(gone),
       used = length(own), first = own[1], last = own[length(own)], areas = areas[[at]], percents = percents,
       median2 = if (length(own) > 1) twice_median(diff(own)) else NA, longest = if (length(own) > 1) max(diff(own)) else NA,
       within_second = own[found$within]
@@ -43,7 +44,7 @@ page_cell <- function(field, text) paste0("<td data-field=\"", field, "\">", tex
 cells_of_fixes <- function(row, clock) {
   left <- sprintf("%s", names(row$left))
   c(page_cell("records", if (is.na(row$records)) nothing else in_digits(row$records)),
-    if (length(left)) page_cell(left, in_digits(row$left)), page_cell("used", in_digits(row$used)),
+    if (length(left)) page_cell(left, if (is.na(row$records)) nothing else in_digits(row$left)), page_cell("used", in_digits(row$used)),
     page_cell("first", date_text(clock, row$first)), page_cell("last", date_text(clock, row$last)),
     page_cell("days", days_text(row$last - row$first)), page_cell("median_interval", interval_text(row$median2)),
     page_cell("longest_interval", interval_text(2 * row$longest)))

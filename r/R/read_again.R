@@ -286,7 +286,9 @@ read_again <- function(x, given, folder, has_rows) {
   read$said <- grep(form_of_taken, setdiff(c(read$said, lost), facts$notes), value = TRUE, invert = TRUE)
   now <- facts_of(read$fixes)
   now$notes <- c(facts$notes, read$said)
-  now$left_out <- summed_left(rbind(left_since(x), now$left_out))
+  since <- left_since(x)
+  now$left_out <- summed_left(rbind(since$left, now$left_out))
+  now$unknown <- since$unknown
   now$is_again <- TRUE
   now$sources <- facts$sources
   more <- if (has_rows) rows_of_columns(further_columns(further), read$frame$rows, nrow(x))

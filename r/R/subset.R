@@ -40,7 +40,7 @@ names.home_range <- function(x) x$animals$animal
   NextMethod()
 }
 
-slots_of_ranges <- c(tables_of_animals, "unit", "overlaps", "crs", "shift", "zone", "notes", "tz", "cache", "read", "files", "record",
+slots_of_ranges <- c(tables_of_animals, "unit", "overlaps", "crs", "shift", "zone", "notes", "tz", "cache", "read", "files", "unknown", "record",
                      "record_file", "checksum", "is_part", "program", "call")
 
 # Refuses to change what is not one of the tables and facts that ranges are made of.
@@ -100,7 +100,7 @@ c.home_range <- function(...) {
   if (anyDuplicated(whole$animals$animal)) {
     refuse("option", "animal ", whole$animals$animal[duplicated(whole$animals$animal)][1], " is in two of them")
   }
-  whole$notes <- unlist(lapply(parts, `[[`, "notes"))
+  for (slot in c("notes", "unknown")) whole[slot] <- list(unlist(lapply(parts, `[[`, slot)))
   whole <- as_part(whole)
   whole$overlaps <- joined_overlaps(whole, lapply(parts, `[[`, "overlaps"))
   whole

@@ -31,7 +31,7 @@ summary.home_range <- function(object, area = "ha", units = FALSE, ...) {
   first <- last - object$animals$fixes + 1
   left_of <- function(animal) sum(object$left_out$fixes[object$left_out$animal == animal])
   left_out <- if (is.null(object$left_out)) rep(NA_real_, length(last)) else
-    vapply(object$animals$animal, left_of, 0, USE.NAMES = FALSE)
+    known_counts(vapply(object$animals$animal, left_of, 0, USE.NAMES = FALSE), object$animals$animal, object$unknown)
   columns <- list(
     animal = object$percents$animal, first = object$rows$time[first[place]], last = object$rows$time[last[place]],
     fixes = object$animals$fixes[place], left_out = left_out[place]

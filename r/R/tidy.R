@@ -23,7 +23,7 @@ rows_to_choose <- function(x) {
   left <- lapply(x$animals$animal, function(animal) sum(x$left_out$fixes[x$left_out$animal == animal]))
   with_groups(x, list2DF(c(
     list(animal = x$animals$animal, fixes = x$animals$fixes, first = x$rows$time[last - x$animals$fixes + 1], last = x$rows$time[last],
-         left_out = if (is.null(x$left_out)) rep(NA_real_, length(last)) else unlist(left)),
+         left_out = if (is.null(x$left_out)) rep(NA_real_, length(last)) else known_counts(unlist(left), x$animals$animal, x$unknown)),
     `names<-`(areas, paste0("hectares_", levels))
   )))
 }

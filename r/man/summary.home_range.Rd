@@ -24,7 +24,8 @@ A data frame, of \code{as.data.frame} without times and what was left out, with 
 \item{animal}{the animal's name; behind it stands \code{group} where ranges are by groups.}
 \item{first, last}{the times of its first and its last fix that is used.}
 \item{fixes}{how many fixes are used.}
-\item{left_out}{how many of its rows were left out, as \code{\link{homerange_left_out}} says by reason; \code{NA} for a report and for groups.}
+\item{left_out}{how many of its rows were left out, as \code{\link{homerange_left_out}} says by reason; \code{NA} for a report and for groups,
+  and where it is not known, as of an animal that got another name.}
 \item{level}{the level of the percent polygon, in per cent of the fixes.}
 \item{kept}{how many fixes the level keeps.}
 \item{corners}{how many corners the polygon has.}

@@ -98,7 +98,7 @@ class HomeRanges:
     def summary(self) -> pandas.DataFrame:
         """A row for each animal and level: ``animal``; ``first`` and ``last``, the times of its first and last fix;
         ``fixes``, how many there are, and ``left_out``, how many rows of the frame are not among them (missing where it
-        is not known); ``level`` in per cent; ``kept``, how many fixes the level keeps; and ``corners`` and ``hectares``
+        is not known, as of an animal that got another name); ``level`` in per cent; ``kept``, how many fixes the level keeps; and ``corners`` and ``hectares``
         of their polygon. Times are whole seconds where they have no date, as those since a start of their own."""
         left_out = self._tracks.left_out if self._tracks else {}
         rows = []
@@ -137,7 +137,10 @@ class HomeRanges:
 
     def rows(self) -> list[Row]:
         """The facts of each animal in whole numbers, of which ``overview`` makes a table."""
-        return rows_of(self._facts, self.of_source(), Counter() if self.groups else self.reasons())
+        records, tracks = self.of_source(), self._tracks
+        if self.record is None and tracks is not None:
+            records = Counter({name: count for name, count in records.items() if name in tracks.left_out})
+        return rows_of(self._facts, records, Counter() if self.groups else self.reasons())
 
     @cached_property
     def _facts(self) -> dict[str, Facts]:
@@ -145,8 +148,9 @@ class HomeRanges:
         return {name: facts_of(table) for name, table in self._report.tables.items()}
 
     def overview(self) -> pandas.DataFrame:
-        """A row for each animal: ``animal``; ``records``, its fixes in the export or the frame (missing where it is not
-        known); ``left_REASON`` for each reason that occurs, how many were left out for it; ``used``, how many fixes the
+        """A row for each animal: ``animal``; ``records``, its fixes in the export or the frame; ``left_REASON`` for each
+        reason that occurs, how many were left out for it (both missing where it is not known, as of an animal that got
+        another name: ``left_out`` has these of none); ``used``, how many fixes the
         range has; ``first`` and ``last``, their times; ``days`` from the one to the other; ``median_hours`` and
         ``longest_hours``, the intervals between fixes; ``hectares_LEVEL`` for each level; and the columns of
         ``growth`` behind them."""
@@ -154,7 +158,8 @@ class HomeRanges:
         table: dict[str, Any] = {"animal": [row.animal for row in rows]}
         table["records"] = pandas.array([row.records for row in rows], dtype="Int64")
         for reason in reasons_of(rows):
-            table[f"left_{reason.replace(' ', '_')}"] = [row.left.get(reason, 0) for row in rows]
+            counts = [None if row.records is None else row.left.get(reason, 0) for row in rows]
+            table[f"left_{reason.replace(' ', '_')}"] = pandas.array(counts, dtype="Int64")
         table["used"] = [row.used for row in rows]
         table["first"] = self._times([row.first for row in rows])
         table["last"] = self._times([row.last for row in rows])

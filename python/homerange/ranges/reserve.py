@@ -110,7 +110,7 @@ def turned(shapes: Shapes, way: Any, longest: float) -> Shapes | None:
         back = way.transform(*there, direction="INVERSE")
         are_found = all(numpy.abs(one - other).max() <= MISSED * longest for one, other in zip(back, (east, north)))
         are_sound.append(are_found and bool(numpy.hypot(*numpy.diff(there)).max(initial=0) <= TORN))
-        return there
+        return there[0], there[1]
 
     found = [transform(turn, shape) for shape in shapes if not shape.is_empty]
     return found if all(are_sound) and all(shape.is_valid for shape in found) else None

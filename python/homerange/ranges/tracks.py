@@ -32,7 +32,7 @@ class Tracks:
     """The fixes of each animal, and what became of the others."""
 
     by_name: dict[str, Track]
-    left_out: dict[str, int]  # how many fixes of each animal are not there
+    left_out: dict[str, int]  # how many fixes of each animal are not there, if it is known
     shift: tuple[int, int] = (0, 0)  # metres that were added to coordinates
     notes: list[str] = field(default_factory=list)
     reasons: Counter[tuple[str, str]] = field(default_factory=Counter)  # fixes left out, by animal and why
@@ -50,7 +50,8 @@ def tracks_of_fixes(fixes: Fixes) -> Tracks:
     left_out = Counter[str]()
     for (name, _), count in reading.left.items():
         left_out[name] += count
-    return Tracks(dict(zip(reading.counts, parts)), {name: left_out[name] for name in reading.counts}, reading.shift,
+    known = [name for name in reading.counts if name not in reading.unknown]
+    return Tracks(dict(zip(reading.counts, parts)), {name: left_out[name] for name in known}, reading.shift,
                   [*reading.notes], Counter(reading.left), dict(reading.names), reading.record, reading.is_again)
 
 

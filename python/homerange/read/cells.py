@@ -236,10 +236,13 @@ def odd_row(series: pandas.Series) -> tuple[int, str] | None:
 
 def are_like_thousands(series: pandas.Series) -> bool:
     """Whether the point of all numbers of floating point of a column could be one before thousands, as in 123.456."""
-    if not pandas.api.types.is_float_dtype(series.dtype):
+    own = pandas.Series(series.cat.categories) if isinstance(series.dtype, pandas.CategoricalDtype) else series
+    if own.dtype == object and pandas.api.types.infer_dtype(own, skipna=True) == "floating":
+        own = own.dropna().astype("float64")
+    if not pandas.api.types.is_float_dtype(own.dtype):
         return False
-    kind = getattr(series.dtype, "numpy_dtype", series.dtype)
-    numbers = series.to_numpy(dtype=kind if isinstance(kind, numpy.dtype) else "float64", na_value=numpy.nan)
+    kind = getattr(own.dtype, "numpy_dtype", own.dtype)
+    numbers = own.to_numpy(dtype=kind if isinstance(kind, numpy.dtype) else "float64", na_value=numpy.nan)
     numbers = numbers[~numpy.isnan(numbers)]
     has_part = numbers[numbers != numpy.floor(numbers)]
     if not len(has_part) or not (numpy.abs(numbers) < THOUSAND).all():

@@ -137,14 +137,22 @@ def checksum_of_rows(fixes: pandas.DataFrame, titles: frozenset[str]) -> str:
     return hashlib.sha256(columns.encode("utf-8", "surrogatepass") + hashes.to_numpy().tobytes()).hexdigest()
 
 
-def left_since(fixes: pandas.DataFrame, reading: Reading) -> Counter[tuple[str, str]]:
+class Left(NamedTuple):
+    """How many fixes were left out, by animal and reason, and the animals of which it is not known, since some that are counted of
+    none may be theirs."""
+
+    counts: Counter[tuple[str, str]]
+    unknown: frozenset[str]
+
+
+def left_since(fixes: pandas.DataFrame, reading: Reading) -> Left:
     """How many fixes were left out when they were read, or were taken away since: those of which no row has the moment and the
     place, but for as many as there are rows that were changed. Of no animal are those of one of whose fixes another name is now, or
     that has more than were read of it, with those that were taken away."""
     read, names, keys = keys_read(reading), names_read(reading), keys_of(fixes)
     own = numpy.array(cells_of(fixes["animal"]), dtype=object)
     if numpy.array_equal(read, keys) and numpy.array_equal(names, own):
-        return Counter(reading.left)
+        return Left(Counter(reading.left), reading.unknown)
     missing, unsure = missing_of(read, names, keys, own)
     changed, now = (Counter[str](several.tolist()) for several in (own[~is_among(keys, read)], own))
     gone = missing - changed
@@ -155,7 +163,9 @@ def left_since(fixes: pandas.DataFrame, reading: Reading) -> Counter[tuple[str, 
     found = Counter[tuple[str, str]]()
     for (name, reason), count in chain(reading.left.items(), (((name, "chosen"), count) for name, count in gone.items())):
         found["" if name in unsure else name, reason] += count
-    return found
+    is_moved = gone[""] > 0 or any(name in unsure for name in (*gone, *(name for name, _ in reading.left)))
+    odd = {name for name in now if name in unsure or now[name] + gone[name] != reading.counts.get(name, 0)}
+    return Left(found, frozenset((reading.unknown & {*now}) | (odd if is_moved or reading.unknown else set())))
 
 
 def missing_of(read: Numbers, names: Numbers, keys: Numbers, own: Numbers) -> tuple[Counter[str], set[str]]:

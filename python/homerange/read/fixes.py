@@ -46,6 +46,7 @@ class Reading:
     is_again: bool = False  # whether it is of fixes that were read before, and changed
     titles: frozenset[str] = frozenset()
     sources: frozenset[str] = frozenset()
+    unknown: frozenset[str] = frozenset()  # animals of which it is not known how many fixes were left out
     seen: Seen | None = field(default=None, compare=False, repr=False)
 
     @property
@@ -70,7 +71,8 @@ def bound(readings: Iterable[Reading]) -> Reading:
     counts: Counter[str] = sum((Counter(part.counts) for part in parts), Counter())
     return replace(
         parts[0], notes=tuple(dict.fromkeys(note for part in parts for note in part.notes)), left=dict(left), counts=dict(counts),
-        record=None, rows=None, parts=tuple(parts), titles=frozenset(title for part in parts for title in part.titles))
+        record=None, rows=None, parts=tuple(parts), titles=frozenset(title for part in parts for title in part.titles),
+        unknown=frozenset(name for part in parts for name in part.unknown))
 
 
 def reading_of_bound(own: Sequence[Fixes], rows: int) -> Reading | None:
@@ -209,7 +211,7 @@ def told(fixes: Fixes) -> str:
         totals[reason] += count
     if totals:
         lines.append(f"left out: {', '.join(f'{count} {reason}' for reason, count in totals.items())}")
-    gone = sum(left_since(fixes, reading).values()) - sum(reading.left.values())
+    gone = sum(left_since(fixes, reading).counts.values()) - sum(reading.left.values())
     if gone:
         lines.append(f"not chosen: {gone} of {sum(reading.counts.values())} fixes that were read")
     return "\n".join([*lines, *questions[:SHOWN]])

@@ -146,8 +146,9 @@ def read_again(fixes: Fixes, options: Mapping[str, Any], folder: Path, program: 
     further = fixes.loc[:, [title not in OWN for title in fixes.columns]]
     lost = [] if found.rows is None else lost_said(further, before.sources)
     new = [note for note in (*own.notes, *lost) if note not in before.notes and not note.startswith(TAKEN)]
-    own = replace(own, notes=(*before.notes, *new), left=left_since(fixes, before) + Counter(own.left), is_again=True, titles=before.titles,
-                  sources=before.sources)
+    since = left_since(fixes, before)
+    own = replace(own, notes=(*before.notes, *new), left=since.counts + Counter(own.left), is_again=True, titles=before.titles,
+                  sources=before.sources, unknown=since.unknown)
     table = found.fixes if found.rows is None else with_columns(found.fixes, fixes, found.rows)
     zone = getattr(fixes["time"].dtype, "tz", None) if "time" in fixes and "tz" not in wishes else None
     if zone is not None and "time" in table:

@@ -67,7 +67,7 @@ def is_number(word: Any) -> bool:
 
 def cells_of_number(number: Any, columns: Iterable[Column]) -> list[Any]:
     """The cells of a number in the columns that have it; the number itself where none has it."""
-    cells = {}
+    cells: dict[str, None] = {}
     with numpy.errstate(over="ignore"):
         for column in columns:
             own = (narrowest(column.values) or numpy.float64)(number)

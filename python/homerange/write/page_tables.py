@@ -55,7 +55,8 @@ def facts(row: Row, cells: Cells) -> list[str]:
     """What became of an animal's fixes, and when they were."""
     return [
         cell("records", NOTHING if row.records is None else fixed(row.records, 1, 0)),
-        *(cell(f"left_{reason.replace(' ', '_')}", fixed(row.left.get(reason, 0), 1, 0)) for reason in cells.reasons),
+        *(cell(f"left_{reason.replace(' ', '_')}", NOTHING if row.records is None else fixed(row.left.get(reason, 0), 1, 0))
+          for reason in cells.reasons),
         cell("used", fixed(row.used, 1, 0)), cell("first", cells.clock.date(row.first)),
         cell("last", cells.clock.date(row.last)), cell("days", days(row.last - row.first)),
         cell("median_interval", interval(row.median2)),

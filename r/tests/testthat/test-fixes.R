@@ -219,12 +219,36 @@ test_that("rows that are taken away keep what is known, and columns that are nee
 test_that("what was taken away since is left out as not chosen", {
   skip_without_split()
   fixes <- named()
-  left <- left_since(fixes[-1, ])
+  left <- left_since(fixes[-1, ])$left
   expect_identical(left$reason, c("outlier", "coordinates", "chosen"))
   expect_identical(left$fixes, c(1, 1, 1))
   ranges <- quietly(home_range(fixes[fixes$animal == "fox", ][-1, ], 100))
   expect_identical(as.list(homerange_left_out(ranges)), list(
     animal = c("fox", "fox", "hare/1", "hare/1"), reason = c("chosen", "outlier", "chosen", "coordinates"), fixes = c(1, 1, 1, 1)))
+})
+
+test_that("what is not known of an animal with another name is missing, and stays so", {
+  skip_without_program()
+  skip_without_split()
+  table <- rbind(square("fox"), transform(square("elk"), easting = easting + 1000))
+  dop <- ifelse(seq_len(nrow(table)) %in% c(1, 6, 7), 9, 1)
+  rename <- function(fixes, from, to) transform_fixes(fixes, "animal", sub(from, to, fixes$animal))
+  first <- quietly(read_fixes(cbind(table, dop = dop), zone = "33N", max_dop = 5))
+  second <- quietly(read_fixes(rename(first, "fox", "wolf")))
+  expect_identical(summary(second)[c("animal", "left_out")], list2DF(list(animal = c("wolf", "elk"), left_out = c(NA, 2))))
+  expect_identical(facts_of(second)$left_out, list2DF(list(animal = c("elk", ""), reason = c("dop", "dop"), fixes = c(2, 1))))
+  for (fixes in list(second, rename(second, "wolf", "dog"), second[-1, ])) {
+    ranges <- quietly(home_range(fixes, 100))
+    expect_identical(is.na(summary(ranges)$left_out), names(ranges) != "elk")
+    expect_identical(is.na(rows_to_choose(ranges)$left_out), names(ranges) != "elk")
+    path <- file.path(local_folder(), "page.html")
+    suppressMessages(write_page(ranges, path))
+    page <- paste(readLines(path, encoding = "UTF-8"), collapse = "")
+    cells <- regmatches(page, gregexpr("data-field=\"(records|left_dop)\">[^<]*", page))[[1]]
+    expect_identical(sort(sub(".*>", "", cells) == "\u2013"), c(FALSE, FALSE, TRUE, TRUE))
+  }
+  whole <- quietly(read_fixes(table, zone = "33N"))  # of which nothing was left out
+  expect_identical(summary(home_range(rename(whole, "fox", "wolf"), 100))$left_out, c(0, 0))
 })
 
 test_that("fixes that are alike are bound", {
@@ -238,7 +262,7 @@ test_that("fixes that are alike are bound", {
   expect_identical(summary(quietly(home_range(both, 100)))$fixes, c(3, 3, 1))
   parts <- rbind(fixes[4, ], fixes[1:3, ])
   expect_identical(facts_of(parts), facts_of(fixes))
-  expect_identical(left_since(parts)$fixes, c(1, 1))
+  expect_identical(left_since(parts)$left$fixes, c(1, 1))
   refused <- function(other, text) expect_error(rbind(fixes, other), text, fixed = TRUE, class = "homerange_option_error")
   refused(named(unit = "dm"), "fixes of the unit m and of dm are not bound: read them alike")
   refused(named(zone = "33N"), "fixes of the reference system not known and of EPSG:32633 (WGS 84 / UTM zone 33N) are not bound")
@@ -549,8 +573,8 @@ test_that("fixes of renamed animals are counted as one, and fixes of other readi
   fixes <- quietly(read_fixes(table, zone = "33N"))
   renamed <- transform_fixes(fixes, "animal", paste(fixes$animal, rep(1:2, 4)))
   expect_identical(names(home_range(renamed, 100)), c("fox 1", "fox 2", "elk 1", "elk 2"))
-  expect_identical(as.list(left_since(renamed[-(1:3), ])), list(animal = "", reason = "chosen", fixes = 3))
-  expect_identical(nrow(left_since(renamed)), 0L)
+  expect_identical(as.list(left_since(renamed[-(1:3), ])$left), list(animal = "", reason = "chosen", fixes = 3))
+  expect_identical(nrow(left_since(renamed)$left), 0L)
   expect_identical(names(home_range(transform_fixes(fixes, "animal", "fox"), 100)), "fox")  # of two that are one
   others <- list("'lynx' is none of the animals that were read: bind fixes of several tables by rbind; .* zone = \"33N\"" = "lynx",
                  "'fox' has more fixes than were read of it: bind fixes of several tables by rbind" = "fox")
@@ -664,7 +688,7 @@ test_that("fixes that were taken away are counted by the animals that they had",
   skip_without_split()
   fixes <- quietly(read_fixes(rbind(square("fox"), transform(square("elk"), easting = easting + 1000))))
   chosen <- function(...) {
-    left <- left_since(changed_fixes(fixes, ...))
+    left <- left_since(changed_fixes(fixes, ...))$left
     `names<-`(left$fixes, left$animal)
   }
   changed_fixes <- function(fixes, rows = 1:8, animal = fixes$animal[rows], easting = fixes$easting[rows]) {
@@ -787,7 +811,7 @@ test_that("rows of several readings are bound where these are alike, and counted
   elk <- zoned("elk", "33N")
   bound <- rbind(rbind(fox, elk), fox[1, ], elk)
   expect_identical(facts_of(bound)$fixes, c(fox = 4, elk = 4))
-  expect_identical(nrow(left_since(bound)), 0L)
+  expect_identical(nrow(left_since(bound)$left), 0L)
   skip_if_not_installed("dplyr")
   expect_identical(as.data.frame(dplyr::bind_rows(fox, elk)), as.data.frame(rbind(fox, elk)))
   expect_identical(dplyr::bind_rows(transform(fox, note = 1), elk)$note, rep(c(1, NA), each = 4))
@@ -823,6 +847,6 @@ test_that("of many fixes those that were taken away are counted", {
   skip_without_split()
   table <- data.frame(animal = "a", second = seq_len(60000), easting = 562000 + seq_len(60000) %% 1000, northing = 5134000 + seq_len(60000) %% 999)
   fixes <- quietly(read_fixes(table))
-  left <- expect_silent(left_since(fixes[seq(1, 60000, 3), ]))
+  left <- expect_silent(left_since(fixes[seq(1, 60000, 3), ])$left)
   expect_identical(left$fixes, 40000)
 })
