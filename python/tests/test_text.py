@@ -29,6 +29,8 @@ def test_all_columns_are_written(tmp_path):
 @pytest.mark.parametrize("values, wanted", [
     ([123.456, 1, None, -0.125], ["123.4560", "1", "", "-0.1250"]), (["123.456"], ["123.456"]), ([123.456, 0.5], ["123.456", "0.5"]),
     ([123.456, 1000], ["123.456", "1000"]), ([999.999], ["999.9990"]), ([1, 2], ["1", "2"]), ([1.0, 2.0], ["1", "2"]), ([0.0625], ["0.0625"]),
+    (pandas.Series([123.456, None, 2.0], dtype=object), ["123.4560", "", "2"]), (pandas.Series([123.456, "x"], dtype=object), ["123.456", "x"]),
+    (pandas.Categorical([123.456, None, 0.125]), ["123.4560", "", "0.1250"]), (pandas.Categorical(["123.456"]), ["123.456"]),
     (pandas.array([123.456], dtype="float32"), ["123.4560"]), (pandas.array([123.456, None], dtype="Float64"), ["123.4560", ""])])
 def test_decimals_are_not_groups_of_thousands(tmp_path, monkeypatch, values, wanted):
     monkeypatch.setattr("homerange.read.text.CELLS", 2)  # a row at a time: the whole column counts

@@ -98,8 +98,9 @@ class HomeRanges:
     def summary(self) -> pandas.DataFrame:
         """A row for each animal and level: ``animal``; ``first`` and ``last``, the times of its first and last fix;
         ``fixes``, how many there are, and ``left_out``, how many rows of the frame are not among them (missing where it
-        is not known, as of an animal that got another name); ``level`` in per cent; ``kept``, how many fixes the level keeps; and ``corners`` and ``hectares``
-        of their polygon. Times are whole seconds where they have no date, as those since a start of their own."""
+        is not known, as of an animal that got another name); ``level`` in per cent; ``kept``, how many fixes the level
+        keeps; and ``corners`` and ``hectares`` of their polygon. Times are whole seconds where they have no date, as those
+        since a start of their own."""
         left_out = self._tracks.left_out if self._tracks else {}
         rows = []
         for name, table in self._report.tables.items():

@@ -237,7 +237,7 @@ def odd_row(series: pandas.Series) -> tuple[int, str] | None:
 def are_like_thousands(series: pandas.Series) -> bool:
     """Whether the point of all numbers of floating point of a column could be one before thousands, as in 123.456."""
     own = pandas.Series(series.cat.categories) if isinstance(series.dtype, pandas.CategoricalDtype) else series
-    if own.dtype == object and pandas.api.types.infer_dtype(own, skipna=True) == "floating":
+    if own.dtype == object and pandas.api.types.infer_dtype(own.dropna()) == "floating":
         own = own.dropna().astype("float64")
     if not pandas.api.types.is_float_dtype(own.dtype):
         return False
