@@ -12,10 +12,10 @@ mod times;
 
 pub use cells::push_cell;
 pub use figures::{
-    push_count_with_share, push_fixes, push_hectares, push_share_of_area, push_share_of_fixes,
+    hectare, push_count_with_share, push_fixes, push_hectares, push_share_of_area, push_share_of_fixes,
     push_three_digits, push_with_sign,
 };
-pub use fixed::{Places, push_fixed};
+pub use fixed::{Places, push_digit, push_fixed, push_whole};
 pub use laws::{
     attributes_are_read_back, cells_are_read_back, rounded_is_nearest, shown_text_is_harmless,
 };

@@ -12,12 +12,12 @@ loop-animal-preserved c =
     let own = c.index-told-animal.result in
     rw c.in_ok-push_line.ensures
     (one_more c.loop-animal.text.items _ _ _ _
-    (next_told (read c.args.report.now) told c.loop-animal.animal own c.loop-animal-test.true c.index-told-animal.is) c.loop-animal.invariant)
+    (next_told (read c.args.report.now) c.dated told c.loop-animal.animal own c.loop-animal-test.true c.index-told-animal.is) c.loop-animal.invariant)
 
 pub returns : goal.returns
 returns c =
     let report = read c.args.report.now in
-    let lines = table (told_lines report 0 c.args.told.now) in
-    no_more c.loop-animal.text.items _ _ (none_told report c.args.told.now c.loop-animal.animal c.loop-animal-test.false) c.loop-animal.invariant
+    let lines = table (told_lines report (are_dates report) 0 c.args.told.now) in
+    no_more c.loop-animal.text.items _ _ (none_told report (are_dates report) c.args.told.now c.loop-animal.animal c.loop-animal-test.false) c.loop-animal.invariant
     ∙ ap (λ l. l ++ lines) c.in_ok-push_titles.ensures
     ∙ append_assoc c.args.text.now.items (line (animal_titles report (map (λ reason. reason.now) c.args.reasons.now))) lines
