@@ -143,7 +143,10 @@ pub fn push_period(
 ) -> Result<(), AllocError>
     ensures { OnOk result (text.new.items ≡ text.old.items ++ period_text clock.now.zone dated first last) }
 {
-    match (shown_date(clock, dated, first), shown_date(clock, dated, last)) {
+    match (
+        shown_date(clock, dated, first),
+        shown_date(clock, dated, last),
+    ) {
         (Some(begin), Some(end)) => push_days(text, begin, end),
         _ => push_counted_period(text, first, last),
     }

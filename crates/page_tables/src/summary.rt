@@ -60,7 +60,12 @@ fn push_line(
 }
 
 // Appends the lines of an animal.
-fn push_animal(text: &mut Vec<u8>, dated: bool, unit: Scale, animal: &ReadAnimal) -> Result<(), AllocError>
+fn push_animal(
+    text: &mut Vec<u8>,
+    dated: bool,
+    unit: Scale,
+    animal: &ReadAnimal,
+) -> Result<(), AllocError>
     ensures { OnOk result (text.new.items ≡ text.old.items ++ table (animal_lines dated unit (said animal.now))) }
 {
     for percent in &animal.percents {

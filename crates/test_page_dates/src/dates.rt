@@ -51,7 +51,10 @@ const DATES: [(u64, &str); 5] = [
 fn seconds_have_dates(rt: HostRuntime) {
     let clock = Clock::utc();
     for (second, expected) in &DATES {
-        assert!(rt; is_written(date(rt.alloc(), &clock, true, *second), expected), "{expected}");
+        assert!(rt;
+            is_written(date(rt.alloc(), &clock, true, *second), expected),
+            "{expected}"
+        );
     }
 }
 
@@ -65,8 +68,14 @@ fn dates_are_those_of_the_clock(rt: HostRuntime) {
         assert!(rt; false, "it is a zone");
         return;
     };
-    assert!(rt; is_written(date(rt.alloc(), &clock, true, 1_709_247_600), "1 Mar 2024"), "a day later");
-    assert!(rt; is_written(date(rt.alloc(), &clock, false, 90_000), "day 2"), "a start has no clock");
+    assert!(rt;
+        is_written(date(rt.alloc(), &clock, true, 1_709_247_600), "1 Mar 2024"),
+        "a day later"
+    );
+    assert!(rt;
+        is_written(date(rt.alloc(), &clock, false, 90_000), "day 2"),
+        "a start has no clock"
+    );
 }
 
 // Periods in UTC.
@@ -83,23 +92,41 @@ const PERIODS: [(u64, u64, &str); 6] = [
 fn periods_have_once_what_is_the_same(rt: HostRuntime) {
     let clock = Clock::utc();
     for (first, last, expected) in &PERIODS {
-        assert!(rt; is_written(period(rt.alloc(), &clock, true, *first, *last), expected), "{expected}");
+        assert!(rt;
+            is_written(period(rt.alloc(), &clock, true, *first, *last), expected),
+            "{expected}"
+        );
     }
 }
 
 #[test]
 fn seconds_without_a_date_are_counted(rt: HostRuntime) {
     let clock = Clock::utc();
-    assert!(rt; is_written(date(rt.alloc(), &clock, false, 0), "day 1"), "the first");
-    assert!(rt; is_written(date(rt.alloc(), &clock, false, 172_800), "day 3"), "the third");
-    assert!(rt; is_written(period(rt.alloc(), &clock, false, 0, 86_399), "day 1"), "one day");
-    assert!(rt; is_written(period(rt.alloc(), &clock, false, 0, 198_000), "day 1 to 3"), "three days");
+    assert!(rt;
+        is_written(date(rt.alloc(), &clock, false, 0), "day 1"),
+        "the first"
+    );
+    assert!(rt;
+        is_written(date(rt.alloc(), &clock, false, 172_800), "day 3"),
+        "the third"
+    );
+    assert!(rt;
+        is_written(period(rt.alloc(), &clock, false, 0, 86_399), "day 1"),
+        "one day"
+    );
+    assert!(rt;
+        is_written(period(rt.alloc(), &clock, false, 0, 198_000), "day 1 to 3"),
+        "three days"
+    );
 }
 
 #[test]
 fn days_have_dates_until_they_end(rt: HostRuntime) {
     assert!(rt; date_of_day(0) == Some((1970, 1, 1)), "the first");
     assert!(rt; date_of_day(19_782) == Some((2024, 2, 29)), "a leap day");
-    assert!(rt; date_of_day(END_OF_DAYS - 1) == Some((2517, 7, 31)), "the last");
+    assert!(rt;
+        date_of_day(END_OF_DAYS - 1) == Some((2517, 7, 31)),
+        "the last"
+    );
     assert!(rt; date_of_day(END_OF_DAYS).is_none(), "behind the last");
 }

@@ -6,7 +6,9 @@ use page_report::{ReadFault, Report, read_report};
 use page_tables::{Told, push_animals, push_overlaps, push_summary};
 use std::alloc::{AllocError, Global};
 
-const CASES: [Case; 8] = [ONE, NAMES, ONE_FIX, NO_AREA, DECIMETRES, SECONDS, DATES, QUOTED];
+const CASES: [Case; 8] = [
+    ONE, NAMES, ONE_FIX, NO_AREA, DECIMETRES, SECONDS, DATES, QUOTED,
+];
 
 // The table of levels.
 fn summary(alloc: Global, report: &Report) -> Result<Vec<u8>, AllocError> {
